@@ -1,0 +1,23 @@
+//! Time, the numbers of cores, threads, contexts and notifications, and the rows of a schedule: the words that all other crates
+//! speak. Nothing here knows a scheduling rule.
+#![tactic(auto)]
+
+mod ids;
+mod laws;
+mod limits;
+mod memory;
+mod queue;
+mod row;
+mod sequence;
+#[cfg(test)]
+mod tests;
+mod tick;
+
+pub use ids::{ContextId, CoreId, NoteId, ThreadId};
+pub use laws::queues_answer_alike;
+pub use limits::Limits;
+pub use memory::NoMemory;
+pub use queue::Queued;
+pub use row::{Row, What, Why};
+pub use sequence::Sequence;
+pub use tick::Tick;
