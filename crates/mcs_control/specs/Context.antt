@@ -1,0 +1,96 @@
+-- A scheduling context: the configuration in force, and the budget that is left, by kind.
+use Rattle.std.specs.Prelude.{ℕ, ◌+◌, Bool, true, List, [], Option, Some, None}
+use Rattle.mcs_control.specs.declared.config.Config.{Config}
+use Rattle.mcs_control.specs.declared.config.Kind.{Kind}
+use Rattle.mcs_control.specs.declared.config.Kind.TheVariants.{Sporadic, RoundRobin}
+use Rattle.mcs_refills.specs.declared.refill.Refill.{Refill}
+use Rattle.mcs_refills.specs.Server as server
+use Rattle.mcs_refills.specs.Slice.{slice_charged, slice_reconfigured}
+use Rattle.mcs_control.specs.Control.{kind_of}
+
+-- the budget of a context: a sporadic server's dates, or what is left of a round robin context's slice
+pub data Budget : Type 0 where
+  Dates : List ℕ → Budget
+  Slice : ℕ → Budget
+
+pub record Context : Type 0 where
+  pub config : Config
+  pub budget : Budget
+
+-- at most this many refills
+abbrev pub max_refills_of : Config → ℕ
+max_refills_of config = 2 + config.extra
+
+abbrev first_budget : Kind → ℕ → ℕ → Budget
+first_budget Sporadic at budget = Dates (server.dates_from at budget)
+first_budget RoundRobin at budget = Slice budget
+
+-- a new context, whose budget may be used from `at` on
+abbrev pub new_context : Config → ℕ → Context
+new_context config at = record { config = config; budget = first_budget (kind_of config) at config.budget }
+
+abbrev budget_charged : ℕ → ℕ → Config → Budget → Budget
+budget_charged k min_budget config (Dates dates) = Dates (server.with_enough min_budget (server.charged k config.period (max_refills_of config) dates))
+budget_charged k min_budget config (Slice left) = Slice (slice_charged k config.budget left)
+
+-- charged k ticks
+abbrev pub context_charged : ℕ → ℕ → Context → Context
+context_charged k min_budget context = record { config = context.config; budget = budget_charged k min_budget context.config context.budget }
+
+abbrev budget_unblocked : ℕ → Budget → Budget
+budget_unblocked t (Dates dates) = Dates (server.unblocked t dates)
+budget_unblocked t (Slice left) = Slice left
+
+-- unblocked at t
+abbrev pub context_unblocked : ℕ → Context → Context
+context_unblocked t context = record { config = context.config; budget = budget_unblocked t context.budget }
+
+abbrev budget_ordered : ℕ → Config → Budget → Budget
+budget_ordered t config (Dates dates) = Dates (server.reconfigured t config.budget config.period dates)
+budget_ordered t config (Slice left) = Slice (slice_reconfigured config.budget left)
+
+-- ordered at t to have another configuration
+abbrev pub context_ordered : ℕ → Config → Context → Context
+context_ordered t config context = record { config = config; budget = budget_ordered t config context.budget }
+
+abbrev budget_ready : ℕ → Budget → Bool
+budget_ready t (Dates dates) = server.is_ready t dates
+budget_ready t (Slice left) = true
+
+-- whether the context is ready at t
+abbrev pub context_ready : ℕ → Context → Bool
+context_ready t context = budget_ready t context.budget
+
+abbrev amount_of : Budget → ℕ
+amount_of (Dates dates) = server.head_amount dates
+amount_of (Slice left) = left
+
+-- the head's amount
+abbrev pub head_amount : Context → ℕ
+head_amount context = amount_of context.budget
+
+abbrev moment_of : Budget → ℕ
+moment_of (Dates dates) = server.first_date dates
+moment_of (Slice left) = 0
+
+-- the head's moment
+abbrev pub head_moment : Context → ℕ
+head_moment context = moment_of context.budget
+
+-- what a report of a context shows: its refills or what is left of its slice, and the ticks in use
+pub record View : Type 0 where
+  pub context : ℕ
+  pub refills : List Refill
+  pub left : Option ℕ
+  pub using : ℕ
+
+abbrev pub refills_shown : Budget → List Refill
+refills_shown (Dates dates) = server.refills_of dates
+refills_shown (Slice left) = []
+
+abbrev pub left_shown : Budget → Option ℕ
+left_shown (Dates dates) = None
+left_shown (Slice left) = Some left
+
+abbrev pub view_of : ℕ → ℕ → Context → View
+view_of number using context = record { context = number; refills = refills_shown context.budget; left = left_shown context.budget; using = using }

@@ -1,0 +1,21 @@
+-- What SchedControl accepts.
+use Rattle.std.specs.Prelude.{ℕ, ◌^◌, ◌==◌, nat_lt, if◌then◌else◌, Result, Ok, Err}
+use Rattle.mcs_control.specs.declared.config.Config.{Config}
+use Rattle.mcs_control.specs.declared.config.Kind.{Kind}
+use Rattle.mcs_control.specs.declared.config.Kind.TheVariants.{Sporadic, RoundRobin}
+use Rattle.mcs_control.specs.declared.config.ControlFault.{ControlFault}
+use Rattle.mcs_control.specs.declared.config.ControlFault.TheVariants.{ZeroBudget, BudgetTooSmall, BudgetOverPeriod, PeriodTooLong, TooManyRefills}
+
+-- round robin where the budget is the period
+abbrev pub kind_of : Config → Kind
+kind_of config = if config.budget == config.period then RoundRobin else Sporadic
+
+-- the first fault of a configuration, or else its kind
+abbrev pub checked : ℕ → Config → Result Kind ControlFault
+checked min_budget config =
+    if config.budget == 0 then Err ZeroBudget
+    else if nat_lt config.budget min_budget then Err BudgetTooSmall
+    else if nat_lt config.period config.budget then Err BudgetOverPeriod
+    else if nat_lt (2 ^ 40) config.period then Err PeriodTooLong
+    else if nat_lt 64 config.extra then Err TooManyRefills
+    else Ok (kind_of config)

@@ -1,0 +1,57 @@
+-- A server's refills as a list: what the type keeps, and what the steps of a charge make of them.
+use Rattle.std.specs.Prelude.{ℕ, ◌+◌, ◌-◌, ◌^◌, ◌<◌, ◌≤◌, ◌==◌, nat_lt, if◌then◌else◌, List, [], ◌∷◌, ◌++◌, length}
+use Rattle.mcs_refills.specs.declared.refill.Refill.{Refill}
+use Rattle.mcs_refills.specs.Server.{first_moment, last_moved, enough}
+
+-- each refill has an amount, and none touches the next
+abbrev pub IsBefore : Refill → List Refill → Type 0
+IsBefore r [] = Unit {0}
+IsBefore r (s ∷ rs) = r.begins + r.amount < s.begins
+
+abbrev pub AreApart : List Refill → Type 0
+AreApart [] = Unit {0}
+AreApart (r ∷ rs) = (1 ≤ r.amount) × IsBefore r rs × AreApart rs
+
+-- the moment at which the last refill ends
+abbrev pub end_of : List Refill → ℕ
+end_of [] = 0
+end_of (r ∷ []) = r.begins + r.amount
+end_of (r ∷ s ∷ rs) = end_of (s ∷ rs)
+
+-- what the type keeps
+pub record IsKept (refills : List Refill) (period max_refills room capacity : ℕ) : Type 0 where
+  pub apart : AreApart refills
+  pub some : 1 ≤ length refills
+  pub few : length refills ≤ max_refills
+  pub two : 2 ≤ max_refills
+  pub fits : max_refills ≤ room
+  pub space : room ≤ capacity
+  pub spans : end_of refills ≤ first_moment refills + period
+  pub short : period ≤ 2 ^ 40
+  pub early : end_of refills ≤ 2 ^ 42
+
+-- what a charge of k leaves of the refills
+abbrev pub left_after : ℕ → Refill → List Refill → List Refill
+left_after k r rs = if k == r.amount then rs else record { begins = r.begins + k; amount = r.amount - k } ∷ rs
+
+abbrev pub taken : ℕ → List Refill → List Refill
+taken k [] = []
+taken k (r ∷ rs) = left_after k r rs
+
+-- the list with k more ticks at the end of its last refill
+abbrev pub grown : ℕ → List Refill → List Refill
+grown k [] = []
+grown k (r ∷ []) = record { begins = r.begins; amount = r.amount + k } ∷ []
+grown k (r ∷ s ∷ rs) = r ∷ grown k (s ∷ rs)
+
+-- the refills with one that comes after them
+abbrev pub given_back : ℕ → Refill → List Refill → List Refill
+given_back max_refills back [] = back ∷ []
+given_back max_refills back (r ∷ rs) =
+    if end_of (r ∷ rs) == back.begins then grown back.amount (r ∷ rs)
+    else if nat_lt (length (r ∷ rs)) max_refills then (r ∷ rs) ++ back ∷ []
+    else grown back.amount (last_moved back.begins (r ∷ rs))
+
+-- the refills after a charge
+abbrev pub after_charge : ℕ → ℕ → ℕ → ℕ → List Refill → List Refill
+after_charge k min_budget period max_refills rs = enough min_budget (given_back max_refills (record { begins = first_moment rs + period; amount = k }) (taken k rs))
