@@ -1,0 +1,155 @@
+-- The signals of a turn: they come from the end of the tick alone, are made now, and arrive after the delay.
+use Rattle.std.proofs.Common.{◌≡◌, ℕ, ◌+◌, Bool, true, false, cond, List, [], ◌∷◌, ◌++◌, Option, Some, None, refl, ◌∙◌, append-nil, arith, ◌≢◌}
+use Rattle.std.specs.Prelude.{filter, ◌==◌, nat_lt}
+use Rattle.std.proofs.lemmas.Bool.Decides.{nat_tests}
+use Rattle.mcs_ticks.specs.Queue.{Discipline}
+use Rattle.mcs_ticks.specs.declared.queue.Queued.{Queued}
+use Rattle.mcs_ticks.specs.declared.row.Why.{Why}
+use Rattle.mcs_ticks.specs.declared.row.Why.TheVariants as why
+use Rattle.mcs_control.specs.declared.config.Order.{Order}
+use Rattle.mcs_control.specs.Context.{head_amount}
+use Rattle.mcs_notify.specs.Note.{posted, waited}
+use Rattle.mcs_notify.specs.declared.posted.Posted.{Posted}
+use Rattle.mcs_notify.specs.declared.posted.Posted.TheVariants.{Woke, Held}
+use Rattle.mcs_notify.specs.declared.posted.Waited.{Waited}
+use Rattle.mcs_notify.specs.declared.posted.Waited.TheVariants.{Got, Blocks}
+use Rattle.mcs_script.specs.declared.item.Item.{Item}
+use Rattle.mcs_script.specs.declared.item.Item.TheVariants.{Compute, Signal, Wait, Yield}
+use Rattle.mcs_script.specs.declared.moved.Moved.{Moved}
+use Rattle.mcs_script.specs.declared.moved.Moved.TheVariants.{Next, RoundEnds, AllDone}
+use Rattle.mcs_mail.specs.declared.mail.Mail.{Mail}
+use Rattle.mcs_core.specs.System.{System, note_part, delay_between}
+use Rattle.mcs_core.specs.Core.{Core, note_of, thread_of}
+use Rattle.mcs_core.specs.declared.standing.Chosen.{Chosen}
+use Rattle.mcs_core.specs.Turn as turns
+use Rattle.mcs_core.specs.Turn.{Turn, each, silent, says, ◌followed_by◌}
+
+-- a signal made by core c at t, which arrives after the delay
+pub record IsMadeNow (system : System) (c t : ℕ) (mail : Mail) : Type 0 where
+  pub arrives : mail.arrives ≡ t + delay_between system c (note_part system mail.note).core
+  pub made : mail.made ≡ t
+  pub maker : mail.maker ≡ c
+  pub away : (note_part system mail.note).core ≢ c
+
+each-none : {A : Type 0} (part : A → Core → Turn) → ((x : A) (core : Core) → (part x core).mails ≡ []) → (xs : List A) (core : Core) → (each part xs core).mails ≡ []
+each-none part h [] core = refl
+each-none part h (x ∷ xs) core = rw (h x core, each-none part h xs (part x core).core) refl
+
+cond-none : (b : Bool) (x y : Turn) → x.mails ≡ [] → y.mails ≡ [] → (cond b x y).mails ≡ []
+cond-none true x y p q = p
+cond-none false x y p q = q
+
+module _ (queue : Discipline) (system : System) (c t : ℕ) where
+  moves-none : (x : ℕ) (m : Moved) (core : Core) → (turns.moves queue system c t x m core).mails ≡ []
+  moves-none x Next core = refl
+  moves-none x RoundEnds core = refl
+  moves-none x AllDone core = refl
+
+  wakes-none : (x : ℕ) (core : Core) → (turns.wakes queue system c t x core).mails ≡ []
+  wakes-none x core = append-nil _ ∙ moves-none x _ _
+
+  posts_as-none : (note : ℕ) (p : Posted) (core : Core) → (turns.posts_as queue system c t note p core).mails ≡ []
+  posts_as-none note (Woke x word) core = wakes-none x _
+  posts_as-none note (Held word) core = refl
+
+  posts-none : (note badge : ℕ) (core : Core) → (turns.posts queue system c t note badge core).mails ≡ []
+  posts-none note badge core = posts_as-none note (posted badge (note_of core note)) core
+
+  arrives-none : (mail : Mail) (core : Core) → (turns.arrives queue system c t mail core).mails ≡ []
+  arrives-none mail core = posts-none mail.note mail.badge core
+
+  orders_running-none : (order : Order) (o : Option Chosen) (core : Core) → (turns.orders_running queue system c t order o core).mails ≡ []
+  orders_running-none order None core = refl
+  orders_running-none order (Some chosen) core = cond-none ((turns.part_of queue system c t chosen.thread).context == order.context) _ _ refl refl
+
+  obeys-none : (order : Order) (core : Core) → (turns.obeys queue system c t order core).mails ≡ []
+  obeys-none order core = orders_running-none order core.running core
+
+  releases-none : (core : Core) → (turns.releases queue system c t core).mails ≡ []
+  releases-none core = each-none (turns.released queue system c t) (λ due core. refl) (filter (turns.is_due queue system c t) core.releases) _
+
+  preempts_by-none : (o : Option Chosen) (best : Option Queued) (core : Core) → (turns.preempts_by queue system c t o best core).mails ≡ []
+  preempts_by-none (Some chosen) (Some best) core = cond-none (nat_lt (turns.part_of queue system c t chosen.thread).priority best.priority) _ _ refl refl
+  preempts_by-none (Some chosen) None core = refl
+  preempts_by-none None best core = refl
+
+  chooses_of-none : (o : Option Chosen) (best : Option Queued) (core : Core) → (turns.chooses_of queue system c t o best core).mails ≡ []
+  chooses_of-none (Some chosen) best core = refl
+  chooses_of-none None None core = refl
+  chooses_of-none None (Some best) core = refl
+
+  -- only the end of the tick makes signals
+  mails-turn : (mails : List Mail) (core : Core) → (turns.turn_with queue system c t mails core).mails ≡ (turns.tick queue system c t core).mails
+  mails-turn mails core = nothing_more (turns.tick queue system c t core).mails _ _ _ _ _
+      (each-none (turns.arrives queue system c t) arrives-none mails _)
+      (each-none (turns.obeys queue system c t) obeys-none (filter (turns.is_for_now queue system c t) system.orders) _)
+      (releases-none _)
+      (preempts_by-none _ _ _)
+      (chooses_of-none _ _ _)
+    where
+      nothing_more : (a b d e f g : List Mail) → b ≡ [] → d ≡ [] → e ≡ [] → f ≡ [] → g ≡ [] → a ++ b ++ d ++ e ++ f ++ g ≡ a
+      nothing_more a b d e f g p q r s u = rw (p, q, r, s, u, append-nil, append-nil, append-nil, append-nil, append-nil) refl
+
+  -- at most one signal, made now by this core
+  abbrev pub IsOutgoing : List Mail → Type 0
+  IsOutgoing [] = Unit {0}
+  IsOutgoing (mail ∷ []) = IsMadeNow system c t mail
+  IsOutgoing (mail ∷ next ∷ mails) = ⊥
+
+  IsOutgoing-none : (mails : List Mail) → mails ≡ [] → IsOutgoing mails
+  IsOutgoing-none mails e = rw e tt
+
+  IsOutgoing-append : (xs ys : List Mail) → IsOutgoing xs → ys ≡ [] → IsOutgoing (xs ++ ys)
+  IsOutgoing-append xs ys h e = rw (e, append-nil) h
+
+  IsOutgoing-cond : (b : Bool) (x y : Turn) → IsOutgoing x.mails → IsOutgoing y.mails → IsOutgoing (cond b x y).mails
+  IsOutgoing-cond true x y p q = p
+  IsOutgoing-cond false x y p q = q
+
+  signals-out : (x note badge : ℕ) (core : Core) → IsOutgoing (turns.signals queue system c t x note badge core).mails
+  signals-out x note badge core = by ((note_part system note).core == c) refl
+    where
+      differs : (a b : ℕ) → (a == b) ≡ false → a ≢ b
+      differs a b e = grind (arith, nat_tests)
+
+      by : (b : Bool) → ((note_part system note).core == c) ≡ b → IsOutgoing (cond b (turns.posts queue system c t note badge core) (record { core = core; rows = []; mails = turns.mail_to queue system c t note badge ∷ [] })).mails
+      by true e = IsOutgoing-none _ (posts-none note badge core)
+      by false e = record { arrives = refl; made = refl; maker = refl; away = differs (note_part system note).core c e }
+
+  moves_on-none : (x : ℕ) (core : Core) → (turns.moves_on queue system c t x core).mails ≡ []
+  moves_on-none x core = moves-none x (turns.move_of queue system c t x core) core
+
+  waits_as-none : (x note : ℕ) (w : Waited) (core : Core) → (turns.waits_as queue system c t x note w core).mails ≡ []
+  waits_as-none x note (Got word) core = moves_on-none x _
+  waits_as-none x note Blocks core = refl
+
+  takes_effect-out : (x : ℕ) (item : Option Item) (core : Core) → IsOutgoing (turns.takes_effect queue system c t x item core).mails
+  takes_effect-out x (Some (Signal note badge)) core = IsOutgoing-append (turns.signals queue system c t x note badge core).mails _ (signals-out x note badge core) (moves_on-none x _)
+  takes_effect-out x (Some (Wait note)) core = IsOutgoing-none _ (waits_as-none x note (waited (note_of core note)) core)
+  takes_effect-out x (Some (Compute ticks)) core = IsOutgoing-none _ (moves_on-none x core)
+  takes_effect-out x (Some Yield) core = IsOutgoing-none _ (moves_on-none x core)
+  takes_effect-out x None core = tt
+
+  may_stop-none : (x using : ℕ) (cause : Why) (core : Core) → (turns.may_stop queue system c t x using cause core).mails ≡ []
+  may_stop-none x using why.Done core = refl
+  may_stop-none x using why.Wait core = refl
+  may_stop-none x using why.Yield core = refl
+  may_stop-none x using why.Spent core = cond-none (using == head_amount (turns.its_context queue system c t x core)) _ _ refl refl
+  may_stop-none x using why.Preempt core = cond-none (using == head_amount (turns.its_context queue system c t x core)) _ _ refl refl
+  may_stop-none x using why.Order core = cond-none (using == head_amount (turns.its_context queue system c t x core)) _ _ refl refl
+
+  finishes-out : (x using : ℕ) (item : Option Item) (core : Core) → IsOutgoing (turns.finishes queue system c t x using item core).mails
+  finishes-out x using item core =
+      IsOutgoing-append (turns.takes_effect queue system c t x item core).mails _ (takes_effect-out x item core) (may_stop-none x using (turns.stop_after queue system c t x item core) _)
+
+  after_count-out : (x using : ℕ) (core : Core) → IsOutgoing (turns.after_count queue system c t x using core).mails
+  after_count-out x using core =
+      IsOutgoing-cond ((thread_of core x).place.left == 0) _ _ (finishes-out x using (turns.item_of queue system c t x core) core) (IsOutgoing-none _ (may_stop-none x using why.Spent core))
+
+  tick_of-out : (o : Option Chosen) (core : Core) → IsOutgoing (turns.tick_of queue system c t o core).mails
+  tick_of-out None core = tt
+  tick_of-out (Some chosen) core = after_count-out chosen.thread (chosen.using + 1) (turns.counts queue system c t chosen core)
+
+  -- a turn makes at most one signal for another core, made now
+  pub turn-out : (mails : List Mail) (core : Core) → IsOutgoing (turns.turn_with queue system c t mails core).mails
+  turn-out mails core = rw (mails-turn mails core) (tick_of-out core.running core)

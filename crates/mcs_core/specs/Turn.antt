@@ -1,0 +1,320 @@
+-- The turn of one core at one moment: the end of the tick, arrivals, orders, releases, and the choice.
+use Rattle.std.specs.Prelude.{ℕ, ◌+◌, ◌-◌, Bool, ◌==◌, ◌&&◌, not, nat_lt, nat_le, if◌then◌else◌, List, [], ◌∷◌, ◌++◌, filter, Option, Some, None}
+use Rattle.std.specs.List.{slice_get}
+use Rattle.mcs_ticks.specs.Queue.{Discipline, by_priority}
+use Rattle.mcs_ticks.specs.declared.queue.Queued.{Queued}
+use Rattle.mcs_ticks.specs.declared.row.What.{What}
+use Rattle.mcs_ticks.specs.declared.row.What.TheVariants as row
+use Rattle.mcs_ticks.specs.declared.row.Why.{Why}
+use Rattle.mcs_ticks.specs.declared.row.Why.TheVariants as why
+use Rattle.mcs_control.specs.Context.{Context, context_charged, context_unblocked, context_ordered, context_ready, head_amount, head_moment}
+use Rattle.mcs_control.specs.declared.config.Order.{Order}
+use Rattle.mcs_notify.specs.Note.{posted, after_post, waited, after_wait}
+use Rattle.mcs_notify.specs.declared.posted.Posted.{Posted}
+use Rattle.mcs_notify.specs.declared.posted.Posted.TheVariants.{Woke, Held}
+use Rattle.mcs_notify.specs.declared.posted.Waited.{Waited}
+use Rattle.mcs_notify.specs.declared.posted.Waited.TheVariants.{Got, Blocks}
+use Rattle.mcs_script.specs.declared.item.Item.{Item}
+use Rattle.mcs_script.specs.declared.item.Item.TheVariants.{Compute, Signal, Wait, Yield}
+use Rattle.mcs_script.specs.declared.moved.Moved.{Moved}
+use Rattle.mcs_script.specs.declared.moved.Moved.TheVariants.{Next, RoundEnds, AllDone}
+use Rattle.mcs_script.specs.Script.{move_after, place_after}
+use Rattle.mcs_mail.specs.declared.mail.Mail.{Mail}
+use Rattle.mcs_core.specs.declared.part.ThreadPart.{ThreadPart}
+use Rattle.mcs_core.specs.System.{System, thread_part, note_part, context_part, delay_between}
+use Rattle.mcs_core.specs.Core.{Core, thread_of, context_of, note_of, with_thread, with_context, with_note}
+use Rattle.mcs_release.specs.declared.dated.Dated.{Dated}
+use Rattle.mcs_core.specs.declared.standing.Chosen.{Chosen}
+use Rattle.mcs_core.specs.declared.standing.Standing.{Standing}
+use Rattle.mcs_core.specs.declared.standing.Standing.TheVariants.{Blocked, Pending, Ready, Running, Done}
+
+-- what a turn, or a part of it, makes: the core after it, its rows, and its signals for other cores
+pub record Turn : Type 0 where
+  pub core : Core
+  pub rows : List What
+  pub mails : List Mail
+
+abbrev pub silent : Core → Turn
+silent core = record { core = core; rows = []; mails = [] }
+
+abbrev pub says : What → Core → Turn
+says what core = record { core = core; rows = what ∷ []; mails = [] }
+
+-- one part, and then another
+infixl 4 ◌followed_by◌
+abbrev pub ◌followed_by◌ : Turn → (Core → Turn) → Turn
+first followed_by part =
+    let second = part first.core in
+    record { core = second.core; rows = first.rows ++ second.rows; mails = first.mails ++ second.mails }
+
+-- a part for each item, in order
+abbrev pub each : {A : Type 0} → (A → Core → Turn) → List A → Core → Turn
+each part [] core = silent core
+each part (x ∷ xs) core = part x core followed_by each part xs
+
+-- the turn of core c at moment t, with the ready threads kept by this discipline
+module _ (queue : Discipline) (system : System) (c t : ℕ) where
+  abbrev pub part_of : ℕ → ThreadPart
+  part_of thread = thread_part system thread
+
+  -- the context to which a thread is bound
+  abbrev pub its_context : ℕ → Core → Context
+  its_context thread core = context_of core (part_of thread).context
+
+  abbrev pub with_its_context : ℕ → Context → Core → Core
+  with_its_context thread context core = with_context (part_of thread).context context core
+
+  -- the date with which a thread must wait for its context, if it isn't ready
+  abbrev pub date_of : ℕ → Core → Option ℕ
+  date_of thread core =
+      if context_ready t (its_context thread core) then None else Some (head_moment (its_context thread core))
+
+  abbrev pub stands : ℕ → Standing → Core → Core
+  stands thread standing core = with_thread thread (record (thread_of core thread) { standing = standing }) core
+
+  abbrev pub queued : ℕ → Queued
+  queued thread = record { thread = thread; priority = (part_of thread).priority }
+
+  abbrev pub pends : ℕ → ℕ → Core → Core
+  pends thread date core =
+      let core = stands thread Pending core in
+      record core { releases = core.releases ++ record { thread = thread; date = date } ∷ [] }
+
+  -- to the back of the ready queue, or with a date into the release queue
+  abbrev pub enters_back : ℕ → Option ℕ → Core → Core
+  enters_back thread (Some date) core = pends thread date core
+  enters_back thread None core =
+      let core = stands thread Ready core in
+      record core { ready = queue.back (queued thread) core.ready }
+
+  -- to the front of the ready queue, or with a date into the release queue
+  abbrev pub enters_front : ℕ → Option ℕ → Core → Core
+  enters_front thread (Some date) core = pends thread date core
+  enters_front thread None core =
+      let core = stands thread Ready core in
+      record core { ready = queue.front (queued thread) core.ready }
+
+  -- the context of the thread is charged k ticks
+  abbrev pub charged : ℕ → ℕ → Core → Core
+  charged thread k core = with_its_context thread (context_charged k system.min_budget (its_context thread core)) core
+
+  -- the running thread leaves the core
+  abbrev pub off : Core → Core
+  off core = record core { running = None }
+
+  -- a stop for good or until a signal
+  abbrev pub stops : ℕ → Why → ℕ → Standing → Core → Turn
+  stops thread why k standing core =
+      record { core = stands thread standing (off (charged thread k core)); rows = row.Stop thread why k None ∷ []; mails = [] }
+
+  -- a stop after which the thread goes to the back of the ready queue
+  abbrev pub stops_to_back : ℕ → Why → ℕ → Core → Turn
+  stops_to_back thread why k core =
+      let after = charged thread k core in
+      record { core = enters_back thread (date_of thread after) (off after); rows = row.Stop thread why k (date_of thread after) ∷ []; mails = [] }
+
+  -- the stop of the thread that runs, whose context has been charged, to the front of the ready queue
+  abbrev pub stops_to_front : ℕ → Why → ℕ → Core → Turn
+  stops_to_front thread why k core =
+      record { core = enters_front thread (date_of thread core) (off core); rows = row.Stop thread why k (date_of thread core) ∷ []; mails = [] }
+
+  -- part 1: the end of the tick
+
+  abbrev pub item_of : ℕ → Core → Option Item
+  item_of thread core = slice_get (part_of thread).script (thread_of core thread).place.item
+
+  abbrev pub move_of : ℕ → Core → Moved
+  move_of thread core = move_after (part_of thread).script (part_of thread).rounds (thread_of core thread).place
+
+  -- the thread has the place after this move, and its round began at this moment
+  abbrev pub placed : ℕ → Moved → ℕ → Core → Core
+  placed thread move since core =
+      let state = thread_of core thread in
+      with_thread thread (record { standing = state.standing; place = place_after system.call (part_of thread).script move state.place; since = since }) core
+
+  abbrev pub round_row : ℕ → Core → What
+  round_row thread core = row.Round thread (thread_of core thread).place.round (t - (thread_of core thread).since)
+
+  -- the item is finished, and the thread moves on
+  abbrev pub moves : ℕ → Moved → Core → Turn
+  moves thread Next core = silent (placed thread Next (thread_of core thread).since core)
+  moves thread RoundEnds core = says (round_row thread core) (placed thread RoundEnds t core)
+  moves thread AllDone core = says (round_row thread core) core
+
+  abbrev pub moves_on : ℕ → Core → Turn
+  moves_on thread core = moves thread (move_of thread core) core
+
+  -- the wait of the thread gives its word: where it is the first item, the round begins
+  abbrev pub given : ℕ → Core → Core
+  given thread core =
+      let state = thread_of core thread in
+      with_thread thread (record state { since = if state.place.item == 0 then t else state.since }) core
+
+  -- a woken thread: its context is unblocked
+  abbrev pub wakes : ℕ → Core → Turn
+  wakes thread core =
+      let unblocked = with_its_context thread (context_unblocked t (its_context thread core)) core in
+      moves_on thread (given thread unblocked)
+      followed_by λ core. silent (enters_back thread (date_of thread core) core)
+
+  abbrev pub posts_as : ℕ → Posted → Core → Turn
+  posts_as note (Woke thread word) core =
+      says (row.Wake thread note word) (with_note note (after_post (Woke thread word) (note_of core note)) core)
+      followed_by wakes thread
+  posts_as note (Held word) core =
+      says (row.Hold note word) (with_note note (after_post (Held word) (note_of core note)) core)
+
+  abbrev pub posts : ℕ → ℕ → Core → Turn
+  posts note badge core = posts_as note (posted badge (note_of core note)) core
+
+  abbrev pub mail_to : ℕ → ℕ → Mail
+  mail_to note badge = record { arrives = t + delay_between system c (note_part system note).core; made = t; maker = c; note = note; badge = badge }
+
+  -- a signal: a post at home, and mail for another core
+  abbrev pub signals : ℕ → ℕ → ℕ → Core → Turn
+  signals thread note badge core =
+      says (row.Signal thread note badge) core
+      followed_by λ core.
+      if (note_part system note).core == c
+      then posts note badge core
+      else record { core = core; rows = []; mails = mail_to note badge ∷ [] }
+
+  abbrev pub waits_as : ℕ → ℕ → Waited → Core → Turn
+  waits_as thread note (Got word) core =
+      says (row.Got thread note word) (given thread (with_note note (after_wait (Got word) (queued thread) (note_of core note)) core))
+      followed_by moves_on thread
+  waits_as thread note Blocks core =
+      silent (with_note note (after_wait Blocks (queued thread) (note_of core note)) core)
+
+  -- the thread's item takes effect, and the thread moves on unless it blocks
+  abbrev pub takes_effect : ℕ → Option Item → Core → Turn
+  takes_effect thread (Some (Signal note badge)) core = signals thread note badge core followed_by moves_on thread
+  takes_effect thread (Some (Wait note)) core = waits_as thread note (waited (note_of core note)) core
+  takes_effect thread (Some (Compute ticks)) core = moves_on thread core
+  takes_effect thread (Some Yield) core = moves_on thread core
+  takes_effect thread None core = silent core
+
+  -- which stop follows: none but the one of a spent head, or one of done, wait and yield
+  abbrev pub after_move : Moved → Why → Why
+  after_move AllDone other = why.Done
+  after_move Next other = other
+  after_move RoundEnds other = other
+
+  abbrev pub after_waited : Waited → Why
+  after_waited Blocks = why.Wait
+  after_waited (Got word) = why.Spent
+
+  abbrev pub stop_after : ℕ → Option Item → Core → Why
+  stop_after thread (Some Yield) core = after_move (move_of thread core) why.Yield
+  stop_after thread (Some (Wait note)) core = after_waited (waited (note_of core note))
+  stop_after thread (Some (Compute ticks)) core = after_move (move_of thread core) why.Spent
+  stop_after thread (Some (Signal note badge)) core = after_move (move_of thread core) why.Spent
+  stop_after thread None core = why.Spent
+
+  -- at most one stop, for this cause
+  abbrev pub may_stop : ℕ → ℕ → Why → Core → Turn
+  may_stop thread using why.Done core = stops thread why.Done using Done core
+  may_stop thread using why.Wait core = stops thread why.Wait using Blocked core
+  may_stop thread using why.Yield core = stops_to_back thread why.Yield (head_amount (its_context thread core)) core
+  may_stop thread using other core =
+      if using == head_amount (its_context thread core)
+      then stops_to_back thread why.Spent using core
+      else silent core
+
+  -- one more tick was used, and the item's rest is one less
+  abbrev pub counts : Chosen → Core → Core
+  counts chosen core =
+      let state = thread_of core chosen.thread in
+      with_thread chosen.thread (record state { place = record (state.place) { left = state.place.left - 1 } })
+      (record core { running = Some (record { thread = chosen.thread; using = chosen.using + 1 }) })
+
+  -- the item is finished: it takes effect, and at most one stop follows
+  abbrev pub finishes : ℕ → ℕ → Option Item → Core → Turn
+  finishes thread using item core = takes_effect thread item core followed_by may_stop thread using (stop_after thread item core)
+
+  -- after the count: where nothing of the item is left it is finished, and else only a spent head stops the thread
+  abbrev pub after_count : ℕ → ℕ → Core → Turn
+  after_count thread using core =
+      if (thread_of core thread).place.left == 0
+      then finishes thread using (item_of thread core) core
+      else may_stop thread using why.Spent core
+
+  abbrev pub tick_of : Option Chosen → Core → Turn
+  tick_of None core = silent core
+  tick_of (Some chosen) core = after_count chosen.thread (chosen.using + 1) (counts chosen core)
+
+  abbrev pub tick : Core → Turn
+  tick core = tick_of core.running core
+
+  -- part 2: an arrival
+
+  abbrev pub arrives : Mail → Core → Turn
+  arrives mail core = says (row.Arrive mail.note mail.badge mail.maker) core followed_by posts mail.note mail.badge
+
+  -- part 3: an order
+
+  abbrev pub applied : Order → Core → Core
+  applied order core = with_context order.context (context_ordered t order.config (context_of core order.context)) core
+
+  abbrev pub orders_running : Order → Option Chosen → Core → Turn
+  orders_running order None core = silent (applied order core)
+  orders_running order (Some chosen) core =
+      if (part_of chosen.thread).context == order.context
+      then stops_to_front chosen.thread why.Order chosen.using (applied order (charged chosen.thread chosen.using core))
+      else silent (applied order core)
+
+  abbrev pub obeys : Order → Core → Turn
+  obeys order core = says (row.Order order.context) core followed_by orders_running order core.running
+
+  abbrev pub is_for_now : Order → Bool
+  is_for_now order = (order.moment == t) && ((context_part system order.context).core == c)
+
+  -- part 4: releases
+
+  abbrev pub released : Dated → Core → Turn
+  released due core = says (row.Release due.thread) (enters_back due.thread None core)
+
+  abbrev pub is_due : Dated → Bool
+  is_due dated = nat_le dated.date t
+
+  abbrev pub releases : Core → Turn
+  releases core =
+      each released (filter is_due core.releases) (record core { releases = filter (λ dated. not (is_due dated)) core.releases })
+
+  -- part 5: the choice
+
+  abbrev pub preempts_by : Option Chosen → Option Queued → Core → Turn
+  preempts_by (Some chosen) (Some best) core =
+      if nat_lt (part_of chosen.thread).priority best.priority
+      then stops_to_front chosen.thread why.Preempt chosen.using (charged chosen.thread chosen.using core)
+      else silent core
+  preempts_by (Some chosen) None core = silent core
+  preempts_by None best core = silent core
+
+  abbrev pub preempts : Core → Turn
+  preempts core = preempts_by core.running (queue.best core.ready) core
+
+  abbrev pub chooses_of : Option Chosen → Option Queued → Core → Turn
+  chooses_of (Some chosen) best core = silent core
+  chooses_of None None core = silent core
+  chooses_of None (Some best) core =
+      let core = stands best.thread Running core in
+      says (row.Run best.thread)
+      (record core { running = Some (record { thread = best.thread; using = 0 }); ready = queue.rest core.ready })
+
+  abbrev pub chooses : Core → Turn
+  chooses core = chooses_of core.running (queue.best core.ready) core
+
+  -- the whole turn, with the mail that arrives
+  abbrev pub turn_with : List Mail → Core → Turn
+  turn_with mails core =
+      tick core
+      followed_by each arrives mails
+      followed_by each obeys (filter is_for_now system.orders)
+      followed_by releases
+      followed_by preempts
+      followed_by chooses
+
+-- the turn with the ready threads by priority, which is what a core shows
+abbrev pub turn : System → ℕ → ℕ → List Mail → Core → Turn
+turn system c t mails core = turn_with by_priority system c t mails core

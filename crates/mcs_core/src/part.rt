@@ -1,0 +1,54 @@
+use crate::Name;
+use mcs_control::{Config, Order};
+use mcs_script::Script;
+use mcs_ticks::{ContextId, CoreId, Sequence, Tick};
+
+/// A scheduling context of a system: a budget on a core.
+#[derive(Debug, Drop)]
+pub struct ContextPart {
+    pub name: Name,
+    pub core: CoreId,
+    pub config: Config,
+}
+
+/// A notification of a system, at home on a core.
+#[derive(Debug, Drop)]
+pub struct NotePart {
+    pub name: Name,
+    pub core: CoreId,
+}
+
+/// A thread of a system. Its core is its context's.
+#[derive(Debug, Drop)]
+pub struct ThreadPart {
+    pub name: Name,
+    /// The context to which it is bound.
+    pub context: ContextId,
+    /// 0 to 255; the greatest runs first.
+    pub priority: u8,
+    /// The moment at which it may first run, at most 2^40.
+    pub start: Tick,
+    /// How often its script is run, at most 2^40; 0 means until the horizon.
+    pub rounds: u64,
+    /// The ticks within which each response is to come, at most 2^40; 0 means none.
+    pub deadline: u64,
+    /// What it does in a round.
+    pub script: Script,
+}
+
+/// All that a file says of a system, each thing numbered by its place in its list.
+#[derive(Debug, Drop)]
+pub struct SystemParts {
+    /// How many cores there are, 1 to 64.
+    pub cores: usize,
+    /// The ticks for which a signal to another core is under way, 1 to 2^20.
+    pub delay: u64,
+    /// The ticks that a `signal`, a `wait` or a `yield` costs, 1 to 2^16.
+    pub call: u64,
+    /// The least ticks that the head of a refill list has after a charge, 1 to 2^20.
+    pub min_budget: u64,
+    pub contexts: Sequence<ContextPart>,
+    pub notes: Sequence<NotePart>,
+    pub threads: Sequence<ThreadPart>,
+    pub orders: Sequence<Order>,
+}

@@ -1,0 +1,8 @@
+use mcs_ticks::{ThreadId, Tick};
+
+/// A thread in the release queue, and the date from which it may leave it.
+#[derive(Clone, Copy, Debug, PartialEq, Eq)]
+pub struct Dated {
+    pub thread: ThreadId,
+    pub date: Tick,
+}
