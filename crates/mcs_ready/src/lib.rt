@@ -1,0 +1,2 @@
+//! Ready queues.
+#![tactic(auto)]

@@ -1,0 +1,2 @@
+//! Whole simulations.
+#![tactic(auto)]

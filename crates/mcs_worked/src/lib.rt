@@ -1,0 +1,2 @@
+//! Worked systems: theorems and tests that cross the crates.
+#![tactic(auto)]
