@@ -136,4 +136,3 @@ latest_order = refl
 
 order_past_the_latest_charge : after (new_server 1099511627776 3 1099511627776 2 2) (Charge 3 1 ∷ Reorder 1099511627776 5 1099511627776 2 ∷ []) ≡ r 2199023255552 3 ∷ r 3298534883326 2 ∷ []
 order_past_the_latest_charge = refl
-

@@ -1,5 +1,5 @@
 -- The definitions at worked values, each way of each choice once.
-use Rattle.std.specs.Prelude.{◌≡◌, ℕ, Bool, true, false, List, [], ◌∷◌, refl}
+use Rattle.std.specs.Prelude.{◌≡◌, ℕ, true, false, List, [], ◌∷◌, refl}
 use Rattle.mcs_refills.specs.declared.refill.Refill.{Refill}
 use Rattle.mcs_refills.specs.Server.{dates_of, refills_of, is_ready, charged, with_enough, unblocked, reconfigured}
 use Rattle.mcs_refills.specs.Slice.{slice_charged, slice_reconfigured}
