@@ -95,7 +95,7 @@ impl Refills {
     pub fn ready(&self, t: Tick) -> bool
         ensures { result ≡ is_ready t self.now.dates }
     {
-        self.list[0].begins <= t.get()
+        self.head().begins <= t.get()
     }
 
     /// Charges the first `ticks` of the head, which return a period later: where the list is full, its last refill first moves

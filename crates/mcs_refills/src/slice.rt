@@ -49,8 +49,11 @@ impl Slice {
         requires within { ticks ≤ self.old.left }
         ensures { self.new ≡ charged_slice ticks self.old }
     {
-        let left = self.left - ticks;
-        self.left = if left == 0 { self.budget } else { left };
+        let rest = self.left - ticks;
+        *self = Slice {
+            budget: self.budget,
+            left: if rest == 0 { self.budget } else { rest },
+        };
     }
 
     /// A SchedControl order: the budget is this from now on, and no more than it is left.
@@ -59,7 +62,9 @@ impl Slice {
         requires in_range { budget ≤ 2 ^ 40 }
         ensures { self.new ≡ reconfigured_slice budget self.old }
     {
-        self.budget = budget;
-        self.left = self.left.min(budget);
+        *self = Slice {
+            budget,
+            left: self.left.min(budget),
+        };
     }
 }
