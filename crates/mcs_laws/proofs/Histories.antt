@@ -1,90 +1,146 @@
--- The steps of a context that no order names, from the opening on: each core's turns charge and unblock it, and nothing else.
-use Rattle.std.proofs.Common.{◌≡◌, ℕ, zero, suc, ◌<◌, ◌≤◌, List, [], ◌∷◌, ◌++◌, length, refl, sym, ap, ◌∙◌}
-use Rattle.std.specs.Prelude.{filter, flat_map}
-use Rattle.std.specs.List.{range_with_len, AllByRecursion}
+-- The history of a context from the opening on, and the budget that it has at each moment.
+use Rattle.std.proofs.Common.{◌≡◌, ℕ, zero, suc, ◌+◌, ◌<◌, Bool, true, false, cond, List, [], ◌∷◌, ◌++◌, length, get_or, Option, Some, None, refl, sym, ap, ◌∙◌, arith}
+use Rattle.std.specs.Prelude.{filter, ◌==◌, unwrap_or}
+use Rattle.std.proofs.lemmas.Bool.Decides.{nat_tests}
+use Rattle.std.proofs.lemmas.List.FromFn.{get_or-map-range_with_len}
 use Rattle.mcs_ticks.specs.Queue.{by_priority}
 use Rattle.mcs_ticks.specs.declared.row.What.{What}
-use Rattle.mcs_refills.specs.Spacing.{Step, stepped, AreKept, AreProper}
-use Rattle.mcs_refills.specs.Spacing.Step.{Charge, Unblock}
-use Rattle.mcs_refills.proofs.Spaces.{kept-step, consumed-spaced}
-use Rattle.mcs_control.specs.declared.config.Config.{Config}
-use Rattle.mcs_control.specs.Context.{max_refills_of}
-use Rattle.mcs_control.specs.Context.Budget.{Dates}
-use Rattle.mcs_core.specs.System.{System, TakesTime}
-use Rattle.mcs_core.specs.Core.{Core, context_of}
-use Rattle.mcs_laws.specs.Consumed as used
-use Rattle.mcs_laws.specs.Consumed.{context_after, charges_of, charges_told, History, IsSpacedUse}
+use Rattle.mcs_control.specs.declared.config.Order.{Order}
+use Rattle.mcs_control.specs.Context.{Context, new_context}
+use Rattle.mcs_core.specs.System.{System, TakesTime, context_part, no_context, start_of}
+use Rattle.mcs_core.specs.Core.{Core, context_of, opening_core, opening_contexts, no_server}
+use Rattle.mcs_core.specs.declared.part.ContextPart.{ContextPart}
+use Rattle.mcs_core.specs.declared.standing.Chosen.{Chosen}
 use Rattle.mcs_core.specs.Clock as clocks
 use Rattle.mcs_core.proofs.Clock.{core_at-world}
-use Rattle.mcs_laws.proofs.Ranges.{flat_map-moments-more}
+use Rattle.mcs_laws.specs.Changes.{IsBudget, KeepsItsBudget, changed_by, AreSound}
+use Rattle.mcs_laws.specs.Histories as told
+use Rattle.mcs_laws.proofs.Ranges.{flat_map-moments-more, by_recursion}
+use Rattle.mcs_core.specs.WellFormed.{IsWellFormed}
+use Rattle.mcs_laws.proofs.Kept.{accepted-gives, keeps-new, keeps-changes, changed_by-append, sound-append}
 use Rattle.mcs_laws.proofs.Traces as traces
-use Rattle.mcs_laws.proofs.Traces.{Traced}
+use Rattle.mcs_laws.proofs.Traces.{charges_of-append, orders_of-append, carry}
 
--- a sporadic context stays one, and its dates are those after the steps
-pub dates_after : ℕ → ℕ → List Step → List ℕ → List ℕ
-dates_after period most [] dates = dates
-dates_after period most (step ∷ steps) dates = dates_after period most steps (stepped period most step dates)
+-- the contexts of a core at first
+opening-many : (system : System) (c number : ℕ) (parts : List ContextPart) → length (opening_contexts system c number parts) ≡ length parts
+opening-many system c number [] = refl
+opening-many system c number (part ∷ parts) = ap suc (opening-many system c (number + 1) parts)
 
-pub context_after-dates : (steps : List Step) (config : Config) (dates : List ℕ) →
-    context_after steps (record { config = config; budget = Dates dates }) ≡ record { config = config; budget = Dates (dates_after config.period (max_refills_of config) steps dates) }
-unfolding dates_after
-context_after-dates [] config dates = refl
-context_after-dates (Charge k least ∷ steps) config dates = context_after-dates steps config (stepped config.period (max_refills_of config) (Charge k least) dates)
-context_after-dates (Unblock t ∷ steps) config dates = context_after-dates steps config (stepped config.period (max_refills_of config) (Unblock t) dates)
+opening-at : (system : System) (c number : ℕ) (parts : List ContextPart) (i : ℕ) → i < length parts → (get_or parts i no_context).core ≡ c →
+    unwrap_or (get_or (opening_contexts system c number parts) i None) no_server ≡ new_context (get_or parts i no_context).config (start_of system.threads (number + i))
+opening-at system c number [] i l e = absurd (omega arith)
+opening-at system c number (part ∷ parts) zero l e = by (part.core == c) refl
+  where
+    own : (a b : ℕ) → a ≡ b → (a == b) ≡ false → ⊥
+    own a b e f = grind (arith, nat_tests)
 
--- dates that are kept stay so
-pub proper_from : (steps : List Step) → AllByRecursion (λ k. 1 ≤ k) (charges_of steps) → AreProper steps
-proper_from [] h = tt
-proper_from (Charge k least ∷ steps) h = (h.0, proper_from steps h.1)
-proper_from (Unblock t ∷ steps) h = (tt, proper_from steps h)
+    by : (b : Bool) → (part.core == c) ≡ b → unwrap_or (cond b (Some (new_context part.config (start_of system.threads number))) None) no_server ≡ new_context part.config (start_of system.threads (number + 0))
+    by true f = ap (λ n. new_context part.config (start_of system.threads n)) (omega arith)
+    by false f = absurd (own part.core c e f)
+opening-at system c number (part ∷ parts) (suc i) l e =
+    opening-at system c (number + 1) parts i (omega arith) e ∙ ap (λ n. new_context (get_or parts i no_context).config (start_of system.threads n)) (omega arith)
 
-kept_after : (budget period most : ℕ) (steps : List Step) (dates : List ℕ) → AreKept budget period dates → AreProper steps → AreKept budget period (dates_after period most steps dates)
-unfolding dates_after
-kept_after budget period most [] dates h p = h
-kept_after budget period most (step ∷ steps) dates h p = kept_after budget period most steps (stepped period most step dates) (kept-step budget period most step dates p.0 h) p.1
+module _ (system : System) (takes_time : TakesTime system) (budgets : told.GivesBudgets system) (x : ℕ) (on : told.IsOnACore system x) where
+  abbrev home : ℕ
+  home = told.home_of system x
 
-module _ (system : System) (takes_time : TakesTime system) (c context : ℕ) (known : c < system.cores) (unordered : used.IsUnordered system context) where
   abbrev before : ℕ → Core
-  before n = used.core_before system c n
+  before t = told.home_before system x t
 
-  abbrev rows_before : ℕ → List What
-  rows_before n = flat_map (λ m. (clocks.turn_of system c m).rows) (range_with_len 0 n)
+  abbrev least : ℕ
+  least = system.min_budget
 
-  core-next : (n : ℕ) → before (suc n) ≡ (clocks.turn_of system c n).core
-  core-next n = core_at-world system takes_time n c known
+  abbrev first : Context
+  first = told.opening_context system x
 
-  pub history : (n : ℕ) → History system c context n
-  history zero = record { steps = []; many = refl; after = λ l. refl; told = refl }
-  history (suc n) = more (history n) (traces.turn-traced by_priority system c n context unordered (filter (clocks.arrives_at system n c) (clocks.world system n).mails) (before n))
+  before-first : before 0 ≡ opening_core system home
+  before-first = get_or-map-range_with_len (opening_core system) 0 system.cores home home (opening_core system home) on.home (omega arith)
+
+  before-next : (t : ℕ) → before (suc t) ≡ (clocks.turn_of system home t).core
+  before-next t = core_at-world system takes_time t home on.home
+
+  abbrev Uses : ℕ → Option Chosen → Context → Type 0
+  Uses t = traces.Uses by_priority system home t x 0 1
+
+  -- all that is known before moment t
+  record Life (t : ℕ) : Type 0 where
+    many : length (before t).contexts ≡ length system.contexts
+    history : told.History system x t
+    uses : Uses t (before t).running (context_of (before t) x)
+
+  keeps : (t : ℕ) → Life t → KeepsItsBudget (context_of (before t) x)
+  keeps t life =
+      rw life.history.after
+      (keeps-changes least life.history.changes first (keeps-new _ (start_of system.threads x) (budgets.contexts x no_context on.known)) life.history.sound)
+
+  abbrev row_list : ℕ → List What
+  row_list t = (clocks.turn_of system home t).rows
+
+  idle : (k : Core) → k ≡ opening_core system home → Uses 0 k.running (context_of k x)
+  idle k e = rw e tt
+
+  life : (t : ℕ) → Life t
+  life zero =
+      record {
+        many = ap (λ (k : Core). length k.contexts) before-first ∙ opening-many system home 0 system.contexts;
+        history = record {
+          changes = [];
+          after = ap (λ (k : Core). context_of k x) before-first ∙ opening-at system home 0 system.contexts x on.known refl
+              ∙ ap (λ n. new_context (context_part system x).config (start_of system.threads n)) (omega arith);
+          sound = tt;
+          charges = refl;
+          orders = refl;
+        };
+        uses = idle (before 0) before-first;
+      }
+  life (suc t) = next (life t) (traces.turn-traced by_priority system home t x (by_recursion (λ (order : Order). IsBudget order.config) system.orders budgets.orders) (filter (clocks.arrives_at system t home) (clocks.world system t).mails) (before t))
     where
-      both : (xs ys us vs : List ℕ) → xs ≡ ys → us ≡ vs → xs ++ us ≡ ys ++ vs
+      both : {A : Type 0} (xs ys us vs : List A) → xs ≡ ys → us ≡ vs → xs ++ us ≡ ys ++ vs
       both xs ys us vs p q = cc
 
-      more : History system c context n → Traced by_priority system c n context (before n) (clocks.turn_of system c n) → History system c context (suc n)
-      more h s = record {
-        steps = h.steps ++ s.steps;
-        many = ap (λ (k : Core). length k.contexts) (core-next n) ∙ s.many ∙ h.many;
-        after = λ l. ap (λ k. context_of k context) (core-next n) ∙ s.after (rw h.many l) ∙ ap (context_after s.steps) (h.after l)
-            ∙ sym (traces.context_after-append h.steps s.steps (context_of (before 0) context));
-        told = ap (charges_told system context) (flat_map-moments-more (λ m. (clocks.turn_of system c m).rows) n)
-            ∙ traces.told-append by_priority system c n context (rows_before n) (clocks.turn_of system c n).rows
-            ∙ both _ _ _ _ h.told s.told
-            ∙ sym (traces.charges_of-append h.steps s.steps);
-      }
+      moved : (a b : Core) → a ≡ b → Uses (suc t) b.running (context_of b x) → Uses (suc t) a.running (context_of a x)
+      moved a b e p = rw e p
 
-pub histories : (system : System) → TakesTime system → used.HasHistories system
-histories system takes_time c context n known unordered = history system takes_time c context known unordered n
+      next : Life t → traces.Traced by_priority system home t x (Uses t) (Uses t) (told.orders_at system x t) (before t) (clocks.turn_of system home t) → Life (suc t)
+      next l s =
+          let h = l.history in
+          let known : x < length (before t).contexts = rw l.many on.known in
+          record {
+            many = ap (λ (k : Core). length k.contexts) (before-next t) ∙ s.many ∙ l.many;
+            history = record {
+              changes = h.changes ++ s.changes;
+              after = ap (λ (k : Core). context_of k x) (before-next t) ∙ s.after known ∙ ap (changed_by least s.changes) h.after
+                  ∙ sym (changed_by-append least h.changes s.changes first);
+              sound = sound-append least h.changes s.changes first h.sound
+                  (carry (AreSound least s.changes) (context_of (before t) x) (changed_by least h.changes first) h.after (s.sound known (keeps t l) l.uses));
+              charges = flat_map-moments-more (λ m. told.charges_told system x (row_list m)) t ∙ both _ _ _ _ h.charges s.told ∙ sym (charges_of-append h.changes s.changes);
+              orders = flat_map-moments-more (told.orders_at system x) t ∙ both _ _ _ _ h.orders s.ordered ∙ sym (orders_of-append h.changes s.changes);
+            };
+            uses = moved (before (suc t)) (clocks.turn_of system home t).core (before-next t) (s.runs known (keeps t l) l.uses);
+          }
 
-pub contexts-spaced : (system : System) → TakesTime system → used.ContextsAreSpaced system
-contexts-spaced system takes_time c context n budget config dates known unordered l e kept some =
-    let h = history system takes_time c context known unordered n in
-    let some_told : AllByRecursion (λ k. 1 ≤ k) (charges_of h.steps) = rw h.told at some in
-    let proper = proper_from h.steps some_told in
+  uses_less : (o : Option Chosen) (k : Context) (t : ℕ) → Uses t o k → told.UsesLess system x o k
+  uses_less None k t p = tt
+  uses_less (Some chosen) k t p = λ own. omega (arith, (p own).1)
+
+pub histories : (system : System) → TakesTime system → told.GivesBudgets system → told.ContextsHaveHistories system
+histories system takes_time budgets x t on = (life system takes_time budgets x on t).history
+
+pub budgets-kept : (system : System) → TakesTime system → told.GivesBudgets system → told.ContextsHaveTheirBudgets system
+budgets-kept system takes_time budgets x t on =
+    let l = life system takes_time budgets x on t in
     record {
-      steps = h.steps;
-      told = h.told;
-      now = dates_after config.period (max_refills_of config) h.steps dates;
-      has = h.after l ∙ ap (context_after h.steps) e ∙ context_after-dates h.steps config dates;
-      kept = kept_after budget config.period (max_refills_of config) h.steps dates kept proper;
-      spaced = consumed-spaced budget config.period (max_refills_of config) h.steps dates kept proper;
+      keeps = keeps system takes_time budgets x on t l;
+      uses = uses_less system takes_time budgets x on (told.home_before system x t).running (told.context_before system x t) t l.uses;
+    }
+
+-- a well-formed system: its signals take time, and its configurations give budgets
+pub takes-time : (system : System) → IsWellFormed system → TakesTime system
+takes-time system well maker home = well.delay.0
+
+pub gives-budgets : (system : System) → IsWellFormed system → told.GivesBudgets system
+gives-budgets system well =
+    record {
+      contexts = λ k d l. accepted-gives system.min_budget _ (well.contexts k d l).accepted;
+      orders = λ k d l. accepted-gives system.min_budget _ (well.orders k d l).accepted;
     }

@@ -1,5 +1,7 @@
 pub mod Ranges
 pub mod UnderWay
 pub mod Disciplines
+pub mod Kept
 pub mod Traces
 pub mod Histories
+pub mod Spaced

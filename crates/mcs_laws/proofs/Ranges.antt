@@ -1,7 +1,7 @@
--- Lists over ranges of moments.
-use Rattle.std.proofs.Common.{◌≡◌, ℕ, zero, suc, ◌+◌, List, ◌++◌, sym, ap, ◌∙◌, append-nil, append_assoc, arith}
-use Rattle.std.specs.Prelude.{flat_map}
-use Rattle.std.specs.List.{range_with_len}
+-- Lists over ranges of moments, and what holds of each element of a list.
+use Rattle.std.proofs.Common.{◌≡◌, ℕ, zero, suc, ◌+◌, List, [], ◌∷◌, ◌++◌, sym, ap, ◌∙◌, append-nil, append_assoc, arith}
+use Rattle.std.specs.Prelude.{flat_map, All}
+use Rattle.std.specs.List.{range_with_len, AllByRecursion}
 
 -- one more moment
 pub flat_map-range-more : {A : Type 0} (f : ℕ → List A) (n a : ℕ) → flat_map f (range_with_len a (suc n)) ≡ flat_map f (range_with_len a n) ++ f (a + n)
@@ -14,3 +14,8 @@ flat_map-range-more f (suc n) a =
 -- the same from 0 on
 pub flat_map-moments-more : {A : Type 0} (f : ℕ → List A) (n : ℕ) → flat_map f (range_with_len 0 (suc n)) ≡ flat_map f (range_with_len 0 n) ++ f n
 flat_map-moments-more f n = flat_map-range-more f n 0 ∙ ap (λ m. flat_map f (range_with_len 0 n) ++ f m) (omega arith)
+
+-- what holds at each place holds of each element in turn
+pub by_recursion : {A : Type 0} (P : A → Type 0) (xs : List A) → All P xs → AllByRecursion P xs
+by_recursion P [] h = tt
+by_recursion P (x ∷ xs) h = (h 0 x (omega arith), by_recursion P xs (λ k d l. h (suc k) d (omega arith)))

@@ -1,21 +1,19 @@
--- What turns do to a context that no order names: charges, which are those that the rows tell, and unblocking.
-use Rattle.std.proofs.Common.{◌≡◌, ◌≢◌, ℕ, ◌+◌, ◌<◌, Bool, true, false, cond, List, [], ◌∷◌, ◌++◌, length, set, get_or, Option, Some, None, refl, sym, ap, ◌∙◌, arith}
-use Rattle.std.specs.Prelude.{filter, ◌==◌, nat_lt, unwrap_or}
+-- What turns do to a context: charges, which are those that the rows tell, unblocking, and orders.
+use Rattle.std.proofs.Common.{◌≡◌, ◌≢◌, ℕ, ◌+◌, ◌<◌, ◌≤◌, Bool, true, false, not, cond, List, [], ◌∷◌, ◌++◌, length, set, get_or, Option, Some, None, refl, sym, ap, ◌∙◌, append-nil, arith}
+use Rattle.std.specs.Prelude.{filter, ◌==◌, ◌&&◌, nat_lt, unwrap_or}
 use Rattle.std.specs.List.{AllByRecursion}
 use Rattle.std.proofs.lemmas.Bool.Decides.{nat_tests}
 use Rattle.std.proofs.lemmas.List.{get_or-set_same, get_or-set_other}
 use Rattle.std.proofs.lemmas.List.Concat.{flat_map-append}
+use Rattle.std.proofs.lemmas.List.Elements.{filter-append}
 use Rattle.std.proofs.Math.ListN.{length-set}
 use Rattle.mcs_ticks.specs.Queue.{Discipline}
 use Rattle.mcs_ticks.specs.declared.queue.Queued.{Queued}
-use Rattle.mcs_ticks.specs.declared.row.What.{What}
 use Rattle.mcs_ticks.specs.declared.row.What.TheVariants as row
 use Rattle.mcs_ticks.specs.declared.row.Why.{Why}
 use Rattle.mcs_ticks.specs.declared.row.Why.TheVariants as why
-use Rattle.mcs_refills.specs.Spacing.{Step}
-use Rattle.mcs_refills.specs.Spacing.Step.{Charge, Unblock}
 use Rattle.mcs_control.specs.declared.config.Order.{Order}
-use Rattle.mcs_control.specs.Context.{Context, head_amount, context_charged, context_unblocked}
+use Rattle.mcs_control.specs.Context.{Context, head_amount, context_charged, context_unblocked, context_ordered}
 use Rattle.mcs_notify.specs.Note.{posted, after_post, waited, after_wait}
 use Rattle.mcs_notify.specs.declared.posted.Posted.{Posted}
 use Rattle.mcs_notify.specs.declared.posted.Posted.TheVariants.{Woke, Held}
@@ -26,294 +24,601 @@ use Rattle.mcs_script.specs.declared.item.Item.TheVariants.{Compute, Signal, Wai
 use Rattle.mcs_script.specs.declared.moved.Moved.{Moved}
 use Rattle.mcs_script.specs.declared.moved.Moved.TheVariants.{Next, RoundEnds, AllDone}
 use Rattle.mcs_mail.specs.declared.mail.Mail.{Mail}
-use Rattle.mcs_core.specs.System.{System, note_part, thread_part}
-use Rattle.mcs_core.specs.Core.{Core, context_of, note_of, thread_of, with_note, no_server}
+use Rattle.mcs_core.specs.System.{System, note_part, thread_part, context_part}
+use Rattle.mcs_core.specs.Core.{Core, context_of, note_of, thread_of, with_note, no_server, off}
 use Rattle.mcs_core.specs.declared.standing.Chosen.{Chosen}
 use Rattle.mcs_release.specs.declared.dated.Dated.{Dated}
 use Rattle.mcs_core.specs.declared.standing.Standing.{Standing}
-use Rattle.mcs_laws.specs.Consumed.{context_after, charges_of, charge_told, charges_told}
-use Rattle.mcs_core.specs.Core as cores
 use Rattle.mcs_core.specs.Turn as turns
-use Rattle.mcs_core.specs.Turn.{Turn, each, silent, says, ◌followed_by◌}
+use Rattle.mcs_core.specs.Turn.{Turn, each, silent, says, ◌followed_by◌, is_for_now}
+use Rattle.mcs_laws.specs.Changes.{Change, charges_of, orders_of, IsBudget, KeepsItsBudget, changed_by, AreSound}
+use Rattle.mcs_laws.specs.Changes.Change.{Charged, Unblocked, Ordered}
+use Rattle.mcs_laws.specs.Histories.{charge_told, charges_told, is_order_for}
+use Rattle.mcs_laws.proofs.Kept.{head_amount-unblocked, head_amount-some, keeps-changes, changed_by-append, sound-append}
 
-pub context_after-append : (xs ys : List Step) (k : Context) → context_after (xs ++ ys) k ≡ context_after ys (context_after xs k)
-context_after-append [] ys k = refl
-context_after-append (Charge n least ∷ xs) ys k = context_after-append xs ys (context_charged n least k)
-context_after-append (Unblock t ∷ xs) ys k = context_after-append xs ys (context_unblocked t k)
+-- whether two numbers are equal
+data Same (a b : ℕ) : Type 0 where
+  Are : (a == b) ≡ true → a ≡ b → Same a b
+  Differ : (a == b) ≡ false → a ≢ b → Same a b
 
-pub charges_of-append : (xs ys : List Step) → charges_of (xs ++ ys) ≡ charges_of xs ++ charges_of ys
-charges_of-append [] ys = refl
-charges_of-append (Charge n least ∷ xs) ys = ap (λ ks. n ∷ ks) (charges_of-append xs ys)
-charges_of-append (Unblock t ∷ xs) ys = charges_of-append xs ys
+same : (a b : ℕ) → Same a b
+same a b = by (a == b) refl
+  where
+    by : (e : Bool) → (a == b) ≡ e → Same a b
+    by true e = Are e (grind (arith, nat_tests))
+    by false e = Differ e (grind (arith, nat_tests))
 
-module _ (queue : Discipline) (system : System) (c t context : ℕ) where
-  pub told-append : (xs ys : List What) → charges_told system context (xs ++ ys) ≡ charges_told system context xs ++ charges_told system context ys
-  told-append xs ys = flat_map-append (charge_told system context) xs ys
+pub carry : (P : Context → Type 0) (a b : Context) → a ≡ b → P a → P b
+carry P a b e p = rw (sym e) p
 
-  -- the part's steps on the context
-  pub record Traced (core : Core) (made : Turn) : Type 0 where
-    pub steps : List Step
+-- a context that is set, and the others
+set-same : (x n : ℕ) (contexts : List (Option Context)) (k : Context) → n ≡ x → x < length contexts → unwrap_or (get_or (set contexts n (Some k)) x None) no_server ≡ k
+set-same x n contexts k e l =
+    ap (λ m. unwrap_or (get_or (set contexts m (Some k)) x None) no_server) e ∙ ap (λ o. unwrap_or o no_server) (get_or-set_same contexts x (Some k) None l)
+
+set-other : (x n : ℕ) (contexts : List (Option Context)) (k : Context) → n ≢ x → unwrap_or (get_or (set contexts n (Some k)) x None) no_server ≡ unwrap_or (get_or contexts x None) no_server
+set-other x n contexts k e = ap (λ o. unwrap_or o no_server) (get_or-set_other contexts n x (Some k) None (λ f. e (sym f)))
+
+pub orders_of-append : (xs ys : List Change) → orders_of (xs ++ ys) ≡ orders_of xs ++ orders_of ys
+orders_of-append xs ys = flat_map-append _ xs ys
+
+pub charges_of-append : (xs ys : List Change) → charges_of (xs ++ ys) ≡ charges_of xs ++ charges_of ys
+charges_of-append xs ys = flat_map-append _ xs ys
+
+module _ (queue : Discipline) (system : System) (c t x : ℕ) where
+  abbrev least : ℕ
+  least = system.min_budget
+
+  -- the thread is bound to the context
+  abbrev pub Own : ℕ → Type 0
+  Own y = (thread_part system y).context ≡ x
+
+  abbrev pub holds : (Option Chosen → Context → Type 0) → Core → Type 0
+  holds P core = P core.running (context_of core x)
+
+  -- the running thread, where it is its own, has used at least so much, and so much less than the head at most
+  abbrev pub Uses : ℕ → ℕ → Option Chosen → Context → Type 0
+  Uses low gap None context = Unit {0}
+  Uses low gap (Some chosen) context = Own chosen.thread → (low ≤ chosen.using) × (chosen.using + gap ≤ head_amount context)
+
+  -- what a part of a turn does to the context; P is known of the running thread before it, and Q after it
+  pub record Traced (P Q : Option Chosen → Context → Type 0) (obeyed : List Order) (core : Core) (made : Turn) : Type 0 where
+    pub changes : List Change
     pub many : length made.core.contexts ≡ length core.contexts
-    pub after : context < length core.contexts → context_of made.core context ≡ context_after steps (context_of core context)
-    pub told : charges_told system context made.rows ≡ charges_of steps
+    pub after : x < length core.contexts → context_of made.core x ≡ changed_by least changes (context_of core x)
+    pub told : charges_told system x made.rows ≡ charges_of changes
+    pub ordered : obeyed ≡ orders_of changes
+    pub sound : x < length core.contexts → KeepsItsBudget (context_of core x) → holds P core → AreSound least changes (context_of core x)
+    pub runs : x < length core.contexts → KeepsItsBudget (context_of core x) → holds P core → holds Q made.core
 
-  same-context : (a b : Core) → a.contexts ≡ b.contexts → context_of a context ≡ context_of b context
-  same-context a b e = ap (λ cs. unwrap_or (get_or cs context None) no_server) e
-
-  plain : (core : Core) (made : Turn) → made.core.contexts ≡ core.contexts → charges_told system context made.rows ≡ [] → Traced core made
-  plain core made e f = record { steps = []; many = ap length e; after = λ l. same-context made.core core e; told = f }
-
-  as_from : (a b : Core) (made : Turn) → a.contexts ≡ b.contexts → Traced a made → Traced b made
-  as_from a b made e h =
-      record { steps = h.steps; many = h.many ∙ ap length e; after = λ l. h.after (rw (ap length e) l) ∙ ap (context_after h.steps) (same-context a b e); told = h.told }
-
-  as_made : (core : Core) (first made : Turn) → length made.core.contexts ≡ length first.core.contexts → context_of made.core context ≡ context_of first.core context → made.rows ≡ first.rows → Traced core first → Traced core made
-  as_made core first made e f g h =
-      record { steps = h.steps; many = e ∙ h.many; after = λ l. f ∙ h.after l; told = ap (charges_told system context) g ∙ h.told }
-
-  then_part : (core : Core) (first : Turn) (part : Core → Turn) → Traced core first → ((k : Core) → Traced k (part k)) → Traced core (first followed_by part)
-  then_part core first part f h =
-      let s = h first.core in
+  plain : (P Q : Option Chosen → Context → Type 0) (core : Core) (made : Turn) → made.core.contexts ≡ core.contexts → charges_told system x made.rows ≡ [] →
+      (KeepsItsBudget (context_of core x) → holds P core → holds Q made.core) → Traced P Q [] core made
+  plain P Q core made e f h =
       record {
-        steps = f.steps ++ s.steps;
+        changes = [];
+        many = ap length e;
+        after = λ l. ap (λ cs. unwrap_or (get_or cs x None) no_server) e;
+        told = f;
+        ordered = refl;
+        sound = λ l k p. tt;
+        runs = λ l k p. h k p;
+      }
+
+  -- a part that says nothing of the context and leaves it and the running thread
+  still : (P : Option Chosen → Context → Type 0) (core : Core) (made : Turn) → made.core.contexts ≡ core.contexts → made.core.running ≡ core.running → charges_told system x made.rows ≡ [] → Traced P P [] core made
+  still P core made e g f = plain P P core made e f (λ k p. both _ _ _ _ (sym g) (sym e) p)
+    where
+      both : (a b : Option Chosen) (us vs : List (Option Context)) → a ≡ b → us ≡ vs → P a (unwrap_or (get_or us x None) no_server) → P b (unwrap_or (get_or vs x None) no_server)
+      both a b us vs e f p = rw (sym e, sym f) p
+
+  -- one part, and then another
+  then_made : (P Q R : Option Chosen → Context → Type 0) (os us : List Order) (core : Core) (first : Turn) (part : Core → Turn) →
+      Traced P Q os core first → Traced Q R us first.core (part first.core) → Traced P R (os ++ us) core (first followed_by part)
+  then_made P Q R os us core first part f s =
+      record {
+        changes = f.changes ++ s.changes;
         many = s.many ∙ f.many;
-        after = λ l. s.after (rw f.many l) ∙ ap (context_after s.steps) (f.after l) ∙ sym (context_after-append f.steps s.steps (context_of core context));
-        told = told-append first.rows (part first.core).rows ∙ both _ _ _ _ f.told s.told ∙ sym (charges_of-append f.steps s.steps);
+        after = λ l. s.after (within l) ∙ ap (changed_by least s.changes) (f.after l) ∙ sym (changed_by-append least f.changes s.changes (context_of core x));
+        told = flat_map-append (charge_told system x) first.rows (part first.core).rows ∙ both _ _ _ _ f.told s.told ∙ sym (charges_of-append f.changes s.changes);
+        ordered = joined _ _ _ _ f.ordered s.ordered ∙ sym (orders_of-append f.changes s.changes);
+        sound = λ l k p. sound-append least f.changes s.changes (context_of core x) (f.sound l k p)
+            (carry (AreSound least s.changes) (context_of first.core x) (changed_by least f.changes (context_of core x)) (f.after l) (s.sound (within l) (kept l k p) (f.runs l k p)));
+        runs = λ l k p. s.runs (within l) (kept l k p) (f.runs l k p);
       }
     where
-      both : (xs ys us vs : List ℕ) → xs ≡ ys → us ≡ vs → xs ++ us ≡ ys ++ vs
-      both xs ys us vs p q = cc
+      both : (xs ys zs ws : List ℕ) → xs ≡ ys → zs ≡ ws → xs ++ zs ≡ ys ++ ws
+      both xs ys zs ws p q = cc
 
-  cond-traced : (b : Bool) (core : Core) (x y : Turn) → Traced core x → Traced core y → Traced core (cond b x y)
-  cond-traced true core x y p q = p
-  cond-traced false core x y p q = q
+      joined : (xs ys zs ws : List Order) → xs ≡ ys → zs ≡ ws → xs ++ zs ≡ ys ++ ws
+      joined xs ys zs ws p q = cc
 
-  each-traced : {A : Type 0} (part : A → Core → Turn) → ((x : A) (k : Core) → Traced k (part x k)) → (xs : List A) (core : Core) → Traced core (each part xs core)
-  each-traced part h [] core = plain core _ refl refl
-  each-traced part h (x ∷ xs) core = then_part core (part x core) (each part xs) (h x core) (λ k. each-traced part h xs k)
+      within : x < length core.contexts → x < length first.core.contexts
+      within l = rw f.many l
 
-  -- a charge that a stop tells
-  charging : (y k : ℕ) (cause : Why) (until : Option ℕ) (core : Core) (made : Turn) →
-      made.core.contexts ≡ (turns.charged system y k core).contexts → made.rows ≡ row.Stop y cause k until ∷ [] → Traced core made
-  charging y k cause until core made e f = by ((thread_part system y).context == context) refl
+      kept : x < length core.contexts → KeepsItsBudget (context_of core x) → holds P core → KeepsItsBudget (context_of first.core x)
+      kept l k p = carry KeepsItsBudget (changed_by least f.changes (context_of core x)) (context_of first.core x) (sym (f.after l)) (keeps-changes least f.changes (context_of core x) k (f.sound l k p))
+
+  then_part : (P Q R : Option Chosen → Context → Type 0) (os us : List Order) (core : Core) (first : Turn) (part : Core → Turn) →
+      Traced P Q os core first → ((k : Core) → Traced Q R us k (part k)) → Traced P R (os ++ us) core (first followed_by part)
+  then_part P Q R os us core first part f h = then_made P Q R os us core first part f (h first.core)
+
+  by_test : (P Q : Option Chosen → Context → Type 0) (os : List Order) (b : Bool) (core : Core) (u v : Turn) → Traced P Q os core u → Traced P Q os core v → Traced P Q os core (cond b u v)
+  by_test P Q os true core u v p q = p
+  by_test P Q os false core u v p q = q
+
+  each_part : (P : Option Chosen → Context → Type 0) {A : Type 0} (part : A → Core → Turn) → ((y : A) (k : Core) → Traced P P [] k (part y k)) → (ys : List A) (core : Core) → Traced P P [] core (each part ys core)
+  each_part P part h [] core = still P core (silent core) refl refl refl
+  each_part P part h (y ∷ ys) core = then_part P P P [] [] core (part y core) (each part ys) (h y core) (λ k. each_part P part h ys k)
+
+  -- a charge that a stop tells, after which nobody runs
+  charging : (P Q : Option Chosen → Context → Type 0) (y k : ℕ) (cause : Why) (until : Option ℕ) (core : Core) (made : Turn) →
+      made.core.contexts ≡ (turns.charged system y k core).contexts → made.rows ≡ row.Stop y cause k until ∷ [] →
+      (Own y → KeepsItsBudget (context_of core x) → holds P core → (1 ≤ k) × (k ≤ head_amount (context_of core x))) →
+      holds Q made.core → Traced P Q [] core made
+  charging P Q y k cause until core made e f h q = by (same (thread_part system y).context x)
     where
-      told_is : (b : Bool) → ((thread_part system y).context == context) ≡ b → charges_told system context made.rows ≡ cond b (k ∷ []) [] ++ []
-      told_is b g = ap (charges_told system context) f ∙ ap (λ u. cond u (k ∷ []) [] ++ []) g
+      n : ℕ
+      n = (thread_part system y).context
+
+      told_is : (b : Bool) → (n == x) ≡ b → charges_told system x made.rows ≡ cond b (k ∷ []) [] ++ []
+      told_is b g = ap (charges_told system x) f ∙ ap (λ u. cond u (k ∷ []) [] ++ []) g
 
       many_is : length made.core.contexts ≡ length core.contexts
-      many_is = ap length e ∙ length-set core.contexts (thread_part system y).context (Some (context_charged k system.min_budget (turns.its_context system y core)))
+      many_is = ap length e ∙ length-set core.contexts n (Some (context_charged k least (turns.its_context system y core)))
 
-      same : (thread_part system y).context ≡ context → context < length core.contexts → context_of made.core context ≡ context_charged k system.min_budget (context_of core context)
-      same g l =
-          ap (λ cs. unwrap_or (get_or cs context None) no_server) e
-          ∙ ap (λ n. unwrap_or (get_or (set core.contexts n (Some (context_charged k system.min_budget (context_of core n)))) context None) no_server) g
-          ∙ ap (λ o. unwrap_or o no_server) (get_or-set_same core.contexts context (Some (context_charged k system.min_budget (context_of core context))) None l)
+      now : context_of made.core x ≡ unwrap_or (get_or (set core.contexts n (Some (context_charged k least (turns.its_context system y core)))) x None) no_server
+      now = ap (λ cs. unwrap_or (get_or cs x None) no_server) e
 
-      other : context ≢ (thread_part system y).context → context_of made.core context ≡ context_of core context
-      other g =
-          ap (λ cs. unwrap_or (get_or cs context None) no_server) e
-          ∙ ap (λ o. unwrap_or o no_server) (get_or-set_other core.contexts (thread_part system y).context context (Some (context_charged k system.min_budget (turns.its_context system y core))) None g)
+      by : Same n x → Traced P Q [] core made
+      by (Are g s) = record {
+        changes = Charged k ∷ [];
+        many = many_is;
+        after = λ l. now ∙ set-same x n core.contexts (context_charged k least (turns.its_context system y core)) s l ∙ ap (λ m. context_charged k least (context_of core m)) s;
+        told = told_is true g;
+        ordered = refl;
+        sound = λ l kept p. (h s kept p, tt);
+        runs = λ l kept p. q;
+      }
+      by (Differ g s) = record {
+        changes = [];
+        many = many_is;
+        after = λ l. now ∙ set-other x n core.contexts (context_charged k least (turns.its_context system y core)) s;
+        told = told_is false g;
+        ordered = refl;
+        sound = λ l kept p. tt;
+        runs = λ l kept p. q;
+      }
 
-      by : (b : Bool) → ((thread_part system y).context == context) ≡ b → Traced core made
-      by true g =
-          let h : (thread_part system y).context ≡ context = grind (arith, nat_tests) in
-          record { steps = Charge k system.min_budget ∷ []; many = many_is; after = λ l. same h l; told = told_is true g }
-      by false g =
-          let h : context ≢ (thread_part system y).context = grind (arith, nat_tests) in
-          record { steps = []; many = many_is; after = λ l. other h; told = told_is false g }
-
-  -- unblocking
-  unblocking : (y : ℕ) (core : Core) (made : Turn) →
-      made.core.contexts ≡ (turns.with_its_context system y (context_unblocked t (turns.its_context system y core)) core).contexts → charges_told system context made.rows ≡ [] → Traced core made
-  unblocking y core made e f = by ((thread_part system y).context == context) refl
+  -- unblocking, which leaves the running thread as it was
+  unblocking : (P : Option Chosen → Context → Type 0) → ((o : Option Chosen) (k : Context) → P o k → P o (context_unblocked t k)) → (y : ℕ) (core : Core) (made : Turn) →
+      made.core.contexts ≡ (turns.unblocked queue system t y core).contexts → made.core.running ≡ core.running → charges_told system x made.rows ≡ [] → Traced P P [] core made
+  unblocking P steady y core made e g f = by (same (thread_part system y).context x)
     where
+      n : ℕ
+      n = (thread_part system y).context
+
       many_is : length made.core.contexts ≡ length core.contexts
-      many_is = ap length e ∙ length-set core.contexts (thread_part system y).context (Some (context_unblocked t (turns.its_context system y core)))
+      many_is = ap length e ∙ length-set core.contexts n (Some (context_unblocked t (turns.its_context system y core)))
 
-      same : (thread_part system y).context ≡ context → context < length core.contexts → context_of made.core context ≡ context_unblocked t (context_of core context)
-      same g l =
-          ap (λ cs. unwrap_or (get_or cs context None) no_server) e
-          ∙ ap (λ n. unwrap_or (get_or (set core.contexts n (Some (context_unblocked t (context_of core n)))) context None) no_server) g
-          ∙ ap (λ o. unwrap_or o no_server) (get_or-set_same core.contexts context (Some (context_unblocked t (context_of core context))) None l)
+      now : context_of made.core x ≡ unwrap_or (get_or (set core.contexts n (Some (context_unblocked t (turns.its_context system y core)))) x None) no_server
+      now = ap (λ cs. unwrap_or (get_or cs x None) no_server) e
 
-      other : context ≢ (thread_part system y).context → context_of made.core context ≡ context_of core context
-      other g =
-          ap (λ cs. unwrap_or (get_or cs context None) no_server) e
-          ∙ ap (λ o. unwrap_or o no_server) (get_or-set_other core.contexts (thread_part system y).context context (Some (context_unblocked t (turns.its_context system y core))) None g)
+      moved : (o u : Option Chosen) (a b : Context) → u ≡ o → b ≡ a → P o a → P u b
+      moved o u a b p q r = rw (p, q) r
 
-      by : (b : Bool) → ((thread_part system y).context == context) ≡ b → Traced core made
-      by true g =
-          let h : (thread_part system y).context ≡ context = grind (arith, nat_tests) in
-          record { steps = Unblock t ∷ []; many = many_is; after = λ l. same h l; told = f }
-      by false g =
-          let h : context ≢ (thread_part system y).context = grind (arith, nat_tests) in
-          record { steps = []; many = many_is; after = λ l. other h; told = f }
+      by : Same n x → Traced P P [] core made
+      by (Are d s) =
+          let unblocked : x < length core.contexts → context_of made.core x ≡ context_unblocked t (context_of core x) =
+          λ l. now ∙ set-same x n core.contexts (context_unblocked t (turns.its_context system y core)) s l ∙ ap (λ m. context_unblocked t (context_of core m)) s in
+          record {
+            changes = Unblocked t ∷ [];
+            many = many_is;
+            after = unblocked;
+            told = f;
+            ordered = refl;
+            sound = λ l kept p. (tt, tt);
+            runs = λ l kept p. moved core.running made.core.running (context_unblocked t (context_of core x)) (context_of made.core x) g (unblocked l) (steady core.running (context_of core x) p);
+          }
+      by (Differ d s) =
+          let left : context_of made.core x ≡ context_of core x = now ∙ set-other x n core.contexts (context_unblocked t (turns.its_context system y core)) s in
+          record {
+            changes = [];
+            many = many_is;
+            after = λ l. left;
+            told = f;
+            ordered = refl;
+            sound = λ l kept p. tt;
+            runs = λ l kept p. moved core.running made.core.running (context_of core x) (context_of made.core x) g left p;
+          }
+
+  -- an order, of this moment
+  ordering : (P Q : Option Chosen → Context → Type 0) (order : Order) (core : Core) (made : Turn) → order.moment ≡ t → IsBudget order.config →
+      made.core.contexts ≡ (turns.applied queue system t order core).contexts → charges_told system x made.rows ≡ [] →
+      ((order.context ≢ x → context_of made.core x ≡ context_of core x) → holds P core → holds Q made.core) →
+      Traced P Q (filter (is_order_for x) (order ∷ [])) core made
+  ordering P Q order core made m budget e f h = by (same order.context x)
+    where
+      n : ℕ
+      n = order.context
+
+      many_is : length made.core.contexts ≡ length core.contexts
+      many_is = ap length e ∙ length-set core.contexts n (Some (context_ordered t order.config (context_of core n)))
+
+      now : context_of made.core x ≡ unwrap_or (get_or (set core.contexts n (Some (context_ordered t order.config (context_of core n)))) x None) no_server
+      now = ap (λ cs. unwrap_or (get_or cs x None) no_server) e
+
+      left : n ≢ x → context_of made.core x ≡ context_of core x
+      left s = now ∙ set-other x n core.contexts (context_ordered t order.config (context_of core n)) s
+
+      obeyed : (b : Bool) → (n == x) ≡ b → filter (is_order_for x) (order ∷ []) ≡ cond b (order ∷ []) []
+      obeyed b g = ap (λ u. cond u (order ∷ []) []) g
+
+      by : Same n x → Traced P Q (filter (is_order_for x) (order ∷ [])) core made
+      by (Are g s) = record {
+        changes = Ordered order ∷ [];
+        many = many_is;
+        after = λ l. now ∙ set-same x n core.contexts (context_ordered t order.config (context_of core n)) s l
+            ∙ ap (λ i. context_ordered t order.config (context_of core i)) s ∙ ap (λ u. context_ordered u order.config (context_of core x)) (sym m);
+        told = f;
+        ordered = obeyed true g;
+        sound = λ l kept p. (budget, tt);
+        runs = λ l kept p. h left p;
+      }
+      by (Differ g s) = record {
+        changes = [];
+        many = many_is;
+        after = λ l. left s;
+        told = f;
+        ordered = obeyed false g;
+        sound = λ l kept p. tt;
+        runs = λ l kept p. h left p;
+      }
+
+  -- a part that is made otherwise but does the same to the context
+  as_made : (P Q R : Option Chosen → Context → Type 0) (os : List Order) (core : Core) (first made : Turn) → made.core.contexts ≡ first.core.contexts →
+      charges_told system x made.rows ≡ charges_told system x first.rows → holds R made.core → Traced P Q os core first → Traced P R os core made
+  as_made P Q R os core first made e f r h =
+      record {
+        changes = h.changes;
+        many = ap length e ∙ h.many;
+        after = λ l. ap (λ cs. unwrap_or (get_or cs x None) no_server) e ∙ h.after l;
+        told = f ∙ h.told;
+        ordered = h.ordered;
+        sound = h.sound;
+        runs = λ l kept p. r;
+      }
 
   enters_back-same : (y : ℕ) (o : Option ℕ) (core : Core) → (turns.enters_back queue system y o core).contexts ≡ core.contexts
   enters_back-same y (Some date) core = refl
   enters_back-same y None core = refl
 
+  enters_back-running : (y : ℕ) (o : Option ℕ) (core : Core) → (turns.enters_back queue system y o core).running ≡ core.running
+  enters_back-running y (Some date) core = refl
+  enters_back-running y None core = refl
+
   enters_front-same : (y : ℕ) (o : Option ℕ) (core : Core) → (turns.enters_front queue system y o core).contexts ≡ core.contexts
   enters_front-same y (Some date) core = refl
   enters_front-same y None core = refl
 
-  moves-traced : (y : ℕ) (m : Moved) (core : Core) → Traced core (turns.moves system t y m core)
-  moves-traced y Next core = plain core _ refl refl
-  moves-traced y RoundEnds core = plain core _ refl refl
-  moves-traced y AllDone core = plain core _ refl refl
+  enters_front-running : (y : ℕ) (o : Option ℕ) (core : Core) → (turns.enters_front queue system y o core).running ≡ core.running
+  enters_front-running y (Some date) core = refl
+  enters_front-running y None core = refl
 
-  moves_on-traced : (y : ℕ) (core : Core) → Traced core (turns.moves_on system t y core)
-  moves_on-traced y core = moves-traced y (turns.move_of system t y core) core
-
-  abbrev unblocked : ℕ → Core → Core
-  unblocked y core = turns.with_its_context system y (context_unblocked t (turns.its_context system y core)) core
-
-  wakes-traced : (y : ℕ) (core : Core) → Traced core (turns.wakes queue system t y core)
-  wakes-traced y core =
-      then_part core (turns.moves_on system t y (turns.given system t y (unblocked y core))) (λ k. silent (turns.enters_back queue system y (turns.date_of system t y k) k))
-      (moved (turns.move_of system t y (turns.given system t y (unblocked y core))))
-      (λ k. plain k (silent (turns.enters_back queue system y (turns.date_of system t y k) k)) (enters_back-same y (turns.date_of system t y k) k) refl)
+  idle : (low gap : ℕ) (core : Core) → core.running ≡ None → holds (Uses low gap) core
+  idle low gap core e = as_none core.running e
     where
-      moved : (m : Moved) → Traced core (turns.moves system t y m (turns.given system t y (unblocked y core)))
-      moved Next = unblocking y core _ refl refl
-      moved RoundEnds = unblocking y core _ refl refl
-      moved AllDone = unblocking y core _ refl refl
+      as_none : (o : Option Chosen) → o ≡ None → Uses low gap o (context_of core x)
+      as_none None e = tt
+      as_none (Some chosen) e = absurd (no e)
+        where
+          no : Some chosen ≡ None → ⊥
+          no e = cc
 
-  posts_as-traced : (note : ℕ) (p : Posted) (core : Core) → Traced core (turns.posts_as queue system t note p core)
-  posts_as-traced note (Woke y word) core =
-      then_part core (says (row.Wake y note word) (with_note note (after_post (Woke y word) (note_of core note)) core)) (turns.wakes queue system t y)
-      (plain core _ refl refl) (λ k. wakes-traced y k)
-  posts_as-traced note (Held word) core = plain core _ refl refl
+  -- what is kept of the running thread over unblocking is kept over the parts in which no thread stops
+  module _ (P : Option Chosen → Context → Type 0) (steady : (o : Option Chosen) (k : Context) → P o k → P o (context_unblocked t k)) where
+    moves-traced : (y : ℕ) (m : Moved) (core : Core) → Traced P P [] core (turns.moves system t y m core)
+    moves-traced y Next core = still P core _ refl refl refl
+    moves-traced y RoundEnds core = still P core _ refl refl refl
+    moves-traced y AllDone core = still P core _ refl refl refl
 
-  posts-traced : (note badge : ℕ) (core : Core) → Traced core (turns.posts queue system t note badge core)
-  posts-traced note badge core = posts_as-traced note (posted badge (note_of core note)) core
+    moves_on-traced : (y : ℕ) (core : Core) → Traced P P [] core (turns.moves_on system t y core)
+    moves_on-traced y core = moves-traced y (turns.move_of system t y core) core
 
-  arrives-traced : (mail : Mail) (core : Core) → Traced core (turns.arrives queue system t mail core)
-  arrives-traced mail core =
-      then_part core (says (row.Arrive mail.note mail.badge mail.maker) core) (turns.posts queue system t mail.note mail.badge)
-      (plain core _ refl refl) (λ k. posts-traced mail.note mail.badge k)
+    wakes-traced : (y : ℕ) (core : Core) → Traced P P [] core (turns.wakes queue system t y core)
+    wakes-traced y core =
+        then_part P P P [] [] core (turns.moves_on system t y given) (λ k. silent (turns.enters_back queue system y (turns.date_of system t y k) k))
+        (moved (turns.move_of system t y given))
+        (λ k. still P k _ (enters_back-same y (turns.date_of system t y k) k) (enters_back-running y (turns.date_of system t y k) k) refl)
+      where
+        given : Core
+        given = turns.given system t y (turns.unblocked queue system t y core)
 
-  signals-traced : (y note badge : ℕ) (core : Core) → Traced core (turns.signals queue system c t y note badge core)
-  signals-traced y note badge core =
-      then_part core (says (row.Signal y note badge) core) (λ k. cond ((note_part system note).core == c) (turns.posts queue system t note badge k) (sent k))
-      (plain core _ refl refl) (λ k. cond-traced ((note_part system note).core == c) k (turns.posts queue system t note badge k) (sent k) (posts-traced note badge k) (plain k (sent k) refl refl))
+        moved : (m : Moved) → Traced P P [] core (turns.moves system t y m given)
+        moved Next = unblocking P steady y core _ refl refl refl
+        moved RoundEnds = unblocking P steady y core _ refl refl refl
+        moved AllDone = unblocking P steady y core _ refl refl refl
+
+    posts_as-traced : (note : ℕ) (p : Posted) (core : Core) → Traced P P [] core (turns.posts_as queue system t note p core)
+    posts_as-traced note (Woke y word) core =
+        then_part P P P [] [] core (says (row.Wake y note word) (with_note note (after_post (Woke y word) (note_of core note)) core)) (turns.wakes queue system t y)
+        (still P core _ refl refl refl) (λ k. wakes-traced y k)
+    posts_as-traced note (Held word) core = still P core _ refl refl refl
+
+    posts-traced : (note badge : ℕ) (core : Core) → Traced P P [] core (turns.posts queue system t note badge core)
+    posts-traced note badge core = posts_as-traced note (posted badge (note_of core note)) core
+
+    arrives-traced : (mail : Mail) (core : Core) → Traced P P [] core (turns.arrives queue system t mail core)
+    arrives-traced mail core =
+        then_part P P P [] [] core (says (row.Arrive mail.note mail.badge mail.maker) core) (turns.posts queue system t mail.note mail.badge)
+        (still P core _ refl refl refl) (λ k. posts-traced mail.note mail.badge k)
+
+    signals-traced : (y note badge : ℕ) (core : Core) → Traced P P [] core (turns.signals queue system c t y note badge core)
+    signals-traced y note badge core =
+        then_part P P P [] [] core (says (row.Signal y note badge) core) (λ k. cond ((note_part system note).core == c) (turns.posts queue system t note badge k) (sent k))
+        (still P core _ refl refl refl)
+        (λ k. by_test P P [] ((note_part system note).core == c) k (turns.posts queue system t note badge k) (sent k) (posts-traced note badge k) (still P k (sent k) refl refl refl))
+      where
+        sent : Core → Turn
+        sent k = record { core = k; rows = []; mails = turns.mail_to queue system c t note badge ∷ [] }
+
+    waits_as-traced : (y note : ℕ) (w : Waited) (core : Core) → Traced P P [] core (turns.waits_as system t y note w core)
+    waits_as-traced y note (Got word) core =
+        let first = says (row.Got y note word) (turns.given system t y (with_note note (after_wait (Got word) (turns.queued system y) (note_of core note)) core)) in
+        then_part P P P [] [] core first (turns.moves_on system t y) (still P core first refl refl refl) (λ k. moves_on-traced y k)
+    waits_as-traced y note Blocks core = still P core _ refl refl refl
+
+    takes_effect-traced : (y : ℕ) (item : Option Item) (core : Core) → Traced P P [] core (turns.takes_effect queue system c t y item core)
+    takes_effect-traced y (Some (Signal note badge)) core =
+        then_part P P P [] [] core (turns.signals queue system c t y note badge core) (turns.moves_on system t y) (signals-traced y note badge core) (λ k. moves_on-traced y k)
+    takes_effect-traced y (Some (Wait note)) core = waits_as-traced y note (waited (note_of core note)) core
+    takes_effect-traced y (Some (Compute ticks)) core = moves_on-traced y core
+    takes_effect-traced y (Some Yield) core = moves_on-traced y core
+    takes_effect-traced y None core = still P core _ refl refl refl
+
+  uses-steady : (low gap : ℕ) (o : Option Chosen) (k : Context) → Uses low gap o k → Uses low gap o (context_unblocked t k)
+  uses-steady low gap None k p = tt
+  uses-steady low gap (Some chosen) k p = λ own. ((p own).0, omega (arith, (p own).1, head_amount-unblocked t k))
+
+  -- thread y runs and has used so much of the head, the last tick counted
+  record Counts (y using : ℕ) (o : Option Chosen) (k : Context) : Type 0 where
+    runs : o ≡ Some (record { thread = y; using = using })
+    uses : Own y → (1 ≤ using) × (using ≤ head_amount k)
+
+  counts-steady : (y using : ℕ) (o : Option Chosen) (k : Context) → Counts y using o k → Counts y using o (context_unblocked t k)
+  counts-steady y using o k p = record { runs = p.runs; uses = λ own. ((p.uses own).0, omega (arith, (p.uses own).1, head_amount-unblocked t k)) }
+
+  -- a stop, of what the running thread has used or of the whole head
+  stops-traced : (y using : ℕ) (cause : Why) (standing : Standing) (core : Core) → Traced (Counts y using) (Uses 1 1) [] core (turns.stops queue system t y cause using standing core)
+  stops-traced y using cause standing core = charging (Counts y using) (Uses 1 1) y using cause None core _ refl refl (λ own kept p. p.uses own) tt
+
+  stops_to_back-traced : (P : Option Chosen → Context → Type 0) (y k : ℕ) (cause : Why) (core : Core) →
+      (Own y → KeepsItsBudget (context_of core x) → holds P core → (1 ≤ k) × (k ≤ head_amount (context_of core x))) →
+      Traced P (Uses 1 1) [] core (turns.stops_to_back queue system t y cause k core)
+  stops_to_back-traced P y k cause core h =
+      charging P (Uses 1 1) y k cause (turns.date_of system t y (turns.charged system y k core)) core _
+      (enters_back-same y (turns.date_of system t y (turns.charged system y k core)) (off (turns.charged system y k core))) refl h
+      (idle 1 1 (turns.stops_to_back queue system t y cause k core).core
+      (enters_back-running y (turns.date_of system t y (turns.charged system y k core)) (off (turns.charged system y k core))))
+
+  spent-traced : (y using : ℕ) (core : Core) → Traced (Counts y using) (Uses 1 1) [] core (turns.may_stop queue system c t y using why.Spent core)
+  spent-traced y using core = by (same using (head_amount (turns.its_context system y core)))
     where
-      sent : Core → Turn
-      sent k = record { core = k; rows = []; mails = turns.mail_to queue system c t note badge ∷ [] }
+      stopped : Turn
+      stopped = turns.stops_to_back queue system t y why.Spent using core
 
-  waits_as-traced : (y note : ℕ) (w : Waited) (core : Core) → Traced core (turns.waits_as system t y note w core)
-  waits_as-traced y note (Got word) core =
-      let first = says (row.Got y note word) (turns.given system t y (with_note note (after_wait (Got word) (turns.queued system y) (note_of core note)) core)) in
-      then_part core first (turns.moves_on system t y) (plain core first refl refl) (λ k. moves_on-traced y k)
-  waits_as-traced y note Blocks core = plain core _ refl refl
+      on : (b : Bool) → (using == head_amount (turns.its_context system y core)) ≡ b → Traced (Counts y using) (Uses 1 1) [] core (cond b stopped (silent core)) →
+          Traced (Counts y using) (Uses 1 1) [] core (turns.may_stop queue system c t y using why.Spent core)
+      on b e p = rw e p
 
-  takes_effect-traced : (y : ℕ) (item : Option Item) (core : Core) → Traced core (turns.takes_effect queue system c t y item core)
-  takes_effect-traced y (Some (Signal note badge)) core = then_part core (turns.signals queue system c t y note badge core) (turns.moves_on system t y) (signals-traced y note badge core) (λ k. moves_on-traced y k)
-  takes_effect-traced y (Some (Wait note)) core = waits_as-traced y note (waited (note_of core note)) core
-  takes_effect-traced y (Some (Compute ticks)) core = moves_on-traced y core
-  takes_effect-traced y (Some Yield) core = moves_on-traced y core
-  takes_effect-traced y None core = plain core _ refl refl
+      less : using ≢ head_amount (turns.its_context system y core) → (o : Option Chosen) → o ≡ core.running → Counts y using o (context_of core x) → Uses 1 1 o (context_of core x)
+      less d o e p = rw p.runs (λ own. ((p.uses own).0, one_less own))
+        where
+          one_less : Own y → using + 1 ≤ head_amount (context_of core x)
+          one_less own = fewer using (head_amount (context_of core x)) (rw own at d) (p.uses own).1
+            where
+              fewer : (a b : ℕ) → a ≢ b → a ≤ b → a + 1 ≤ b
+              fewer a b e l = omega arith
 
-  stops-traced : (y k : ℕ) (cause : Why) (standing : Standing) (core : Core) → Traced core (turns.stops queue system t y cause k standing core)
-  stops-traced y k cause standing core = charging y k cause None core _ refl refl
+      by : Same using (head_amount (turns.its_context system y core)) → Traced (Counts y using) (Uses 1 1) [] core (turns.may_stop queue system c t y using why.Spent core)
+      by (Are e d) = on true e (stops_to_back-traced (Counts y using) y using why.Spent core (λ own kept p. p.uses own))
+      by (Differ e d) = on false e (plain (Counts y using) (Uses 1 1) core (silent core) refl refl (λ kept p. less d core.running refl p))
 
-  stops_to_back-traced : (y k : ℕ) (cause : Why) (core : Core) → Traced core (turns.stops_to_back queue system t y cause k core)
-  stops_to_back-traced y k cause core =
-      charging y k cause (turns.date_of system t y (turns.charged system y k core)) core _
-      (enters_back-same y (turns.date_of system t y (turns.charged system y k core)) (cores.off (turns.charged system y k core))) refl
-
-  may_stop-traced : (y using : ℕ) (cause : Why) (core : Core) → Traced core (turns.may_stop queue system c t y using cause core)
+  may_stop-traced : (y using : ℕ) (cause : Why) (core : Core) → Traced (Counts y using) (Uses 1 1) [] core (turns.may_stop queue system c t y using cause core)
   may_stop-traced y using why.Done core = stops-traced y using _ _ core
   may_stop-traced y using why.Wait core = stops-traced y using _ _ core
-  may_stop-traced y using why.Yield core = stops_to_back-traced y _ _ core
-  may_stop-traced y using why.Spent core = cond-traced (using == head_amount (turns.its_context system y core)) core _ _ (stops_to_back-traced y using _ core) (plain core _ refl refl)
-  may_stop-traced y using why.Preempt core = cond-traced (using == head_amount (turns.its_context system y core)) core _ _ (stops_to_back-traced y using _ core) (plain core _ refl refl)
-  may_stop-traced y using why.Order core = cond-traced (using == head_amount (turns.its_context system y core)) core _ _ (stops_to_back-traced y using _ core) (plain core _ refl refl)
+  may_stop-traced y using why.Yield core =
+      stops_to_back-traced (Counts y using) y (head_amount (turns.its_context system y core)) why.Yield core (λ own kept p. whole own kept)
+    where
+      whole : Own y → KeepsItsBudget (context_of core x) → (1 ≤ head_amount (turns.its_context system y core)) × (head_amount (turns.its_context system y core) ≤ head_amount (context_of core x))
+      whole own kept = rw own (head_amount-some (context_of core x) kept, omega arith)
+  may_stop-traced y using why.Spent core = spent-traced y using core
+  may_stop-traced y using why.Preempt core = spent-traced y using core
+  may_stop-traced y using why.Order core = spent-traced y using core
 
-  after_count-traced : (y using : ℕ) (core : Core) → Traced core (turns.after_count queue system c t y using core)
+  after_count-traced : (y using : ℕ) (core : Core) → Traced (Counts y using) (Uses 1 1) [] core (turns.after_count queue system c t y using core)
   after_count-traced y using core =
-      cond-traced ((thread_of core y).place.left == 0) core _ _
-      (then_part core (turns.takes_effect queue system c t y (turns.item_of system t y core) core) (turns.may_stop queue system c t y using (turns.stop_after queue system c t y (turns.item_of system t y core) core))
-      (takes_effect-traced y (turns.item_of system t y core) core) (λ k. may_stop-traced y using (turns.stop_after queue system c t y (turns.item_of system t y core) core) k))
-      (may_stop-traced y using why.Spent core)
+      by_test (Counts y using) (Uses 1 1) [] ((thread_of core y).place.left == 0) core
+      (turns.finishes queue system c t y using (turns.item_of system t y core) core) (turns.may_stop queue system c t y using why.Spent core)
+      (
+      then_part (Counts y using) (Counts y using) (Uses 1 1) [] [] core (turns.takes_effect queue system c t y (turns.item_of system t y core) core)
+      (turns.may_stop queue system c t y using (turns.stop_after queue system c t y (turns.item_of system t y core) core))
+      (takes_effect-traced (Counts y using) (counts-steady y using) y (turns.item_of system t y core) core)
+      (λ k. may_stop-traced y using (turns.stop_after queue system c t y (turns.item_of system t y core) core) k)
+      )
+      (spent-traced y using core)
 
-  tick_of-traced : (o : Option Chosen) (core : Core) → Traced core (turns.tick_of queue system c t o core)
-  tick_of-traced None core = plain core _ refl refl
-  tick_of-traced (Some chosen) core = as_from (turns.counts chosen core) core _ refl (after_count-traced chosen.thread (chosen.using + 1) (turns.counts chosen core))
-
-  -- an order for another context
-  applied-same : (order : Order) (core : Core) → order.context ≢ context → context_of (turns.applied queue system t order core) context ≡ context_of core context
-  applied-same order core h = ap (λ o. unwrap_or o no_server) (get_or-set_other core.contexts order.context context _ None (λ e. h (sym e)))
-
-  applied-many : (order : Order) (core : Core) → length (turns.applied queue system t order core).contexts ≡ length core.contexts
-  applied-many order core = length-set core.contexts order.context _
-
-  abbrev stop_charged : Chosen → Core → Core
-  stop_charged chosen core = turns.charged system chosen.thread chosen.using core
-
-  abbrev stop_ordered : Order → Chosen → Core → Core
-  stop_ordered order chosen core = turns.applied queue system t order (stop_charged chosen core)
-
-  abbrev stop_date : Order → Chosen → Core → Option ℕ
-  stop_date order chosen core = turns.date_of system t chosen.thread (stop_ordered order chosen core)
-
-  orders_running-traced : (order : Order) → order.context ≢ context → (o : Option Chosen) (core : Core) → Traced core (turns.orders_running queue system t order o core)
-  orders_running-traced order h None core = as_made core (silent core) _ (applied-many order core) (applied-same order core h) refl (plain core _ refl refl)
-  orders_running-traced order h (Some chosen) core =
-      cond-traced ((turns.part_of system chosen.thread).context == order.context) core _ _ stopped
-      (as_made core (silent core) _ (applied-many order core) (applied-same order core h) refl (plain core _ refl refl))
+  -- the end of the tick
+  tick_of-traced : (o : Option Chosen) (core : Core) → core.running ≡ o → Traced (Uses 0 1) (Uses 1 1) [] core (turns.tick_of queue system c t o core)
+  tick_of-traced None core e = plain (Uses 0 1) (Uses 1 1) core (silent core) refl refl (λ kept p. idle 1 1 core e)
+  tick_of-traced (Some chosen) core e =
+      then_part (Uses 0 1) (Counts chosen.thread (chosen.using + 1)) (Uses 1 1) [] [] core (silent (turns.counts chosen core))
+      (turns.after_count queue system c t chosen.thread (chosen.using + 1))
+      (plain (Uses 0 1) (Counts chosen.thread (chosen.using + 1)) core (silent (turns.counts chosen core)) refl refl (λ kept p. counted core.running e p))
+      (λ k. after_count-traced chosen.thread (chosen.using + 1) k)
     where
-      stopped : Traced core (turns.stops_to_front queue system t chosen.thread why.Order chosen.using (turns.applied queue system t order (turns.charged system chosen.thread chosen.using core)))
-      stopped =
-          as_made core (record { core = stop_charged chosen core; rows = row.Stop chosen.thread why.Order chosen.using (stop_date order chosen core) ∷ []; mails = [] })
-          (turns.stops_to_front queue system t chosen.thread why.Order chosen.using (stop_ordered order chosen core))
-          (ap length (enters_front-same chosen.thread (stop_date order chosen core) (cores.off (stop_ordered order chosen core))) ∙ applied-many order (stop_charged chosen core))
-          (same-context (turns.enters_front queue system chosen.thread (stop_date order chosen core) (cores.off (stop_ordered order chosen core))) (stop_ordered order chosen core) (enters_front-same chosen.thread (stop_date order chosen core) (cores.off (stop_ordered order chosen core))) ∙ applied-same order (stop_charged chosen core) h)
+      counted : (o : Option Chosen) → o ≡ Some chosen → Uses 0 1 o (context_of core x) → Counts chosen.thread (chosen.using + 1) (Some (record { thread = chosen.thread; using = chosen.using + 1 })) (context_of core x)
+      counted o e p =
+          let q : Uses 0 1 (Some chosen) (context_of core x) = rw e at p in
+          record { runs = refl; uses = λ own. (omega arith, (q own).1) }
+
+  -- an order, of this moment
+  orders_running-traced : (order : Order) → order.moment ≡ t → IsBudget order.config → (o : Option Chosen) (core : Core) → core.running ≡ o →
+      Traced (Uses 1 1) (Uses 1 1) (filter (is_order_for x) (order ∷ [])) core (turns.orders_running queue system t order o core)
+  orders_running-traced order m budget None core e =
+      ordering (Uses 1 1) (Uses 1 1) order core (silent (turns.applied queue system t order core)) m budget refl refl (λ left p. idle 1 1 (turns.applied queue system t order core) e)
+  orders_running-traced order m budget (Some chosen) core e = by (same (thread_part system chosen.thread).context order.context)
+    where
+      y : ℕ
+      y = chosen.thread
+
+      charged : Turn
+      charged =
+          record {
+            core = off (turns.charged system y chosen.using core);
+            rows = row.Stop y why.Order chosen.using (turns.date_of system t y (turns.applied queue system t order (turns.charged system y chosen.using core))) ∷ [];
+            mails = [];
+          }
+
+      stopped : Turn
+      stopped = turns.stops_to_front queue system t y why.Order chosen.using (turns.applied queue system t order (turns.charged system y chosen.using core))
+
+      os : List Order
+      os = filter (is_order_for x) (order ∷ [])
+
+      on : (b : Bool) → ((thread_part system y).context == order.context) ≡ b → Traced (Uses 1 1) (Uses 1 1) os core (cond b stopped (silent (turns.applied queue system t order core))) →
+          Traced (Uses 1 1) (Uses 1 1) os core (turns.orders_running queue system t order (Some chosen) core)
+      on b f p = rw f p
+
+      uses : (o : Option Chosen) → o ≡ Some chosen → Uses 1 1 o (context_of core x) → Own y → (1 ≤ chosen.using) × (chosen.using ≤ head_amount (context_of core x))
+      uses o f p own =
+          let q : Uses 1 1 (Some chosen) (context_of core x) = rw f at p in
+          ((q own).0, omega (arith, (q own).1))
+
+      elsewhere : (thread_part system y).context ≢ order.context → (order.context ≢ x → context_of (turns.applied queue system t order core) x ≡ context_of core x) →
+          Uses 1 1 (Some chosen) (context_of core x) → Uses 1 1 (Some chosen) (context_of (turns.applied queue system t order core) x)
+      elsewhere d left q = λ own. carry (λ k. (1 ≤ chosen.using) × (chosen.using + 1 ≤ head_amount k)) (context_of core x) (context_of (turns.applied queue system t order core) x) (sym (left (λ f. d (own ∙ sym f)))) (q own)
+
+      by : Same (thread_part system y).context order.context → Traced (Uses 1 1) (Uses 1 1) os core (turns.orders_running queue system t order (Some chosen) core)
+      by (Are f d) =
+          on true f
+          (
+          as_made (Uses 1 1) (Uses 1 1) (Uses 1 1) os core (charged followed_by λ k. silent (turns.applied queue system t order k)) stopped
+          (enters_front-same y (turns.date_of system t y (turns.applied queue system t order (turns.charged system y chosen.using core))) (off (turns.applied queue system t order (turns.charged system y chosen.using core))))
           refl
-          (charging chosen.thread chosen.using why.Order (stop_date order chosen core) core _ refl refl)
+          (idle 1 1 stopped.core (enters_front-running y (turns.date_of system t y (turns.applied queue system t order (turns.charged system y chosen.using core))) (off (turns.applied queue system t order (turns.charged system y chosen.using core)))))
+          (
+          then_part (Uses 1 1) (λ o k. o ≡ None) (Uses 1 1) [] os core charged (λ k. silent (turns.applied queue system t order k))
+          (charging (Uses 1 1) (λ o k. o ≡ None) y chosen.using why.Order _ core charged refl refl (λ own kept p. uses core.running e p own) refl)
+          (λ k. ordering (λ o k. o ≡ None) (Uses 1 1) order k (silent (turns.applied queue system t order k)) m budget refl refl (λ left p. idle 1 1 (turns.applied queue system t order k) p))
+          )
+          )
+      by (Differ f d) =
+          on false f
+          (ordering (Uses 1 1) (Uses 1 1) order core (silent (turns.applied queue system t order core)) m budget refl refl
+          (λ left p. again core.running e (elsewhere d left (rw e at p))))
+        where
+          again : (o : Option Chosen) → o ≡ Some chosen → Uses 1 1 (Some chosen) (context_of (turns.applied queue system t order core) x) → Uses 1 1 o (context_of (turns.applied queue system t order core) x)
+          again o f q = rw f q
 
-  obeys-traced : (order : Order) → order.context ≢ context → (core : Core) → Traced core (turns.obeys queue system t order core)
-  obeys-traced order h core =
-      then_part core (says (row.Order order.context) core) (turns.orders_running queue system t order core.running) (plain core _ refl refl) (λ k. orders_running-traced order h core.running k)
+  obeys-traced : (order : Order) → order.moment ≡ t → IsBudget order.config → (core : Core) →
+      Traced (Uses 1 1) (Uses 1 1) (filter (is_order_for x) (order ∷ [])) core (turns.obeys queue system t order core)
+  obeys-traced order m budget core =
+      then_made (Uses 1 1) (Uses 1 1) (Uses 1 1) [] (filter (is_order_for x) (order ∷ [])) core (says (row.Order order.context) core)
+      (λ k. turns.orders_running queue system t order core.running k)
+      (still (Uses 1 1) core (says (row.Order order.context) core) refl refl refl) (orders_running-traced order m budget core.running core refl)
 
-  orders-traced : (orders : List Order) → AllByRecursion (λ order. order.context ≢ context) orders → (core : Core) → Traced core (each (turns.obeys queue system t) (filter (turns.is_for_now system c t) orders) core)
-  orders-traced [] h core = plain core _ refl refl
-  orders-traced (order ∷ orders) h core = by (turns.is_for_now system c t order) (λ k. orders-traced orders h.1 k)
+  -- the orders of this moment, in file order
+  told_as : (P Q : Option Chosen → Context → Type 0) (os us : List Order) (core : Core) (made : Turn) → os ≡ us → Traced P Q os core made → Traced P Q us core made
+  told_as P Q os us core made e h =
+      record { changes = h.changes; many = h.many; after = h.after; told = h.told; ordered = sym e ∙ h.ordered; sound = h.sound; runs = h.runs }
+
+  orders-traced : (orders : List Order) → AllByRecursion (λ (order : Order). IsBudget order.config) orders → (core : Core) →
+      Traced (Uses 1 1) (Uses 1 1) (filter (is_order_for x) (filter (is_for_now system c t) orders)) core (each (turns.obeys queue system t) (filter (is_for_now system c t) orders) core)
+  orders-traced [] h core = still (Uses 1 1) core (silent core) refl refl refl
+  orders-traced (order ∷ orders) h core = by (is_for_now system c t order) refl (λ k. orders-traced orders h.1 k)
     where
-      by : (b : Bool) → ((k : Core) → Traced k (each (turns.obeys queue system t) (filter (turns.is_for_now system c t) orders) k)) →
-          Traced core (each (turns.obeys queue system t) (cond b (order ∷ filter (turns.is_for_now system c t) orders) (filter (turns.is_for_now system c t) orders)) core)
-      by true i = then_part core (turns.obeys queue system t order core) (each (turns.obeys queue system t) (filter (turns.is_for_now system c t) orders)) (obeys-traced order h.0 core) i
-      by false i = i core
+      now : (moment home : ℕ) → (moment == t) && (home == c) ≡ true → moment ≡ t
+      now moment home e = grind (arith, nat_tests)
 
-  released-traced : (due : Dated) (core : Core) → Traced core (turns.released queue system t due core)
-  released-traced due core = plain core _ refl refl
+      others : List Order
+      others = filter (is_for_now system c t) orders
 
-  releases-traced : (core : Core) → Traced core (turns.releases queue system t core)
-  releases-traced core = as_from _ core _ refl (each-traced (turns.released queue system t) released-traced (filter (turns.is_due queue system t) core.releases) _)
+      by : (b : Bool) → is_for_now system c t order ≡ b → ((k : Core) → Traced (Uses 1 1) (Uses 1 1) (filter (is_order_for x) others) k (each (turns.obeys queue system t) others k)) →
+          Traced (Uses 1 1) (Uses 1 1) (filter (is_order_for x) (cond b (order ∷ others) others)) core (each (turns.obeys queue system t) (cond b (order ∷ others) others) core)
+      by true e i =
+          told_as (Uses 1 1) (Uses 1 1) _ _ core _ (sym (filter-append (is_order_for x) (order ∷ []) others))
+          (
+          then_part (Uses 1 1) (Uses 1 1) (Uses 1 1) (filter (is_order_for x) (order ∷ [])) (filter (is_order_for x) others) core
+          (turns.obeys queue system t order core) (each (turns.obeys queue system t) others)
+          (obeys-traced order (now order.moment (context_part system order.context).core e) h.0 core) i
+          )
+      by false e i = i core
 
-  preempts_by-traced : (o : Option Chosen) (best : Option Queued) (core : Core) → Traced core (turns.preempts_by queue system t o best core)
-  preempts_by-traced (Some chosen) (Some best) core =
-      cond-traced (nat_lt (turns.part_of system chosen.thread).priority best.priority) core _ _
-      (charging chosen.thread chosen.using why.Preempt (turns.date_of system t chosen.thread (turns.charged system chosen.thread chosen.using core)) core _
-      (enters_front-same chosen.thread (turns.date_of system t chosen.thread (turns.charged system chosen.thread chosen.using core)) (cores.off (turns.charged system chosen.thread chosen.using core))) refl)
-      (plain core _ refl refl)
-  preempts_by-traced (Some chosen) None core = plain core _ refl refl
-  preempts_by-traced None best core = plain core _ refl refl
+  released-traced : (due : Dated) (core : Core) → Traced (Uses 1 1) (Uses 1 1) [] core (turns.released queue system t due core)
+  released-traced due core = still (Uses 1 1) core _ refl refl refl
 
-  chooses_of-traced : (o : Option Chosen) (best : Option Queued) (core : Core) → Traced core (turns.chooses_of queue o best core)
-  chooses_of-traced (Some chosen) best core = plain core _ refl refl
-  chooses_of-traced None None core = plain core _ refl refl
-  chooses_of-traced None (Some best) core = plain core _ refl refl
+  releases-traced : (core : Core) → Traced (Uses 1 1) (Uses 1 1) [] core (turns.releases queue system t core)
+  releases-traced core =
+      then_part (Uses 1 1) (Uses 1 1) (Uses 1 1) [] [] core (silent (record core { releases = filter (λ dated. not (turns.is_due queue system t dated)) core.releases }))
+      (each (turns.released queue system t) (filter (turns.is_due queue system t) core.releases))
+      (still (Uses 1 1) core _ refl refl refl)
+      (λ k. each_part (Uses 1 1) (turns.released queue system t) released-traced (filter (turns.is_due queue system t) core.releases) k)
+
+  preempts_by-traced : (o : Option Chosen) (best : Option Queued) (core : Core) → core.running ≡ o → Traced (Uses 1 1) (Uses 1 1) [] core (turns.preempts_by queue system t o best core)
+  preempts_by-traced (Some chosen) (Some best) core e =
+      by_test (Uses 1 1) (Uses 1 1) [] (nat_lt (turns.part_of system chosen.thread).priority best.priority) core stopped (silent core)
+      (charging (Uses 1 1) (Uses 1 1) chosen.thread chosen.using why.Preempt (turns.date_of system t chosen.thread (turns.charged system chosen.thread chosen.using core)) core stopped
+      (enters_front-same chosen.thread (turns.date_of system t chosen.thread (turns.charged system chosen.thread chosen.using core)) (off (turns.charged system chosen.thread chosen.using core)))
+      refl (λ own kept p. uses core.running e p own)
+      (idle 1 1 stopped.core (enters_front-running chosen.thread (turns.date_of system t chosen.thread (turns.charged system chosen.thread chosen.using core)) (off (turns.charged system chosen.thread chosen.using core)))))
+      (still (Uses 1 1) core (silent core) refl refl refl)
+    where
+      stopped : Turn
+      stopped = turns.stops_to_front queue system t chosen.thread why.Preempt chosen.using (turns.charged system chosen.thread chosen.using core)
+
+      uses : (o : Option Chosen) → o ≡ Some chosen → Uses 1 1 o (context_of core x) → Own chosen.thread → (1 ≤ chosen.using) × (chosen.using ≤ head_amount (context_of core x))
+      uses o f p own =
+          let q : Uses 1 1 (Some chosen) (context_of core x) = rw f at p in
+          ((q own).0, omega (arith, (q own).1))
+  preempts_by-traced (Some chosen) None core e = still (Uses 1 1) core (silent core) refl refl refl
+  preempts_by-traced None best core e = still (Uses 1 1) core (silent core) refl refl refl
+
+  chooses_of-traced : (o : Option Chosen) (best : Option Queued) (core : Core) → core.running ≡ o → Traced (Uses 1 1) (Uses 0 1) [] core (turns.chooses_of queue o best core)
+  chooses_of-traced (Some chosen) best core e = plain (Uses 1 1) (Uses 0 1) core (silent core) refl refl (λ kept p. weaker core.running p)
+    where
+      weaker : (o : Option Chosen) → Uses 1 1 o (context_of core x) → Uses 0 1 o (context_of core x)
+      weaker None p = tt
+      weaker (Some chosen) p = λ own. (omega arith, (p own).1)
+  chooses_of-traced None None core e = plain (Uses 1 1) (Uses 0 1) core (silent core) refl refl (λ kept p. idle 0 1 core e)
+  chooses_of-traced None (Some best) core e =
+      plain (Uses 1 1) (Uses 0 1) core (turns.chooses_of queue None (Some best) core) refl refl (λ kept p own. (omega arith, omega (arith, head_amount-some (context_of core x) kept)))
 
   -- a whole turn
-  pub turn-traced : AllByRecursion (λ order. order.context ≢ context) system.orders → (mails : List Mail) (core : Core) → Traced core (turns.turn_with queue system c t mails core)
-  turn-traced h mails core =
-      then_part core _ _
-      (then_part core _ _
-      (then_part core _ _
-      (then_part core _ _
-      (then_part core _ _ (tick_of-traced core.running core) (λ k. each-traced (turns.arrives queue system t) arrives-traced mails k))
-      (λ k. orders-traced system.orders h k))
-      releases-traced)
-      (λ k. preempts_by-traced k.running (queue.best k.ready) k))
-      (λ k. chooses_of-traced k.running (queue.best k.ready) k)
+  pub turn-traced : AllByRecursion (λ (order : Order). IsBudget order.config) system.orders → (mails : List Mail) (core : Core) →
+      Traced (Uses 0 1) (Uses 0 1) (filter (is_order_for x) (filter (is_for_now system c t) system.orders)) core (turns.turn_with queue system c t mails core)
+  turn-traced budgets mails core =
+      told_as (Uses 0 1) (Uses 0 1) _ orders core _ (append-nil _ ∙ append-nil _ ∙ append-nil _)
+      (
+      then_part (Uses 0 1) (Uses 1 1) (Uses 0 1) (([] ++ [] ++ orders) ++ [] ++ []) [] core _ (turns.chooses queue)
+      (
+      then_part (Uses 0 1) (Uses 1 1) (Uses 1 1) _ [] core _ (turns.preempts queue system t)
+      (
+      then_part (Uses 0 1) (Uses 1 1) (Uses 1 1) _ [] core _ (turns.releases queue system t)
+      (
+      then_part (Uses 0 1) (Uses 1 1) (Uses 1 1) _ orders core _ (each (turns.obeys queue system t) (filter (is_for_now system c t) system.orders))
+      (
+      then_part (Uses 0 1) (Uses 1 1) (Uses 1 1) [] [] core (turns.tick queue system c t core) (each (turns.arrives queue system t) mails)
+      (tick_of-traced core.running core refl)
+      (λ k. each_part (Uses 1 1) (turns.arrives queue system t) (arrives-traced (Uses 1 1) (uses-steady 1 1)) mails k)
+      )
+      (λ k. orders-traced system.orders budgets k)
+      )
+      releases-traced
+      )
+      (λ k. preempts_by-traced k.running (queue.best k.ready) k refl)
+      )
+      (λ k. chooses_of-traced k.running (queue.best k.ready) k refl)
+      )
+    where
+      orders : List Order
+      orders = filter (is_order_for x) (filter (is_for_now system c t) system.orders)

@@ -1,3 +1,4 @@
 pub mod Turns
 pub mod Disciplines
-pub mod Consumed
+pub mod Changes
+pub mod Histories

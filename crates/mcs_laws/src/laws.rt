@@ -1,7 +1,15 @@
 ghost use Rattle.mcs_core.specs.System.{System, TakesTime};
+ghost use Rattle.mcs_core.specs.WellFormed.{IsWellFormed};
 ghost use Rattle.mcs_laws.specs.Turns.{CoresAreOfTurns, RowsAreOfTurns, SignalsAreOfTurns, ArrivalsAreOfTurns};
 ghost use Rattle.mcs_laws.specs.Disciplines.{DisciplinesAgree};
-ghost use Rattle.mcs_laws.specs.Consumed.{HasHistories, ContextsAreSpaced};
+ghost use Rattle.mcs_laws.specs.Histories.{GivesBudgets, ContextsHaveHistories, ContextsHaveTheirBudgets, ContextsAreSpaced};
+
+/// A law of well-formed systems, for the premises of the laws of the clock: each signal takes time, and each configuration that
+/// SchedControl accepts gives a budget of at least a tick and at most its period.
+pub fn well_formed_systems_give_budgets()
+    ensures signals_take_time { (system : System) → IsWellFormed system → TakesTime system }
+    ensures budgets { (system : System) → IsWellFormed system → GivesBudgets system }
+{}
 
 /// A law of the clock: each core of the world after moment `t` is the core of its own turn at `t`, whatever the other cores do at
 /// that moment.
@@ -27,14 +35,20 @@ pub fn disciplines_agree()
     ensures { (system : System) → DisciplinesAgree system }
 {}
 
-/// A law of the clock: a context that no order names is charged and unblocked and nothing else, and its charges are those that
-/// the rows of its thread's stops tell.
+/// A law of the clock: all that turns do to a context, from the opening on, is to charge it, to unblock it and to obey its orders. The
+/// charges are those that the rows of its thread's stops tell; each takes at least a tick and no more than the head then has.
 pub fn contexts_have_histories()
-    ensures { (system : System) → TakesTime system → HasHistories system }
+    ensures { (system : System) → TakesTime system → GivesBudgets system → ContextsHaveHistories system }
 {}
 
-/// A law of the clock: at each moment such a context, where it is sporadic, has as many dates as its budget, which ascend and span
-/// less than a period; and of the dates that its charges took the one a whole budget later is at least a period later.
+/// A law of the clock: at each moment each context has the budget in force. Its dates are as many as the budget, ascend and span less
+/// than a period; of a slice at least a tick is left and at most the budget. Its running thread has used less than the head.
+pub fn contexts_keep_their_budgets()
+    ensures { (system : System) → TakesTime system → GivesBudgets system → ContextsHaveTheirBudgets system }
+{}
+
+/// A law of the clock: of the dates that the charges of a sporadic context take, where no order names it, the one a whole budget later
+/// is at least a period later.
 pub fn contexts_are_spaced()
-    ensures { (system : System) → TakesTime system → ContextsAreSpaced system }
+    ensures { (system : System) → TakesTime system → GivesBudgets system → ContextsAreSpaced system }
 {}

@@ -5,7 +5,10 @@ use Rattle.mcs_control.specs.Context.{View}
 use Rattle.mcs_core.specs.System.{System}
 use Rattle.mcs_core.specs.Clock.{world, core_at}
 use Rattle.mcs_core.specs.Views.{views_of}
-use Rattle.mcs_laws.specs.Consumed.{taken_before}
+use Rattle.mcs_laws.specs.Changes.{Change, changed_by, taken_by}
+use Rattle.mcs_laws.specs.Changes.Change.{Charged, Ordered}
+use Rattle.mcs_laws.specs.Histories.{charges_before, context_before, opening_context}
+use Rattle.mcs_worked.specs.Parts.{order}
 use Rattle.mcs_worked.proofs.Schedules as worked
 
 -- the views of the contexts of core 0 after all turns of moment t
@@ -45,9 +48,23 @@ ordered_twice = refl
 slices : shown_after worked.round_robin_takes_turns_system 3 ≡ slice 0 2 1 ∷ slice 1 3 0 ∷ sporadic 2 (refill 2 1 ∷ refill 11 1 ∷ []) 0 ∷ []
 slices = refl
 
--- the dates that charges take, which return one period later
-consumed_dates : taken_before worked.depletes_and_refills_system 0 12 ≡ 0 ∷ 1 ∷ 5 ∷ 6 ∷ 10 ∷ []
-consumed_dates = refl
+-- a context that is only charged: its charges as the rows tell them, the dates that they take, and what they leave
+charges : charges_before worked.depletes_and_refills_system 0 12 ≡ 2 ∷ 2 ∷ 1 ∷ []
+charges = refl
 
-consumed_before_the_stop : taken_before worked.small_head_joins_system 0 11 ≡ 0 ∷ 1 ∷ 2 ∷ 3 ∷ 4 ∷ 5 ∷ 6 ∷ []
-consumed_before_the_stop = refl
+abbrev three_charges : List Change
+three_charges = Charged 2 ∷ Charged 2 ∷ Charged 1 ∷ []
+
+dates_of_charges : taken_by 1 three_charges (opening_context worked.depletes_and_refills_system 0) ≡ 0 ∷ 1 ∷ 5 ∷ 6 ∷ 10 ∷ []
+dates_of_charges = refl
+
+left_by_charges : changed_by 1 three_charges (opening_context worked.depletes_and_refills_system 0) ≡ context_before worked.depletes_and_refills_system 0 12
+left_by_charges = refl
+
+-- one that is charged and then ordered
+abbrev mixed_changes : List Change
+mixed_changes = Charged 3 ∷ Ordered (order 4 1 2 8 0) ∷ []
+
+left_by_an_order :
+    changed_by 1 mixed_changes (opening_context worked.arrival_before_order_before_release_system 1) ≡ context_before worked.arrival_before_order_before_release_system 1 5
+left_by_an_order = refl

@@ -1,4 +1,4 @@
-use Rattle.mcs_laws.proofs.Histories.{contexts-spaced}
+use Rattle.mcs_laws.proofs.Spaced.{contexts-spaced}
 use Rattle.mcs_laws.proofs.laws.contexts_are_spaced.Goals as goal
 
 pub returns : goal.returns

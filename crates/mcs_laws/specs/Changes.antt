@@ -1,0 +1,82 @@
+-- What is done to a context over time, and what it keeps.
+use Rattle.std.specs.Prelude.{ℕ, ◌≤◌, List, [], ◌∷◌, ◌++◌, flat_map, take, fold}
+use Rattle.mcs_refills.specs.Spacing.{AreKept}
+use Rattle.mcs_control.specs.declared.config.Config.{Config}
+use Rattle.mcs_control.specs.declared.config.Order.{Order}
+use Rattle.mcs_control.specs.Context.{Context, Budget, context_charged, context_unblocked, context_ordered, head_amount}
+use Rattle.mcs_control.specs.Context.Budget.{Dates, Slice}
+
+-- a charge of some ticks, unblocking at a moment, and an order
+pub data Change : Type 0 where
+  Charged : ℕ → Change
+  Unblocked : ℕ → Change
+  Ordered : Order → Change
+
+-- the charges of changes, and their orders
+abbrev pub charge_of : Change → List ℕ
+charge_of (Charged k) = k ∷ []
+charge_of (Unblocked t) = []
+charge_of (Ordered order) = []
+
+abbrev pub charges_of : List Change → List ℕ
+charges_of changes = flat_map charge_of changes
+
+abbrev pub order_of : Change → List Order
+order_of (Charged k) = []
+order_of (Unblocked t) = []
+order_of (Ordered order) = order ∷ []
+
+abbrev pub orders_of : List Change → List Order
+orders_of changes = flat_map order_of changes
+
+-- a budget of at least a tick, and of at most the period
+pub record IsBudget (config : Config) : Type 0 where
+  pub some : 1 ≤ config.budget
+  pub fits : config.budget ≤ config.period
+
+-- a sporadic context's dates are as many as its budget, ascend and span less than a period; of a slice at least a tick is left
+-- and at most the budget
+abbrev pub IsWhole : Config → Budget → Type 0
+IsWhole config (Dates dates) = AreKept config.budget config.period dates
+IsWhole config (Slice left) = (1 ≤ left) × (left ≤ config.budget)
+
+-- the context has the budget in force
+pub record KeepsItsBudget (context : Context) : Type 0 where
+  pub config : IsBudget context.config
+  pub whole : IsWhole context.config context.budget
+
+-- the dates that a budget has
+abbrev pub dates_in : Budget → List ℕ
+dates_in (Dates dates) = dates
+dates_in (Slice left) = []
+
+-- with this minimum of ticks at the head
+module _ (min_budget : ℕ) where
+  -- the context after a change, and after several
+  abbrev pub changed : Context → Change → Context
+  changed context (Charged k) = context_charged k min_budget context
+  changed context (Unblocked t) = context_unblocked t context
+  changed context (Ordered order) = context_ordered order.moment order.config context
+
+  abbrev pub changed_by : List Change → Context → Context
+  changed_by changes context = fold changed context changes
+
+  -- a charge takes at least a tick and no more than the head has, and an order gives a budget
+  abbrev pub IsSound : Change → Context → Type 0
+  IsSound (Charged k) context = (1 ≤ k) × (k ≤ head_amount context)
+  IsSound (Unblocked t) context = Unit {0}
+  IsSound (Ordered order) context = IsBudget order.config
+
+  abbrev pub AreSound : List Change → Context → Type 0
+  AreSound [] context = Unit {0}
+  AreSound (change ∷ changes) context = IsSound change context × AreSound changes (changed context change)
+
+  -- the dates that the charges take, in order: each the first dates that the context then has
+  abbrev pub dates_taken : Change → Context → List ℕ
+  dates_taken (Charged k) context = take k (dates_in context.budget)
+  dates_taken (Unblocked t) context = []
+  dates_taken (Ordered order) context = []
+
+  abbrev pub taken_by : List Change → Context → List ℕ
+  taken_by [] context = []
+  taken_by (change ∷ changes) context = dates_taken change context ++ taken_by changes (changed context change)

@@ -1,0 +1,111 @@
+-- The history of a context: all that turns do to it, from the opening on.
+use Rattle.std.specs.Prelude.{◌≡◌, ◌≢◌, ℕ, ◌<◌, Bool, ◌==◌, if◌then◌else◌, List, [], ◌∷◌, filter, flat_map, length, All, Option, Some, None}
+use Rattle.std.specs.List.{range_with_len}
+use Rattle.mcs_ticks.specs.declared.row.What.{What}
+use Rattle.mcs_ticks.specs.declared.row.What.TheVariants as row
+use Rattle.mcs_refills.specs.Spacing.{IsSpaced}
+use Rattle.mcs_control.specs.declared.config.Order.{Order}
+use Rattle.mcs_control.specs.declared.config.Kind.TheVariants.{Sporadic}
+use Rattle.mcs_control.specs.Control.{kind_of}
+use Rattle.mcs_control.specs.Context.{Context, head_amount, new_context}
+use Rattle.mcs_core.specs.System.{System, context_part, thread_part, start_of}
+use Rattle.mcs_core.specs.Core.{Core, context_of}
+use Rattle.mcs_core.specs.declared.part.ContextPart.{ContextPart}
+use Rattle.mcs_core.specs.declared.standing.Chosen.{Chosen}
+use Rattle.mcs_core.specs.Turn.{is_for_now}
+use Rattle.mcs_core.specs.Clock.{world, core_at, turn_of}
+use Rattle.mcs_laws.specs.Changes.{Change, charges_of, orders_of, IsBudget, KeepsItsBudget, changed_by, AreSound, taken_by}
+
+-- whether the order is for this context
+abbrev pub is_order_for : ℕ → Order → Bool
+is_order_for context order = order.context == context
+
+module _ (system : System) where
+  -- what a row tells that the context was charged: what the stop of its thread says
+  abbrev pub charge_told : ℕ → What → List ℕ
+  charge_told context (row.Stop thread why k until) = if (thread_part system thread).context == context then k ∷ [] else []
+  charge_told context (row.Release thread) = []
+  charge_told context (row.Run thread) = []
+  charge_told context (row.Signal thread note badge) = []
+  charge_told context (row.Arrive note badge maker) = []
+  charge_told context (row.Wake thread note word) = []
+  charge_told context (row.Hold note word) = []
+  charge_told context (row.Got thread note word) = []
+  charge_told context (row.Round thread number response) = []
+  charge_told context (row.Order ordered) = []
+
+  abbrev pub charges_told : ℕ → List What → List ℕ
+  charges_told context rows = flat_map (charge_told context) rows
+
+  -- the core of a context before a moment, and the context itself
+  abbrev pub home_of : ℕ → ℕ
+  home_of context = (context_part system context).core
+
+  abbrev pub home_before : ℕ → ℕ → Core
+  home_before context t = core_at system (world system t) (home_of context)
+
+  abbrev pub context_before : ℕ → ℕ → Context
+  context_before context t = context_of (home_before context t) context
+
+  -- the charges that the rows before a moment tell
+  abbrev pub charges_before : ℕ → ℕ → List ℕ
+  charges_before context past = flat_map (λ t. charges_told context (turn_of system (home_of context) t).rows) (range_with_len 0 past)
+
+  -- the orders for the context at moments before this one, by moment and then in file order
+  abbrev pub orders_at : ℕ → ℕ → List Order
+  orders_at context t = filter (is_order_for context) (filter (is_for_now system (home_of context) t) system.orders)
+
+  abbrev pub orders_before : ℕ → ℕ → List Order
+  orders_before context past = flat_map (orders_at context) (range_with_len 0 past)
+
+  -- the context as it is at first
+  abbrev pub opening_context : ℕ → Context
+  opening_context context = new_context (context_part system context).config (start_of system.threads context)
+
+  -- all that turns did to the context before moment t: its charges are those that the rows tell, each of at least a tick and of no
+  -- more than the head then has; its orders are those of the system; and nothing else but unblocking
+  pub record History (context t : ℕ) : Type 0 where
+    pub changes : List Change
+    pub after : context_before context t ≡ changed_by system.min_budget changes (opening_context context)
+    pub sound : AreSound system.min_budget changes (opening_context context)
+    pub charges : charges_before context t ≡ charges_of changes
+    pub orders : orders_before context t ≡ orders_of changes
+
+  -- the running thread, where it is bound to the context, has used less than the head
+  abbrev pub UsesLess : ℕ → Option Chosen → Context → Type 0
+  UsesLess number None context = Unit {0}
+  UsesLess number (Some chosen) context = (thread_part system chosen.thread).context ≡ number → chosen.using < head_amount context
+
+  -- a context of a core that there is
+  pub record IsOnACore (context : ℕ) : Type 0 where
+    pub known : context < length system.contexts
+    pub home : home_of context < system.cores
+
+  -- each configuration gives a budget: at least a tick, and at most the period
+  pub record GivesBudgets : Type 0 where
+    pub contexts : All (λ (part : ContextPart). IsBudget part.config) system.contexts
+    pub orders : All (λ (order : Order). IsBudget order.config) system.orders
+
+  -- at each moment each context has the budget in force, of which its running thread has not used all
+  pub record HasItsBudget (context t : ℕ) : Type 0 where
+    pub keeps : KeepsItsBudget (context_before context t)
+    pub uses : UsesLess context (home_before context t).running (context_before context t)
+
+  abbrev pub ContextsHaveTheirBudgets : Type 0
+  ContextsHaveTheirBudgets = (context t : ℕ) → IsOnACore context → HasItsBudget context t
+
+  abbrev pub ContextsHaveHistories : Type 0
+  ContextsHaveHistories = (context t : ℕ) → IsOnACore context → History context t
+
+  -- of the dates that a sporadic context's charges take, where no order names it, the one a whole budget later is at least a period
+  -- later
+  pub record IsSpacedUse (context t : ℕ) : Type 0 where
+    pub history : History context t
+    pub spaced :
+        IsSpaced (context_part system context).config.budget (context_part system context).config.period
+        (taken_by system.min_budget history.changes (opening_context context))
+
+  abbrev pub ContextsAreSpaced : Type 0
+  ContextsAreSpaced =
+      (context t : ℕ) → IsOnACore context → kind_of (context_part system context).config ≡ Sporadic →
+      All (λ (order : Order). order.context ≢ context) system.orders → IsSpacedUse context t
