@@ -1,11 +1,11 @@
 -- What a post and a wait do to what is kept, and how it is seen.
-use Rattle.std.proofs.Common.{◌≡◌, ◌≢◌, ℕ, ◌+◌, ◌-◌, ◌<◌, ◌≤◌, ◌==◌, Bool, true, false, cond, List, [], ◌∷◌, ◌++◌, length, length-set, length-append, get_or, set, Some, refl, sym, ap, subst, ◌∙◌, arith, bit_or}
-use Rattle.std.specs.List.{All, remove, slice_get}
+use Rattle.std.proofs.Common.{◌≡◌, ◌≢◌, ℕ, ◌+◌, ◌-◌, ◌<◌, ◌≤◌, ◌==◌, true, false, List, [], ◌∷◌, ◌++◌, length, length-set, length-append, get_or, set, refl, sym, ap, subst, ◌∙◌, arith, bit_or}
+use Rattle.std.specs.List.{All}
 use Rattle.std.proofs.lemmas.Bool.Decides.{nat_tests}
 use Rattle.std.proofs.lemmas.List.{get_or_default, nil_from_length}
 use Rattle.std.proofs.lemmas.List.Elements.{All-get_or}
 use Rattle.mcs_ticks.specs.declared.queue.Queued.{Queued}
-use Rattle.mcs_ticks.specs.Queue.{first_of_greatest, without}
+use Rattle.mcs_ticks.specs.Queue.{without}
 use Rattle.mcs_notify.specs.declared.notes.Kept.{Kept}
 use Rattle.mcs_notify.specs.declared.notes.Waiting.{Waiting}
 use Rattle.mcs_notify.specs.declared.posted.Posted.TheVariants.{Woke, Held}
