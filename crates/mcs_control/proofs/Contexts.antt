@@ -1,10 +1,11 @@
 -- Contexts stay in good order.
-use Rattle.std.proofs.Common.{◌≡◌, ℕ, ◌-◌, ◌<◌, ◌≤◌, Bool, true, false, cond, List, refl, sym, ap, ◌∙◌, arith}
+use Rattle.std.proofs.Common.{◌≡◌, ℕ, ◌-◌, ◌<◌, ◌≤◌, Bool, true, false, cond, List, [], ◌∷◌, ◌++◌, take, refl, sym, subst, ap, ◌∙◌, arith}
 use Rattle.std.specs.Prelude.{◌==◌}
 use Rattle.std.proofs.lemmas.Bool.Decides.{nat_tests}
-use Rattle.mcs_refills.specs.Server.{Server, dates_from}
+use Rattle.mcs_refills.specs.Server.{Server, dates_from, charged, with_enough, unblocked}
 use Rattle.mcs_refills.specs.Slice.{slice_charged}
-use Rattle.mcs_refills.specs.Spacing.{IsServer}
+use Rattle.mcs_refills.specs.Spacing.{IsServer, Step, AreProper, IsSpaced, consumed}
+use Rattle.mcs_refills.specs.Spacing.Step.{Charge, Unblock}
 use Rattle.mcs_refills.proofs.Servers.{servers-kept}
 use Rattle.mcs_refills.proofs.Spaces.{consumed-spaced}
 use Rattle.mcs_control.specs.declared.config.Config.{Config}
@@ -12,7 +13,7 @@ use Rattle.mcs_control.specs.declared.config.Kind.TheVariants as kind
 use Rattle.mcs_control.specs.Control.{IsConfig, kind_of}
 use Rattle.mcs_control.specs.Context.{Budget, new_context, first_budget, context_charged, context_unblocked, context_ordered, head_amount, max_refills_of}
 use Rattle.mcs_control.specs.Context.Budget.{Dates, Slice}
-use Rattle.mcs_control.specs.Kept.{IsBudget, IsContext, ContextsAreKept, ConsumedAreSpaced}
+use Rattle.mcs_control.specs.Kept.{IsBudget, IsContext, ContextsAreKept, ConsumedAreSpaced, consumed_from}
 
 -- the kind tells how the budget and the period compare
 module _ (config : Config) where
@@ -100,5 +101,27 @@ contexts-kept = (
   λ t config context h n e. ordered-kept t config context.config context.budget h n e,
 )
 
+-- the dates taken from a sporadic context are those taken from its server
+consumed-same : (config : Config) (steps : List Step) (dates : List ℕ) →
+    consumed config.period (max_refills_of config) steps dates ≡ consumed_from steps (record { config = config; budget = Dates dates })
+consumed-same config [] dates = refl
+consumed-same config (Charge k min_budget ∷ steps) dates = ap (λ xs. take k dates ++ xs) (consumed-same config steps (with_enough min_budget (charged k config.period (max_refills_of config) dates)))
+consumed-same config (Unblock t ∷ steps) dates = consumed-same config steps (unblocked t dates)
+
+-- and from a slice none are
+consumed-none : (config : Config) (steps : List Step) (left : ℕ) → consumed_from steps (record { config = config; budget = Slice left }) ≡ []
+consumed-none config [] left = refl
+consumed-none config (Charge k min_budget ∷ steps) left = consumed-none config steps (slice_charged k config.budget left)
+consumed-none config (Unblock t ∷ steps) left = consumed-none config steps left
+
+spaced : (config : Config) (budget : Budget) (steps : List Step) → IsContext (record { config = config; budget = budget }) → AreProper steps →
+    IsSpaced config.budget config.period (consumed_from steps (record { config = config; budget = budget }))
+spaced config (Dates dates) steps h p =
+    let P : List ℕ → Type 0 = λ xs. IsSpaced config.budget config.period xs in
+    subst P (consumed-same config steps dates) (consumed-spaced config.budget config.period (max_refills_of config) steps dates h.budget.1 p)
+spaced config (Slice left) steps h p =
+    let P : List ℕ → Type 0 = λ xs. IsSpaced config.budget config.period xs in
+    subst P (sym (consumed-none config steps left)) (λ j l. absurd (omega arith))
+
 pub consumed-are-spaced : ConsumedAreSpaced
-consumed-are-spaced config dates steps h p = consumed-spaced config.budget config.period (max_refills_of config) steps dates h.budget.1 p
+consumed-are-spaced context steps h p = spaced context.config context.budget steps h p

@@ -1,3 +1,4 @@
 pub mod Contexts
 pub mod Helds
-pub mod Lists
+mod Lists
+mod Worked

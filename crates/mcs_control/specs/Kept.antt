@@ -1,8 +1,9 @@
 -- What holds of each context, and what its charges take.
-use Rattle.std.specs.Prelude.{◌≡◌, ℕ, ◌<◌, ◌≤◌, List, length}
+use Rattle.std.specs.Prelude.{◌≡◌, ℕ, ◌<◌, ◌≤◌, List, [], ◌∷◌, ◌++◌, length}
 use Rattle.mcs_control.specs.declared.config.Config.{Config}
 use Rattle.mcs_refills.specs.Server.{refills_of}
-use Rattle.mcs_refills.specs.Spacing.{AreKept, Step, AreProper, IsSpaced, consumed}
+use Rattle.mcs_refills.specs.Spacing.{AreKept, Step, AreProper, IsSpaced, used_by}
+use Rattle.mcs_refills.specs.Spacing.Step.{Charge, Unblock}
 use Rattle.mcs_control.specs.Context.{Budget, Context, new_context, context_charged, context_unblocked, context_ordered, head_amount, max_refills_of}
 use Rattle.mcs_control.specs.Context.Budget.{Dates, Slice}
 use Rattle.mcs_control.specs.Control.{IsConfig, kind_of}
@@ -27,8 +28,23 @@ ContextsAreKept =
     × ((t : ℕ) (context : Context) → IsContext context → IsContext (context_unblocked t context))
     × ((t : ℕ) (config : Config) (context : Context) → IsContext context → IsConfig config → kind_of config ≡ kind_of context.config → IsContext (context_ordered t config context))
 
--- the dates that charges take from a sporadic context, where no order comes between, are spaced by its budget and period
+-- what is done to a context: charges, and the unblocking of a wake
+abbrev pub context_stepped : Step → Context → Context
+context_stepped (Charge k min_budget) context = context_charged k min_budget context
+context_stepped (Unblock t) context = context_unblocked t context
+
+-- the dates that a step takes from a budget; a slice has none
+abbrev pub taken_by : Step → Budget → List ℕ
+taken_by step (Dates dates) = used_by step dates
+taken_by step (Slice left) = []
+
+-- the dates that charges take from a context, in order
+abbrev pub consumed_from : List Step → Context → List ℕ
+consumed_from [] context = []
+consumed_from (step ∷ steps) context = taken_by step context.budget ++ consumed_from steps (context_stepped step context)
+
+-- where no order comes between, the date a whole budget later is at least a period later
 abbrev pub ConsumedAreSpaced : Type 0
 ConsumedAreSpaced =
-    (config : Config) (dates : List ℕ) (steps : List Step) → IsContext (record { config = config; budget = Dates dates }) → AreProper steps →
-    IsSpaced config.budget config.period (consumed config.period (max_refills_of config) steps dates)
+    (context : Context) (steps : List Step) → IsContext context → AreProper steps →
+    IsSpaced context.config.budget context.config.period (consumed_from steps context)

@@ -13,7 +13,7 @@ pub fn contexts_are_kept()
     ensures { ContextsAreKept }
 {}
 
-/// A law of sporadic contexts: of the dates that charges take, whatever charges and wakes come and where no order does, the one
+/// A law of contexts: of the dates that charges take, whatever charges and wakes come and where no order does, the one
 /// a whole budget later is at least a period later.
 pub fn consumed_dates_are_spaced()
     ensures { ConsumedAreSpaced }
