@@ -40,40 +40,40 @@ cond-none true x y p q = p
 cond-none false x y p q = q
 
 module _ (queue : Discipline) (system : System) (c t : ℕ) where
-  moves-none : (x : ℕ) (m : Moved) (core : Core) → (turns.moves queue system c t x m core).mails ≡ []
+  moves-none : (x : ℕ) (m : Moved) (core : Core) → (turns.moves system t x m core).mails ≡ []
   moves-none x Next core = refl
   moves-none x RoundEnds core = refl
   moves-none x AllDone core = refl
 
-  wakes-none : (x : ℕ) (core : Core) → (turns.wakes queue system c t x core).mails ≡ []
+  wakes-none : (x : ℕ) (core : Core) → (turns.wakes queue system t x core).mails ≡ []
   wakes-none x core = append-nil _ ∙ moves-none x _ _
 
-  posts_as-none : (note : ℕ) (p : Posted) (core : Core) → (turns.posts_as queue system c t note p core).mails ≡ []
+  posts_as-none : (note : ℕ) (p : Posted) (core : Core) → (turns.posts_as queue system t note p core).mails ≡ []
   posts_as-none note (Woke x word) core = wakes-none x _
   posts_as-none note (Held word) core = refl
 
-  posts-none : (note badge : ℕ) (core : Core) → (turns.posts queue system c t note badge core).mails ≡ []
+  posts-none : (note badge : ℕ) (core : Core) → (turns.posts queue system t note badge core).mails ≡ []
   posts-none note badge core = posts_as-none note (posted badge (note_of core note)) core
 
-  arrives-none : (mail : Mail) (core : Core) → (turns.arrives queue system c t mail core).mails ≡ []
+  arrives-none : (mail : Mail) (core : Core) → (turns.arrives queue system t mail core).mails ≡ []
   arrives-none mail core = posts-none mail.note mail.badge core
 
-  orders_running-none : (order : Order) (o : Option Chosen) (core : Core) → (turns.orders_running queue system c t order o core).mails ≡ []
+  orders_running-none : (order : Order) (o : Option Chosen) (core : Core) → (turns.orders_running queue system t order o core).mails ≡ []
   orders_running-none order None core = refl
-  orders_running-none order (Some chosen) core = cond-none ((turns.part_of queue system c t chosen.thread).context == order.context) _ _ refl refl
+  orders_running-none order (Some chosen) core = cond-none ((turns.part_of system chosen.thread).context == order.context) _ _ refl refl
 
-  obeys-none : (order : Order) (core : Core) → (turns.obeys queue system c t order core).mails ≡ []
+  obeys-none : (order : Order) (core : Core) → (turns.obeys queue system t order core).mails ≡ []
   obeys-none order core = orders_running-none order core.running core
 
-  releases-none : (core : Core) → (turns.releases queue system c t core).mails ≡ []
-  releases-none core = each-none (turns.released queue system c t) (λ due core. refl) (filter (turns.is_due queue system c t) core.releases) _
+  releases-none : (core : Core) → (turns.releases queue system t core).mails ≡ []
+  releases-none core = each-none (turns.released queue system t) (λ due core. refl) (filter (turns.is_due queue system t) core.releases) _
 
-  preempts_by-none : (o : Option Chosen) (best : Option Queued) (core : Core) → (turns.preempts_by queue system c t o best core).mails ≡ []
-  preempts_by-none (Some chosen) (Some best) core = cond-none (nat_lt (turns.part_of queue system c t chosen.thread).priority best.priority) _ _ refl refl
+  preempts_by-none : (o : Option Chosen) (best : Option Queued) (core : Core) → (turns.preempts_by queue system t o best core).mails ≡ []
+  preempts_by-none (Some chosen) (Some best) core = cond-none (nat_lt (turns.part_of system chosen.thread).priority best.priority) _ _ refl refl
   preempts_by-none (Some chosen) None core = refl
   preempts_by-none None best core = refl
 
-  chooses_of-none : (o : Option Chosen) (best : Option Queued) (core : Core) → (turns.chooses_of queue system c t o best core).mails ≡ []
+  chooses_of-none : (o : Option Chosen) (best : Option Queued) (core : Core) → (turns.chooses_of queue o best core).mails ≡ []
   chooses_of-none (Some chosen) best core = refl
   chooses_of-none None None core = refl
   chooses_of-none None (Some best) core = refl
@@ -81,8 +81,8 @@ module _ (queue : Discipline) (system : System) (c t : ℕ) where
   -- only the end of the tick makes signals
   mails-turn : (mails : List Mail) (core : Core) → (turns.turn_with queue system c t mails core).mails ≡ (turns.tick queue system c t core).mails
   mails-turn mails core = nothing_more (turns.tick queue system c t core).mails _ _ _ _ _
-      (each-none (turns.arrives queue system c t) arrives-none mails _)
-      (each-none (turns.obeys queue system c t) obeys-none (filter (turns.is_for_now queue system c t) system.orders) _)
+      (each-none (turns.arrives queue system t) arrives-none mails _)
+      (each-none (turns.obeys queue system t) obeys-none (filter (turns.is_for_now system c t) system.orders) _)
       (releases-none _)
       (preempts_by-none _ _ _)
       (chooses_of-none _ _ _)
@@ -112,14 +112,14 @@ module _ (queue : Discipline) (system : System) (c t : ℕ) where
       differs : (a b : ℕ) → (a == b) ≡ false → a ≢ b
       differs a b e = grind (arith, nat_tests)
 
-      by : (b : Bool) → ((note_part system note).core == c) ≡ b → IsOutgoing (cond b (turns.posts queue system c t note badge core) (record { core = core; rows = []; mails = turns.mail_to queue system c t note badge ∷ [] })).mails
+      by : (b : Bool) → ((note_part system note).core == c) ≡ b → IsOutgoing (cond b (turns.posts queue system t note badge core) (record { core = core; rows = []; mails = turns.mail_to queue system c t note badge ∷ [] })).mails
       by true e = IsOutgoing-none _ (posts-none note badge core)
       by false e = record { arrives = refl; made = refl; maker = refl; away = differs (note_part system note).core c e }
 
-  moves_on-none : (x : ℕ) (core : Core) → (turns.moves_on queue system c t x core).mails ≡ []
-  moves_on-none x core = moves-none x (turns.move_of queue system c t x core) core
+  moves_on-none : (x : ℕ) (core : Core) → (turns.moves_on system t x core).mails ≡ []
+  moves_on-none x core = moves-none x (turns.move_of system t x core) core
 
-  waits_as-none : (x note : ℕ) (w : Waited) (core : Core) → (turns.waits_as queue system c t x note w core).mails ≡ []
+  waits_as-none : (x note : ℕ) (w : Waited) (core : Core) → (turns.waits_as system t x note w core).mails ≡ []
   waits_as-none x note (Got word) core = moves_on-none x _
   waits_as-none x note Blocks core = refl
 
@@ -134,9 +134,9 @@ module _ (queue : Discipline) (system : System) (c t : ℕ) where
   may_stop-none x using why.Done core = refl
   may_stop-none x using why.Wait core = refl
   may_stop-none x using why.Yield core = refl
-  may_stop-none x using why.Spent core = cond-none (using == head_amount (turns.its_context queue system c t x core)) _ _ refl refl
-  may_stop-none x using why.Preempt core = cond-none (using == head_amount (turns.its_context queue system c t x core)) _ _ refl refl
-  may_stop-none x using why.Order core = cond-none (using == head_amount (turns.its_context queue system c t x core)) _ _ refl refl
+  may_stop-none x using why.Spent core = cond-none (using == head_amount (turns.its_context system x core)) _ _ refl refl
+  may_stop-none x using why.Preempt core = cond-none (using == head_amount (turns.its_context system x core)) _ _ refl refl
+  may_stop-none x using why.Order core = cond-none (using == head_amount (turns.its_context system x core)) _ _ refl refl
 
   finishes-out : (x using : ℕ) (item : Option Item) (core : Core) → IsOutgoing (turns.finishes queue system c t x using item core).mails
   finishes-out x using item core =
@@ -144,11 +144,11 @@ module _ (queue : Discipline) (system : System) (c t : ℕ) where
 
   after_count-out : (x using : ℕ) (core : Core) → IsOutgoing (turns.after_count queue system c t x using core).mails
   after_count-out x using core =
-      IsOutgoing-cond ((thread_of core x).place.left == 0) _ _ (finishes-out x using (turns.item_of queue system c t x core) core) (IsOutgoing-none _ (may_stop-none x using why.Spent core))
+      IsOutgoing-cond ((thread_of core x).place.left == 0) _ _ (finishes-out x using (turns.item_of system t x core) core) (IsOutgoing-none _ (may_stop-none x using why.Spent core))
 
   tick_of-out : (o : Option Chosen) (core : Core) → IsOutgoing (turns.tick_of queue system c t o core).mails
   tick_of-out None core = tt
-  tick_of-out (Some chosen) core = after_count-out chosen.thread (chosen.using + 1) (turns.counts queue system c t chosen core)
+  tick_of-out (Some chosen) core = after_count-out chosen.thread (chosen.using + 1) (turns.counts chosen core)
 
   -- a turn makes at most one signal for another core, made now
   pub turn-out : (mails : List Mail) (core : Core) → IsOutgoing (turns.turn_with queue system c t mails core).mails

@@ -1,10 +1,11 @@
 -- The state of one core.
-use Rattle.std.specs.Prelude.{ℕ, ◌==◌, ◌+◌, if◌then◌else◌, List, [], ◌∷◌, map, get_or, set, Option, Some, None, unwrap_or}
+use Rattle.std.specs.Prelude.{ℕ, ◌==◌, ◌+◌, if◌then◌else◌, List, [], ◌∷◌, ◌++◌, map, get_or, set, Option, Some, None, unwrap_or}
 use Rattle.mcs_ticks.specs.declared.queue.Queued.{Queued}
 use Rattle.mcs_control.specs.Context.{Context, new_context}
 use Rattle.mcs_control.specs.Context.Budget.{Slice}
 use Rattle.mcs_notify.specs.Note.{Note, quiet_note}
 use Rattle.mcs_script.specs.Script.{first_place}
+use Rattle.mcs_core.specs.declared.standing.Standing.{Standing}
 use Rattle.mcs_core.specs.declared.standing.Standing.TheVariants.{Pending, Elsewhere}
 use Rattle.mcs_core.specs.declared.standing.Thread.{Thread}
 use Rattle.mcs_core.specs.declared.standing.Chosen.{Chosen}
@@ -46,6 +47,20 @@ with_context context state core = record core { contexts = set core.contexts con
 
 abbrev pub with_note : ℕ → Note → Core → Core
 with_note note state core = record core { notes = set core.notes note state }
+
+-- the thread stands so
+abbrev pub stands : ℕ → Standing → Core → Core
+stands thread standing core = with_thread thread (record (thread_of core thread) { standing = standing }) core
+
+-- the thread is in the release queue with this date
+abbrev pub pends : ℕ → ℕ → Core → Core
+pends thread date core =
+    let core = stands thread Pending core in
+    record core { releases = core.releases ++ record { thread = thread; date = date } ∷ [] }
+
+-- the running thread leaves the core
+abbrev pub off : Core → Core
+off core = record core { running = None }
 
 -- at first each thread of the core is pending, with its start as date
 abbrev pub opening_thread : System → ℕ → ThreadPart → Thread

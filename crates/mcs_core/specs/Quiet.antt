@@ -1,6 +1,5 @@
 -- Turns that do nothing but count a tick, and the moment of the next one that does more.
 use Rattle.std.specs.Prelude.{◌≡◌, ℕ, zero, suc, ◌+◌, ◌<◌, ◌≤◌, ◌^◌, Option, Some, None, List}
-use Rattle.mcs_ticks.specs.Queue.{by_priority}
 use Rattle.mcs_mail.specs.declared.mail.Mail.{Mail}
 use Rattle.mcs_mail.specs.Box.{arriving}
 use Rattle.mcs_core.specs.System.{System}
@@ -11,7 +10,7 @@ use Rattle.mcs_core.specs.Turn.{turn, silent, counts}
 module _ (system : System) (c : ℕ) where
   abbrev pub counted_of : Option Chosen → Core → Core
   counted_of None core = core
-  counted_of (Some chosen) core = counts by_priority system c 0 chosen core
+  counted_of (Some chosen) core = counts chosen core
 
   -- one more tick was used, where a thread runs
   abbrev pub counted : Core → Core

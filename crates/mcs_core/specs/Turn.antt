@@ -22,11 +22,11 @@ use Rattle.mcs_script.specs.Script.{move_after, place_after}
 use Rattle.mcs_mail.specs.declared.mail.Mail.{Mail}
 use Rattle.mcs_core.specs.declared.part.ThreadPart.{ThreadPart}
 use Rattle.mcs_core.specs.System.{System, thread_part, note_part, context_part, delay_between}
-use Rattle.mcs_core.specs.Core.{Core, thread_of, context_of, note_of, with_thread, with_context, with_note}
+use Rattle.mcs_core.specs.Core.{Core, thread_of, context_of, note_of, with_thread, with_context, with_note, stands, pends, off}
 use Rattle.mcs_release.specs.declared.dated.Dated.{Dated}
 use Rattle.mcs_core.specs.declared.standing.Chosen.{Chosen}
 use Rattle.mcs_core.specs.declared.standing.Standing.{Standing}
-use Rattle.mcs_core.specs.declared.standing.Standing.TheVariants.{Blocked, Pending, Ready, Running, Done}
+use Rattle.mcs_core.specs.declared.standing.Standing.TheVariants.{Blocked, Ready, Running, Done}
 
 -- what a turn, or a part of it, makes: the core after it, its rows, and its signals for other cores
 pub record Turn : Type 0 where
@@ -52,8 +52,8 @@ abbrev pub each : {A : Type 0} → (A → Core → Turn) → List A → Core →
 each part [] core = silent core
 each part (x ∷ xs) core = part x core followed_by each part xs
 
--- the turn of core c at moment t, with the ready threads kept by this discipline
-module _ (queue : Discipline) (system : System) (c t : ℕ) where
+-- threads and their contexts
+module _ (system : System) where
   abbrev pub part_of : ℕ → ThreadPart
   part_of thread = thread_part system thread
 
@@ -64,73 +64,74 @@ module _ (queue : Discipline) (system : System) (c t : ℕ) where
   abbrev pub with_its_context : ℕ → Context → Core → Core
   with_its_context thread context core = with_context (part_of thread).context context core
 
-  -- the date with which a thread must wait for its context, if it isn't ready
-  abbrev pub date_of : ℕ → Core → Option ℕ
-  date_of thread core =
+  -- the date with which a thread must wait for its context, if it isn't ready at t
+  abbrev pub date_of : ℕ → ℕ → Core → Option ℕ
+  date_of t thread core =
       if context_ready t (its_context thread core) then None else Some (head_moment (its_context thread core))
 
-  abbrev pub stands : ℕ → Standing → Core → Core
-  stands thread standing core = with_thread thread (record (thread_of core thread) { standing = standing }) core
+  -- the context of the thread is charged k ticks
+  abbrev pub charged : ℕ → ℕ → Core → Core
+  charged thread k core = with_its_context thread (context_charged k system.min_budget (its_context thread core)) core
 
   abbrev pub queued : ℕ → Queued
   queued thread = record { thread = thread; priority = (part_of thread).priority }
 
-  abbrev pub pends : ℕ → ℕ → Core → Core
-  pends thread date core =
-      let core = stands thread Pending core in
-      record core { releases = core.releases ++ record { thread = thread; date = date } ∷ [] }
-
+-- where threads enter
+module _ (queue : Discipline) (system : System) where
   -- to the back of the ready queue, or with a date into the release queue
   abbrev pub enters_back : ℕ → Option ℕ → Core → Core
   enters_back thread (Some date) core = pends thread date core
   enters_back thread None core =
       let core = stands thread Ready core in
-      record core { ready = queue.back (queued thread) core.ready }
+      record core { ready = queue.back (queued system thread) core.ready }
 
   -- to the front of the ready queue, or with a date into the release queue
   abbrev pub enters_front : ℕ → Option ℕ → Core → Core
   enters_front thread (Some date) core = pends thread date core
   enters_front thread None core =
       let core = stands thread Ready core in
-      record core { ready = queue.front (queued thread) core.ready }
+      record core { ready = queue.front (queued system thread) core.ready }
 
-  -- the context of the thread is charged k ticks
-  abbrev pub charged : ℕ → ℕ → Core → Core
-  charged thread k core = with_its_context thread (context_charged k system.min_budget (its_context thread core)) core
-
-  -- the running thread leaves the core
-  abbrev pub off : Core → Core
-  off core = record core { running = None }
-
-  -- a stop for good or until a signal
+-- stops at moment t
+module _ (queue : Discipline) (system : System) (t : ℕ) where
+  -- for good or until a signal
   abbrev pub stops : ℕ → Why → ℕ → Standing → Core → Turn
   stops thread why k standing core =
-      record { core = stands thread standing (off (charged thread k core)); rows = row.Stop thread why k None ∷ []; mails = [] }
+      record { core = stands thread standing (off (charged system thread k core)); rows = row.Stop thread why k None ∷ []; mails = [] }
 
-  -- a stop after which the thread goes to the back of the ready queue
+  -- to the back of the ready queue
   abbrev pub stops_to_back : ℕ → Why → ℕ → Core → Turn
   stops_to_back thread why k core =
-      let after = charged thread k core in
-      record { core = enters_back thread (date_of thread after) (off after); rows = row.Stop thread why k (date_of thread after) ∷ []; mails = [] }
+      let after = charged system thread k core in
+      record {
+        core = enters_back queue system thread (date_of system t thread after) (off after);
+        rows = row.Stop thread why k (date_of system t thread after) ∷ [];
+        mails = [];
+      }
 
-  -- the stop of the thread that runs, whose context has been charged, to the front of the ready queue
+  -- of the thread that runs, whose context has been charged, to the front of the ready queue
   abbrev pub stops_to_front : ℕ → Why → ℕ → Core → Turn
   stops_to_front thread why k core =
-      record { core = enters_front thread (date_of thread core) (off core); rows = row.Stop thread why k (date_of thread core) ∷ []; mails = [] }
+      record {
+        core = enters_front queue system thread (date_of system t thread core) (off core);
+        rows = row.Stop thread why k (date_of system t thread core) ∷ [];
+        mails = [];
+      }
 
-  -- part 1: the end of the tick
-
+-- how a thread goes through its script, at moment t
+module _ (system : System) (t : ℕ) where
   abbrev pub item_of : ℕ → Core → Option Item
-  item_of thread core = slice_get (part_of thread).script (thread_of core thread).place.item
+  item_of thread core = slice_get (part_of system thread).script (thread_of core thread).place.item
 
   abbrev pub move_of : ℕ → Core → Moved
-  move_of thread core = move_after (part_of thread).script (part_of thread).rounds (thread_of core thread).place
+  move_of thread core = move_after (part_of system thread).script (part_of system thread).rounds (thread_of core thread).place
 
   -- the thread has the place after this move, and its round began at this moment
   abbrev pub placed : ℕ → Moved → ℕ → Core → Core
   placed thread move since core =
       let state = thread_of core thread in
-      with_thread thread (record { standing = state.standing; place = place_after system.call (part_of thread).script move state.place; since = since }) core
+      with_thread thread
+      (record { standing = state.standing; place = place_after system.call (part_of system thread).script move state.place; since = since }) core
 
   abbrev pub round_row : ℕ → Core → What
   round_row thread core = row.Round thread (thread_of core thread).place.round (t - (thread_of core thread).since)
@@ -150,12 +151,23 @@ module _ (queue : Discipline) (system : System) (c t : ℕ) where
       let state = thread_of core thread in
       with_thread thread (record state { since = if state.place.item == 0 then t else state.since }) core
 
+  abbrev pub waits_as : ℕ → ℕ → Waited → Core → Turn
+  waits_as thread note (Got word) core =
+      says (row.Got thread note word) (given thread (with_note note (after_wait (Got word) (queued system thread) (note_of core note)) core))
+      followed_by moves_on thread
+  waits_as thread note Blocks core =
+      silent (with_note note (after_wait Blocks (queued system thread) (note_of core note)) core)
+
+-- posts at moment t
+module _ (queue : Discipline) (system : System) (t : ℕ) where
+  abbrev pub unblocked : ℕ → Core → Core
+  unblocked thread core = with_its_context system thread (context_unblocked t (its_context system thread core)) core
+
   -- a woken thread: its context is unblocked
   abbrev pub wakes : ℕ → Core → Turn
   wakes thread core =
-      let unblocked = with_its_context thread (context_unblocked t (its_context thread core)) core in
-      moves_on thread (given thread unblocked)
-      followed_by λ core. silent (enters_back thread (date_of thread core) core)
+      moves_on system t thread (given system t thread (unblocked thread core))
+      followed_by λ core. silent (enters_back queue system thread (date_of system t thread core) core)
 
   abbrev pub posts_as : ℕ → Posted → Core → Turn
   posts_as note (Woke thread word) core =
@@ -167,6 +179,25 @@ module _ (queue : Discipline) (system : System) (c t : ℕ) where
   abbrev pub posts : ℕ → ℕ → Core → Turn
   posts note badge core = posts_as note (posted badge (note_of core note)) core
 
+-- which stop follows a finished item: none but the one of a spent head, or one of done, wait and yield
+abbrev pub after_move : Moved → Why → Why
+after_move AllDone other = why.Done
+after_move Next other = other
+after_move RoundEnds other = other
+
+abbrev pub after_waited : Waited → Why
+after_waited Blocks = why.Wait
+after_waited (Got word) = why.Spent
+
+-- one more tick was used, and the item's rest is one less
+abbrev pub counts : Chosen → Core → Core
+counts chosen core =
+    let state = thread_of core chosen.thread in
+    with_thread chosen.thread (record state { place = record (state.place) { left = state.place.left - 1 } })
+    (record core { running = Some (record { thread = chosen.thread; using = chosen.using + 1 }) })
+
+-- part 1: the end of the tick, on core c at moment t
+module _ (queue : Discipline) (system : System) (c t : ℕ) where
   abbrev pub mail_to : ℕ → ℕ → Mail
   mail_to note badge = record { arrives = t + delay_between system c (note_part system note).core; made = t; maker = c; note = note; badge = badge }
 
@@ -176,57 +207,33 @@ module _ (queue : Discipline) (system : System) (c t : ℕ) where
       says (row.Signal thread note badge) core
       followed_by λ core.
       if (note_part system note).core == c
-      then posts note badge core
+      then posts queue system t note badge core
       else record { core = core; rows = []; mails = mail_to note badge ∷ [] }
-
-  abbrev pub waits_as : ℕ → ℕ → Waited → Core → Turn
-  waits_as thread note (Got word) core =
-      says (row.Got thread note word) (given thread (with_note note (after_wait (Got word) (queued thread) (note_of core note)) core))
-      followed_by moves_on thread
-  waits_as thread note Blocks core =
-      silent (with_note note (after_wait Blocks (queued thread) (note_of core note)) core)
 
   -- the thread's item takes effect, and the thread moves on unless it blocks
   abbrev pub takes_effect : ℕ → Option Item → Core → Turn
-  takes_effect thread (Some (Signal note badge)) core = signals thread note badge core followed_by moves_on thread
-  takes_effect thread (Some (Wait note)) core = waits_as thread note (waited (note_of core note)) core
-  takes_effect thread (Some (Compute ticks)) core = moves_on thread core
-  takes_effect thread (Some Yield) core = moves_on thread core
+  takes_effect thread (Some (Signal note badge)) core = signals thread note badge core followed_by moves_on system t thread
+  takes_effect thread (Some (Wait note)) core = waits_as system t thread note (waited (note_of core note)) core
+  takes_effect thread (Some (Compute ticks)) core = moves_on system t thread core
+  takes_effect thread (Some Yield) core = moves_on system t thread core
   takes_effect thread None core = silent core
 
-  -- which stop follows: none but the one of a spent head, or one of done, wait and yield
-  abbrev pub after_move : Moved → Why → Why
-  after_move AllDone other = why.Done
-  after_move Next other = other
-  after_move RoundEnds other = other
-
-  abbrev pub after_waited : Waited → Why
-  after_waited Blocks = why.Wait
-  after_waited (Got word) = why.Spent
-
   abbrev pub stop_after : ℕ → Option Item → Core → Why
-  stop_after thread (Some Yield) core = after_move (move_of thread core) why.Yield
+  stop_after thread (Some Yield) core = after_move (move_of system t thread core) why.Yield
   stop_after thread (Some (Wait note)) core = after_waited (waited (note_of core note))
-  stop_after thread (Some (Compute ticks)) core = after_move (move_of thread core) why.Spent
-  stop_after thread (Some (Signal note badge)) core = after_move (move_of thread core) why.Spent
+  stop_after thread (Some (Compute ticks)) core = after_move (move_of system t thread core) why.Spent
+  stop_after thread (Some (Signal note badge)) core = after_move (move_of system t thread core) why.Spent
   stop_after thread None core = why.Spent
 
   -- at most one stop, for this cause
   abbrev pub may_stop : ℕ → ℕ → Why → Core → Turn
-  may_stop thread using why.Done core = stops thread why.Done using Done core
-  may_stop thread using why.Wait core = stops thread why.Wait using Blocked core
-  may_stop thread using why.Yield core = stops_to_back thread why.Yield (head_amount (its_context thread core)) core
+  may_stop thread using why.Done core = stops queue system t thread why.Done using Done core
+  may_stop thread using why.Wait core = stops queue system t thread why.Wait using Blocked core
+  may_stop thread using why.Yield core = stops_to_back queue system t thread why.Yield (head_amount (its_context system thread core)) core
   may_stop thread using other core =
-      if using == head_amount (its_context thread core)
-      then stops_to_back thread why.Spent using core
+      if using == head_amount (its_context system thread core)
+      then stops_to_back queue system t thread why.Spent using core
       else silent core
-
-  -- one more tick was used, and the item's rest is one less
-  abbrev pub counts : Chosen → Core → Core
-  counts chosen core =
-      let state = thread_of core chosen.thread in
-      with_thread chosen.thread (record state { place = record (state.place) { left = state.place.left - 1 } })
-      (record core { running = Some (record { thread = chosen.thread; using = chosen.using + 1 }) })
 
   -- the item is finished: it takes effect, and at most one stop follows
   abbrev pub finishes : ℕ → ℕ → Option Item → Core → Turn
@@ -236,7 +243,7 @@ module _ (queue : Discipline) (system : System) (c t : ℕ) where
   abbrev pub after_count : ℕ → ℕ → Core → Turn
   after_count thread using core =
       if (thread_of core thread).place.left == 0
-      then finishes thread using (item_of thread core) core
+      then finishes thread using (item_of system t thread core) core
       else may_stop thread using why.Spent core
 
   abbrev pub tick_of : Option Chosen → Core → Turn
@@ -246,33 +253,29 @@ module _ (queue : Discipline) (system : System) (c t : ℕ) where
   abbrev pub tick : Core → Turn
   tick core = tick_of core.running core
 
+-- parts 2 to 5
+module _ (queue : Discipline) (system : System) (t : ℕ) where
   -- part 2: an arrival
-
   abbrev pub arrives : Mail → Core → Turn
-  arrives mail core = says (row.Arrive mail.note mail.badge mail.maker) core followed_by posts mail.note mail.badge
+  arrives mail core = says (row.Arrive mail.note mail.badge mail.maker) core followed_by posts queue system t mail.note mail.badge
 
   -- part 3: an order
-
   abbrev pub applied : Order → Core → Core
   applied order core = with_context order.context (context_ordered t order.config (context_of core order.context)) core
 
   abbrev pub orders_running : Order → Option Chosen → Core → Turn
   orders_running order None core = silent (applied order core)
   orders_running order (Some chosen) core =
-      if (part_of chosen.thread).context == order.context
-      then stops_to_front chosen.thread why.Order chosen.using (applied order (charged chosen.thread chosen.using core))
+      if (part_of system chosen.thread).context == order.context
+      then stops_to_front queue system t chosen.thread why.Order chosen.using (applied order (charged system chosen.thread chosen.using core))
       else silent (applied order core)
 
   abbrev pub obeys : Order → Core → Turn
   obeys order core = says (row.Order order.context) core followed_by orders_running order core.running
 
-  abbrev pub is_for_now : Order → Bool
-  is_for_now order = (order.moment == t) && ((context_part system order.context).core == c)
-
   -- part 4: releases
-
   abbrev pub released : Dated → Core → Turn
-  released due core = says (row.Release due.thread) (enters_back due.thread None core)
+  released due core = says (row.Release due.thread) (enters_back queue system due.thread None core)
 
   abbrev pub is_due : Dated → Bool
   is_due dated = nat_le dated.date t
@@ -281,12 +284,11 @@ module _ (queue : Discipline) (system : System) (c t : ℕ) where
   releases core =
       each released (filter is_due core.releases) (record core { releases = filter (λ dated. not (is_due dated)) core.releases })
 
-  -- part 5: the choice
-
+  -- part 5: the choice; a running thread first gives way to one of greater priority ..
   abbrev pub preempts_by : Option Chosen → Option Queued → Core → Turn
   preempts_by (Some chosen) (Some best) core =
-      if nat_lt (part_of chosen.thread).priority best.priority
-      then stops_to_front chosen.thread why.Preempt chosen.using (charged chosen.thread chosen.using core)
+      if nat_lt (part_of system chosen.thread).priority best.priority
+      then stops_to_front queue system t chosen.thread why.Preempt chosen.using (charged system chosen.thread chosen.using core)
       else silent core
   preempts_by (Some chosen) None core = silent core
   preempts_by None best core = silent core
@@ -294,6 +296,8 @@ module _ (queue : Discipline) (system : System) (c t : ℕ) where
   abbrev pub preempts : Core → Turn
   preempts core = preempts_by core.running (queue.best core.ready) core
 
+-- .. and where none runs, the best one is chosen
+module _ (queue : Discipline) where
   abbrev pub chooses_of : Option Chosen → Option Queued → Core → Turn
   chooses_of (Some chosen) best core = silent core
   chooses_of None None core = silent core
@@ -305,15 +309,19 @@ module _ (queue : Discipline) (system : System) (c t : ℕ) where
   abbrev pub chooses : Core → Turn
   chooses core = chooses_of core.running (queue.best core.ready) core
 
-  -- the whole turn, with the mail that arrives
-  abbrev pub turn_with : List Mail → Core → Turn
-  turn_with mails core =
-      tick core
-      followed_by each arrives mails
-      followed_by each obeys (filter is_for_now system.orders)
-      followed_by releases
-      followed_by preempts
-      followed_by chooses
+-- the orders of this moment for contexts of core c
+abbrev pub is_for_now : System → ℕ → ℕ → Order → Bool
+is_for_now system c t order = (order.moment == t) && ((context_part system order.context).core == c)
+
+-- the whole turn of core c at moment t, with the mail that arrives, and the ready threads kept by this discipline
+abbrev pub turn_with : Discipline → System → ℕ → ℕ → List Mail → Core → Turn
+turn_with queue system c t mails core =
+    tick queue system c t core
+    followed_by each (arrives queue system t) mails
+    followed_by each (obeys queue system t) (filter (is_for_now system c t) system.orders)
+    followed_by releases queue system t
+    followed_by preempts queue system t
+    followed_by chooses queue
 
 -- the turn with the ready threads by priority, which is what a core shows
 abbrev pub turn : System → ℕ → ℕ → List Mail → Core → Turn

@@ -1,5 +1,5 @@
 -- The steps of a context that no order names, from the opening on: each core's turns charge and unblock it, and nothing else.
-use Rattle.std.proofs.Common.{◌≡◌, ℕ, zero, suc, ◌+◌, ◌<◌, ◌≤◌, List, [], ◌∷◌, ◌++◌, length, refl, sym, ap, ◌∙◌, append-nil, arith}
+use Rattle.std.proofs.Common.{◌≡◌, ℕ, zero, suc, ◌<◌, ◌≤◌, List, [], ◌∷◌, ◌++◌, length, refl, sym, ap, ◌∙◌}
 use Rattle.std.specs.Prelude.{filter, flat_map}
 use Rattle.std.specs.List.{range_with_len, AllByRecursion}
 use Rattle.mcs_ticks.specs.Queue.{by_priority}
@@ -16,6 +16,7 @@ use Rattle.mcs_laws.specs.Consumed as used
 use Rattle.mcs_laws.specs.Consumed.{context_after, charges_of, charges_told, History, IsSpacedUse}
 use Rattle.mcs_core.specs.Clock as clocks
 use Rattle.mcs_core.proofs.Clock.{core_at-world}
+use Rattle.mcs_laws.proofs.Ranges.{flat_map-moments-more}
 use Rattle.mcs_laws.proofs.Traces as traces
 use Rattle.mcs_laws.proofs.Traces.{Traced}
 
@@ -49,17 +50,6 @@ module _ (system : System) (takes_time : TakesTime system) (c context : ℕ) (kn
   abbrev rows_before : ℕ → List What
   rows_before n = flat_map (λ m. (clocks.turn_of system c m).rows) (range_with_len 0 n)
 
-  flat_map-more : (f : ℕ → List What) (n a : ℕ) → flat_map f (range_with_len a (suc n)) ≡ flat_map f (range_with_len a n) ++ f (a + n)
-  flat_map-more f zero a = append-nil (f a) ∙ ap f (omega arith)
-  flat_map-more f (suc n) a =
-      let e : a + 1 + n ≡ a + suc n = omega arith in
-      ap (λ xs. f a ++ xs) (flat_map-more f n (a + 1)) ∙ assoc (f a) (flat_map f (range_with_len (a + 1) n)) (f (a + 1 + n))
-      ∙ ap (λ m. (f a ++ flat_map f (range_with_len (a + 1) n)) ++ f m) e
-    where
-      assoc : (xs ys zs : List What) → xs ++ (ys ++ zs) ≡ (xs ++ ys) ++ zs
-      assoc [] ys zs = refl
-      assoc (x ∷ xs) ys zs = ap (λ us. x ∷ us) (assoc xs ys zs)
-
   core-next : (n : ℕ) → before (suc n) ≡ (clocks.turn_of system c n).core
   core-next n = core_at-world system takes_time n c known
 
@@ -76,9 +66,9 @@ module _ (system : System) (takes_time : TakesTime system) (c context : ℕ) (kn
         many = ap (λ (k : Core). length k.contexts) (core-next n) ∙ s.many ∙ h.many;
         after = λ l. ap (λ k. context_of k context) (core-next n) ∙ s.after (rw h.many l) ∙ ap (context_after s.steps) (h.after l)
             ∙ sym (traces.context_after-append h.steps s.steps (context_of (before 0) context));
-        told = ap (charges_told system context) (flat_map-more (λ m. (clocks.turn_of system c m).rows) n 0)
-            ∙ traces.told-append by_priority system c n context (rows_before n) (clocks.turn_of system c (0 + n)).rows
-            ∙ both _ _ _ _ h.told (ap (λ m. charges_told system context (clocks.turn_of system c m).rows) (omega arith) ∙ s.told)
+        told = ap (charges_told system context) (flat_map-moments-more (λ m. (clocks.turn_of system c m).rows) n)
+            ∙ traces.told-append by_priority system c n context (rows_before n) (clocks.turn_of system c n).rows
+            ∙ both _ _ _ _ h.told s.told
             ∙ sym (traces.charges_of-append h.steps s.steps);
       }
 

@@ -1,2 +1,5 @@
+pub mod Ranges
+pub mod UnderWay
+pub mod Disciplines
 pub mod Traces
 pub mod Histories

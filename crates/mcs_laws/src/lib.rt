@@ -1,6 +1,10 @@
-//! Laws of the model over whole schedules.
+//! Laws of the model over whole schedules. Each is the contract of a function whose body is empty: the function may be called for
+//! what its contract says.
 #![tactic(auto)]
 
 mod laws;
 
-pub use laws::{contexts_are_spaced, contexts_have_histories};
+pub use laws::{
+    contexts_are_spaced, contexts_have_histories, cores_are_of_turns, disciplines_agree,
+    rows_are_of_turns, signals_are_of_turns,
+};

@@ -1,0 +1,5 @@
+pub mod Steps
+pub mod Places
+pub mod Texts
+pub mod Each
+pub mod Members

@@ -1,2 +1,23 @@
-//! Files: the text of a system, with the first fault of a wrong one.
+//! Files: the text of a system, read in one walk that answers the first fault of a wrong file with its place. The fault kinds, their
+//! order and their texts are this project's own (profile M); the text itself is TOML.
 #![tactic(auto)]
+
+mod at;
+mod config;
+mod context;
+mod fault;
+mod file;
+mod key;
+mod names;
+mod note;
+mod numbers;
+mod order;
+mod raw;
+mod script;
+mod spot;
+mod thread;
+mod words;
+
+pub use fault::{FaultKind, LoadFault};
+pub use file::load;
+pub use spot::{Key, Section, Spot};

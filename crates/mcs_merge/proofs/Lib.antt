@@ -1,0 +1,4 @@
+pub mod Joins
+pub mod Merges
+pub mod Pushes
+mod Worked

@@ -1,0 +1,4 @@
+pub mod Places
+pub mod Waiters
+pub mod Views
+pub mod Steps

@@ -1,5 +1,5 @@
 -- A notification: a word, and the threads that wait on it in the order in which they began to wait.
-use Rattle.std.specs.Prelude.{ℕ, ◌==◌, bit_or, if◌then◌else◌, List, [], ◌∷◌, ◌++◌, Option, Some, None}
+use Rattle.std.specs.Prelude.{◌≢◌, ℕ, ◌==◌, bit_or, if◌then◌else◌, List, [], ◌∷◌, ◌++◌, get_or, set, All, Option, Some, None}
 use Rattle.mcs_ticks.specs.Queue.{first_of_greatest, without}
 use Rattle.mcs_ticks.specs.declared.queue.Queued.{Queued}
 use Rattle.mcs_notify.specs.declared.posted.Posted.{Posted}
@@ -35,3 +35,18 @@ waited note = if note.word == 0 then Blocks else Got note.word
 abbrev pub after_wait : Waited → Queued → Note → Note
 after_wait (Got word) thread note = record { word = 0; waiters = note.waiters }
 after_wait Blocks thread note = record { word = note.word; waiters = note.waiters ++ thread ∷ [] }
+
+-- all notifications, by number, and how many threads there are
+pub record Notifications : Type 0 where
+  pub notes : List Note
+  pub threads : ℕ
+
+abbrev pub note_of : List Note → ℕ → Note
+note_of notes note = get_or notes note quiet_note
+
+abbrev pub with_note : ℕ → Note → Notifications → Notifications
+with_note note state all = record { notes = set all.notes note state; threads = all.threads }
+
+-- the thread waits on none of these
+abbrev pub WaitsNowhere : ℕ → List Note → Type 0
+WaitsNowhere thread notes = All (λ note. All (λ waiter. waiter.thread ≢ thread) note.waiters) notes

@@ -1,0 +1,6 @@
+pub mod Kept
+pub mod Lines
+pub mod Marks
+pub mod Queues
+pub mod Times
+mod Worked

@@ -1,11 +1,12 @@
 -- What a charge keeps.
-use Rattle.std.proofs.Common.{◌≡◌, ◌≢◌, ℕ, suc, ◌+◌, ◌-◌, ◌^◌, ◌<◌, ◌≤◌, Bool, true, false, cond, ◌⊎◌, inl, inr, List, [], ◌∷◌, ◌++◌, length, get_or, refl, sym, ap, ◌∙◌, arith}
+use Rattle.std.proofs.Common.{◌≡◌, ◌≢◌, ℕ, suc, ◌+◌, ◌-◌, ◌^◌, ◌<◌, ◌≤◌, Bool, true, false, cond, ◌⊎◌, inl, inr, List, [], ◌∷◌, ◌++◌, length, refl, sym, ap, ◌∙◌, arith}
 use Rattle.std.specs.Prelude.{◌==◌, nat_lt}
 use Rattle.std.proofs.lemmas.Bool.Decides.{nat_tests}
 use Rattle.mcs_refills.specs.declared.refill.Refill.{Refill}
 use Rattle.mcs_refills.specs.Keeping.{IsBefore, AreApart, IsKept, end_of, grown, given_back, taken, left_after, after_charge}
 use Rattle.mcs_refills.specs.Server.{enough, gathered, joined, dates_of, last_moved, first_moment, first_amount, with_enough, charged}
 use Rattle.mcs_refills.proofs.Dates.{refills_of-dates_of, dates_of-charged}
+use Rattle.mcs_refills.proofs.Gathers.{end_of-first}
 
 -- what a list of refills must be like to be kept, but for its span
 pub record IsLike (rs : List Refill) (n from end : ℕ) : Type 0 where
@@ -118,10 +119,6 @@ IsLike-enough : (min_budget n from end : ℕ) (rs : List Refill) → IsLike rs n
 IsLike-enough min_budget n from end [] h = h
 IsLike-enough min_budget n from end (r ∷ rs) h = IsLike-gathered min_budget n from end r rs h
 
-end_of-first : (r : Refill) (rs : List Refill) → AreApart (r ∷ rs) → r.begins + r.amount ≤ end_of (r ∷ rs)
-end_of-first r [] a = omega arith
-end_of-first r (s ∷ rs) a = omega (arith, a.1, end_of-first s rs a.2)
-
 -- what is left of the refills is none, or again such a list
 left_is : (k n end : ℕ) (r : Refill) (rs : List Refill) → k ≤ r.amount → IsLike (r ∷ rs) n r.begins end →
     (left_after k r rs ≡ []) ⊎ IsLike (left_after k r rs) n (r.begins + k) end
@@ -147,15 +144,19 @@ IsLike-back k period max_refills end r rs p le q past short h = by (left_after k
     by ts (inl e) = rw e (record { apart = (p, tt, tt); some = omega arith; few = q; from_is = omega arith; end_is = refl })
     by ts (inr i) = IsLike-given_back (record { begins = r.begins + period; amount = k }) max_refills (r.begins + k) end ts past p i
 
-IsLike-charge : (k min_budget period max_refills end : ℕ) (r : Refill) (rs : List Refill) → 1 ≤ k → k ≤ r.amount → 1 ≤ max_refills → end ≤ r.begins + period → k ≤ period → IsLike (r ∷ rs) max_refills r.begins end →
+pub IsLike-charge : (k min_budget period max_refills end : ℕ) (r : Refill) (rs : List Refill) → 1 ≤ k → k ≤ r.amount → 1 ≤ max_refills → end ≤ r.begins + period → k ≤ period → IsLike (r ∷ rs) max_refills r.begins end →
     IsLike (after_charge k min_budget period max_refills (r ∷ rs)) max_refills (r.begins + k) (r.begins + period + k)
 IsLike-charge k min_budget period max_refills end r rs p le q past short h = IsLike-enough min_budget max_refills (r.begins + k) (r.begins + period + k) _ (IsLike-back k period max_refills end r rs p le q past short h)
 
--- the type keeps its invariant over a charge
-pub IsKept-charge : (k min_budget period max_refills room capacity more : ℕ) (rs : List Refill) → 1 ≤ k → k ≤ first_amount rs → first_moment rs ≤ 2 ^ 40 → capacity ≤ more → IsKept rs period max_refills room capacity →
-    IsKept (after_charge k min_budget period max_refills rs) period max_refills room more
-IsKept-charge k min_budget period max_refills room capacity more [] p le early c h = absurd (omega (arith, h.some))
-IsKept-charge k min_budget period max_refills room capacity more (r ∷ rs) p le early c h =
+first_moment-before : (rs : List Refill) → AreApart rs → 1 ≤ length rs → first_moment rs < end_of rs
+first_moment-before [] a l = absurd (omega arith)
+first_moment-before (r ∷ rs) a l = omega (arith, a.0, end_of-first r rs a)
+
+-- what is kept of the refills, a charge keeps
+pub IsKept-charge : (k min_budget period max_refills : ℕ) (rs : List Refill) → 1 ≤ k → k ≤ first_amount rs → first_moment rs ≤ 2 ^ 40 → IsKept rs period max_refills →
+    IsKept (after_charge k min_budget period max_refills rs) period max_refills
+IsKept-charge k min_budget period max_refills [] p le early h = absurd (omega (arith, h.some))
+IsKept-charge k min_budget period max_refills (r ∷ rs) p le early h =
     let first : r.begins + r.amount ≤ end_of (r ∷ rs) = end_of-first r rs h.apart in
     let i = IsLike-charge k min_budget period max_refills (end_of (r ∷ rs)) r rs p le (omega (arith, h.two)) h.spans (omega (arith, h.spans)) (record { apart = h.apart; some = h.some; few = h.few; from_is = omega arith; end_is = refl }) in
     record {
@@ -163,29 +164,31 @@ IsKept-charge k min_budget period max_refills room capacity more (r ∷ rs) p le
       some = i.some;
       few = i.few;
       two = h.two;
-      fits = h.fits;
-      space = omega (arith, h.space);
       spans = omega (arith, i.end_is, i.from_is);
       short = h.short;
-      early = omega (arith, i.end_is, h.short, h.spans);
+      early = omega (arith, i.end_is, h.short, h.spans, first_moment-before _ i.apart i.some);
     }
 
--- and its dates are those of a charge, with enough at the head
-pub dates_of-after_charge : (k min_budget period max_refills room capacity : ℕ) (rs : List Refill) → 1 ≤ k → k ≤ first_amount rs → IsKept rs period max_refills room capacity →
-    dates_of (after_charge k min_budget period max_refills rs) ≡ with_enough min_budget (charged k period max_refills (dates_of rs))
-dates_of-after_charge k min_budget period max_refills room capacity [] p le h = absurd (omega (arith, h.some))
-dates_of-after_charge k min_budget period max_refills room capacity (r ∷ rs) p le h =
-    let first : r.begins + r.amount ≤ end_of (r ∷ rs) = end_of-first r rs h.apart in
-    let like : IsLike (r ∷ rs) max_refills r.begins (end_of (r ∷ rs)) = record { apart = h.apart; some = h.some; few = h.few; from_is = omega arith; end_is = refl } in
-    let i = IsLike-back k period max_refills (end_of (r ∷ rs)) r rs p le (omega (arith, h.two)) h.spans (omega (arith, h.spans)) like in
-    let past : end_of (left_after k r rs) ≤ r.begins + period = ends (left_after k r rs) (left_is k max_refills (end_of (r ∷ rs)) r rs le like) h.spans in
+-- and the dates of the refills are those of a charge, with enough at the head
+pub dates_of-charge : (k min_budget period max_refills : ℕ) (r : Refill) (rs : List Refill) → 1 ≤ k → k ≤ r.amount → 1 ≤ max_refills → end_of (r ∷ rs) ≤ r.begins + period → IsLike (r ∷ rs) max_refills r.begins (end_of (r ∷ rs)) →
+    dates_of (after_charge k min_budget period max_refills (r ∷ rs)) ≡ with_enough min_budget (charged k period max_refills (dates_of (r ∷ rs)))
+dates_of-charge k min_budget period max_refills r rs p le q spans like =
+    let first : r.begins + r.amount ≤ end_of (r ∷ rs) = end_of-first r rs like.apart in
+    let i = IsLike-back k period max_refills (end_of (r ∷ rs)) r rs p le q spans (omega arith) like in
+    let past : end_of (left_after k r rs) ≤ r.begins + period = ends (left_after k r rs) (left_is k max_refills (end_of (r ∷ rs)) r rs le like) spans in
     let e : dates_of (given_back max_refills (record { begins = r.begins + period; amount = k }) (left_after k r rs)) ≡ charged k period max_refills (dates_of (r ∷ rs)) =
-    dates_of-charged k max_refills period r rs h.apart p le (omega (arith, h.two)) past in
+    dates_of-charged k max_refills period r rs like.apart p le q past in
     ap (λ xs. dates_of (enough min_budget xs)) (sym (refills_of-dates_of _ i.apart)) ∙ ap (with_enough min_budget) e
   where
     ends : (ts : List Refill) → (ts ≡ []) ⊎ IsLike ts max_refills (r.begins + k) (end_of (r ∷ rs)) → end_of (r ∷ rs) ≤ r.begins + period → end_of ts ≤ r.begins + period
     ends ts (inl e) l = rw e (omega arith)
     ends ts (inr i) l = omega (arith, i.end_is)
+
+pub dates_of-after_charge : (k min_budget period max_refills : ℕ) (rs : List Refill) → 1 ≤ k → k ≤ first_amount rs → IsKept rs period max_refills →
+    dates_of (after_charge k min_budget period max_refills rs) ≡ with_enough min_budget (charged k period max_refills (dates_of rs))
+dates_of-after_charge k min_budget period max_refills [] p le h = absurd (omega (arith, h.some))
+dates_of-after_charge k min_budget period max_refills (r ∷ rs) p le h =
+    dates_of-charge k min_budget period max_refills r rs p le (omega (arith, h.two)) h.spans (record { apart = h.apart; some = h.some; few = h.few; from_is = omega arith; end_is = refl })
 
 -- what the steps of a charge need
 pub record CanCharge (k period max_refills : ℕ) (rs : List Refill) : Type 0 where
@@ -196,14 +199,14 @@ pub record CanCharge (k period max_refills : ℕ) (rs : List Refill) : Type 0 wh
   pub early : end_of (given_back max_refills (record { begins = first_moment rs + period; amount = k }) (taken k rs)) ≤ first_moment rs + period + k
   pub head : k ≤ period
 
-pub can_charge : (k period max_refills room capacity : ℕ) (rs : List Refill) → 1 ≤ k → k ≤ first_amount rs → IsKept rs period max_refills room capacity → CanCharge k period max_refills rs
-can_charge k period max_refills room capacity [] p le h = absurd (omega (arith, h.some))
-can_charge k period max_refills room capacity (r ∷ rs) p le h =
+pub can_charge : (k period max_refills : ℕ) (rs : List Refill) → 1 ≤ k → k ≤ first_amount rs → IsKept rs period max_refills → CanCharge k period max_refills rs
+can_charge k period max_refills [] p le h = absurd (omega (arith, h.some))
+can_charge k period max_refills (r ∷ rs) p le h =
     let first : r.begins + r.amount ≤ end_of (r ∷ rs) = end_of-first r rs h.apart in
     let like : IsLike (r ∷ rs) max_refills r.begins (end_of (r ∷ rs)) = record { apart = h.apart; some = h.some; few = h.few; from_is = omega arith; end_is = refl } in
     let i = IsLike-back k period max_refills (end_of (r ∷ rs)) r rs p le (omega (arith, h.two)) h.spans (omega (arith, h.spans)) like in
     record {
-      ends = omega (arith, h.early);
+      ends = omega (arith, h.early, h.spans, h.short);
       later = ends (left_after k r rs) (left_is k max_refills (end_of (r ∷ rs)) r rs le like) h.spans;
       apart = i.apart;
       some = i.some;
@@ -214,7 +217,3 @@ can_charge k period max_refills room capacity (r ∷ rs) p le h =
     ends : (ts : List Refill) → (ts ≡ []) ⊎ IsLike ts max_refills (r.begins + k) (end_of (r ∷ rs)) → end_of (r ∷ rs) ≤ r.begins + period → end_of ts ≤ r.begins + period
     ends ts (inl e) l = rw e (omega arith)
     ends ts (inr i) l = omega (arith, i.end_is)
-
-pub begins-first : (rs : List Refill) (x d : Refill) → 1 ≤ length rs → x ≡ get_or rs 0 d → x.begins ≡ first_moment rs
-begins-first [] x d l e = absurd (omega arith)
-begins-first (r ∷ rs) x d l e = ap (λ (y : Refill). y.begins) e

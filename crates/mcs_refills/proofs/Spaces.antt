@@ -5,7 +5,7 @@ use Rattle.std.specs.List.{range_with_len}
 use Rattle.std.proofs.lemmas.Bool.Decides.{nat_tests}
 use Rattle.mcs_refills.specs.declared.refill.Refill.{Refill}
 use Rattle.mcs_refills.specs.Server.{dates_from, reconfigured, head_amount, dates_of, with_date, refills_of, first_date, last_moved, rejoined, charged, touches, unblocked, with_enough, enough, gathered, joined}
-use Rattle.mcs_refills.specs.Spacing.{IsUnder, IsWithin, AreKept, after_use, Step, stepped, consumed, IsProper, AreProper, StepsSpace, ConsumedAreSpaced, ServersAreKept}
+use Rattle.mcs_refills.specs.Spacing.{IsUnder, IsWithin, AreKept, after_use, Step, stepped, consumed, IsProper, AreProper, StepsSpace, ConsumedAreSpaced}
 use Rattle.mcs_refills.specs.Spacing.Step.{Charge, Unblock}
 use Rattle.mcs_refills.proofs.Dates.{range-add}
 
@@ -76,7 +76,7 @@ split (suc k) low high (u ∷ us) l h =
     record { mid = s.mid; from = omega (arith, h.0, s.from); to = s.to; used = (h.0, omega (arith, s.from), s.used); left = s.left }
 
 -- refills one after another within bounds
-abbrev IsLaid : ℕ → ℕ → List Refill → Type 0
+abbrev pub IsLaid : ℕ → ℕ → List Refill → Type 0
 IsLaid low high [] = low ≤ high
 IsLaid low high (r ∷ rs) = (low ≤ r.begins) × IsLaid (r.begins + r.amount) high rs
 
@@ -98,11 +98,11 @@ laid-with_date low high date (r ∷ rs) l h = by (date + 1 == r.begins) refl
         moved P e p = rw (sym e) p
     by false e = (l, (h.0, h.1))
 
-laid-refills_of : (low high : ℕ) (us : List ℕ) → low ≤ high → IsWithin low high us → IsLaid low high (refills_of us)
+pub laid-refills_of : (low high : ℕ) (us : List ℕ) → low ≤ high → IsWithin low high us → IsLaid low high (refills_of us)
 laid-refills_of low high [] l h = l
 laid-refills_of low high (u ∷ us) l h = laid-with_date low high u (refills_of us) h.0 (laid-refills_of (u + 1) high us (omega (arith, h.1)) h.2)
 
-within-dates_of : (low high : ℕ) (rs : List Refill) → IsLaid low high rs → IsWithin low high (dates_of rs)
+pub within-dates_of : (low high : ℕ) (rs : List Refill) → IsLaid low high rs → IsWithin low high (dates_of rs)
 within-dates_of low high [] h = tt
 within-dates_of low high (r ∷ rs) h =
     within-append low (r.begins + r.amount) high (range_with_len r.begins r.amount) (dates_of rs) (omega (arith, h.0)) (laid-to (r.begins + r.amount) high rs h.1)
@@ -265,14 +265,14 @@ within-unblocked t low high bound (u ∷ us) h p q = (
 )
 
 -- a step moves no date to before its place after use, and keeps what is kept
-kept-charged : (budget period max_refills k min_budget : ℕ) (us : List ℕ) → 1 ≤ k → (h : AreKept budget period us) →
+pub kept-charged : (budget period max_refills k min_budget : ℕ) (us : List ℕ) → 1 ≤ k → (h : AreKept budget period us) →
     IsUnder (after_use k period us) (with_enough min_budget (charged k period max_refills us)) × AreKept budget period (with_enough min_budget (charged k period max_refills us))
 kept-charged budget period max_refills k min_budget us p h =
     let s = split k h.low (h.low + period) us (omega arith) h.within in
     let i = later-charged k min_budget max_refills h.low period us p s in
     (i.under, record { all = sym (under-length (after_use k period us) (with_enough min_budget (charged k period max_refills us)) i.under) ∙ length-after_use k period us ∙ h.all; low = s.mid; within = i.within })
 
-kept-unblocked : (budget period t : ℕ) (us : List ℕ) → (h : AreKept budget period us) → AreKept budget period (unblocked t us)
+pub kept-unblocked : (budget period t : ℕ) (us : List ℕ) → (h : AreKept budget period us) → AreKept budget period (unblocked t us)
 kept-unblocked budget period t us h =
     record {
       all = sym (under-length us (unblocked t us) (under-unblocked t us)) ∙ h.all;
@@ -376,7 +376,7 @@ two_parts budget period begins amount l m =
           (within-high mid (mid + (budget - amount)) (begins + period) (range_with_len mid (budget - amount)) (omega arith) (within-range (budget - amount) mid)));
     }
 
-kept-reconfigured : (budget period t : ℕ) (us : List ℕ) → budget ≤ period → AreKept budget period (reconfigured t budget period us)
+pub kept-reconfigured : (budget period t : ℕ) (us : List ℕ) → budget ≤ period → AreKept budget period (reconfigured t budget period us)
 kept-reconfigured budget period t us l = two_parts budget period (max (first_date us) t) (min (head_amount us) budget) l (omega arith)
 
 -- one date more is at most one refill more, and none where it touches
@@ -411,7 +411,7 @@ few-range (suc (suc n)) a us =
     let h = few-range (suc n) (a + 1) us in
     omega arith
 
-few-reconfigured : (budget period t : ℕ) (us : List ℕ) → length (refills_of (reconfigured t budget period us)) ≤ 2
+pub few-reconfigured : (budget period t : ℕ) (us : List ℕ) → length (refills_of (reconfigured t budget period us)) ≤ 2
 few-reconfigured budget period t us =
     two (max (first_date us) t) (min (head_amount us) budget) (max (first_date us) t + period - (budget - min (head_amount us) budget)) (budget - min (head_amount us) budget)
   where
@@ -422,14 +422,10 @@ few-reconfigured budget period t us =
         let i : length (refills_of (range_with_len b n)) ≤ 1 = rw e at (few-range n b []) in
         omega arith
 
-kept-new : (budget period at : ℕ) → budget ≤ period → AreKept budget period (dates_from at budget)
+pub kept-new : (budget period at : ℕ) → budget ≤ period → AreKept budget period (dates_from at budget)
 kept-new budget period at l = record { all = length-range budget at; low = at; within = within-high at (at + budget) (at + period) (range_with_len at budget) (omega arith) (within-range budget at) }
 
-pub servers-kept : ServersAreKept
-servers-kept budget period l = (
-  λ at. kept-new budget period at l,
-  λ max_refills k min_budget us h p. (kept-charged budget period max_refills k min_budget us p h).1,
-  λ t us h. kept-unblocked budget period t us h,
-  λ t us. kept-reconfigured budget period t us l,
-  λ t us. few-reconfigured budget period t us,
-)
+pub few-new : (budget at : ℕ) → length (refills_of (dates_from at budget)) ≤ 1
+few-new budget at =
+    let e : range_with_len at budget ++ [] ≡ range_with_len at budget = append-nil (range_with_len at budget) in
+    rw e at (few-range budget at [])

@@ -1,7 +1,7 @@
 -- A server's refills as a list: what the type keeps, and what the steps of a charge make of them.
-use Rattle.std.specs.Prelude.{ℕ, ◌+◌, ◌-◌, ◌^◌, ◌<◌, ◌≤◌, ◌==◌, nat_lt, if◌then◌else◌, List, [], ◌∷◌, ◌++◌, length}
+use Rattle.std.specs.Prelude.{ℕ, ◌+◌, ◌-◌, ◌*◌, ◌^◌, ◌<◌, ◌≤◌, min, max, ◌==◌, nat_lt, nat_le, if◌then◌else◌, List, [], ◌∷◌, ◌++◌, length}
 use Rattle.mcs_refills.specs.declared.refill.Refill.{Refill}
-use Rattle.mcs_refills.specs.Server.{first_moment, last_moved, enough}
+use Rattle.mcs_refills.specs.Server.{first_moment, first_amount, last_moved, enough}
 
 -- each refill has an amount, and none touches the next
 abbrev pub IsBefore : Refill → List Refill → Type 0
@@ -18,17 +18,22 @@ end_of [] = 0
 end_of (r ∷ []) = r.begins + r.amount
 end_of (r ∷ s ∷ rs) = end_of (s ∷ rs)
 
--- what the type keeps
-pub record IsKept (refills : List Refill) (period max_refills room capacity : ℕ) : Type 0 where
+-- what is kept of the refills: they lie apart, are at most so many, and span at most a period. An order may leave the head where
+-- a charge has moved it, so its moment has a bound of its own
+pub record IsKept (refills : List Refill) (period max_refills : ℕ) : Type 0 where
   pub apart : AreApart refills
   pub some : 1 ≤ length refills
   pub few : length refills ≤ max_refills
   pub two : 2 ≤ max_refills
-  pub fits : max_refills ≤ room
-  pub space : room ≤ capacity
   pub spans : end_of refills ≤ first_moment refills + period
   pub short : period ≤ 2 ^ 40
-  pub early : end_of refills ≤ 2 ^ 42
+  pub early : first_moment refills ≤ 3 * 2 ^ 40
+
+-- and there is room for them, reserved once
+pub record IsStored (refills : List Refill) (period max_refills room capacity : ℕ) : Type 0 where
+  pub kept : IsKept refills period max_refills
+  pub fits : max_refills ≤ room
+  pub space : room ≤ capacity
 
 -- what a charge of k leaves of the refills
 abbrev pub left_after : ℕ → Refill → List Refill → List Refill
@@ -55,3 +60,27 @@ given_back max_refills back (r ∷ rs) =
 -- the refills after a charge
 abbrev pub after_charge : ℕ → ℕ → ℕ → ℕ → List Refill → List Refill
 after_charge k min_budget period max_refills rs = enough min_budget (given_back max_refills (record { begins = first_moment rs + period; amount = k }) (taken k rs))
+
+-- the head (begins, amount) with those of the refills after it that it reaches
+abbrev pub with_reached : ℕ → ℕ → List Refill → List Refill
+with_reached begins amount [] = record { begins = begins; amount = amount } ∷ []
+with_reached begins amount (next ∷ others) =
+    if nat_le next.begins (begins + amount)
+    then with_reached begins (amount + next.amount) others
+    else record { begins = begins; amount = amount } ∷ next ∷ others
+
+-- the refills after unblocking at t
+abbrev pub after_unblock : ℕ → List Refill → List Refill
+after_unblock t [] = []
+after_unblock t (r ∷ rs) = if nat_lt t r.begins then r ∷ rs else with_reached t r.amount rs
+
+-- a refill that ends at the moment, or none where it would be empty
+abbrev pub missing_refill : ℕ → ℕ → List Refill
+missing_refill amount moment = if amount == 0 then [] else record { begins = moment - amount; amount = amount } ∷ []
+
+-- the refills after an order at t
+abbrev pub after_reconfigure : ℕ → ℕ → ℕ → List Refill → List Refill
+after_reconfigure t budget period rs =
+    let begins = max (first_moment rs) t in
+    let amount = min (first_amount rs) budget in
+    record { begins = begins; amount = amount } ∷ missing_refill (budget - amount) (begins + period)

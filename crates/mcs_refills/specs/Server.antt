@@ -121,5 +121,11 @@ abbrev pub server_charged : ℕ → ℕ → Server → Server
 server_charged k min_budget server =
     record { dates = with_enough min_budget (charged k server.period server.max_refills server.dates); period = server.period; max_refills = server.max_refills; room = server.room }
 
+-- unblocking at t
 abbrev pub server_unblocked : ℕ → Server → Server
 server_unblocked t server = record { dates = unblocked t server.dates; period = server.period; max_refills = server.max_refills; room = server.room }
+
+-- an order at t, which sets the budget, the period and the number of refills
+abbrev pub server_reconfigured : ℕ → ℕ → ℕ → ℕ → Server → Server
+server_reconfigured t budget period max_refills server =
+    record { dates = reconfigured t budget period server.dates; period = period; max_refills = max_refills; room = server.room }

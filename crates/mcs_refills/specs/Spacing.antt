@@ -1,7 +1,7 @@
 -- What the charges of a server take from it, where no order comes between: from one date to the one a whole budget later
 -- there is at least a period.
 use Rattle.std.specs.Prelude.{◌≡◌, ℕ, ◌+◌, ◌<◌, ◌≤◌, List, [], ◌∷◌, ◌++◌, map, take, drop, length, slice_index}
-use Rattle.mcs_refills.specs.Server.{dates_from, refills_of, charged, with_enough, unblocked, reconfigured}
+use Rattle.mcs_refills.specs.Server.{Server, new_server, server_charged, server_unblocked, server_reconfigured, refills_of, head_amount, charged, with_enough, unblocked}
 
 -- each date is at most the one in its place of the other list, and the lists are equally long
 abbrev pub IsUnder : List ℕ → List ℕ → Type 0
@@ -21,15 +21,18 @@ pub record AreKept (budget period : ℕ) (dates : List ℕ) : Type 0 where
   pub low : ℕ
   pub within : IsWithin low (low + period) dates
 
--- a new server is kept so, each step keeps it, and a new budget and period are kept so by their own measure, in at most two refills
+-- a server in good order with this budget: its dates are kept, and it has no more refills than it may have
+pub record IsServer (budget : ℕ) (server : Server) : Type 0 where
+  pub kept : AreKept budget server.period server.dates
+  pub few : length (refills_of server.dates) ≤ server.max_refills
+
+-- a new server is in good order, a charge and unblocking leave it so, and an order makes it so with the new budget and period
 abbrev pub ServersAreKept : Type 0
 ServersAreKept =
-    (budget period : ℕ) → budget ≤ period →
-    ((at : ℕ) → AreKept budget period (dates_from at budget))
-    × ((max_refills k min_budget : ℕ) (dates : List ℕ) → AreKept budget period dates → 1 ≤ k → AreKept budget period (with_enough min_budget (charged k period max_refills dates)))
-    × ((t : ℕ) (dates : List ℕ) → AreKept budget period dates → AreKept budget period (unblocked t dates))
-    × ((t : ℕ) (dates : List ℕ) → AreKept budget period (reconfigured t budget period dates))
-    × ((t : ℕ) (dates : List ℕ) → length (refills_of (reconfigured t budget period dates)) ≤ 2)
+    ((at budget period max_refills room : ℕ) → budget ≤ period → 1 ≤ max_refills → IsServer budget (new_server at budget period max_refills room))
+    × ((k min_budget budget : ℕ) (server : Server) → IsServer budget server → 1 ≤ k → k ≤ head_amount server.dates → IsServer budget (server_charged k min_budget server))
+    × ((t budget : ℕ) (server : Server) → IsServer budget server → IsServer budget (server_unblocked t server))
+    × ((t budget period max_refills : ℕ) (server : Server) → budget ≤ period → 2 ≤ max_refills → IsServer budget (server_reconfigured t budget period max_refills server))
 
 -- the dates after a charge of k, in the order of the dates before it: those that are not used, and those that return
 abbrev pub after_use : ℕ → ℕ → List ℕ → List ℕ

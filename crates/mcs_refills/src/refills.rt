@@ -1,11 +1,17 @@
-ghost use Rattle.std.specs.Prelude.{◌≡◌, ◌+◌, ◌^◌, ◌<◌, ◌≤◌, IfOk, length};
+ghost use Rattle.std.specs.Prelude.{◌≡◌, ◌^◌, ◌<◌, ◌≤◌, IfOk, length, slice_get};
+ghost use Rattle.mcs_refills.specs.Server.{new_server, refills_of, is_ready, first_date, head_amount, server_charged, server_unblocked, server_reconfigured};
+ghost use Rattle.mcs_refills.specs.Spacing.{IsServer};
 
 use crate::Refill;
-use crate::steps::charge_list;
-use std::alloc::{AllocError, Global};
+use crate::steps::{charge_list, reconfigure_list, unblock_list};
+use mcs_ticks::{NoMemory, Tick};
+use std::alloc::Global;
 use std::marker::Model;
 
-/// The refills of a sporadic server.
+/// The refills of a sporadic scheduling context, after the sporadic server of Sprunt, Sha and Lehoczky (1989) and the seL4
+/// Reference Manual (MCS). Contracts see a server: its budget dates, one for each tick of the budget in ascending order, its
+/// period, at most how many refills it has, and for how many there is room. The refills are the longest runs of consecutive
+/// dates. Only [`Refills::new`] takes memory.
 #[derive(Drop)]
 pub struct Refills {
     list: Vec<Refill>,
@@ -17,40 +23,41 @@ pub struct Refills {
 impl Model for Refills {
     ghost use Rattle.std.specs.Prelude.{vec_capacity};
     ghost use Rattle.mcs_refills.specs.Server.{Server, dates_of};
-    ghost use Rattle.mcs_refills.specs.Keeping.{IsKept};
+    ghost use Rattle.mcs_refills.specs.Keeping.{IsStored};
 
     ghost Value = { Server };
 
     ghost view = { λ a. record { dates = dates_of a.list.items; period = a.period; max_refills = a.max_refills; room = a.room } };
 
-    ghost invariant = { λ a. IsKept a.list.items a.period a.max_refills a.room (vec_capacity a.list) };
+    ghost invariant = { λ a. IsStored a.list.items a.period a.max_refills a.room (vec_capacity a.list) };
 }
 
 impl Refills {
-    ghost use Rattle.std.specs.Prelude.{nat_le};
-    ghost use Rattle.mcs_refills.specs.Server.{new_server, refills_of, is_ready, first_amount, first_moment};
-
+    /// One refill with the whole budget, which may be used from `at` on. Amounts and the period are in ticks; there is room
+    /// for `room` refills, 2 to 66, of which `max_refills` are used. `NoMemory` is answered where the room is refused.
     pub fn new(
         alloc: Global,
-        at: u64,
+        at: Tick,
         budget: u64,
         period: u64,
         max_refills: usize,
         room: usize,
-    ) -> Result<Self, AllocError>
+    ) -> Result<Self, NoMemory>
+        requires early { at ≤ 2 ^ 40 }
         requires some { 1 ≤ budget }
         requires within { budget < period }
         requires short { period ≤ 2 ^ 40 }
         requires two { 2 ≤ max_refills }
         requires fits { max_refills ≤ room }
-        requires early { at ≤ 2 ^ 40 }
+        requires few { room ≤ 66 }
         ensures { IfOk result (λ refills. refills ≡ new_server at budget period max_refills room) }
     {
         let mut list = Vec::with_capacity(alloc, room)?;
-        list.push(Refill {
-            begins: at,
+        let pushed = list.push(Refill {
+            begins: at.get(),
             amount: budget,
-        })?;
+        });
+        prove!(pushed.is_ok());
         Ok(Refills {
             list,
             period,
@@ -59,38 +66,84 @@ impl Refills {
         })
     }
 
+    /// The first refill. Its moment is one that a [`Tick`] holds.
     pub fn head(&self) -> Refill
-        ensures moment { result.begins ≡ first_moment (refills_of self.now.dates) }
-        ensures amount { result.amount ≡ first_amount (refills_of self.now.dates) }
+        ensures moment { result.begins ≡ first_date self.now.dates }
+        ensures amount { result.amount ≡ head_amount self.now.dates }
+        ensures some { 1 ≤ result.amount }
+        ensures in_range { result.begins ≤ 2 ^ 42 }
     {
         self.list[0]
     }
 
-    pub fn ready(&self, t: u64) -> bool
+    /// How many refills there are.
+    pub fn len(&self) -> usize
+        ensures number { result ≡ length (refills_of self.now.dates) }
+        ensures few { result ≤ self.now.max_refills }
+    {
+        self.list.len()
+    }
+
+    /// The refill in place `i`, from 0, or None past the last.
+    pub fn get(&self, i: usize) -> Option<Refill>
+        ensures { result ≡ slice_get (refills_of self.now.dates) i }
+    {
+        self.list.get(i).copied()
+    }
+
+    /// Whether the head may be used at `t`.
+    pub fn ready(&self, t: Tick) -> bool
         ensures { result ≡ is_ready t self.now.dates }
     {
-        self.list[0].begins <= t
+        self.head().begins <= t.get()
     }
-}
 
-impl Refills {
-    ghost use Rattle.std.specs.Prelude.{vec_len, vec_capacity};
-    ghost use Rattle.mcs_refills.specs.Server.{server_charged, head_amount, first_date};
-
-    /// The first `k` ticks are used, and return a period later; then there is enough at the head.
-    pub fn charge(&mut self, k: u64, min_budget: u64)
-        requires used { 1 ≤ k }
-        requires in_head { k ≤ head_amount self.old.dates }
+    /// Charges the first `ticks` of the head, which return a period later: where the list is full, its last refill first moves
+    /// later until they touch it. Then, while the head has fewer than `min_budget` ticks, it moves later and joins the next
+    /// refill.
+    pub fn charge(&mut self, ticks: u64, min_budget: u64)
+        requires some { 1 ≤ ticks }
+        requires in_head { ticks ≤ head_amount self.old.dates }
         requires early { first_date self.old.dates ≤ 2 ^ 40 }
-        ensures { self.new ≡ server_charged k min_budget self.old }
+        ensures { self.new ≡ server_charged ticks min_budget self.old }
     {
         charge_list(
             &mut self.list,
             self.period,
             self.max_refills,
-            self.room,
-            k,
+            ticks,
             min_budget,
         );
+    }
+
+    /// Unblocks at `t`: a head whose moment has come moves to `t`, and the refills that it reaches join it.
+    pub fn unblock(&mut self, t: Tick)
+        requires { t ≤ 2 ^ 40 }
+        ensures { self.new ≡ server_unblocked t self.old }
+    {
+        unblock_list(&mut self.list, t.get());
+    }
+
+    /// A SchedControl order at `t`: the budget, the period and the number of refills are these from now on. The head stays, but
+    /// begins at `t` at the earliest and has at most the budget; what it lacks is one refill that ends a period later.
+    pub fn reorder(&mut self, t: Tick, budget: u64, period: u64, max_refills: usize)
+        requires early { t ≤ 2 ^ 40 }
+        requires some { 1 ≤ budget }
+        requires within { budget < period }
+        requires short { period ≤ 2 ^ 40 }
+        requires two { 2 ≤ max_refills }
+        requires fits { max_refills ≤ self.old.room }
+        ensures { self.new ≡ server_reconfigured t budget period max_refills self.old }
+    {
+        reconfigure_list(&mut self.list, t.get(), budget, period);
+        self.period = period;
+        self.max_refills = max_refills;
+    }
+
+    /// A law of the type: the dates of each list ascend and span less than the period, and have at most `max_refills` refills.
+    pub fn in_good_order(&self)
+        ensures { IsServer (length self.now.dates) self.now }
+    {
+        let _list = &self.list;
     }
 }

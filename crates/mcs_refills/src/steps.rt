@@ -1,24 +1,24 @@
-ghost use Rattle.std.specs.Prelude.{◌≡◌, ◌+◌, ◌^◌, ◌<◌, ◌≤◌, length, vec_len, vec_capacity};
-ghost use Rattle.mcs_refills.specs.Keeping.{end_of, taken, given_back, AreApart, IsKept, after_charge};
-ghost use Rattle.mcs_refills.specs.Server.{first_amount, first_moment, last_moved, enough};
+ghost use Rattle.std.specs.Prelude.{◌≡◌, ◌+◌, ◌^◌, ◌<◌, ◌≤◌, ◌∷◌, length, drop, vec_len, vec_capacity};
+ghost use Rattle.mcs_refills.specs.Keeping.{end_of, taken, given_back, AreApart, IsKept, after_charge, after_unblock, after_reconfigure};
+ghost use Rattle.mcs_refills.specs.Server.{first_amount, first_moment, enough};
 
 use crate::Refill;
 
-/// Takes `k` ticks from the head.
-pub fn take(refills: &mut Vec<Refill>, k: u64)
+/// Takes ticks from the head. A head that is wholly used leaves.
+pub fn take(refills: &mut Vec<Refill>, ticks: u64)
     requires some { 1 ≤ vec_len refills.old }
-    requires in_head { k ≤ first_amount refills.old.items }
+    requires in_head { ticks ≤ first_amount refills.old.items }
     requires early { first_moment refills.old.items + first_amount refills.old.items < 2 ^ 63 }
-    ensures items { refills.new.items ≡ taken k refills.old.items }
+    ensures items { refills.new.items ≡ taken ticks refills.old.items }
     ensures capacity { vec_capacity refills.old ≤ vec_capacity refills.new }
 {
     let head = refills[0];
-    if k == head.amount {
+    if ticks == head.amount {
         refills.remove(0);
     } else {
         refills[0] = Refill {
-            begins: head.begins + k,
-            amount: head.amount - k,
+            begins: head.begins + ticks,
+            amount: head.amount - ticks,
         };
     }
 }
@@ -56,7 +56,20 @@ pub fn give_back(refills: &mut Vec<Refill>, back: Refill, max_refills: usize)
     }
 }
 
-/// While the head has fewer than `min_budget` ticks, joins it with the next refill.
+/// Puts one refill in place of the first `count`.
+pub fn replace_first(refills: &mut Vec<Refill>, count: usize, head: Refill)
+    requires some { 1 ≤ count }
+    requires within { count ≤ vec_len refills.old }
+    ensures items { refills.new.items ≡ head ∷ drop count refills.old.items }
+    ensures capacity { vec_capacity refills.new ≡ vec_capacity refills.old }
+{
+    if count > 1 {
+        refills.drain(..count - 1);
+    }
+    refills[0] = head;
+}
+
+/// While the head has fewer than `min_budget` ticks, it moves to the next refill and joins it.
 pub fn gather(refills: &mut Vec<Refill>, min_budget: u64)
     requires some { 1 ≤ vec_len refills.old }
     requires apart { AreApart refills.old.items }
@@ -64,38 +77,87 @@ pub fn gather(refills: &mut Vec<Refill>, min_budget: u64)
     ensures items { refills.new.items ≡ enough min_budget refills.old.items }
     ensures capacity { vec_capacity refills.new ≡ vec_capacity refills.old }
 {
-    'joins: while refills.len() > 1 && refills[0].amount < min_budget {
-        let head = refills.remove(0);
-        let next = refills[0];
-        refills[0] = Refill {
-            begins: next.begins - head.amount,
-            amount: head.amount + next.amount,
+    let mut head = refills[0];
+    let mut next = 1;
+    'joins: while next < refills.len() && head.amount < min_budget {
+        let refill = refills[next];
+        head = Refill {
+            begins: refill.begins - head.amount,
+            amount: head.amount + refill.amount,
         };
+        next += 1;
     }
+    replace_first(refills, next, head);
 }
 
-/// Charges a list of refills that is kept.
+/// A charge: the first ticks of the head are used and return a period later, and then there is enough at the head.
 pub fn charge_list(
     refills: &mut Vec<Refill>,
     period: u64,
     max_refills: usize,
-    room: usize,
-    k: u64,
+    ticks: u64,
     min_budget: u64,
 )
-    requires kept { IsKept refills.old.items period max_refills room (vec_capacity refills.old) }
-    requires used { 1 ≤ k }
-    requires in_head { k ≤ first_amount refills.old.items }
+    requires kept { IsKept refills.old.items period max_refills }
+    requires room { max_refills ≤ vec_capacity refills.old }
+    requires some { 1 ≤ ticks }
+    requires in_head { ticks ≤ first_amount refills.old.items }
     requires early { first_moment refills.old.items ≤ 2 ^ 40 }
-    ensures items { refills.new.items ≡ after_charge k min_budget period max_refills refills.old.items }
+    ensures items { refills.new.items ≡ after_charge ticks min_budget period max_refills refills.old.items }
     ensures capacity { vec_capacity refills.old ≤ vec_capacity refills.new }
 {
     let back = Refill {
         begins: refills[0].begins + period,
-        amount: k,
+        amount: ticks,
     };
-    take(refills, k);
+    take(refills, ticks);
     give_back(refills, back, max_refills);
     gather(refills, min_budget);
-    let _room = room;
+}
+
+/// Unblocking at `t`: a head whose moment has come moves to `t`, and the refills that it reaches join it.
+pub fn unblock_list(refills: &mut Vec<Refill>, t: u64)
+    requires some { 1 ≤ vec_len refills.old }
+    requires apart { AreApart refills.old.items }
+    requires early { end_of refills.old.items < 2 ^ 63 }
+    requires now { t ≤ 2 ^ 40 }
+    ensures items { refills.new.items ≡ after_unblock t refills.old.items }
+    ensures capacity { vec_capacity refills.new ≡ vec_capacity refills.old }
+{
+    let first = refills[0];
+    if t < first.begins {
+        return;
+    }
+    let mut amount = first.amount;
+    let mut next = 1;
+    'joins: while next < refills.len() && refills[next].begins <= t + amount {
+        amount += refills[next].amount;
+        next += 1;
+    }
+    replace_first(refills, next, Refill { begins: t, amount });
+}
+
+/// An order at `t`: the head begins at `t` or later and has at most the budget, and what it lacks is one refill that ends a
+/// period later.
+pub fn reconfigure_list(refills: &mut Vec<Refill>, t: u64, budget: u64, period: u64)
+    requires some { 1 ≤ vec_len refills.old }
+    requires room { 2 ≤ vec_capacity refills.old }
+    requires within { budget < period }
+    requires early { first_moment refills.old.items + t + period < 2 ^ 63 }
+    ensures items { refills.new.items ≡ after_reconfigure t budget period refills.old.items }
+    ensures capacity { vec_capacity refills.old ≤ vec_capacity refills.new }
+{
+    let first = refills[0];
+    let begins = first.begins.max(t);
+    let amount = first.amount.min(budget);
+    refills.truncate(1);
+    refills[0] = Refill { begins, amount };
+    if amount < budget {
+        let missing = budget - amount;
+        let pushed = refills.push(Refill {
+            begins: begins + period - missing,
+            amount: missing,
+        });
+        prove!(pushed.is_ok());
+    }
 }

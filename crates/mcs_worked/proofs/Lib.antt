@@ -1,0 +1,5 @@
+pub mod Schedules
+mod Contexts
+mod Turns
+mod Orders
+mod Random

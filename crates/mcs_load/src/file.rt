@@ -1,0 +1,102 @@
+ghost use Rattle.std.specs.Prelude.{◌≡◌, ◌≤◌, IfOk};
+ghost use Rattle.toml.specs.View.{table_view};
+ghost use Rattle.mcs_load.specs.Checks.{Gives};
+ghost use Rattle.mcs_load.specs.Walk.{document, numbers, walk, file};
+
+use crate::at::At;
+use crate::context::contexts;
+use crate::fault::LoadFault;
+use crate::names::Names;
+use crate::note::notes;
+use crate::numbers::Numbers;
+use crate::order::orders;
+use crate::spot::{Key, Section};
+use crate::thread::threads;
+use crate::words::{number_with_default, only_keys, whole_number};
+use mcs_core::SystemParts;
+use mcs_ticks::{Limits, Sequence};
+use std::alloc::Global;
+use toml::Table;
+
+const TOP_KEYS: [Key; 9] = [
+    Key::Version,
+    Key::Cores,
+    Key::Delay,
+    Key::Call,
+    Key::MinBudget,
+    Key::Context,
+    Key::Note,
+    Key::Thread,
+    Key::Order,
+];
+
+#[tactic(auto, unfolding(crate::specs::Walk::document))]
+fn document(alloc: Global, bytes: &[u8]) -> Result<Table, LoadFault>
+    ensures { Gives (λ t. table_view t) result (document bytes.now) }
+{
+    let Ok(text) = std::str::from_utf8(bytes) else {
+        return Err(LoadFault::NOT_TOML);
+    };
+    match toml::table_from_str(alloc, text) {
+        Ok(table) => Ok(table),
+        Err(e) if e.is_memory() => Err(LoadFault::NO_MEMORY),
+        Err(_) => Err(LoadFault::NOT_TOML),
+    }
+}
+
+#[tactic(auto, using(crate::proofs::Steps::both, crate::proofs::Steps::or_else_none, crate::proofs::Steps::or_else_some), unfolding(crate::specs::Walk::numbers))]
+fn numbers(file: &Table) -> Result<Numbers, LoadFault>
+    ensures range { IfOk result (λ n. (1 ≤ n.cores) × (n.cores ≤ 64)) }
+    ensures gives { Gives (λ n. n) result (numbers (table_view file.now)) }
+{
+    let top = At::array(Section::Top);
+    only_keys(top, &TOP_KEYS, file)?;
+    let _version = whole_number(top, Key::Version, 1, 1, file)?;
+    let cores = whole_number(top, Key::Cores, 1, Limits::CORES as u64, file)?;
+    let delay = whole_number(top, Key::Delay, 1, Limits::DELAY, file)?;
+    let call = number_with_default(top, Key::Call, 1, Limits::CALL, 1, file)?;
+    let min_budget = number_with_default(top, Key::MinBudget, 1, Limits::MIN_BUDGET, 1, file)?;
+    Ok(Numbers {
+        cores,
+        delay,
+        call,
+        min_budget,
+    })
+}
+
+#[tactic(auto, using(crate::proofs::Steps::both, crate::proofs::Steps::or_else_none, crate::proofs::Steps::or_else_some), unfolding(crate::specs::Walk::walk))]
+fn walk(alloc: Global, file: &Table) -> Result<SystemParts, LoadFault>
+    ensures { Gives (λ s. s) result (walk (table_view file.now)) }
+{
+    let Numbers {
+        cores,
+        delay,
+        call,
+        min_budget,
+    } = numbers(file)?;
+    let mut context_names = Names::new(alloc);
+    let contexts = contexts(alloc, cores, min_budget, &mut context_names, file)?;
+    let mut note_names = Names::new(alloc);
+    let notes = notes(alloc, cores, &mut note_names, file)?;
+    let threads = threads(alloc, &contexts, &context_names, &notes, &note_names, file)?;
+    let orders = orders(alloc, cores, min_budget, &contexts, &context_names, file)?;
+    Ok(SystemParts {
+        cores: cores as usize,
+        delay,
+        call,
+        min_budget,
+        contexts: Sequence::new(contexts),
+        notes: Sequence::new(notes),
+        threads: Sequence::new(threads),
+        orders: Sequence::new(orders),
+    })
+}
+
+/// The system that a file describes, or the first fault of its bytes.
+#[tactic(auto, using(crate::proofs::Steps::both, crate::proofs::Steps::or_else_none, crate::proofs::Steps::or_else_some), unfolding(crate::specs::Walk::file))]
+pub fn load(alloc: Global, bytes: &[u8]) -> Result<SystemParts, LoadFault>
+    ensures { Gives (λ s. s) result (file bytes.now) }
+{
+    let table = document(alloc, bytes)?;
+    walk(alloc, &table)
+}

@@ -1,0 +1,20 @@
+ghost use Rattle.std.specs.Prelude.{◌≡◌, ◌≤◌, ◌^◌};
+
+use mcs_ticks::Tick;
+
+/// The numbers at the top of a file.
+#[derive(Clone, Copy)]
+pub(crate) struct Numbers {
+    pub cores: u64,
+    pub delay: u64,
+    pub call: u64,
+    pub min_budget: u64,
+}
+
+/// The moment with this number of ticks before it.
+pub(crate) fn moment(ticks: u64) -> Tick
+    requires { ticks ≤ 2 ^ 40 }
+    ensures { result ≡ ticks }
+{
+    Tick::new(ticks).unwrap()
+}

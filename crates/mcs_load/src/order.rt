@@ -1,0 +1,154 @@
+ghost use Rattle.std.specs.Prelude.{◌≡◌, ◌≤◌, ◌<◌, ℕ, IfOk, List, suc, length, map, []};
+ghost use Rattle.toml.specs.View.{table_view, view, items_view};
+ghost use Rattle.mcs_control.specs.Control.{kind_of};
+ghost use Rattle.mcs_control.specs.declared.config.Order.{Order};
+ghost use Rattle.mcs_load.specs.declared.spot.Section.TheVariants as section;
+ghost use Rattle.mcs_load.specs.Checks.{Gives};
+ghost use Rattle.mcs_load.specs.Words.{row, each};
+ghost use Rattle.mcs_load.specs.Walk.{part_at, ordered_context, keeps_kind, order, orders};
+
+use crate::at::At;
+use crate::config::{accepted_config, kind_of};
+use crate::context::{core_of_part, kind_of_part, known_context};
+use crate::fault::{FaultKind, LoadFault};
+use crate::names::Names;
+use crate::numbers::moment;
+use crate::spot::{Key, Section};
+use crate::words::{only_keys, row_table, rows, whole_number};
+use mcs_control::{Config, Order};
+use mcs_core::ContextPart;
+use mcs_ticks::{ContextId, CoreId, Limits};
+use std::alloc::Global;
+use toml::{Table, Value};
+
+const ORDER_KEYS: [Key; 6] = [
+    Key::At,
+    Key::Core,
+    Key::Context,
+    Key::Budget,
+    Key::Period,
+    Key::ExtraRefills,
+];
+
+/// The context that the row names, which is on the core whose SchedControl capability is used.
+#[tactic(auto, using(crate::proofs::Steps::both, crate::proofs::Steps::or_else_none, crate::proofs::Steps::or_else_some), unfolding(crate::specs::Walk::ordered_context))]
+fn ordered_context<'a>(
+    cores: u64,
+    contexts: &[ContextPart],
+    names: &Names<'a>,
+    at: At,
+    row: &'a Table,
+) -> Result<usize, LoadFault>
+    requires range { (1 ≤ cores) × (cores ≤ 64) }
+    requires names { names.now ≡ map (λ c. c.name) contexts.now }
+    ensures gives { Gives (λ n. n) result (ordered_context cores contexts.now at (table_view row.now)) }
+    ensures within { IfOk result (λ n. n < length contexts.now) }
+{
+    let core = whole_number(at, Key::Core, 0, cores - 1, row)?;
+    let context = known_context(at, names, row)?;
+    if core_of_part(contexts, context) != CoreId(core as usize) {
+        return Err(at.fault(Key::Core, FaultKind::OtherCore));
+    }
+    Ok(context)
+}
+
+/// An order leaves a context round robin, or leaves it sporadic.
+#[tactic(auto, unfolding(crate::specs::Walk::keeps_kind))]
+fn keep_kind(
+    at: At,
+    contexts: &[ContextPart],
+    context: usize,
+    config: Config,
+) -> Result<(), LoadFault>
+    requires { context < length contexts.now }
+    ensures { Gives (λ x. x) result (keeps_kind at (kind_of (part_at contexts.now context).config) (kind_of config)) }
+{
+    if kind_of_part(contexts, context) == kind_of(config) {
+        Ok(())
+    } else {
+        Err(at.fault(Key::Period, FaultKind::KindChange))
+    }
+}
+
+#[tactic(auto, using(crate::proofs::Steps::both, crate::proofs::Steps::or_else_none, crate::proofs::Steps::or_else_some), unfolding(crate::specs::Walk::order))]
+fn order_row<'a>(
+    cores: u64,
+    min_budget: u64,
+    contexts: &[ContextPart],
+    names: &Names<'a>,
+    at: At,
+    row: &'a Table,
+) -> Result<Order, LoadFault>
+    requires range { (1 ≤ cores) × (cores ≤ 64) }
+    requires names { names.now ≡ map (λ c. c.name) contexts.now }
+    ensures { (earlier : List Order) → Gives (λ x. x) result (order cores min_budget contexts.now at earlier (table_view row.now)) }
+{
+    only_keys(at, &ORDER_KEYS, row)?;
+    let ticks = whole_number(at, Key::At, 0, Limits::ORDER_MOMENT, row)?;
+    let context = ordered_context(cores, contexts, names, at, row)?;
+    let config = accepted_config(at, min_budget, row)?;
+    keep_kind(at, contexts, context, config)?;
+    Ok(Order {
+        moment: moment(ticks),
+        context: ContextId(context),
+        config,
+    })
+}
+
+#[tactic(auto, using(crate::proofs::Steps::both, crate::proofs::Steps::or_else_none, crate::proofs::Steps::or_else_some))]
+fn order_at<'a>(
+    cores: u64,
+    min_budget: u64,
+    contexts: &[ContextPart],
+    names: &Names<'a>,
+    number: usize,
+    value: &'a Value,
+) -> Result<Order, LoadFault>
+    requires range { (1 ≤ cores) × (cores ≤ 64) }
+    requires names { names.now ≡ map (λ c. c.name) contexts.now }
+    ensures { (earlier : List Order) → number ≡ suc (length earlier) → Gives (λ x. x) result (row section.Order (order cores min_budget contexts.now) earlier (view value.now)) }
+{
+    let at = At {
+        section: Section::Order,
+        row: number,
+    };
+    let row = row_table(at, value)?;
+    order_row(cores, min_budget, contexts, names, at, row)
+}
+
+fn order_rows<'a>(
+    alloc: Global,
+    cores: u64,
+    min_budget: u64,
+    contexts: &[ContextPart],
+    names: &Names<'a>,
+    rows: &'a [Value],
+) -> Result<Vec<Order>, LoadFault>
+    requires range { (1 ≤ cores) × (cores ≤ 64) }
+    requires names { names.now ≡ map (λ c. c.name) contexts.now }
+    ensures { Gives (λ v. v.items) result (each (row section.Order (order cores min_budget contexts.now)) [] (items_view rows.now)) }
+{
+    let mut orders = Vec::new(alloc);
+    for (i, value) in rows.iter().enumerate() {
+        orders.push(order_at(cores, min_budget, contexts, names, i + 1, value)?)?;
+    }
+    Ok(orders)
+}
+
+/// The orders of a file in order; `names` are the names of its contexts.
+#[tactic(auto, using(crate::proofs::Steps::both, crate::proofs::Steps::or_else_none, crate::proofs::Steps::or_else_some), unfolding(crate::specs::Walk::orders))]
+pub(crate) fn orders<'a>(
+    alloc: Global,
+    cores: u64,
+    min_budget: u64,
+    contexts: &[ContextPart],
+    names: &Names<'a>,
+    file: &'a Table,
+) -> Result<Vec<Order>, LoadFault>
+    requires range { (1 ≤ cores) × (cores ≤ 64) }
+    requires names { names.now ≡ map (λ c. c.name) contexts.now }
+    ensures { Gives (λ v. v.items) result (orders cores min_budget contexts.now (table_view file.now)) }
+{
+    let rows = rows(Section::Order, Key::Order, file)?;
+    order_rows(alloc, cores, min_budget, contexts, names, rows)
+}

@@ -1,0 +1,175 @@
+ghost use Rattle.std.specs.Prelude.{◌≡◌, ◌+◌, ◌<◌, ◌≤◌, ◌^◌, ℕ, IfOk, List, suc, length, map, [], ◌∷◌, ◌++◌};
+ghost use Rattle.toml.specs.View.{view, table_view, items_view};
+ghost use Rattle.mcs_load.specs.Raw.{raw_view, read_as};
+ghost use Rattle.mcs_load.specs.Checks.{Gives};
+ghost use Rattle.mcs_load.specs.Words.{each};
+ghost use Rattle.mcs_load.specs.Script.{core_of, note_named, named, script_item, next_item, script, ends_without_wait, texts, said};
+
+use crate::at::At;
+use crate::fault::{FaultKind, LoadFault};
+use crate::names::Names;
+use crate::raw::{RawItem, read_item};
+use crate::spot::Key;
+use crate::words::find;
+use mcs_core::NotePart;
+use mcs_script::{Item, Script};
+use mcs_ticks::{CoreId, Limits, NoteId};
+use std::alloc::Global;
+use toml::{Table, Value};
+
+/// The notification that has this name.
+#[tactic(auto, unfolding(crate::specs::Script::note_named))]
+fn note_named<'a>(
+    at: At,
+    number: usize,
+    names: &Names<'a>,
+    name: &'a str,
+) -> Result<NoteId, LoadFault>
+    ensures gives { Gives (λ n. n) result (note_named at number names.now name.now) }
+    ensures within { IfOk result (λ n. n < length names.now) }
+{
+    match names.find(name) {
+        Some(place) => Ok(NoteId(place)),
+        None => Err(at.item_fault(Key::Script, number, FaultKind::UnknownName)),
+    }
+}
+
+/// The core at which a notification is at home.
+fn core_of(notes: &[NotePart], note: NoteId) -> CoreId
+    requires { note < length notes.now }
+    ensures { result ≡ core_of notes.now note }
+{
+    notes[note.0].core
+}
+
+/// The item with its notification's number in place of the name.
+#[tactic(auto, using(crate::proofs::Steps::both, crate::proofs::Steps::or_else_none, crate::proofs::Steps::or_else_some), unfolding(crate::specs::Script::named))]
+fn named<'a>(
+    at: At,
+    number: usize,
+    names: &Names<'a>,
+    notes: &[NotePart],
+    core: CoreId,
+    raw: RawItem<'a>,
+) -> Result<Item, LoadFault>
+    requires { names.now ≡ map (λ n. n.name) notes.now }
+    ensures { Gives (λ x. x) result (named notes.now core at number (raw_view raw.entry)) }
+{
+    match raw {
+        RawItem::Compute(ticks) => Ok(Item::Compute(ticks)),
+        RawItem::Signal(name, badge) => {
+            let note = note_named(at, number, names, name)?;
+            Ok(Item::Signal(note, badge))
+        }
+        RawItem::Wait(name) => {
+            let note = note_named(at, number, names, name)?;
+            if core_of(notes, note) != core {
+                return Err(at.item_fault(Key::Script, number, FaultKind::OtherCore));
+            }
+            Ok(Item::Wait(note))
+        }
+        RawItem::Yield => Ok(Item::Yield),
+    }
+}
+
+/// What a text says.
+#[tactic(auto, unfolding(crate::specs::Script::said))]
+fn said(at: At, number: usize, text: &str) -> Result<RawItem<'_>, LoadFault>
+    ensures { Gives (λ raw. raw_view raw) result (said at number (read_as text.now)) }
+{
+    match read_item(text) {
+        Ok(raw) => Ok(raw),
+        Err(fault) => Err(at.item_fault(Key::Script, number, FaultKind::BadItem(fault))),
+    }
+}
+
+/// The item of a value of the array.
+#[tactic(auto, using(crate::proofs::Steps::both, crate::proofs::Steps::or_else_none, crate::proofs::Steps::or_else_some), unfolding(crate::specs::Script::script_item))]
+fn script_item<'a>(
+    at: At,
+    number: usize,
+    names: &Names<'a>,
+    notes: &[NotePart],
+    core: CoreId,
+    value: &'a Value,
+) -> Result<Item, LoadFault>
+    requires { names.now ≡ map (λ n. n.name) notes.now }
+    ensures { Gives (λ x. x) result (script_item notes.now core at number (view value.now)) }
+{
+    let Some(text) = value.as_str() else {
+        return Err(at.item_fault(Key::Script, number, FaultKind::WrongKind));
+    };
+    let raw = said(at, number, text)?;
+    named(at, number, names, notes, core, raw)
+}
+
+/// The items of the texts in order.
+fn script_items<'a>(
+    alloc: Global,
+    at: At,
+    names: &Names<'a>,
+    notes: &[NotePart],
+    core: CoreId,
+    values: &'a [Value],
+) -> Result<Vec<Item>, LoadFault>
+    requires { names.now ≡ map (λ n. n.name) notes.now }
+    ensures gives { Gives (λ v. v.items) result (each (next_item notes.now core at) [] (items_view values.now)) }
+    ensures count { IfOk result (λ v. length v.items ≡ length values.now) }
+{
+    let mut items = Vec::new(alloc);
+    for (i, value) in values.iter().enumerate() {
+        items.push(script_item(at, i + 1, names, notes, core, value)?)?;
+    }
+    Ok(items)
+}
+
+/// The script of these items, whose last is to be no wait.
+#[tactic(auto, unfolding(crate::specs::Script::ends_without_wait))]
+fn ends_without_wait(at: At, items: Vec<Item>) -> Result<Script, LoadFault>
+    requires { (1 ≤ length items.items) × (length items.items ≤ 1024) }
+    ensures { Gives (λ s. s) result (ends_without_wait at items.items) }
+{
+    match Script::new(items) {
+        Ok(script) => Ok(script),
+        Err(items) => Err(at.item_fault(Key::Script, items.len(), FaultKind::WaitLast)),
+    }
+}
+
+/// The array at the key `script`.
+#[tactic(auto, using(crate::proofs::Steps::both, crate::proofs::Steps::or_else_none, crate::proofs::Steps::or_else_some, crate::proofs::Members::item_count_view), unfolding(crate::specs::Script::texts))]
+fn texts(at: At, row: &Table) -> Result<&[Value], LoadFault>
+    ensures gives { Gives (λ v. items_view v.now) result (texts at (table_view row.now)) }
+    ensures count { IfOk result (λ v. (1 ≤ length v.now) × (length v.now ≤ 1024)) }
+{
+    let Some(value) = find(row, Key::Script) else {
+        return Err(at.fault(Key::Script, FaultKind::MissingKey));
+    };
+    let Some(values) = value.as_array() else {
+        return Err(at.fault(Key::Script, FaultKind::WrongKind));
+    };
+    if values.is_empty() {
+        return Err(at.fault(Key::Script, FaultKind::OutOfRange));
+    }
+    if values.len() > Limits::ITEMS {
+        return Err(at.fault(Key::Script, FaultKind::TooMany));
+    }
+    Ok(values.as_slice())
+}
+
+/// The script of a thread on this core; `names` are the names of the notifications.
+#[tactic(auto, using(crate::proofs::Steps::both, crate::proofs::Steps::or_else_none, crate::proofs::Steps::or_else_some), unfolding(crate::specs::Script::script))]
+pub(crate) fn script<'a>(
+    alloc: Global,
+    at: At,
+    names: &Names<'a>,
+    notes: &[NotePart],
+    core: CoreId,
+    row: &'a Table,
+) -> Result<Script, LoadFault>
+    requires { names.now ≡ map (λ n. n.name) notes.now }
+    ensures { Gives (λ s. s) result (script notes.now core at (table_view row.now)) }
+{
+    let values = texts(at, row)?;
+    let items = script_items(alloc, at, names, notes, core, values)?;
+    ends_without_wait(at, items)
+}

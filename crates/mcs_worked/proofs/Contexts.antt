@@ -1,0 +1,53 @@
+-- What the contexts of worked systems show at some moments, with the ticks in use.
+use Rattle.std.specs.Prelude.{◌≡◌, ℕ, ◌+◌, List, [], ◌∷◌, Some, None, refl}
+use Rattle.mcs_refills.specs.declared.refill.Refill.{Refill}
+use Rattle.mcs_control.specs.Context.{View}
+use Rattle.mcs_core.specs.System.{System}
+use Rattle.mcs_core.specs.Clock.{world, core_at}
+use Rattle.mcs_core.specs.Views.{views_of}
+use Rattle.mcs_laws.specs.Consumed.{taken_before}
+use Rattle.mcs_worked.proofs.Schedules as worked
+
+-- the views of the contexts of core 0 after all turns of moment t
+abbrev shown_after : System → ℕ → List View
+shown_after system t = views_of system (core_at system (world system (t + 1)) 0)
+
+abbrev refill : ℕ → ℕ → Refill
+refill begins amount = record { begins = begins; amount = amount }
+
+abbrev sporadic : ℕ → List Refill → ℕ → View
+sporadic context refills using = record { context = context; refills = refills; left = None; using = using }
+
+abbrev slice : ℕ → ℕ → ℕ → View
+slice context left using = record { context = context; refills = []; left = Some left; using = using }
+
+-- while the thread runs its ticks are in use and not yet charged ..
+in_use : shown_after worked.depletes_and_refills_system 1 ≡ sporadic 0 (refill 0 2 ∷ []) 1 ∷ []
+in_use = refl
+
+-- .. and its stop charges them
+charged : shown_after worked.depletes_and_refills_system 2 ≡ sporadic 0 (refill 5 2 ∷ []) 0 ∷ []
+charged = refl
+
+-- no tick is in use of a thread that is chosen at the moment
+chosen : shown_after worked.depletes_and_refills_system 5 ≡ sporadic 0 (refill 5 2 ∷ []) 0 ∷ []
+chosen = refl
+
+-- a head that is smaller than the minimum joins the next refill
+joined_head : shown_after worked.small_head_joins_system 10 ≡ sporadic 0 (refill 97 10 ∷ []) 0 ∷ sporadic 1 (refill 54 4 ∷ []) 0 ∷ []
+joined_head = refl
+
+-- the second of two orders gives what the first left unmoved, and the missing ticks at the new period's end
+ordered_twice : shown_after worked.two_orders_at_one_moment_system 4 ≡ sporadic 0 (refill 4 6 ∷ refill 42 2 ∷ []) 0 ∷ []
+ordered_twice = refl
+
+-- slices show what is left
+slices : shown_after worked.round_robin_takes_turns_system 3 ≡ slice 0 2 1 ∷ slice 1 3 0 ∷ sporadic 2 (refill 2 1 ∷ refill 11 1 ∷ []) 0 ∷ []
+slices = refl
+
+-- the dates that charges take, which return one period later
+consumed_dates : taken_before worked.depletes_and_refills_system 0 12 ≡ 0 ∷ 1 ∷ 5 ∷ 6 ∷ 10 ∷ []
+consumed_dates = refl
+
+consumed_before_the_stop : taken_before worked.small_head_joins_system 0 11 ≡ 0 ∷ 1 ∷ 2 ∷ 3 ∷ 4 ∷ 5 ∷ 6 ∷ []
+consumed_before_the_stop = refl

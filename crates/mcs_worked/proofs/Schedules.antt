@@ -1,0 +1,671 @@
+-- Written by tools/theorems.py from tools/material/worked: schedules of systems, each by computing.
+use Rattle.std.specs.Prelude.{◌≡◌, List, [], ◌∷◌, Some, None, refl, codes}
+use Rattle.mcs_ticks.specs.declared.row.Row.{Row}
+use Rattle.mcs_ticks.specs.declared.row.What.TheVariants as row
+use Rattle.mcs_ticks.specs.declared.row.Why.TheVariants as why
+use Rattle.mcs_script.specs.declared.item.Item.TheVariants.{Compute, Signal, Wait, Yield}
+use Rattle.mcs_core.specs.System.{System}
+use Rattle.mcs_core.specs.Clock.{schedule}
+use Rattle.mcs_worked.specs.Parts.{context, note, thread, order, at}
+
+abbrev pub arrival_before_order_before_release_system : System
+arrival_before_order_before_release_system = record {
+  cores = 2;
+  delay = 2;
+  call = 1;
+  min_budget = 1;
+  contexts =
+      context (codes "w") 0 3 20 0
+      ∷ context (codes "a") 0 3 10 0
+      ∷ context (codes "r") 0 2 10 0
+      ∷ context (codes "s") 1 5 10 0
+      ∷ [];
+  notes =
+      note (codes "n") 0
+      ∷ [];
+  threads =
+      thread (codes "W") 0 7 0 1 0 ((Wait 0) ∷ (Compute 1) ∷ [])
+      ∷ thread (codes "A") 1 5 0 1 0 ((Compute 9) ∷ [])
+      ∷ thread (codes "R") 2 5 4 1 0 ((Compute 1) ∷ [])
+      ∷ thread (codes "S") 3 5 0 1 0 ((Compute 1) ∷ (Signal 0 5) ∷ [])
+      ∷ [];
+  orders =
+      order 4 1 2 8 0
+      ∷ [];
+}
+
+abbrev pub arrival_before_order_before_release_rows : List Row
+arrival_before_order_before_release_rows =
+    at 0 0 (row.Release 0)
+    ∷ at 0 0 (row.Release 1)
+    ∷ at 0 0 (row.Run 0)
+    ∷ at 0 1 (row.Release 3)
+    ∷ at 0 1 (row.Run 3)
+    ∷ at 1 0 (row.Stop 0 why.Wait 1 None)
+    ∷ at 1 0 (row.Run 1)
+    ∷ at 2 1 (row.Signal 3 0 5)
+    ∷ at 2 1 (row.Round 3 1 2)
+    ∷ at 2 1 (row.Stop 3 why.Done 2 None)
+    ∷ at 4 0 (row.Stop 1 why.Spent 3 (Some 10))
+    ∷ at 4 0 (row.Arrive 0 5 1)
+    ∷ at 4 0 (row.Wake 0 0 5)
+    ∷ at 4 0 (row.Order 1)
+    ∷ at 4 0 (row.Release 2)
+    ∷ at 4 0 (row.Run 0)
+    ∷ []
+
+arrival_before_order_before_release : schedule arrival_before_order_before_release_system 4 ≡ arrival_before_order_before_release_rows
+arrival_before_order_before_release = refl
+
+abbrev pub call_costs_ticks_system : System
+call_costs_ticks_system = record {
+  cores = 1;
+  delay = 1;
+  call = 3;
+  min_budget = 1;
+  contexts =
+      context (codes "a") 0 5 10 0
+      ∷ [];
+  notes =
+      note (codes "n") 0
+      ∷ [];
+  threads =
+      thread (codes "A") 0 5 0 1 0 ((Signal 0 1) ∷ [])
+      ∷ [];
+  orders = [];
+}
+
+abbrev pub call_costs_ticks_rows : List Row
+call_costs_ticks_rows =
+    at 0 0 (row.Release 0)
+    ∷ at 0 0 (row.Run 0)
+    ∷ at 3 0 (row.Signal 0 0 1)
+    ∷ at 3 0 (row.Hold 0 1)
+    ∷ at 3 0 (row.Round 0 1 3)
+    ∷ at 3 0 (row.Stop 0 why.Done 3 None)
+    ∷ []
+
+call_costs_ticks : schedule call_costs_ticks_system 4 ≡ call_costs_ticks_rows
+call_costs_ticks = refl
+
+abbrev pub delivery_in_order_of_cores_system : System
+delivery_in_order_of_cores_system = record {
+  cores = 3;
+  delay = 2;
+  call = 1;
+  min_budget = 1;
+  contexts =
+      context (codes "s") 0 5 10 0
+      ∷ context (codes "t") 1 5 10 0
+      ∷ context (codes "w") 2 5 10 0
+      ∷ [];
+  notes =
+      note (codes "n") 2
+      ∷ [];
+  threads =
+      thread (codes "S") 0 5 0 1 0 ((Compute 1) ∷ (Signal 0 1) ∷ [])
+      ∷ thread (codes "T") 1 5 0 1 0 ((Compute 1) ∷ (Signal 0 2) ∷ [])
+      ∷ thread (codes "W") 2 5 0 1 0 ((Wait 0) ∷ (Compute 1) ∷ [])
+      ∷ [];
+  orders = [];
+}
+
+abbrev pub delivery_in_order_of_cores_rows : List Row
+delivery_in_order_of_cores_rows =
+    at 0 0 (row.Release 0)
+    ∷ at 0 0 (row.Run 0)
+    ∷ at 0 1 (row.Release 1)
+    ∷ at 0 1 (row.Run 1)
+    ∷ at 0 2 (row.Release 2)
+    ∷ at 0 2 (row.Run 2)
+    ∷ at 1 2 (row.Stop 2 why.Wait 1 None)
+    ∷ at 2 0 (row.Signal 0 0 1)
+    ∷ at 2 0 (row.Round 0 1 2)
+    ∷ at 2 0 (row.Stop 0 why.Done 2 None)
+    ∷ at 2 1 (row.Signal 1 0 2)
+    ∷ at 2 1 (row.Round 1 1 2)
+    ∷ at 2 1 (row.Stop 1 why.Done 2 None)
+    ∷ at 4 2 (row.Arrive 0 1 0)
+    ∷ at 4 2 (row.Wake 2 0 1)
+    ∷ at 4 2 (row.Arrive 0 2 1)
+    ∷ at 4 2 (row.Hold 0 2)
+    ∷ at 4 2 (row.Run 2)
+    ∷ []
+
+delivery_in_order_of_cores : schedule delivery_in_order_of_cores_system 4 ≡ delivery_in_order_of_cores_rows
+delivery_in_order_of_cores = refl
+
+abbrev pub delivery_in_order_of_making_system : System
+delivery_in_order_of_making_system = record {
+  cores = 2;
+  delay = 3;
+  call = 1;
+  min_budget = 1;
+  contexts =
+      context (codes "s") 1 5 10 0
+      ∷ [];
+  notes =
+      note (codes "n") 0
+      ∷ [];
+  threads =
+      thread (codes "S") 0 5 0 1 0 ((Compute 1) ∷ (Signal 0 1) ∷ (Signal 0 2) ∷ (Signal 0 4) ∷ [])
+      ∷ [];
+  orders = [];
+}
+
+abbrev pub delivery_in_order_of_making_rows : List Row
+delivery_in_order_of_making_rows =
+    at 0 1 (row.Release 0)
+    ∷ at 0 1 (row.Run 0)
+    ∷ at 2 1 (row.Signal 0 0 1)
+    ∷ at 3 1 (row.Signal 0 0 2)
+    ∷ at 4 1 (row.Signal 0 0 4)
+    ∷ at 4 1 (row.Round 0 1 4)
+    ∷ at 4 1 (row.Stop 0 why.Done 4 None)
+    ∷ at 5 0 (row.Arrive 0 1 1)
+    ∷ at 5 0 (row.Hold 0 1)
+    ∷ at 6 0 (row.Arrive 0 2 1)
+    ∷ at 6 0 (row.Hold 0 3)
+    ∷ at 7 0 (row.Arrive 0 4 1)
+    ∷ at 7 0 (row.Hold 0 7)
+    ∷ []
+
+delivery_in_order_of_making : schedule delivery_in_order_of_making_system 7 ≡ delivery_in_order_of_making_rows
+delivery_in_order_of_making = refl
+
+abbrev pub depletes_and_refills_system : System
+depletes_and_refills_system = record {
+  cores = 1;
+  delay = 1;
+  call = 1;
+  min_budget = 1;
+  contexts =
+      context (codes "a") 0 2 5 0
+      ∷ [];
+  notes = [];
+  threads =
+      thread (codes "A") 0 5 0 1 0 ((Compute 5) ∷ [])
+      ∷ [];
+  orders = [];
+}
+
+abbrev pub depletes_and_refills_rows : List Row
+depletes_and_refills_rows =
+    at 0 0 (row.Release 0)
+    ∷ at 0 0 (row.Run 0)
+    ∷ at 2 0 (row.Stop 0 why.Spent 2 (Some 5))
+    ∷ at 5 0 (row.Release 0)
+    ∷ at 5 0 (row.Run 0)
+    ∷ at 7 0 (row.Stop 0 why.Spent 2 (Some 10))
+    ∷ at 10 0 (row.Release 0)
+    ∷ at 10 0 (row.Run 0)
+    ∷ at 11 0 (row.Round 0 1 11)
+    ∷ at 11 0 (row.Stop 0 why.Done 1 None)
+    ∷ []
+
+depletes_and_refills : schedule depletes_and_refills_system 1000 ≡ depletes_and_refills_rows
+depletes_and_refills = refl
+
+abbrev pub idle_cores_system : System
+idle_cores_system = record {
+  cores = 2;
+  delay = 1;
+  call = 1;
+  min_budget = 1;
+  contexts = [];
+  notes = [];
+  threads = [];
+  orders = [];
+}
+
+abbrev pub idle_cores_rows : List Row
+idle_cores_rows =
+    []
+
+idle_cores : schedule idle_cores_system 1 ≡ idle_cores_rows
+idle_cores = refl
+
+abbrev pub order_stops_the_runner_system : System
+order_stops_the_runner_system = record {
+  cores = 1;
+  delay = 1;
+  call = 1;
+  min_budget = 1;
+  contexts =
+      context (codes "a") 0 10 100 0
+      ∷ [];
+  notes = [];
+  threads =
+      thread (codes "A") 0 5 0 1 0 ((Compute 20) ∷ [])
+      ∷ [];
+  orders =
+      order 4 0 6 50 0
+      ∷ [];
+}
+
+abbrev pub order_stops_the_runner_rows : List Row
+order_stops_the_runner_rows =
+    at 0 0 (row.Release 0)
+    ∷ at 0 0 (row.Run 0)
+    ∷ at 4 0 (row.Order 0)
+    ∷ at 4 0 (row.Stop 0 why.Order 4 None)
+    ∷ at 4 0 (row.Run 0)
+    ∷ at 10 0 (row.Stop 0 why.Spent 6 (Some 54))
+    ∷ []
+
+order_stops_the_runner : schedule order_stops_the_runner_system 10 ≡ order_stops_the_runner_rows
+order_stops_the_runner = refl
+
+abbrev pub ring_of_three_cores_system : System
+ring_of_three_cores_system = record {
+  cores = 3;
+  delay = 1;
+  call = 1;
+  min_budget = 1;
+  contexts =
+      context (codes "a") 0 5 10 0
+      ∷ context (codes "b") 1 5 10 0
+      ∷ context (codes "c") 2 5 10 0
+      ∷ [];
+  notes =
+      note (codes "p") 0
+      ∷ note (codes "q") 1
+      ∷ note (codes "r") 2
+      ∷ [];
+  threads =
+      thread (codes "A") 0 1 0 1 0 ((Signal 1 1) ∷ (Wait 0) ∷ (Compute 1) ∷ [])
+      ∷ thread (codes "B") 1 1 0 1 0 ((Wait 1) ∷ (Signal 2 1) ∷ [])
+      ∷ thread (codes "C") 2 1 0 1 0 ((Wait 2) ∷ (Signal 0 1) ∷ [])
+      ∷ [];
+  orders = [];
+}
+
+abbrev pub ring_of_three_cores_rows : List Row
+ring_of_three_cores_rows =
+    at 0 0 (row.Release 0)
+    ∷ at 0 0 (row.Run 0)
+    ∷ at 0 1 (row.Release 1)
+    ∷ at 0 1 (row.Run 1)
+    ∷ at 0 2 (row.Release 2)
+    ∷ at 0 2 (row.Run 2)
+    ∷ at 1 0 (row.Signal 0 1 1)
+    ∷ at 1 1 (row.Stop 1 why.Wait 1 None)
+    ∷ at 1 2 (row.Stop 2 why.Wait 1 None)
+    ∷ at 2 0 (row.Stop 0 why.Wait 2 None)
+    ∷ at 2 1 (row.Arrive 1 1 0)
+    ∷ at 2 1 (row.Wake 1 1 1)
+    ∷ at 2 1 (row.Run 1)
+    ∷ at 3 1 (row.Signal 1 2 1)
+    ∷ at 3 1 (row.Round 1 1 1)
+    ∷ at 3 1 (row.Stop 1 why.Done 1 None)
+    ∷ at 4 2 (row.Arrive 2 1 1)
+    ∷ at 4 2 (row.Wake 2 2 1)
+    ∷ at 4 2 (row.Run 2)
+    ∷ at 5 2 (row.Signal 2 0 1)
+    ∷ at 5 2 (row.Round 2 1 1)
+    ∷ at 5 2 (row.Stop 2 why.Done 1 None)
+    ∷ at 6 0 (row.Arrive 0 1 2)
+    ∷ at 6 0 (row.Wake 0 0 1)
+    ∷ at 6 0 (row.Run 0)
+    ∷ at 7 0 (row.Round 0 1 7)
+    ∷ at 7 0 (row.Stop 0 why.Done 1 None)
+    ∷ []
+
+ring_of_three_cores : schedule ring_of_three_cores_system 7 ≡ ring_of_three_cores_rows
+ring_of_three_cores = refl
+
+abbrev pub round_robin_takes_turns_system : System
+round_robin_takes_turns_system = record {
+  cores = 1;
+  delay = 1;
+  call = 1;
+  min_budget = 1;
+  contexts =
+      context (codes "a") 0 3 3 0
+      ∷ context (codes "b") 0 3 3 0
+      ∷ context (codes "c") 0 2 10 0
+      ∷ [];
+  notes = [];
+  threads =
+      thread (codes "A") 0 5 0 1 0 ((Compute 10) ∷ [])
+      ∷ thread (codes "B") 1 5 0 1 0 ((Compute 10) ∷ [])
+      ∷ thread (codes "C") 2 9 1 1 0 ((Compute 1) ∷ [])
+      ∷ [];
+  orders = [];
+}
+
+abbrev pub round_robin_takes_turns_rows : List Row
+round_robin_takes_turns_rows =
+    at 0 0 (row.Release 0)
+    ∷ at 0 0 (row.Release 1)
+    ∷ at 0 0 (row.Run 0)
+    ∷ at 1 0 (row.Release 2)
+    ∷ at 1 0 (row.Stop 0 why.Preempt 1 None)
+    ∷ at 1 0 (row.Run 2)
+    ∷ at 2 0 (row.Round 2 1 1)
+    ∷ at 2 0 (row.Stop 2 why.Done 1 None)
+    ∷ at 2 0 (row.Run 0)
+    ∷ at 4 0 (row.Stop 0 why.Spent 2 None)
+    ∷ at 4 0 (row.Run 1)
+    ∷ at 7 0 (row.Stop 1 why.Spent 3 None)
+    ∷ at 7 0 (row.Run 0)
+    ∷ []
+
+round_robin_takes_turns : schedule round_robin_takes_turns_system 7 ≡ round_robin_takes_turns_rows
+round_robin_takes_turns = refl
+
+abbrev pub signals_beyond_the_horizon_system : System
+signals_beyond_the_horizon_system = record {
+  cores = 3;
+  delay = 8;
+  call = 1;
+  min_budget = 1;
+  contexts =
+      context (codes "s") 0 5 10 0
+      ∷ context (codes "t") 1 5 10 0
+      ∷ context (codes "w") 2 5 10 0
+      ∷ [];
+  notes =
+      note (codes "n") 2
+      ∷ [];
+  threads =
+      thread (codes "S") 0 5 0 1 0 ((Compute 1) ∷ (Signal 0 1) ∷ [])
+      ∷ thread (codes "T") 1 5 0 1 0 ((Compute 1) ∷ (Signal 0 2) ∷ [])
+      ∷ thread (codes "W") 2 5 0 1 0 ((Wait 0) ∷ (Compute 1) ∷ [])
+      ∷ [];
+  orders = [];
+}
+
+abbrev pub signals_beyond_the_horizon_rows : List Row
+signals_beyond_the_horizon_rows =
+    at 0 0 (row.Release 0)
+    ∷ at 0 0 (row.Run 0)
+    ∷ at 0 1 (row.Release 1)
+    ∷ at 0 1 (row.Run 1)
+    ∷ at 0 2 (row.Release 2)
+    ∷ at 0 2 (row.Run 2)
+    ∷ at 1 2 (row.Stop 2 why.Wait 1 None)
+    ∷ at 2 0 (row.Signal 0 0 1)
+    ∷ at 2 0 (row.Round 0 1 2)
+    ∷ at 2 0 (row.Stop 0 why.Done 2 None)
+    ∷ at 2 1 (row.Signal 1 0 2)
+    ∷ at 2 1 (row.Round 1 1 2)
+    ∷ at 2 1 (row.Stop 1 why.Done 2 None)
+    ∷ []
+
+signals_beyond_the_horizon : schedule signals_beyond_the_horizon_system 4 ≡ signals_beyond_the_horizon_rows
+signals_beyond_the_horizon = refl
+
+abbrev pub slice_refills_at_once_system : System
+slice_refills_at_once_system = record {
+  cores = 1;
+  delay = 1;
+  call = 1;
+  min_budget = 1;
+  contexts =
+      context (codes "a") 0 3 3 0
+      ∷ [];
+  notes = [];
+  threads =
+      thread (codes "A") 0 5 0 1 0 ((Compute 7) ∷ [])
+      ∷ [];
+  orders = [];
+}
+
+abbrev pub slice_refills_at_once_rows : List Row
+slice_refills_at_once_rows =
+    at 0 0 (row.Release 0)
+    ∷ at 0 0 (row.Run 0)
+    ∷ at 3 0 (row.Stop 0 why.Spent 3 None)
+    ∷ at 3 0 (row.Run 0)
+    ∷ at 6 0 (row.Stop 0 why.Spent 3 None)
+    ∷ at 6 0 (row.Run 0)
+    ∷ at 7 0 (row.Round 0 1 7)
+    ∷ at 7 0 (row.Stop 0 why.Done 1 None)
+    ∷ []
+
+slice_refills_at_once : schedule slice_refills_at_once_system 7 ≡ slice_refills_at_once_rows
+slice_refills_at_once = refl
+
+abbrev pub small_head_joins_system : System
+small_head_joins_system = record {
+  cores = 1;
+  delay = 1;
+  call = 1;
+  min_budget = 4;
+  contexts =
+      context (codes "a") 0 10 100 0
+      ∷ context (codes "b") 0 4 50 0
+      ∷ [];
+  notes = [];
+  threads =
+      thread (codes "A") 0 5 0 1 0 ((Compute 20) ∷ [])
+      ∷ thread (codes "B") 1 9 7 1 0 ((Compute 1) ∷ [])
+      ∷ [];
+  orders = [];
+}
+
+abbrev pub small_head_joins_rows : List Row
+small_head_joins_rows =
+    at 0 0 (row.Release 0)
+    ∷ at 0 0 (row.Run 0)
+    ∷ at 7 0 (row.Release 1)
+    ∷ at 7 0 (row.Stop 0 why.Preempt 7 (Some 97))
+    ∷ at 7 0 (row.Run 1)
+    ∷ at 8 0 (row.Round 1 1 1)
+    ∷ at 8 0 (row.Stop 1 why.Done 1 None)
+    ∷ []
+
+small_head_joins : schedule small_head_joins_system 10 ≡ small_head_joins_rows
+small_head_joins = refl
+
+abbrev pub starts_late_system : System
+starts_late_system = record {
+  cores = 1;
+  delay = 1;
+  call = 1;
+  min_budget = 1;
+  contexts =
+      context (codes "a") 0 2 5 0
+      ∷ [];
+  notes = [];
+  threads =
+      thread (codes "A") 0 5 3 1 0 ((Compute 2) ∷ [])
+      ∷ [];
+  orders = [];
+}
+
+abbrev pub starts_late_rows : List Row
+starts_late_rows =
+    at 3 0 (row.Release 0)
+    ∷ at 3 0 (row.Run 0)
+    ∷ at 5 0 (row.Round 0 1 2)
+    ∷ at 5 0 (row.Stop 0 why.Done 2 None)
+    ∷ []
+
+starts_late : schedule starts_late_system 6 ≡ starts_late_rows
+starts_late = refl
+
+abbrev pub two_orders_at_one_moment_system : System
+two_orders_at_one_moment_system = record {
+  cores = 1;
+  delay = 1;
+  call = 1;
+  min_budget = 1;
+  contexts =
+      context (codes "a") 0 10 100 0
+      ∷ [];
+  notes = [];
+  threads = [];
+  orders =
+      order 4 0 6 50 0
+      ∷ order 4 0 8 40 0
+      ∷ [];
+}
+
+abbrev pub two_orders_at_one_moment_rows : List Row
+two_orders_at_one_moment_rows =
+    at 4 0 (row.Order 0)
+    ∷ at 4 0 (row.Order 0)
+    ∷ []
+
+two_orders_at_one_moment : schedule two_orders_at_one_moment_system 4 ≡ two_orders_at_one_moment_rows
+two_orders_at_one_moment = refl
+
+abbrev pub wait_takes_a_held_word_system : System
+wait_takes_a_held_word_system = record {
+  cores = 1;
+  delay = 1;
+  call = 1;
+  min_budget = 1;
+  contexts =
+      context (codes "s") 0 5 10 0
+      ∷ context (codes "w") 0 5 10 0
+      ∷ [];
+  notes =
+      note (codes "n") 0
+      ∷ [];
+  threads =
+      thread (codes "S") 0 9 0 1 0 ((Signal 0 1) ∷ (Signal 0 6) ∷ [])
+      ∷ thread (codes "W") 1 1 0 1 0 ((Wait 0) ∷ (Compute 1) ∷ [])
+      ∷ [];
+  orders = [];
+}
+
+abbrev pub wait_takes_a_held_word_rows : List Row
+wait_takes_a_held_word_rows =
+    at 0 0 (row.Release 0)
+    ∷ at 0 0 (row.Release 1)
+    ∷ at 0 0 (row.Run 0)
+    ∷ at 1 0 (row.Signal 0 0 1)
+    ∷ at 1 0 (row.Hold 0 1)
+    ∷ at 2 0 (row.Signal 0 0 6)
+    ∷ at 2 0 (row.Hold 0 7)
+    ∷ at 2 0 (row.Round 0 1 2)
+    ∷ at 2 0 (row.Stop 0 why.Done 2 None)
+    ∷ at 2 0 (row.Run 1)
+    ∷ at 3 0 (row.Got 1 0 7)
+    ∷ at 4 0 (row.Round 1 1 1)
+    ∷ at 4 0 (row.Stop 1 why.Done 2 None)
+    ∷ []
+
+wait_takes_a_held_word : schedule wait_takes_a_held_word_system 4 ≡ wait_takes_a_held_word_rows
+wait_takes_a_held_word = refl
+
+abbrev pub wake_preempts_system : System
+wake_preempts_system = record {
+  cores = 1;
+  delay = 1;
+  call = 1;
+  min_budget = 1;
+  contexts =
+      context (codes "a") 0 10 100 0
+      ∷ context (codes "b") 0 10 100 0
+      ∷ context (codes "c") 0 5 50 0
+      ∷ [];
+  notes =
+      note (codes "n") 0
+      ∷ [];
+  threads =
+      thread (codes "A") 0 5 0 1 0 ((Compute 2) ∷ (Signal 0 1) ∷ (Compute 4) ∷ [])
+      ∷ thread (codes "B") 1 5 0 1 0 ((Compute 2) ∷ [])
+      ∷ thread (codes "C") 2 9 0 1 0 ((Wait 0) ∷ (Compute 1) ∷ [])
+      ∷ [];
+  orders = [];
+}
+
+abbrev pub wake_preempts_rows : List Row
+wake_preempts_rows =
+    at 0 0 (row.Release 0)
+    ∷ at 0 0 (row.Release 1)
+    ∷ at 0 0 (row.Release 2)
+    ∷ at 0 0 (row.Run 2)
+    ∷ at 1 0 (row.Stop 2 why.Wait 1 None)
+    ∷ at 1 0 (row.Run 0)
+    ∷ at 4 0 (row.Signal 0 0 1)
+    ∷ at 4 0 (row.Wake 2 0 1)
+    ∷ at 4 0 (row.Stop 0 why.Preempt 3 None)
+    ∷ at 4 0 (row.Run 2)
+    ∷ at 5 0 (row.Round 2 1 1)
+    ∷ at 5 0 (row.Stop 2 why.Done 1 None)
+    ∷ at 5 0 (row.Run 0)
+    ∷ at 9 0 (row.Round 0 1 9)
+    ∷ at 9 0 (row.Stop 0 why.Done 4 None)
+    ∷ at 9 0 (row.Run 1)
+    ∷ at 11 0 (row.Round 1 1 11)
+    ∷ at 11 0 (row.Stop 1 why.Done 2 None)
+    ∷ []
+
+wake_preempts : schedule wake_preempts_system 11 ≡ wake_preempts_rows
+wake_preempts = refl
+
+abbrev pub woken_but_not_ready_system : System
+woken_but_not_ready_system = record {
+  cores = 1;
+  delay = 1;
+  call = 1;
+  min_budget = 1;
+  contexts =
+      context (codes "w") 0 1 10 0
+      ∷ context (codes "s") 0 9 20 0
+      ∷ [];
+  notes =
+      note (codes "n") 0
+      ∷ [];
+  threads =
+      thread (codes "W") 0 9 0 1 0 ((Wait 0) ∷ (Compute 1) ∷ [])
+      ∷ thread (codes "S") 1 5 0 1 0 ((Signal 0 1) ∷ [])
+      ∷ [];
+  orders = [];
+}
+
+abbrev pub woken_but_not_ready_rows : List Row
+woken_but_not_ready_rows =
+    at 0 0 (row.Release 0)
+    ∷ at 0 0 (row.Release 1)
+    ∷ at 0 0 (row.Run 0)
+    ∷ at 1 0 (row.Stop 0 why.Wait 1 None)
+    ∷ at 1 0 (row.Run 1)
+    ∷ at 2 0 (row.Signal 1 0 1)
+    ∷ at 2 0 (row.Wake 0 0 1)
+    ∷ at 2 0 (row.Round 1 1 2)
+    ∷ at 2 0 (row.Stop 1 why.Done 1 None)
+    ∷ at 10 0 (row.Release 0)
+    ∷ at 10 0 (row.Run 0)
+    ∷ at 11 0 (row.Round 0 1 9)
+    ∷ at 11 0 (row.Stop 0 why.Done 1 None)
+    ∷ []
+
+woken_but_not_ready : schedule woken_but_not_ready_system 11 ≡ woken_but_not_ready_rows
+woken_but_not_ready = refl
+
+abbrev pub yield_gives_the_head_away_system : System
+yield_gives_the_head_away_system = record {
+  cores = 1;
+  delay = 1;
+  call = 1;
+  min_budget = 1;
+  contexts =
+      context (codes "a") 0 4 10 0
+      ∷ [];
+  notes = [];
+  threads =
+      thread (codes "A") 0 5 0 2 0 ((Compute 1) ∷ Yield ∷ [])
+      ∷ [];
+  orders = [];
+}
+
+abbrev pub yield_gives_the_head_away_rows : List Row
+yield_gives_the_head_away_rows =
+    at 0 0 (row.Release 0)
+    ∷ at 0 0 (row.Run 0)
+    ∷ at 2 0 (row.Round 0 1 2)
+    ∷ at 2 0 (row.Stop 0 why.Yield 4 (Some 10))
+    ∷ at 10 0 (row.Release 0)
+    ∷ at 10 0 (row.Run 0)
+    ∷ at 12 0 (row.Round 0 2 10)
+    ∷ at 12 0 (row.Stop 0 why.Done 2 None)
+    ∷ []
+
+yield_gives_the_head_away : schedule yield_gives_the_head_away_system 12 ≡ yield_gives_the_head_away_rows
+yield_gives_the_head_away = refl

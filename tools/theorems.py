@@ -1,0 +1,169 @@
+#!/usr/bin/env python3
+"""Writes theorems `schedule SYSTEM HORIZON ≡ ROWS`, each proved by computing, from systems and their schedules.
+
+usage: theorems.py MATERIAL OUT.antt [NAME..]
+
+MATERIAL is a folder with a folder for each system: `system.toml` (the system), `words` (the program's words, one a line, of
+which only `--horizon N` counts) and `stdout` (the schedule's text; lines of reports are passed over). Without names all of
+them are taken, in the order of their names. Run `rt fmt` in the crate afterwards.
+"""
+import pathlib
+import re
+import sys
+import tomllib
+
+HEAD = """-- Written by tools/theorems.py from {material}: schedules of systems, each by computing.
+use Rattle.std.specs.Prelude.{{{prelude}}}
+use Rattle.mcs_ticks.specs.declared.row.Row.{{Row}}
+use Rattle.mcs_ticks.specs.declared.row.What.TheVariants as row
+use Rattle.mcs_ticks.specs.declared.row.Why.TheVariants as why
+use Rattle.mcs_script.specs.declared.item.Item.TheVariants.{{{items}}}
+use Rattle.mcs_core.specs.System.{{System}}
+use Rattle.mcs_core.specs.Clock.{{schedule}}
+use Rattle.mcs_worked.specs.Parts.{{{parts}}}
+"""
+
+DEFAULT_HORIZON = 1000
+
+CAUSES = {'spent': 'Spent', 'yield': 'Yield', 'wait': 'Wait', 'done': 'Done', 'preempt': 'Preempt', 'order': 'Order'}
+
+
+def sequence(terms):
+    return '(' + ' ∷ '.join([*terms, '[]']) + ')' if terms else '[]'
+
+
+def applied(term):
+    return f'({term})' if ' ' in term else term
+
+
+class Numbers:
+    """The number of each name."""
+
+    def __init__(self, system):
+        def places(kind):
+            return {part['name']: place for place, part in enumerate(system.get(kind, []))}
+
+        self.contexts, self.notes, self.threads = places('context'), places('note'), places('thread')
+
+
+def item_term(text, numbers):
+    word, *rest = text.split()
+    if word == 'compute':
+        return f'Compute {rest[0]}'
+    if word == 'signal':
+        return f'Signal {numbers.notes[rest[0]]} {rest[1]}'
+    if word == 'wait':
+        return f'Wait {numbers.notes[rest[0]]}'
+    return 'Yield'
+
+
+def name_term(part):
+    return f'(codes "{part["name"]}")'
+
+
+def context_term(part):
+    return f'context {name_term(part)} {part["core"]} {part["budget"]} {part["period"]} {part.get("extra_refills", 0)}'
+
+
+def note_term(part):
+    return f'note {name_term(part)} {part["core"]}'
+
+
+def thread_term(part, numbers):
+    script = sequence([applied(item_term(text, numbers)) for text in part['script']])
+    return (
+        f'thread {name_term(part)} {numbers.contexts[part["context"]]} {part["priority"]} {part.get("start", 0)} '
+        f'{part.get("rounds", 0)} {part.get("deadline", 0)} {script}'
+    )
+
+
+def order_term(part, numbers):
+    return f'order {part["at"]} {numbers.contexts[part["context"]]} {part["budget"]} {part["period"]} {part.get("extra_refills", 0)}'
+
+
+def field(name, terms):
+    """A field of the system, a part on a line of its own."""
+    if not terms:
+        return f'  {name} = [];\n'
+    return f'  {name} =\n      ' + '\n      ∷ '.join([*terms, '[]']) + ';\n'
+
+
+def system_definition(name, system, numbers):
+    contexts = [context_term(part) for part in system.get('context', [])]
+    notes = [note_term(part) for part in system.get('note', [])]
+    threads = [thread_term(part, numbers) for part in system.get('thread', [])]
+    orders = [order_term(part, numbers) for part in system.get('order', [])]
+    return (
+        f'abbrev pub {name}_system : System\n{name}_system = record {{\n'
+        f'  cores = {system["cores"]};\n  delay = {system["delay"]};\n'
+        f'  call = {system.get("call", 1)};\n  min_budget = {system.get("min_budget", 1)};\n'
+        + field('contexts', contexts) + field('notes', notes) + field('threads', threads) + field('orders', orders)
+        + '}\n'
+    )
+
+
+def what_term(word, rest, numbers):
+    if word in ('release', 'run'):
+        return f'row.{word.capitalize()} {numbers.threads[rest[0]]}'
+    if word == 'stop':
+        until = f'(Some {rest[4]})' if len(rest) > 3 else 'None'
+        return f'row.Stop {numbers.threads[rest[0]]} why.{CAUSES[rest[1]]} {rest[2]} {until}'
+    if word == 'signal':
+        return f'row.Signal {numbers.threads[rest[0]]} {numbers.notes[rest[1]]} {rest[2]}'
+    if word == 'arrive':
+        return f'row.Arrive {numbers.notes[rest[0]]} {rest[1]} {rest[3]}'
+    if word in ('wake', 'got'):
+        return f'row.{word.capitalize()} {numbers.threads[rest[0]]} {numbers.notes[rest[1]]} {rest[2]}'
+    if word == 'hold':
+        return f'row.Hold {numbers.notes[rest[0]]} {rest[1]}'
+    if word == 'round':
+        return f'row.Round {numbers.threads[rest[0]]} {rest[1]} {rest[2]}'
+    if word == 'order':
+        return f'row.Order {numbers.contexts[rest[0]]}'
+    raise ValueError(word)
+
+
+def row_term(line, numbers):
+    moment, core, word, *rest = line.split()
+    return f'at {moment} {core} ({what_term(word, rest, numbers)})'
+
+
+def horizon_of(words):
+    return int(words[words.index('--horizon') + 1]) if '--horizon' in words else DEFAULT_HORIZON
+
+
+def theorem(folder):
+    name = folder.name
+    system = tomllib.loads((folder / 'system.toml').read_text())
+    numbers = Numbers(system)
+    horizon = horizon_of((folder / 'words').read_text().split())
+    lines = [line for line in (folder / 'stdout').read_text().splitlines() if line[:1].isdigit()]
+    rows = '\n    ∷ '.join([*(row_term(line, numbers) for line in lines), '[]'])
+    rows = f'    {rows}' if lines else '    []'
+    return (
+        system_definition(name, system, numbers)
+        + f'\nabbrev pub {name}_rows : List Row\n{name}_rows =\n{rows}\n'
+        + f'\n{name} : schedule {name}_system {horizon} ≡ {name}_rows\n{name} = refl\n'
+    )
+
+
+def imports(names, text):
+    """Those of the names that stand in the text."""
+    return ', '.join(name for name in names if re.search(rf'(?<![.\w]){re.escape(name)}(?!\w)', text))
+
+
+def main():
+    material, out, names = sys.argv[1], sys.argv[2], sys.argv[3:]
+    folders = sorted(path for path in pathlib.Path(material).iterdir() if path.is_dir() and (not names or path.name in names))
+    body = '\n'.join(theorem(folder) for folder in folders)
+    head = HEAD.format(
+        material=material.rstrip('/'),
+        prelude='◌≡◌, ' + imports(['List', '[]'], body) + ', ◌∷◌, ' + imports(['Some', 'None', 'refl', 'codes'], body),
+        items=imports(['Compute', 'Signal', 'Wait', 'Yield'], body),
+        parts=imports(['context', 'note', 'thread', 'order', 'at'], body),
+    )
+    pathlib.Path(out).write_text(head + '\n' + body)
+
+
+if __name__ == '__main__':
+    main()
