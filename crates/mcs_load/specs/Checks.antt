@@ -3,7 +3,7 @@ use Rattle.std.specs.Prelude.{◌≡◌, Bool, if◌then◌else◌, List, [], �
 use Rattle.mcs_load.specs.declared.fault.FaultKind.{FaultKind}
 use Rattle.mcs_load.specs.Memory.{no_memory}
 use Rattle.mcs_load.specs.declared.fault.LoadFault.{LoadFault}
-use Rattle.mcs_load.specs.declared.fault.Spot.{Spot}
+use Rattle.mcs_load.specs.declared.spot.Spot.{Spot}
 
 -- a test, and the fault where it fails
 pub record Test : Type 0 where

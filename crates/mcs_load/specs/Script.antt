@@ -11,7 +11,7 @@ use Rattle.mcs_core.specs.System.{no_note}
 use Rattle.mcs_load.specs.declared.at.At.{At}
 use Rattle.mcs_load.specs.declared.fault.FaultKind.{FaultKind}
 use Rattle.mcs_load.specs.declared.fault.FaultKind.TheVariants.{MissingKey, WrongKind, OutOfRange, TooMany, UnknownName, BadItem, WaitLast, OtherCore}
-use Rattle.mcs_load.specs.declared.fault.Key.TheVariants as key
+use Rattle.mcs_load.specs.declared.spot.Key.TheVariants as key
 use Rattle.mcs_load.specs.Keys.{key_name}
 use Rattle.mcs_load.specs.Checks.{Checked, ◌>>=◌, reads, must}
 use Rattle.mcs_load.specs.Words.{must_at, if_there, place_of, bytes_or_none, items_or_none, item_count, each}

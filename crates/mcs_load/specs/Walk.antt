@@ -17,9 +17,9 @@ use Rattle.mcs_core.specs.declared.part.ThreadPart.{ThreadPart}
 use Rattle.mcs_core.specs.declared.part.SystemParts.{SystemParts}
 use Rattle.mcs_core.specs.System.{no_context}
 use Rattle.mcs_load.specs.declared.fault.FaultKind.TheVariants.{NotToml, Control, UnknownName, ContextTaken, OtherCore, KindChange}
-use Rattle.mcs_load.specs.declared.fault.Key.{Key}
-use Rattle.mcs_load.specs.declared.fault.Key.TheVariants as key
-use Rattle.mcs_load.specs.declared.fault.Section.TheVariants as section
+use Rattle.mcs_load.specs.declared.spot.Key.{Key}
+use Rattle.mcs_load.specs.declared.spot.Key.TheVariants as key
+use Rattle.mcs_load.specs.declared.spot.Section.TheVariants as section
 use Rattle.mcs_load.specs.Script.{script, place_or_first}
 use Rattle.mcs_load.specs.Checks.{Checked, ◌>>=◌, reads}
 use Rattle.mcs_load.specs.declared.at.At.{At}

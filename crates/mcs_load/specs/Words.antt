@@ -7,10 +7,10 @@ use Rattle.mcs_core.specs.WellFormed.{is_name_byte}
 use Rattle.mcs_load.specs.declared.at.At.{At}
 use Rattle.mcs_load.specs.declared.fault.FaultKind.{FaultKind}
 use Rattle.mcs_load.specs.declared.fault.FaultKind.TheVariants.{UnknownKey, MissingKey, WrongKind, OutOfRange, TooMany, BadName, DoubleName}
-use Rattle.mcs_load.specs.declared.fault.Key.{Key}
-use Rattle.mcs_load.specs.declared.fault.Key.TheVariants as key
-use Rattle.mcs_load.specs.declared.fault.Section.{Section}
-use Rattle.mcs_load.specs.declared.fault.Spot.{Spot}
+use Rattle.mcs_load.specs.declared.spot.Key.{Key}
+use Rattle.mcs_load.specs.declared.spot.Key.TheVariants as key
+use Rattle.mcs_load.specs.declared.spot.Section.{Section}
+use Rattle.mcs_load.specs.declared.spot.Spot.{Spot}
 use Rattle.mcs_load.specs.Keys.{key_name}
 use Rattle.mcs_load.specs.Checks.{Checked, ◌>>=◌, reads, must}
 

@@ -1,6 +1,7 @@
 ghost use Rattle.std.specs.Prelude.{◌≡◌};
 
-use crate::fault::{FaultKind, Key, LoadFault, Section, Spot};
+use crate::fault::{FaultKind, LoadFault};
+use crate::spot::{Key, Section, Spot};
 
 /// A row of a section, from 1; 0 where no row is meant.
 #[derive(Clone, Copy, Debug, PartialEq, Eq)]

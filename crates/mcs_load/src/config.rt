@@ -5,7 +5,8 @@ ghost use Rattle.mcs_load.specs.Walk.{config, accepts, accepted_config, key_of};
 ghost use Rattle.mcs_control.specs.Control.{checked, kind_of};
 
 use crate::at::At;
-use crate::fault::{FaultKind, Key, LoadFault};
+use crate::fault::{FaultKind, LoadFault};
+use crate::spot::Key;
 use crate::words::{number_with_default, whole_number};
 use mcs_control::{Config, ControlFault, Kind};
 use toml::Table;

@@ -1,6 +1,6 @@
 ghost use Rattle.std.specs.Prelude.{◌≡◌, ◌^◌, ◌<◌, ◌≤◌, ℕ, IfOk, List, suc, length, map, [], ◌∷◌, ◌++◌};
 ghost use Rattle.toml.specs.View.{table_view, view, items_view};
-ghost use Rattle.mcs_load.specs.declared.fault.Section.TheVariants as section;
+ghost use Rattle.mcs_load.specs.declared.spot.Section.TheVariants as section;
 ghost use Rattle.mcs_load.specs.Words.{row, each};
 ghost use Rattle.mcs_load.specs.Checks.{Gives};
 ghost use Rattle.mcs_load.specs.Walk.{context, contexts, known, known_context, part_at};
@@ -9,8 +9,9 @@ ghost use Rattle.mcs_core.specs.declared.part.ContextPart.{ContextPart};
 
 use crate::at::At;
 use crate::config::{accepted_config, kind_of};
-use crate::fault::{FaultKind, Key, LoadFault, Section};
+use crate::fault::{FaultKind, LoadFault};
 use crate::names::Names;
+use crate::spot::{Key, Section};
 use crate::words::{new_name, only_keys, row_table, rows, text, whole_number};
 use mcs_control::Kind;
 use mcs_core::{ContextPart, Name};

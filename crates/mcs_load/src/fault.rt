@@ -1,78 +1,66 @@
 ghost use Rattle.std.specs.Prelude.{◌≡◌};
 
 use crate::raw::ItemFault;
+use crate::spot::{Key, Section, Spot};
 use mcs_control::ControlFault;
 use std::alloc::{AllocError, AllocFailed};
+use std::fmt;
+use thiserror::Error;
 
 /// What is wrong with a file.
-#[derive(Clone, Copy, Debug, PartialEq, Eq)]
+#[derive(Clone, Copy, Debug, PartialEq, Eq, Error)]
 pub enum FaultKind {
+    /// The bytes are no TOML text in UTF-8.
+    #[error("not TOML")]
     NotToml,
+    /// A key that is not listed.
+    #[error("unknown key")]
     UnknownKey,
+    /// A required key is absent.
+    #[error("missing key")]
     MissingKey,
+    /// A value of another kind than the key's.
+    #[error("wrong kind")]
     WrongKind,
+    /// A number outside its range, or a script without an item.
+    #[error("out of range")]
     OutOfRange,
+    /// More rows than 4,096, or more items than 1,024.
+    #[error("too many")]
     TooMany,
+    /// A text that is not 1 to 32 characters of `A-Z a-z 0-9 _ -`.
+    #[error("bad name")]
     BadName,
+    /// A name that an earlier row of the array has.
+    #[error("double name")]
     DoubleName,
+    /// A name that no context, or no notification, has.
+    #[error("unknown name")]
     UnknownName,
+    /// A text that is no item of a script.
+    #[error("bad item: {0}")]
     BadItem(ItemFault),
+    /// A script whose last item is a wait.
+    #[error("wait is last")]
     WaitLast,
+    /// A configuration that SchedControl refuses.
+    #[error("control: {}", refusal(*.0))]
     Control(ControlFault),
+    /// A context that an earlier thread has.
+    #[error("context taken")]
     ContextTaken,
+    /// A wait on another core's notification, or an order through another core's SchedControl capability.
+    #[error("other core")]
     OtherCore,
+    /// An order that makes a context round robin, or ends its being so.
+    #[error("kind change")]
     KindChange,
+    /// A growth for which there was no memory.
+    #[error("no memory")]
     NoMemory,
 }
 
-/// A part of a file.
-#[derive(Clone, Copy, Debug, PartialEq, Eq)]
-pub enum Section {
-    File,
-    Top,
-    Context,
-    Note,
-    Thread,
-    Order,
-}
-
-/// A key of a file; one that is not listed; or the whole array, row or file.
-#[derive(Clone, Copy, Debug, PartialEq, Eq)]
-pub enum Key {
-    Version,
-    Cores,
-    Delay,
-    Call,
-    MinBudget,
-    Context,
-    Note,
-    Thread,
-    Order,
-    Name,
-    Core,
-    Budget,
-    Period,
-    ExtraRefills,
-    Priority,
-    Start,
-    Rounds,
-    Deadline,
-    Script,
-    At,
-    Other,
-    Whole,
-}
-
-/// Where a fault lies: row and item count from 1, and are 0 where none is meant.
-#[derive(Clone, Copy, Debug, PartialEq, Eq)]
-pub struct Spot {
-    pub section: Section,
-    pub row: usize,
-    pub key: Key,
-    pub item: usize,
-}
-
-/// The first fault of a file, and where it lies.
+/// The first fault of a file, and where it lies. Its text is `<fault> at <place>`, or `no memory` alone.
 #[derive(Clone, Copy, Debug, PartialEq, Eq)]
 pub struct LoadFault {
     pub kind: FaultKind,
@@ -98,12 +86,24 @@ impl LoadFault {
     };
 }
 
+impl fmt::Display for LoadFault {
+    fn fmt<W: fmt::Write>(&self, f: &mut fmt::Formatter<W>) -> fmt::Result {
+        let LoadFault { kind, spot } = *self;
+        match kind {
+            FaultKind::NoMemory => write!(f, "{kind}"),
+            _ => write!(f, "{kind} at {spot}"),
+        }
+    }
+}
+
+impl std::error::Error for LoadFault {}
+
 impl From<AllocError> for LoadFault {
     ghost use Rattle.mcs_load.specs.Memory.{no_memory};
 
     ghost from_gives = { λ _ fault. fault ≡ no_memory };
 
-    fn from(_e: AllocError) -> LoadFault {
+    fn from(_refusal: AllocError) -> Self {
         LoadFault::NO_MEMORY
     }
 }
@@ -113,7 +113,17 @@ impl<T: Drop> From<AllocFailed<T>> for LoadFault {
 
     ghost from_gives = { λ _ fault. fault ≡ no_memory };
 
-    fn from(_e: AllocFailed<T>) -> LoadFault {
+    fn from(_refusal: AllocFailed<T>) -> Self {
         LoadFault::NO_MEMORY
+    }
+}
+
+fn refusal(fault: ControlFault) -> &'static str {
+    match fault {
+        ControlFault::ZeroBudget => "zero budget",
+        ControlFault::BudgetTooSmall => "budget too small",
+        ControlFault::BudgetOverPeriod => "budget over period",
+        ControlFault::PeriodTooLong => "period too long",
+        ControlFault::TooManyRefills => "too many refills",
     }
 }

@@ -5,11 +5,12 @@ ghost use Rattle.mcs_load.specs.Walk.{document, numbers, walk, file};
 
 use crate::at::At;
 use crate::context::contexts;
-use crate::fault::{Key, LoadFault, Section};
+use crate::fault::LoadFault;
 use crate::names::Names;
 use crate::note::notes;
 use crate::numbers::Numbers;
 use crate::order::orders;
+use crate::spot::{Key, Section};
 use crate::thread::threads;
 use crate::words::{number_with_default, only_keys, whole_number};
 use mcs_core::SystemParts;

@@ -1,7 +1,7 @@
 ghost use Rattle.std.specs.Prelude.{◌≡◌};
 ghost use Rattle.mcs_load.specs.Keys.{key_name};
 
-use crate::fault::Key;
+use crate::spot::Key;
 
 /// The name of a key in a file.
 pub(crate) fn name_of(key: Key) -> &'static str

@@ -14,8 +14,10 @@ mod numbers;
 mod order;
 mod raw;
 mod script;
+mod spot;
 mod thread;
 mod words;
 
-pub use fault::{FaultKind, Key, LoadFault, Section, Spot};
+pub use fault::{FaultKind, LoadFault};
 pub use file::load;
+pub use spot::{Key, Section, Spot};

@@ -2,7 +2,7 @@ ghost use Rattle.std.specs.Prelude.{◌≡◌, ◌≤◌, ◌<◌, ℕ, IfOk, Li
 ghost use Rattle.toml.specs.View.{table_view, view, items_view};
 ghost use Rattle.mcs_control.specs.Control.{kind_of};
 ghost use Rattle.mcs_control.specs.declared.config.Order.{Order};
-ghost use Rattle.mcs_load.specs.declared.fault.Section.TheVariants as section;
+ghost use Rattle.mcs_load.specs.declared.spot.Section.TheVariants as section;
 ghost use Rattle.mcs_load.specs.Checks.{Gives};
 ghost use Rattle.mcs_load.specs.Words.{row, each};
 ghost use Rattle.mcs_load.specs.Walk.{part_at, ordered_context, keeps_kind, order, orders};
@@ -10,9 +10,10 @@ ghost use Rattle.mcs_load.specs.Walk.{part_at, ordered_context, keeps_kind, orde
 use crate::at::At;
 use crate::config::{accepted_config, kind_of};
 use crate::context::{core_of_part, kind_of_part, known_context};
-use crate::fault::{FaultKind, Key, LoadFault, Section};
+use crate::fault::{FaultKind, LoadFault};
 use crate::names::Names;
 use crate::numbers::moment;
+use crate::spot::{Key, Section};
 use crate::words::{only_keys, row_table, rows, whole_number};
 use mcs_control::{Config, Order};
 use mcs_core::ContextPart;

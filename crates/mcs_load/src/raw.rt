@@ -1,12 +1,18 @@
 ghost use Rattle.std.specs.Prelude.{◌≡◌, MatchResult, Ok, Err};
 ghost use Rattle.mcs_load.specs.Raw.{read_as, raw_view};
 
+use thiserror::Error;
+
 /// Why a text is no item.
-#[derive(Clone, Copy, Debug, PartialEq, Eq)]
+#[derive(Clone, Copy, Debug, PartialEq, Eq, Error)]
 pub enum ItemFault {
+    #[error("unknown word")]
     UnknownWord,
+    #[error("missing part")]
     MissingPart,
+    #[error("extra part")]
     ExtraPart,
+    #[error("bad number")]
     BadNumber,
 }
 

@@ -6,9 +6,10 @@ ghost use Rattle.mcs_load.specs.Words.{each};
 ghost use Rattle.mcs_load.specs.Script.{core_of, note_named, named, script_item, next_item, script, ends_without_wait, texts, said};
 
 use crate::at::At;
-use crate::fault::{FaultKind, Key, LoadFault};
+use crate::fault::{FaultKind, LoadFault};
 use crate::names::Names;
 use crate::raw::{RawItem, read_item};
+use crate::spot::Key;
 use crate::words::find;
 use mcs_core::NotePart;
 use mcs_script::{Item, Script};

@@ -1,17 +1,18 @@
 ghost use Rattle.std.specs.Prelude.{◌≡◌, ◌≤◌, ◌<◌, ℕ, IfOk, List, suc, length, map, [], ◌∷◌, ◌++◌};
 ghost use Rattle.toml.specs.View.{table_view, view, items_view};
 ghost use Rattle.mcs_core.specs.declared.part.ThreadPart.{ThreadPart};
-ghost use Rattle.mcs_load.specs.declared.fault.Section.TheVariants as section;
+ghost use Rattle.mcs_load.specs.declared.spot.Section.TheVariants as section;
 ghost use Rattle.mcs_load.specs.Checks.{Gives};
 ghost use Rattle.mcs_load.specs.Words.{row, each};
 ghost use Rattle.mcs_load.specs.Walk.{own_context, times, thread, threads};
 
 use crate::at::At;
 use crate::context::{core_of_part, known_context};
-use crate::fault::{FaultKind, Key, LoadFault, Section};
+use crate::fault::{FaultKind, LoadFault};
 use crate::names::Names;
 use crate::numbers::moment;
 use crate::script::script;
+use crate::spot::{Key, Section};
 use crate::words::{new_name, number_with_default, only_keys, row_table, rows, whole_number};
 use indexmap::IndexSet;
 use mcs_core::{ContextPart, Name, NotePart, ThreadPart};

@@ -8,9 +8,10 @@ ghost use Rattle.mcs_load.specs.Checks.{Gives};
 ghost use Rattle.mcs_load.specs.Words.{has_only, is_listed, is_name, only_keys, number, whole_number, number_with_default, text, row_table, new_name, rows};
 
 use crate::at::At;
-use crate::fault::{FaultKind, Key, LoadFault, Section};
+use crate::fault::{FaultKind, LoadFault};
 use crate::key::name_of;
 use crate::names::Names;
+use crate::spot::{Key, Section};
 use mcs_ticks::Limits;
 use toml::{Table, Value};
 

@@ -1,6 +1,5 @@
 -- The notifications that are seen, of the words, the counts and the one list that are kept.
 use Rattle.std.proofs.Common.{◌≡◌, ◌≢◌, ℕ, zero, suc, ◌+◌, ◌<◌, ◌≤◌, ◌==◌, Bool, true, false, cond, List, [], ◌∷◌, length, get_or, set, replicate, refl, sym, ap, ◌∙◌, arith}
-use Rattle.mcs_ticks.specs.declared.queue.Queued.{Queued}
 use Rattle.mcs_notify.specs.Note.{Note, quiet_note, note_of}
 use Rattle.mcs_notify.specs.declared.notes.Kept.{Kept}
 use Rattle.mcs_notify.specs.declared.notes.Waiting.{Waiting}

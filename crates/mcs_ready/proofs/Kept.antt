@@ -1,5 +1,5 @@
 -- What the places keep, through each call.
-use Rattle.std.proofs.Common.{◌≡◌, ◌≢◌, ℕ, zero, suc, ◌+◌, ◌-◌, ◌<◌, ◌≤◌, ◌==◌, if◌then◌else◌, Bool, true, false, cond, List, [], ◌∷◌, ◌++◌, length, map, get_or, set, refl, sym, ap, subst, ◌∙◌, inl, inr, arith, get_or-set_same, get_or-set_other, length-set, replicate}
+use Rattle.std.proofs.Common.{◌≡◌, ℕ, zero, suc, ◌+◌, ◌-◌, ◌<◌, ◌≤◌, ◌==◌, if◌then◌else◌, Bool, true, false, List, [], ◌∷◌, ◌++◌, length, map, get_or, set, refl, sym, ap, subst, ◌∙◌, inl, inr, arith, get_or-set_same, get_or-set_other, length-set, replicate}
 use Rattle.std.specs.Prelude.{nat_lt, Option, None, Some, MatchOption}
 use Rattle.std.proofs.lemmas.Bool.Decides.{nat_tests}
 use Rattle.std.proofs.lemmas.Bool.{cases_eq, cases_lt, eq-eqb, ne_eqb, ltb-true, false≢true}
@@ -37,8 +37,10 @@ module _ (words words' : List ℕ) (lines : List Line) (next next' : List ℕ) (
     where
       olds : List (List ℕ)
       olds = all_threads next lines
+
       within : p < length lines
       within = omega (arith, kept.count)
+
       among : p < length olds
       among = omega (arith, kept.count, length-map lines (threads_of next))
 
@@ -137,9 +139,9 @@ module _ (words : List ℕ) (lines : List Line) (next : List ℕ) (held : List B
   -- a line has no more threads than there is room for
   pub len_at : (get_or lines p no_line).len ≤ length held
   len_at = omega (
-      arith,
-      length-line_from next (get_or lines p no_line).first (get_or lines p no_line).len,
-      length-le-room (threads_of next (get_or lines p no_line)) held once-at,
+    arith,
+    length-line_from next (get_or lines p no_line).first (get_or lines p no_line).len,
+    length-le-room (threads_of next (get_or lines p no_line)) held once-at,
   )
 
   -- a thread that stands there is held
@@ -185,8 +187,8 @@ module _ (words : List ℕ) (lines : List Line) (next : List ℕ) (held : List B
     back-now =
         lines-set next _ x lines p _ within (only-before_back (get_or lines p no_line).len refl).1
         ∙ ap (set (all_threads next lines) p) (
-          threads-with_back next (get_or lines p no_line).first (get_or lines p no_line).last (get_or lines p no_line).len x (omega (arith, kept.room))
-            last-below ends-at (omega (arith, once-at (get_or lines p no_line).last, one_if-le-one (get_or held (get_or lines p no_line).last false)))
+        threads-with_back next (get_or lines p no_line).first (get_or lines p no_line).last (get_or lines p no_line).len x (omega (arith, kept.room))
+        last-below ends-at (omega (arith, once-at (get_or lines p no_line).last, one_if-le-one (get_or held (get_or lines p no_line).last false)))
         )
 
     -- the queue has x behind the threads of its priority
@@ -202,7 +204,7 @@ module _ (words : List ℕ) (lines : List Line) (next : List ℕ) (held : List B
     front-now =
         lines-set next x _ lines p _ within (none ∙ sym (ap (times x) threads_at ∙ none_at))
         ∙ ap (set (all_threads next lines) p) (
-          threads-with_front next (get_or lines p no_line).first (get_or lines p no_line).last (get_or lines p no_line).len x (omega (arith, kept.room)) none_at
+        threads-with_front next (get_or lines p no_line).first (get_or lines p no_line).last (get_or lines p no_line).len x (omega (arith, kept.room)) none_at
         )
 
     -- the queue has x before the threads of its priority
@@ -218,8 +220,8 @@ module _ (words : List ℕ) (lines : List Line) (next : List ℕ) (held : List B
         times y xs + one_if (get_or held y false) ≡ times y (get_or (all_threads next lines) p []) + one_if (get_or (set held x true) y false)
     moved xs more y = rw (threads_at, more y) (elim (cases_eq y x) [
       | inl e ↦
-        let Moved : ℕ → Type 0 = λ y. times y (x ∷ threads) + one_if (get_or held y false) ≡ times y threads + one_if (get_or (set held x true) y false) in
-        subst Moved (sym e) (omega (arith, times-cons_same x threads, ap one_if free, ap one_if (get_or-set_same held x true false x_below)))
+          let Moved : ℕ → Type 0 = λ y. times y (x ∷ threads) + one_if (get_or held y false) ≡ times y threads + one_if (get_or (set held x true) y false) in
+          subst Moved (sym e) (omega (arith, times-cons_same x threads, ap one_if free, ap one_if (get_or-set_same held x true false x_below)))
       | inr ne ↦ rw (get_or-set_other held x y true false ne, times-cons_other y x threads (λ e. ne (sym e))) refl
     ])
       where
@@ -231,18 +233,18 @@ module _ (words : List ℕ) (lines : List Line) (next : List ℕ) (held : List B
       IsKept-with_back =
           let xs = threads_of next (get_or lines p no_line) ++ x ∷ [] in
           IsKept-changed words words' lines next _ held (set held x true) p _ xs kept below
-            (length-set next _ x ∙ kept.room ∙ sym (length-set held x true)) (length-set held x true) back-now
-            (ends-push x x (threads_of next (get_or lines p no_line)))
-            (λ q. marks q ∙ ap (λ (b : Bool). if q == p then b else has words q) (sym (some_in-push x (threads_of next (get_or lines p no_line)))))
-            (moved xs (λ y. times-append y (threads_of next (get_or lines p no_line)) (x ∷ []) ∙ omega arith))
+          (length-set next _ x ∙ kept.room ∙ sym (length-set held x true)) (length-set held x true) back-now
+          (ends-push x x (threads_of next (get_or lines p no_line)))
+          (λ q. marks q ∙ ap (λ (b : Bool). if q == p then b else has words q) (sym (some_in-push x (threads_of next (get_or lines p no_line)))))
+          (moved xs (λ y. times-append y (threads_of next (get_or lines p no_line)) (x ∷ []) ∙ omega arith))
 
       pub IsKept-with_front : IsKept words' (set lines p (with_front x (get_or lines p no_line))) (set next x (get_or lines p no_line).first) (set held x true)
       IsKept-with_front =
           let xs = x ∷ threads_of next (get_or lines p no_line) in
           IsKept-changed words words' lines next _ held (set held x true) p _ xs kept below
-            (length-set next x _ ∙ kept.room ∙ sym (length-set held x true)) (length-set held x true) front-now
-            (ends-with_front next (get_or lines p no_line).first (get_or lines p no_line).last (get_or lines p no_line).len x ends-at)
-            marks (moved xs (λ y. refl))
+          (length-set next x _ ∙ kept.room ∙ sym (length-set held x true)) (length-set held x true) front-now
+          (ends-with_front next (get_or lines p no_line).first (get_or lines p no_line).last (get_or lines p no_line).len x ends-at)
+          marks (moved xs (λ y. refl))
 
   module _ (some : 0 < (get_or lines p no_line).len) where
     first : ℕ
@@ -273,7 +275,7 @@ module _ (words : List ℕ) (lines : List Line) (next : List ℕ) (held : List B
     -- where no line above has a thread, the queue begins with the first of this one
     pub queue-without_first : ((q : ℕ) → p < q → has words q ≡ false) →
         queue_from 0 (all_threads next lines) ≡ queued (get_or lines p no_line).first p
-          ∷ queue_from 0 (all_threads next (set lines p (without_first (get_or next (get_or lines p no_line).first 0) (get_or lines p no_line))))
+        ∷ queue_from 0 (all_threads next (set lines p (without_first (get_or next (get_or lines p no_line).first 0) (get_or lines p no_line))))
     unfolding first
     queue-without_first none =
         queue-first (all_threads next lines) 0 p first rest (threads_at ∙ split) (λ q above. nil_from_none _ (sym (kept.marked q) ∙ none q above))
@@ -288,8 +290,8 @@ module _ (words : List ℕ) (lines : List Line) (next : List ℕ) (held : List B
       moved_out : (y : ℕ) → times y rest + one_if (get_or held y false) ≡ times y (get_or (all_threads next lines) p []) + one_if (get_or (set held first false) y false)
       moved_out y = rw (threads_at, split) (elim (cases_eq y first) [
         | inl e ↦
-          let Moved : ℕ → Type 0 = λ y. times y rest + one_if (get_or held y false) ≡ times y (first ∷ rest) + one_if (get_or (set held first false) y false) in
-          subst Moved (sym e) (omega (arith, times-cons_same first rest, ap one_if (stands-held first first-stands), ap one_if (get_or-set_false held first)))
+            let Moved : ℕ → Type 0 = λ y. times y rest + one_if (get_or held y false) ≡ times y (first ∷ rest) + one_if (get_or (set held first false) y false) in
+            subst Moved (sym e) (omega (arith, times-cons_same first rest, ap one_if (stands-held first first-stands), ap one_if (get_or-set_false held first)))
         | inr ne ↦ rw (get_or-set_other held first y false false ne, times-cons_other y first rest (λ e. ne (sym e))) refl
       ])
 
@@ -298,10 +300,10 @@ module _ (words : List ℕ) (lines : List Line) (next : List ℕ) (held : List B
       unfolding first
       IsKept-without_first =
           IsKept-changed words words' lines next next held (set held first false) p _ rest kept below
-            (kept.room ∙ sym (length-set held first false)) (length-set held first false) rest-now
-            (ends-rest (get_or lines p no_line).last first rest (ap (last_or (get_or lines p no_line).last) (sym split) ∙ ends-at))
-            (λ q. marks q ∙ ap (λ (b : Bool). if q == p then b else has words q) (sym some_in-rest))
-            moved_out
+          (kept.room ∙ sym (length-set held first false)) (length-set held first false) rest-now
+          (ends-rest (get_or lines p no_line).last first rest (ap (last_or (get_or lines p no_line).last) (sym split) ∙ ends-at))
+          (λ q. marks q ∙ ap (λ (b : Bool). if q == p then b else has words q) (sym some_in-rest))
+          moved_out
 
 module _ (words : List ℕ) (lines : List Line) (next : List ℕ) (held : List Bool) (kept : IsKept words lines next held) where
   -- a thread stands in the queue where it is held
@@ -316,16 +318,16 @@ module _ (words : List ℕ) (lines : List Line) (next : List ℕ) (held : List B
   marked-below p marked = elim (cases_lt p 256) [
     | inl below ↦ below
     | inr past ↦
-      let none : get_or (all_threads next lines) p [] ≡ [] = get_or_past (all_threads next lines) p [] (omega (arith, kept.count, length-map lines (threads_of next))) in
-      absurd (false≢true (ap is_some_in (sym none) ∙ sym (kept.marked p) ∙ marked))
+        let none : get_or (all_threads next lines) p [] ≡ [] = get_or_past (all_threads next lines) p [] (omega (arith, kept.count, length-map lines (threads_of next))) in
+        absurd (false≢true (ap is_some_in (sym none) ∙ sym (kept.marked p) ∙ marked))
   ]
 
   -- a priority that is marked has a thread
   pub some-marked : (p : ℕ) → has words p ≡ true → 0 < (get_or lines p no_line).len
   some-marked p marked =
       ltb-true 0 (get_or lines p no_line).len (
-        sym (some_in-line_from next (get_or lines p no_line).first (get_or lines p no_line).len)
-        ∙ ap is_some_in (sym (threads_at words lines next held kept p (marked-below p marked))) ∙ sym (kept.marked p) ∙ marked
+      sym (some_in-line_from next (get_or lines p no_line).first (get_or lines p no_line).len)
+      ∙ ap is_some_in (sym (threads_at words lines next held kept p (marked-below p marked))) ∙ sym (kept.marked p) ∙ marked
       )
 
   pub queue_unmarked : ((q : ℕ) → has words q ≡ false) → queue_from 0 (all_threads next lines) ≡ []
@@ -396,7 +398,7 @@ module _ (words : List ℕ) (lines : List Line) (next : List ℕ) (held : List B
       let e = get_or-map (λ (q : Queued). q.thread) queue i d 0 (omega arith) in
       let f = get_or-map (λ (q : Queued). q.thread) queue j d 0 below in
       distinct_from_once threads (λ x. omega (arith, times-queue x, one_if-le-one (get_or held x false))) i j before
-        (omega (arith, length-map queue (λ (q : Queued). q.thread))) (e ∙ same ∙ sym f)
+      (omega (arith, length-map queue (λ (q : Queued). q.thread))) (e ∙ same ∙ sym f)
 
   pub AreBelow-kept : AreBelow (length held) (queue_from 0 (all_threads next lines))
   AreBelow-kept k d below =

@@ -1,5 +1,5 @@
 -- Bits of a set of priorities, set, cleared and found.
-use Rattle.std.proofs.Common.{◌≡◌, ◌≢◌, ℕ, suc, ◌+◌, ◌-◌, ◌*◌, ◌/◌, ◌%◌, ◌^◌, ◌<◌, ◌≤◌, ◌==◌, if◌then◌else◌, Bool, true, false, cond, List, length, get_or, set, bit_and, bit_or, refl, sym, ap, ◌∙◌, inl, inr, arith, get_or-set_same, get_or-set_other}
+use Rattle.std.proofs.Common.{◌≡◌, ◌≢◌, ℕ, suc, ◌+◌, ◌-◌, ◌*◌, ◌/◌, ◌%◌, ◌^◌, ◌<◌, ◌≤◌, ◌==◌, if◌then◌else◌, Bool, true, false, List, length, get_or, set, bit_and, bit_or, sym, ap, ◌∙◌, inl, inr, arith, get_or-set_same, get_or-set_other}
 use Rattle.std.specs.Int.{w64, bit_at, bit_not}
 use Rattle.std.proofs.lemmas.Bool.{cases_eq, cases_lt, eq-eqb, ne_eqb}
 use Rattle.std.proofs.lemmas.Nat.Bits.{bit_at_set_same, bit_at_set_other, bit_at_clear_same, bit_at_clear_other, bit_at_above, bit_at-zero}
@@ -24,13 +24,13 @@ has-changed b words p q word below at_p others = elim (cases_eq (q / 64) (p / 64
   | inr ne ↦ rw (ne_eqb q p (λ e. ne (ap (λ (n : ℕ). n / 64) e))) (has-other words p q word ne)
   | inl e ↦ elim (cases_eq (q % 64) (p % 64)) [
     | inl m ↦
-      let same : q ≡ p = omega arith in
-      rw (eq-eqb q p same) (has-same words p q word below e ∙ ap (λ (i : ℕ). bit_at word i == 1) m ∙ at_p)
+        let same : q ≡ p = omega arith in
+        rw (eq-eqb q p same) (has-same words p q word below e ∙ ap (λ (i : ℕ). bit_at word i == 1) m ∙ at_p)
     | inr ne ↦
-      rw (ne_eqb q p (λ e. ne (ap (λ (n : ℕ). n % 64) e))) (
+        rw (ne_eqb q p (λ e. ne (ap (λ (n : ℕ). n % 64) e))) (
         has-same words p q word below e ∙ ap (λ (bit : ℕ). bit == 1) (others (q % 64) (omega arith) ne)
         ∙ ap (λ (k : ℕ). bit_at (get_or words k 0) (q % 64) == 1) (sym e)
-      )
+        )
   ]
 ]
 
@@ -68,7 +68,7 @@ pub has_above : (words : List ℕ) (word k q : ℕ) → k < 64 → get_or words 
 has_above words word k q below high none above = elim (cases_lt word (q / 64)) [
   | inl higher ↦ ap (λ (n : ℕ). bit_at n (q % 64) == 1) (none (q / 64) (omega arith)) ∙ ap (λ (bit : ℕ). bit == 1) (bit_at-zero (q % 64))
   | inr lower ↦
-    let e : q / 64 ≡ word = omega arith in
-    let f : get_or words (q / 64) 0 < 2 ^ suc k = rw (e, pow-suc 2 k) (omega arith) in
-    ap (λ (bit : ℕ). bit == 1) (bit_at_above (get_or words (q / 64) 0) (suc k) (q % 64) f (omega arith))
+      let e : q / 64 ≡ word = omega arith in
+      let f : get_or words (q / 64) 0 < 2 ^ suc k = rw (e, pow-suc 2 k) (omega arith) in
+      ap (λ (bit : ℕ). bit == 1) (bit_at_above (get_or words (q / 64) 0) (suc k) (q % 64) f (omega arith))
 ]

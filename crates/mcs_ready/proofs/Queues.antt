@@ -44,10 +44,10 @@ queue-back (ys ∷ lines) p zero x h =
     let above = queue_from (suc p) lines in
     let e : p ≡ p + 0 = omega arith in
     sym (
-      back-lines x p (suc p) lines (queued_at p ys) (omega arith)
-      ∙ ap (λ (us : List Queued). above ++ entered_back (queued x p) us) (sym (append-nil (queued_at p ys)))
-      ∙ ap (λ (us : List Queued). above ++ us) (back-line x p p ys [] (omega arith))
-      ∙ ap (λ (us : List Queued). above ++ us) (sym (map_push (λ (thread : ℕ). queued thread p) ys x))
+    back-lines x p (suc p) lines (queued_at p ys) (omega arith)
+    ∙ ap (λ (us : List Queued). above ++ entered_back (queued x p) us) (sym (append-nil (queued_at p ys)))
+    ∙ ap (λ (us : List Queued). above ++ us) (back-line x p p ys [] (omega arith))
+    ∙ ap (λ (us : List Queued). above ++ us) (sym (map_push (λ (thread : ℕ). queued thread p) ys x))
     )
     ∙ ap (λ (n : ℕ). entered_back (queued x n) (queue_from p (ys ∷ lines))) e
 queue-back (ys ∷ lines) p (suc i) x h =

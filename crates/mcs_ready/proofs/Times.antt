@@ -1,13 +1,12 @@
 -- How often a thread stands in lines.
 use Rattle.std.proofs.Common.{◌≡◌, ℕ, zero, suc, ◌+◌, ◌<◌, ◌≤◌, ◌==◌, Bool, true, false, cond, List, [], ◌∷◌, ◌++◌, length, map, get_or, set, refl, sym, ap, ◌∙◌, inl, inr, arith, get_or-set_other}
 use Rattle.std.specs.Prelude.{nat_lt, ◌||◌}
-use Rattle.std.specs.List.{list_any}
-use Rattle.std.proofs.lemmas.Bool.{cases_eq, cases_Bool, eq-eqb, ne_eqb, eqb-true}
+use Rattle.std.proofs.lemmas.Bool.{cases_eq, eq-eqb, ne_eqb}
 use Rattle.std.proofs.lemmas.Bool.Decides.{nat_tests}
 use Rattle.std.proofs.lemmas.List.{map-append}
 use Rattle.mcs_ticks.specs.declared.queue.Queued.{Queued}
 use Rattle.mcs_ready.specs.Places.{queued_at, queue_from, times, times_in, one_if, last_or}
-use Rattle.mcs_ready.specs.Ready.{queued, is_held}
+use Rattle.mcs_ready.specs.Ready.{is_held}
 
 pub times-append : (x : ℕ) (ys zs : List ℕ) → times x (ys ++ zs) ≡ times x ys + times x zs
 times-append x [] zs = omega arith
@@ -94,13 +93,14 @@ length-le-trues (y ∷ ys) held once = by (get_or held y false) refl (once y) (�
     rest : get_or held y false ≡ true → (x : ℕ) → times x ys ≤ one_if (get_or (set held y false) x false)
     rest e x = elim (cases_eq x y) [
       | inl same ↦
-        rw (same, get_or-set_false held y) (
+          rw (same, get_or-set_false held y) (
           let one : times y (y ∷ ys) ≤ one_if true = rw e at (once y) in
           omega (arith, times-cons_same y ys)
-        )
+          )
       | inr ne ↦
-        rw (get_or-set_other held y x false false ne) (rw (times-cons_other x y ys (λ e. ne (sym e))) at (once x))
+          rw (get_or-set_other held y x false false ne) (rw (times-cons_other x y ys (λ e. ne (sym e))) at (once x))
     ]
+
     by : (b : Bool) → get_or held y false ≡ b → times y (y ∷ ys) ≤ one_if b → (get_or held y false ≡ true → length ys ≤ trues (set held y false)) →
         length (y ∷ ys) ≤ trues held
     by true e h fewer = omega (arith, trues-set held y e, fewer e)

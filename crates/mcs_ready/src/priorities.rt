@@ -21,7 +21,11 @@ impl Priorities {
     {
         let at = priority as usize / 64;
         let bit = 1 << (priority % 64);
-        self.words[at] = if is_in { self.words[at] | bit } else { self.words[at] & !bit };
+        self.words[at] = if is_in {
+            self.words[at] | bit
+        } else {
+            self.words[at] & !bit
+        };
     }
 
     /// The greatest priority in the set.

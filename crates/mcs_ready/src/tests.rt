@@ -192,13 +192,19 @@ fn make(rt: &impl Abort, ready: &mut Ready, step: Step, shows: &str)
     }
 }
 
+fn make_all(rt: &impl Abort, ready: &mut Ready, steps: &[Step], shows: &str)
+    requires { ready.old.room ≡ ROOM }
+{
+    for step in steps {
+        make(rt, ready, *step, shows);
+    }
+}
+
 #[test]
 fn runs_answer_as_the_definition(rt: HostRuntime) -> Result<(), Fail> {
     for run in &RUNS {
         let mut ready = Ready::new(rt.alloc(), ROOM)?;
-        for step in run.steps {
-            make(&rt, &mut ready, *step, run.shows);
-        }
+        make_all(&rt, &mut ready, run.steps, run.shows);
     }
     Ok(())
 }
@@ -208,7 +214,14 @@ fn holds_tells_the_threads_apart(rt: HostRuntime) -> Result<(), Fail> {
     let mut ready = Ready::new(rt.alloc(), ROOM)?;
     enter(&rt, &mut ready, 3, 7, false);
     enter(&rt, &mut ready, 5, 7, false);
-    for (x, is_held) in [(0, false), (3, true), (4, false), (5, true), (6, false), (usize::MAX, false)] {
+    for (x, is_held) in [
+        (0, false),
+        (3, true),
+        (4, false),
+        (5, true),
+        (6, false),
+        (usize::MAX, false),
+    ] {
         assert_eq!(rt; ready.holds(ThreadId(x)), is_held, "thread {x}");
     }
     assert_eq!(rt; ready.pop_best(), Some(ThreadId(3)));

@@ -1,0 +1,4 @@
+pub mod Equal
+pub mod Numbers
+pub mod Parts
+mod Worked

@@ -1,12 +1,18 @@
 //! Scripts, the texts of their items, and the place of a thread in its script. Rounds count from 1, items from 0.
 #![tactic(auto)]
 
+mod fault;
 mod item;
 mod moved;
 mod place;
+mod raw;
 mod script;
+#[cfg(test)]
+mod tests;
 
+pub use fault::ItemFault;
 pub use item::Item;
 pub use moved::Moved;
 pub use place::Place;
+pub use raw::{RawItem, read_item};
 pub use script::Script;

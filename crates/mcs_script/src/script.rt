@@ -1,4 +1,7 @@
-ghost use Rattle.std.specs.Prelude.{◌≡◌, ◌↔◌, IsOk, IfOk, IfErr, length, slice_get};
+ghost use Rattle.std.specs.Prelude.{◌≡◌, ◌↔◌, IsTrue, IsOk, IfOk, IfErr, length, slice_get};
+ghost use Rattle.std.specs.Cmp.Lexicographic.{pointwise, lists_per, lists_equiv};
+ghost use Rattle.mcs_script.specs.contracts.item.ItemPartialEq.TheImpl.Laws.{laws-law as item_partial_laws};
+ghost use Rattle.mcs_script.specs.contracts.item.ItemEq.TheImpl.Laws.{laws-law as item_laws};
 ghost use Rattle.mcs_script.specs.Script.{IsScript};
 
 use crate::Item;
@@ -22,6 +25,23 @@ impl Model for Script {
     ghost view = { λ a. a.items.items };
 
     ghost invariant = { λ a. IsScript a.items.items };
+}
+
+impl PartialEq for Script {
+    ghost eq = { pointwise ⟦<Item as PartialEq>⟧.eq };
+
+    ghost laws = { lists_per item_partial_laws };
+
+    fn eq(&self, other: &Script) -> bool
+        ensures eq { result ≡ pointwise ⟦<Item as PartialEq>⟧.eq self.now other.now }
+        ensures same { IsTrue result ↔ (self.now ≡ other.now) }
+    {
+        self.items == other.items
+    }
+}
+
+impl Eq for Script {
+    ghost laws = { lists_equiv item_laws };
 }
 
 impl Script {

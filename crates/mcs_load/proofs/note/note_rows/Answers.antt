@@ -2,7 +2,7 @@ use Rattle.std.proofs.Common.{◌∙◌, ◌++◌, ◌∷◌, [], length-append,
 use Rattle.std.proofs.lemmas.List.{map_push}
 use Rattle.mcs_core.specs.declared.part.NotePart.{NotePart}
 use Rattle.std.proofs.lemmas.Result.{err_from_is_err_and}
-use Rattle.mcs_load.specs.declared.fault.Section.TheVariants as section
+use Rattle.mcs_load.specs.declared.spot.Section.TheVariants as section
 use Rattle.mcs_load.specs.Walk.{note}
 use Rattle.mcs_load.specs.Words.{row}
 use Rattle.mcs_load.proofs.Each.{step_fails, step_passes}

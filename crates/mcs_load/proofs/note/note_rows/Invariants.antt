@@ -1,6 +1,6 @@
 use Rattle.std.proofs.Common.{◌≡◌, [], length, drop, map}
 use Rattle.toml.specs.View.{items_view}
-use Rattle.mcs_load.specs.declared.fault.Section.TheVariants as section
+use Rattle.mcs_load.specs.declared.spot.Section.TheVariants as section
 use Rattle.mcs_load.specs.Checks.{first_failed}
 use Rattle.mcs_load.specs.Words.{row, each}
 use Rattle.mcs_load.specs.Walk.{note}

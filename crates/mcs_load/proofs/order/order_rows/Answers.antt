@@ -1,7 +1,7 @@
 use Rattle.std.proofs.Common.{◌∙◌, length-append, sym, arith}
 use Rattle.std.proofs.lemmas.Result.{err_from_is_err_and}
 use Rattle.mcs_control.specs.declared.config.Order.{Order}
-use Rattle.mcs_load.specs.declared.fault.Section.TheVariants as section
+use Rattle.mcs_load.specs.declared.spot.Section.TheVariants as section
 use Rattle.mcs_load.specs.Walk.{order}
 use Rattle.mcs_load.specs.Words.{row}
 use Rattle.mcs_load.proofs.Each.{step_fails, step_passes}

@@ -1,5 +1,4 @@
-use Rattle.std.proofs.Common.{◌≡◌, refl, replicate, ap, ◌∙◌}
-use Rattle.mcs_notify.specs.Kept.{notes_from, AreCounted}
+use Rattle.std.proofs.Common.{refl, ap}
 use Rattle.mcs_notify.proofs.Views.{notes_from-replicate, counted-replicate}
 use Rattle.mcs_notify.proofs.notes.Notes.new.Goals as goal
 

@@ -1,4 +1,4 @@
-use Rattle.std.proofs.Common.{refl, sym, ap, arith}
+use Rattle.std.proofs.Common.{refl, arith}
 use Rattle.mcs_notify.proofs.Steps.{within_kept, rewritten-kept, held-answer, held-note, some_wait, woke-answer, woke-note, woke-kept}
 use Rattle.mcs_notify.proofs.notes.Notes.post.Goals as goal
 

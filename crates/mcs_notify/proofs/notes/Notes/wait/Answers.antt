@@ -1,4 +1,4 @@
-use Rattle.std.proofs.Common.{refl, sym, ap, ◌∙◌, arith}
+use Rattle.std.proofs.Common.{refl, sym, ◌∙◌, arith}
 use Rattle.std.proofs.lemmas.Bool.{false≢true}
 use Rattle.mcs_notify.proofs.Steps.{within_kept, got-answer, got-note, rewritten-kept, blocks-answer, blocks-note, blocks-kept, room_left, few}
 use Rattle.mcs_notify.proofs.notes.Notes.wait.Goals as goal

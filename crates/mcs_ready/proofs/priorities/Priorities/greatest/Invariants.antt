@@ -1,4 +1,4 @@
-use Rattle.std.proofs.Common.{◌≡◌, ℕ, ◌≤◌, ◌<◌, get_or}
+use Rattle.std.proofs.Common.{◌≡◌, ℕ, ◌≤◌, get_or}
 use Rattle.mcs_ready.proofs.priorities.Priorities.greatest.Given as goal
 
 abbrev pub invariant-loop-word : goal.invariant-loop-word

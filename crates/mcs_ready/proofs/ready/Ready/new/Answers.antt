@@ -1,6 +1,6 @@
 use Rattle.std.proofs.Common.{◌≡◌, refl, replicate, false, rules}
 use Rattle.mcs_ready.specs.Places.{no_line}
-use Rattle.mcs_ready.proofs.Kept.{IsKept-new, queue-new}
+use Rattle.mcs_ready.proofs.Kept.{IsKept-new}
 use Rattle.mcs_ready.proofs.ready.Ready.new.Goals as goal
 
 pub invariant_of-result : goal.invariant_of-result

@@ -26,7 +26,7 @@ index-requires-2 c =
     let below : p < 256 = marked-below _ _ _ _ c.self.invariant p c.in_ok-priority.ensures.0 in
     let some : 0 < (get_or c.self.inside.lines.items p no_line).len = some-marked _ _ _ _ c.self.invariant p c.in_ok-priority.ensures.0 in
     let line : c.index.result.now ≡ get_or c.self.inside.lines.items p no_line =
-      get_or_read _ _ _ (within _ _ _ _ c.self.invariant p below) c.index.ensures no_line
+    get_or_read _ _ _ (within _ _ _ _ c.self.invariant p below) c.index.ensures no_line
     in
     rw (c.x.view_is, line) (omega (arith, first-below-next _ _ _ _ c.self.invariant p below some))
 
@@ -36,7 +36,7 @@ index_mut-requires-2 c =
     let below : p < 256 = marked-below _ _ _ _ c.self.invariant p c.in_ok-priority.ensures.0 in
     let some : 0 < (get_or c.self.inside.lines.items p no_line).len = some-marked _ _ _ _ c.self.invariant p c.in_ok-priority.ensures.0 in
     let line : c.index.result.now ≡ get_or c.self.inside.lines.items p no_line =
-      get_or_read _ _ _ (within _ _ _ _ c.self.invariant p below) c.index.ensures no_line
+    get_or_read _ _ _ (within _ _ _ _ c.self.invariant p below) c.index.ensures no_line
     in
     rw (c.x.view_is, line) (omega (arith, first-below _ _ _ _ c.self.invariant p below some))
 
@@ -46,13 +46,13 @@ invariant_of-self c =
     let below : p < 256 = marked-below _ _ _ _ c.self.invariant p c.in_ok-priority.ensures.0 in
     let some : 0 < (get_or c.self.inside.lines.items p no_line).len = some-marked _ _ _ _ c.self.invariant p c.in_ok-priority.ensures.0 in
     let line : c.index.result.now ≡ get_or c.self.inside.lines.items p no_line =
-      get_or_read _ _ _ (within _ _ _ _ c.self.invariant p below) c.index.ensures no_line
+    get_or_read _ _ _ (within _ _ _ _ c.self.invariant p below) c.index.ensures no_line
     in
     let next : c.x.inside.0 < length c.self.inside.next.items = rw (c.x.view_is, line) (first-below-next _ _ _ _ c.self.invariant p below some) in
     let second : c.index-2.result.now ≡ get_or c.self.inside.next.items c.x.inside.0 0 = get_or_read _ _ _ next c.index-2.ensures 0 in
     rw (c.without_first.ensures, second, c.x.view_is, line) (
-      IsKept-without_first _ _ _ _ c.self.invariant p below some _
-        (λ q. c.set.ensures q ∙ ap (λ (l : Line). if q == p then nat_lt 1 l.len else has c.self.inside.priorities.words q) line)
+    IsKept-without_first _ _ _ _ c.self.invariant p below some _
+    (λ q. c.set.ensures q ∙ ap (λ (l : Line). if q == p then nat_lt 1 l.len else has c.self.inside.priorities.words q) line)
     )
 
 pub returns-clause-first : goal.returns-clause-first
@@ -61,11 +61,11 @@ returns-clause-first c =
     let below : p < 256 = marked-below _ _ _ _ c.self.invariant p c.in_ok-priority.ensures.0 in
     let some : 0 < (get_or c.self.inside.lines.items p no_line).len = some-marked _ _ _ _ c.self.invariant p c.in_ok-priority.ensures.0 in
     let line : c.index.result.now ≡ get_or c.self.inside.lines.items p no_line =
-      get_or_read _ _ _ (within _ _ _ _ c.self.invariant p below) c.index.ensures no_line
+    get_or_read _ _ _ (within _ _ _ _ c.self.invariant p below) c.index.ensures no_line
     in
     rw line (
-      sym (ap (λ (queue : List Queued). thread_of (first_of queue)) (queue-without_first _ _ _ _ c.self.invariant p below some c.in_ok-priority.ensures.1))
-      ∙ ap (λ (v : ReadyQueue). thread_of (first_of v.queue)) c.self.view_is
+    sym (ap (λ (queue : List Queued). thread_of (first_of queue)) (queue-without_first _ _ _ _ c.self.invariant p below some c.in_ok-priority.ensures.1))
+    ∙ ap (λ (v : ReadyQueue). thread_of (first_of v.queue)) c.self.view_is
     )
 
 pub returns-clause-rest : goal.returns-clause-rest
@@ -74,13 +74,13 @@ returns-clause-rest c =
     let below : p < 256 = marked-below _ _ _ _ c.self.invariant p c.in_ok-priority.ensures.0 in
     let some : 0 < (get_or c.self.inside.lines.items p no_line).len = some-marked _ _ _ _ c.self.invariant p c.in_ok-priority.ensures.0 in
     let line : c.index.result.now ≡ get_or c.self.inside.lines.items p no_line =
-      get_or_read _ _ _ (within _ _ _ _ c.self.invariant p below) c.index.ensures no_line
+    get_or_read _ _ _ (within _ _ _ _ c.self.invariant p below) c.index.ensures no_line
     in
     let next : c.x.inside.0 < length c.self.inside.next.items = rw (c.x.view_is, line) (first-below-next _ _ _ _ c.self.invariant p below some) in
     let second : c.index-2.result.now ≡ get_or c.self.inside.next.items c.x.inside.0 0 = get_or_read _ _ _ next c.index-2.ensures 0 in
     rw (c.without_first.ensures, second, c.x.view_is, line) (
-      same_value _ _ _ _ (
-        sym (ap rest_of (queue-without_first _ _ _ _ c.self.invariant p below some c.in_ok-priority.ensures.1))
-        ∙ ap (λ (v : ReadyQueue). rest_of v.queue) c.self.view_is
-      ) (length-set c.self.inside.held.items _ _ ∙ ap (λ (v : ReadyQueue). v.room) c.self.view_is)
+    same_value _ _ _ _ (
+    sym (ap rest_of (queue-without_first _ _ _ _ c.self.invariant p below some c.in_ok-priority.ensures.1))
+    ∙ ap (λ (v : ReadyQueue). rest_of v.queue) c.self.view_is
+    ) (length-set c.self.inside.held.items _ _ ∙ ap (λ (v : ReadyQueue). v.room) c.self.view_is)
     )

@@ -1,0 +1,53 @@
+-- What the command line makes of some words.
+use Rattle.std.proofs.Common.{◌≡◌, refl, true, codes, List, [], ◌∷◌, map, Some}
+use Rattle.std.specs.Borrow.{Bor}
+use Rattle.clap.specs.Words.{App, Text, fault_of, first_of, matches_of, takes, is_simple_and_free}
+use Rattle.clap.specs.declared.error.kind.ErrorKind.TheVariants as kind
+use Rattle.clap.proofs.OnLiterals.{clap_on_literals}
+use Rattle.mcs_cli.specs.CommandLine.{command_line, number_of, show_words, text_of}
+
+abbrev at : {X : Type 0} → X → Bor X
+at x = record { ref_ptr = (0, 0); now = x }
+
+abbrev line : App
+line = command_line (at (map at show_words))
+
+no_words : takes line [] ≡ true
+unfolding clap_on_literals
+no_words = refl
+
+defaults : number_of (codes "horizon") (matches_of line []) ≡ 1000
+unfolding clap_on_literals
+defaults = refl
+
+many : (takes line (codes "in.toml" ∷ codes "--horizon=10" ∷ codes "--show" ∷ codes "both" ∷ []) ≡ true)
+    × (number_of (codes "horizon") (matches_of line (codes "in.toml" ∷ codes "--horizon=10" ∷ codes "--show" ∷ codes "both" ∷ [])) ≡ 10)
+    × (text_of (codes "show") (matches_of line (codes "in.toml" ∷ codes "--horizon=10" ∷ codes "--show" ∷ codes "both" ∷ [])) ≡ codes "both")
+    × (first_of (codes "FILE") (matches_of line (codes "in.toml" ∷ codes "--horizon=10" ∷ codes "--show" ∷ codes "both" ∷ [])) ≡ Some (codes "in.toml"))
+unfolding clap_on_literals
+many = (refl, refl, refl, refl)
+
+help : fault_of line (codes "--help" ∷ []) ≡ kind.DisplayHelp ∷ []
+unfolding clap_on_literals
+help = refl
+
+zero_workers : fault_of line (codes "--workers" ∷ codes "0" ∷ []) ≡ kind.ValueValidation ∷ []
+unfolding clap_on_literals
+zero_workers = refl
+
+other_show : fault_of line (codes "--show" ∷ codes "all" ∷ []) ≡ kind.InvalidValue ∷ []
+unfolding clap_on_literals
+other_show = refl
+
+twice : fault_of line (codes "--horizon=1" ∷ codes "--horizon=2" ∷ []) ≡ kind.ArgumentConflict ∷ []
+unfolding clap_on_literals
+twice = refl
+
+-- with a version, too
+with_version : is_simple_and_free (record line { top = record line.top { has_version = true } }) ≡ true
+unfolding clap_on_literals
+with_version = refl
+
+version : fault_of (record line { top = record line.top { has_version = true } }) (codes "--version" ∷ []) ≡ kind.DisplayVersion ∷ []
+unfolding clap_on_literals
+version = refl

@@ -1,0 +1,123 @@
+ghost use Rattle.std.specs.Prelude.{◌≡◌, ◌≤◌, ◌∷◌, [], length, MatchOption, IfOk, IfErr, option_and_then};
+ghost use Rattle.mcs_script.specs.Raw.{Says, parts, raw_view, number_up_to, compute_of, signal_of, wait_of, yield_of, read_as};
+
+use crate::fault::ItemFault;
+
+/// An item of a script as it is written, with names in place of numbers.
+#[derive(Clone, Copy, Debug, PartialEq, Eq)]
+pub enum RawItem<'a> {
+    /// `compute N`: run for `N` ticks, 1 to 2^40.
+    Compute(u64),
+    /// `signal NOTE BADGE`: post the badge, 1 to 2^32 - 1, to the notification.
+    Signal(&'a str, u32),
+    /// `wait NOTE`: wait on the notification.
+    Wait(&'a str),
+    /// `yield`: give the rest of the head refill, or of the time slice, away.
+    Yield,
+}
+
+/// The item that a text says, or the first fault in the order of [`ItemFault`]. The text is split at runs of spaces (U+0020 alone, so
+/// a tab belongs to a part); spaces before the first part and after the last are ignored. It takes no memory.
+pub fn read_item(text: &str) -> Result<RawItem<'_>, ItemFault>
+    ensures { Says raw_view result (read_as text.now) }
+{
+    let Some((word, rest)) = next_part(text) else {
+        return Err(ItemFault::UnknownWord);
+    };
+    match word {
+        "compute" => read_compute(rest),
+        "signal" => read_signal(rest),
+        "wait" => read_wait(rest),
+        "yield" => read_yield(rest),
+        _ => Err(ItemFault::UnknownWord),
+    }
+}
+
+fn read_compute(rest: &str) -> Result<RawItem<'_>, ItemFault>
+    ensures { Says raw_view result (compute_of (parts rest.now)) }
+{
+    let Some((ticks, rest)) = next_part(rest) else {
+        return Err(ItemFault::MissingPart);
+    };
+    if next_part(rest).is_some() {
+        return Err(ItemFault::ExtraPart);
+    }
+    match number_up_to(1 << 40, ticks) {
+        Some(ticks) => Ok(RawItem::Compute(ticks)),
+        None => Err(ItemFault::BadNumber),
+    }
+}
+
+fn read_signal(rest: &str) -> Result<RawItem<'_>, ItemFault>
+    ensures { Says raw_view result (signal_of (parts rest.now)) }
+{
+    let Some((note, rest)) = next_part(rest) else {
+        return Err(ItemFault::MissingPart);
+    };
+    let Some((badge, rest)) = next_part(rest) else {
+        return Err(ItemFault::MissingPart);
+    };
+    if next_part(rest).is_some() {
+        return Err(ItemFault::ExtraPart);
+    }
+    match number_up_to(u32::MAX as u64, badge) {
+        Some(badge) => Ok(RawItem::Signal(note, badge as u32)),
+        None => Err(ItemFault::BadNumber),
+    }
+}
+
+fn read_wait(rest: &str) -> Result<RawItem<'_>, ItemFault>
+    ensures { Says raw_view result (wait_of (parts rest.now)) }
+{
+    let Some((note, rest)) = next_part(rest) else {
+        return Err(ItemFault::MissingPart);
+    };
+    if next_part(rest).is_some() {
+        return Err(ItemFault::ExtraPart);
+    }
+    Ok(RawItem::Wait(note))
+}
+
+fn read_yield(rest: &str) -> Result<RawItem<'_>, ItemFault>
+    ensures { Says raw_view result (yield_of (parts rest.now)) }
+{
+    if next_part(rest).is_some() {
+        return Err(ItemFault::ExtraPart);
+    }
+    Ok(RawItem::Yield)
+}
+
+// The first part of a text and what stands behind it.
+fn next_part(text: &str) -> Option<(&str, &str)>
+    ensures { MatchOption result (parts text.now ≡ []) (λ found. parts text.now ≡ found.0.now ∷ parts found.1.now) }
+{
+    let mut rest = text;
+    while let Some((part, behind)) = rest.split_once(' ') {
+        if !part.is_empty() {
+            return Some((part, behind));
+        }
+        rest = behind;
+    }
+    if rest.is_empty() {
+        None
+    } else {
+        Some((rest, ""))
+    }
+}
+
+// The number, from 1 to `most`, that decimal digits without a leading zero say.
+fn number_up_to(most: u64, digits: &str) -> Option<u64>
+    ensures { result ≡ number_up_to most digits.now }
+{
+    if digits.starts_with('0') || digits.starts_with('+') {
+        return None;
+    }
+    let Ok(number) = digits.parse::<u64>() else {
+        return None;
+    };
+    if 1 <= number && number <= most {
+        Some(number)
+    } else {
+        None
+    }
+}
