@@ -1,4 +1,3 @@
 pub mod Clock
 pub mod Distinct
 pub mod Mails
-pub mod Scripts
