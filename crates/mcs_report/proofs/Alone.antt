@@ -1,11 +1,11 @@
 -- What a row does to the accounts, it does to each account alone.
-use Rattle.std.proofs.Common.{◌≡◌, ℕ, suc, zero, ◌+◌, ◌<◌, ◌≤◌, Bool, true, false, eqb, cond, if◌then◌else◌, ◌==◌, List, [], ◌∷◌, length, get_or, set, map, fold, Option, Some, None, refl, sym, ap, ◌∙◌, arith}
+use Rattle.std.proofs.Common.{◌≡◌, ℕ, suc, zero, ◌+◌, ◌<◌, eqb, cond, if◌then◌else◌, ◌==◌, List, [], ◌∷◌, get_or, set, fold, refl, sym, ap, ◌∙◌, arith}
 use Rattle.std.proofs.lemmas.Bool.Decides.{nat_tests}
 use Rattle.mcs_ticks.specs.declared.row.Row.{Row}
 use Rattle.mcs_ticks.specs.declared.row.What.{What}
 use Rattle.mcs_ticks.specs.declared.row.What.TheVariants as row
 use Rattle.mcs_report.specs.declared.account.Account.{Account}
-use Rattle.mcs_report.specs.Tally.{Tally, no_account, begun, stopped, responded, changed, told, added}
+use Rattle.mcs_report.specs.Tally.{Tally, no_account, begun, stopped, responded, told, added}
 
 -- one row for the account with this number
 abbrev pub alone : ℕ → ℕ → ℕ → What → Account → Account

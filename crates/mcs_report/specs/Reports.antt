@@ -1,5 +1,5 @@
 -- The reports: sums and counts over the rows of a schedule.
-use Rattle.std.specs.Prelude.{ℕ, suc, ◌-◌, ◌^◌, min, max, Bool, false, ◌==◌, ◌&&◌, not, nat_lt, if◌then◌else◌, List, [], ◌∷◌, ◌++◌, length, map, sum, count_by, fold, Some}
+use Rattle.std.specs.Prelude.{ℕ, suc, ◌-◌, ◌^◌, min, max, Bool, false, ◌==◌, ◌&&◌, not, nat_lt, if◌then◌else◌, List, [], ◌∷◌, length, map, sum, count_by, fold, Some}
 use Rattle.std.specs.List.{range_with_len, flat_map}
 use Rattle.mcs_ticks.specs.declared.row.Row.{Row}
 use Rattle.mcs_ticks.specs.declared.row.What.{What}

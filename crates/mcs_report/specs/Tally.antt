@@ -1,16 +1,14 @@
 -- A tally of the rows so far: one step for each row, and the reports at the end.
-use Rattle.std.specs.Prelude.{ℕ, suc, ◌+◌, ◌-◌, min, max, ◌==◌, if◌then◌else◌, List, [], ◌∷◌, map, filter, get_or, set, Option, Some, None}
+use Rattle.std.specs.Prelude.{ℕ, ◌+◌, ◌-◌, min, max, ◌==◌, if◌then◌else◌, List, map, filter, get_or, set, Option, Some, None}
 use Rattle.std.specs.List.{range_with_len}
 use Rattle.mcs_ticks.specs.declared.row.Row.{Row}
 use Rattle.mcs_ticks.specs.declared.row.What.{What}
 use Rattle.mcs_ticks.specs.declared.row.What.TheVariants as row
 use Rattle.mcs_ticks.specs.declared.row.Why.{Why}
 use Rattle.mcs_ticks.specs.declared.row.Why.TheVariants as why
-use Rattle.mcs_core.specs.declared.part.ThreadPart.{ThreadPart}
 use Rattle.mcs_core.specs.System.{System, core_of}
 use Rattle.mcs_report.specs.declared.account.Account.{Account}
 use Rattle.mcs_report.specs.declared.reports.ThreadReport.{ThreadReport}
-use Rattle.mcs_report.specs.declared.reports.CoreReport.{CoreReport}
 use Rattle.mcs_report.specs.declared.reports.Reports.{Reports}
 use Rattle.mcs_report.specs.Reports.{capped, is_late, core_report_of}
 
@@ -57,11 +55,11 @@ abbrev pub waited : ℕ → Account → Account
 waited wait account =
     record account {
       report =
-        record account.report {
-          spent = capped (account.report.spent + 1);
-          throttled = capped (account.report.throttled + wait);
-          longest = max account.report.longest wait;
-        };
+          record account.report {
+            spent = capped (account.report.spent + 1);
+            throttled = capped (account.report.throttled + wait);
+            longest = max account.report.longest wait;
+          };
     }
 
 abbrev pub stopped : ℕ → ℕ → Why → Option ℕ → Account → Account
@@ -73,13 +71,13 @@ abbrev pub responded : ℕ → Account → Account
 responded response account =
     record account {
       report =
-        record account.report {
-          rounds = capped (account.report.rounds + 1);
-          least = if account.report.rounds == 0 then response else min account.report.least response;
-          greatest = max account.report.greatest response;
-          total = capped (account.report.total + response);
-          late = capped (account.report.late + (if is_late account.deadline response then 1 else 0));
-        };
+          record account.report {
+            rounds = capped (account.report.rounds + 1);
+            least = if account.report.rounds == 0 then response else min account.report.least response;
+            greatest = max account.report.greatest response;
+            total = capped (account.report.total + response);
+            late = capped (account.report.late + (if is_late account.deadline response then 1 else 0));
+          };
     }
 
 -- one account changes

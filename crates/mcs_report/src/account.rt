@@ -1,4 +1,4 @@
-ghost use Rattle.std.specs.Prelude.{◌≡◌, ◌≤◌, ◌^◌};
+ghost use Rattle.std.specs.Prelude.{◌≡◌};
 ghost use Rattle.mcs_report.specs.Reports.{is_late};
 ghost use Rattle.mcs_report.specs.Tally.{opened, begun, ended, waited, wait_until, stopped, responded, ticks_since, report_at};
 

@@ -6,7 +6,7 @@ ghost use Rattle.mcs_report.specs.Tally.{opened, told, report_at, ran_by, opened
 
 use crate::account::Account;
 use crate::{CoreReport, Reports, ThreadReport};
-use mcs_core::{SystemParts, System, ThreadPart};
+use mcs_core::{System, SystemParts, ThreadPart};
 use mcs_ticks::{CoreId, NoMemory, Row, Sequence, Tick, What};
 use std::alloc::Global;
 use std::marker::Model;
@@ -70,14 +70,19 @@ fn tell(accounts: &mut [Account], horizon: Tick, moment: Tick, what: What)
             }
         }
         What::Stop {
-            thread, why, until, ..
+            thread,
+            why,
+            until,
+            ..
         } => {
             if thread.0 < accounts.len() {
                 accounts[thread.0].stop(horizon, moment, why, until);
             }
         }
         What::Round {
-            thread, response, ..
+            thread,
+            response,
+            ..
         } => {
             if thread.0 < accounts.len() {
                 accounts[thread.0].respond(response);
@@ -87,7 +92,11 @@ fn tell(accounts: &mut [Account], horizon: Tick, moment: Tick, what: What)
     }
 }
 
-fn all_thread_reports(mut reports: Vec<ThreadReport>, accounts: &[Account], horizon: Tick) -> Vec<ThreadReport>
+fn all_thread_reports(
+    mut reports: Vec<ThreadReport>,
+    accounts: &[Account],
+    horizon: Tick,
+) -> Vec<ThreadReport>
     requires empty { reports.items ≡ [] }
     requires room { length accounts.now ≤ vec_capacity reports }
     ensures { result.items ≡ map (report_at horizon) accounts.now }
@@ -120,7 +129,12 @@ fn core_report(accounts: &[Account], horizon: Tick, core: usize) -> CoreReport
     }
 }
 
-fn all_core_reports(mut reports: Vec<CoreReport>, accounts: &[Account], horizon: Tick, cores: usize) -> Vec<CoreReport>
+fn all_core_reports(
+    mut reports: Vec<CoreReport>,
+    accounts: &[Account],
+    horizon: Tick,
+    cores: usize,
+) -> Vec<CoreReport>
     requires empty { reports.items ≡ [] }
     requires room { cores ≤ vec_capacity reports }
     ensures { result.items ≡ map (λ c. core_report_of horizon (ran_by horizon accounts.now c)) (range_with_len 0 cores) }
@@ -153,7 +167,12 @@ impl Tally {
         ensures { self.new ≡ added self.old row.now }
     {
         self.last = row.moment;
-        tell(self.accounts.as_mut_slice(), self.horizon, row.moment, row.what);
+        tell(
+            self.accounts.as_mut_slice(),
+            self.horizon,
+            row.moment,
+            row.what,
+        );
     }
 
     /// The reports of the rows that were added: runs that were not stopped end at the horizon.
