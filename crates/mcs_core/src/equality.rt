@@ -6,7 +6,6 @@ ghost use Rattle.mcs_core.specs.Equality.{same_thread, same_limits, same_system}
 ghost use Rattle.mcs_core.specs.EqualityLaws.{same_thread_equivalence, same_system_equivalence};
 
 use crate::{Name, SystemParts, ThreadPart};
-use mcs_script::Script;
 
 impl PartialEq for Name {
     ghost eq = { pointwise nat_eq };
@@ -26,20 +25,6 @@ impl Eq for Name {
     ghost laws = { nat_list_eq_equiv };
 }
 
-fn same_script(one: &Script, other: &Script) -> bool
-    ensures { IsTrue result ↔ one.now ≡ other.now }
-{
-    if one.len() != other.len() {
-        return false;
-    }
-    for i in 0..one.len() {
-        if one.get(i) != other.get(i) {
-            return false;
-        }
-    }
-    true
-}
-
 impl PartialEq for ThreadPart {
     ghost eq = { same_thread };
 
@@ -57,7 +42,7 @@ impl PartialEq for ThreadPart {
             && self.start == other.start
             && self.rounds == other.rounds
             && self.deadline == other.deadline
-            && same_script(&self.script, &other.script)
+            && self.script == other.script
     }
 }
 
