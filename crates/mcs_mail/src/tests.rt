@@ -51,19 +51,19 @@ fn mail_is_taken_in_order_of_delivery(rt: HostRuntime) -> Result<(), Fail> {
 
 #[test]
 fn only_what_is_due_is_taken(rt: HostRuntime) -> Result<(), Fail> {
-    let at = |ticks| Tick::new(ticks).ok_or("a tick");
+    let [four, five, six, seven] = [4, 5, 6, 7].map(Tick::new);
     let early = mail(5, 3, 1, 1).ok_or("mail")?;
     let late = mail(7, 3, 1, 2).ok_or("mail")?;
     let mut mailbox = Mailbox::new(rt.alloc());
     mailbox.reserve(2)?;
     assert_eq!(rt; mailbox.len(), 0);
-    assert_eq!(rt; mailbox.put(late), Ok(()));
-    assert_eq!(rt; mailbox.put(early), Ok(()));
-    assert_eq!(rt; mailbox.next(), Some(at(5)?));
-    assert_eq!(rt; mailbox.take_due(at(4)?), None);
-    assert_eq!(rt; mailbox.take_due(at(6)?), Some(early));
-    assert_eq!(rt; mailbox.take_due(at(6)?), None);
+    assert!(rt; mailbox.put(late).is_ok());
+    assert!(rt; mailbox.put(early).is_ok());
+    assert_eq!(rt; mailbox.next(), five);
+    assert_eq!(rt; mailbox.take_due(four.ok_or("a tick")?), None);
+    assert_eq!(rt; mailbox.take_due(six.ok_or("a tick")?), Some(early));
+    assert_eq!(rt; mailbox.take_due(six.ok_or("a tick")?), None);
     assert_eq!(rt; mailbox.len(), 1);
-    assert_eq!(rt; mailbox.take_due(at(7)?), Some(late));
+    assert_eq!(rt; mailbox.take_due(seven.ok_or("a tick")?), Some(late));
     Ok(())
 }
