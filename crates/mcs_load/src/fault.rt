@@ -1,8 +1,8 @@
 ghost use Rattle.std.specs.Prelude.{◌≡◌};
 
-use crate::raw::ItemFault;
 use crate::spot::{Key, Section, Spot};
 use mcs_control::ControlFault;
+use mcs_script::ItemFault;
 use std::alloc::{AllocError, AllocFailed};
 use std::fmt;
 use thiserror::Error;

@@ -12,9 +12,10 @@ mod names;
 mod note;
 mod numbers;
 mod order;
-mod raw;
 mod script;
 mod spot;
+#[cfg(test)]
+mod tests;
 mod thread;
 mod words;
 
