@@ -1,0 +1,4 @@
+pub mod Contexts
+pub mod Helds
+mod Lists
+mod Worked

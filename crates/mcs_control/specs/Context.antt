@@ -3,6 +3,7 @@ use Rattle.std.specs.Prelude.{ℕ, ◌+◌, Bool, true, List, [], Option, Some, 
 use Rattle.mcs_control.specs.declared.config.Config.{Config}
 use Rattle.mcs_control.specs.declared.config.Kind.{Kind}
 use Rattle.mcs_control.specs.declared.config.Kind.TheVariants.{Sporadic, RoundRobin}
+use Rattle.mcs_control.specs.declared.view.ContextView.{ContextView}
 use Rattle.mcs_refills.specs.declared.refill.Refill.{Refill}
 use Rattle.mcs_refills.specs.Server as server
 use Rattle.mcs_refills.specs.Slice.{slice_charged, slice_reconfigured}
@@ -17,11 +18,17 @@ pub record Context : Type 0 where
   pub config : Config
   pub budget : Budget
 
+-- a context, and for how many refills there is room
+pub record WithRoom : Type 0 where
+  pub context : Context
+  pub room : ℕ
+
 -- at most this many refills
 abbrev pub max_refills_of : Config → ℕ
 max_refills_of config = 2 + config.extra
 
-abbrev first_budget : Kind → ℕ → ℕ → Budget
+-- the whole budget, by kind
+abbrev pub first_budget : Kind → ℕ → ℕ → Budget
 first_budget Sporadic at budget = Dates (server.dates_from at budget)
 first_budget RoundRobin at budget = Slice budget
 
@@ -29,7 +36,7 @@ first_budget RoundRobin at budget = Slice budget
 abbrev pub new_context : Config → ℕ → Context
 new_context config at = record { config = config; budget = first_budget (kind_of config) at config.budget }
 
-abbrev budget_charged : ℕ → ℕ → Config → Budget → Budget
+abbrev pub budget_charged : ℕ → ℕ → Config → Budget → Budget
 budget_charged k min_budget config (Dates dates) = Dates (server.with_enough min_budget (server.charged k config.period (max_refills_of config) dates))
 budget_charged k min_budget config (Slice left) = Slice (slice_charged k config.budget left)
 
@@ -37,7 +44,7 @@ budget_charged k min_budget config (Slice left) = Slice (slice_charged k config.
 abbrev pub context_charged : ℕ → ℕ → Context → Context
 context_charged k min_budget context = record { config = context.config; budget = budget_charged k min_budget context.config context.budget }
 
-abbrev budget_unblocked : ℕ → Budget → Budget
+abbrev pub budget_unblocked : ℕ → Budget → Budget
 budget_unblocked t (Dates dates) = Dates (server.unblocked t dates)
 budget_unblocked t (Slice left) = Slice left
 
@@ -45,7 +52,7 @@ budget_unblocked t (Slice left) = Slice left
 abbrev pub context_unblocked : ℕ → Context → Context
 context_unblocked t context = record { config = context.config; budget = budget_unblocked t context.budget }
 
-abbrev budget_ordered : ℕ → Config → Budget → Budget
+abbrev pub budget_ordered : ℕ → Config → Budget → Budget
 budget_ordered t config (Dates dates) = Dates (server.reconfigured t config.budget config.period dates)
 budget_ordered t config (Slice left) = Slice (slice_reconfigured config.budget left)
 
@@ -53,7 +60,7 @@ budget_ordered t config (Slice left) = Slice (slice_reconfigured config.budget l
 abbrev pub context_ordered : ℕ → Config → Context → Context
 context_ordered t config context = record { config = config; budget = budget_ordered t config context.budget }
 
-abbrev budget_ready : ℕ → Budget → Bool
+abbrev pub budget_ready : ℕ → Budget → Bool
 budget_ready t (Dates dates) = server.is_ready t dates
 budget_ready t (Slice left) = true
 
@@ -61,7 +68,7 @@ budget_ready t (Slice left) = true
 abbrev pub context_ready : ℕ → Context → Bool
 context_ready t context = budget_ready t context.budget
 
-abbrev amount_of : Budget → ℕ
+abbrev pub amount_of : Budget → ℕ
 amount_of (Dates dates) = server.head_amount dates
 amount_of (Slice left) = left
 
@@ -69,7 +76,7 @@ amount_of (Slice left) = left
 abbrev pub head_amount : Context → ℕ
 head_amount context = amount_of context.budget
 
-abbrev moment_of : Budget → ℕ
+abbrev pub moment_of : Budget → ℕ
 moment_of (Dates dates) = server.first_date dates
 moment_of (Slice left) = 0
 
@@ -77,20 +84,16 @@ moment_of (Slice left) = 0
 abbrev pub head_moment : Context → ℕ
 head_moment context = moment_of context.budget
 
--- what a report of a context shows: its refills or what is left of its slice, and the ticks in use
-pub record View : Type 0 where
-  pub context : ℕ
-  pub refills : List Refill
-  pub left : Option ℕ
-  pub using : ℕ
-
+-- the refills of a sporadic context, and none for round robin
 abbrev pub refills_shown : Budget → List Refill
 refills_shown (Dates dates) = server.refills_of dates
 refills_shown (Slice left) = []
 
+-- what is left of a round robin context's slice
 abbrev pub left_shown : Budget → Option ℕ
 left_shown (Dates dates) = None
 left_shown (Slice left) = Some left
 
-abbrev pub view_of : ℕ → ℕ → Context → View
+-- what there is to see of a context: its number, its refills or what is left of its slice, and the ticks in use
+abbrev pub view_of : ℕ → ℕ → Context → ContextView
 view_of number using context = record { context = number; refills = refills_shown context.budget; left = left_shown context.budget; using = using }

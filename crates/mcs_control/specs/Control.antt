@@ -1,5 +1,5 @@
 -- What SchedControl accepts.
-use Rattle.std.specs.Prelude.{ℕ, ◌^◌, ◌==◌, nat_lt, if◌then◌else◌, Result, Ok, Err}
+use Rattle.std.specs.Prelude.{◌≡◌, ℕ, ◌^◌, ◌≤◌, ◌==◌, nat_lt, if◌then◌else◌, Result, Ok, Err}
 use Rattle.mcs_control.specs.declared.config.Config.{Config}
 use Rattle.mcs_control.specs.declared.config.Kind.{Kind}
 use Rattle.mcs_control.specs.declared.config.Kind.TheVariants.{Sporadic, RoundRobin}
@@ -19,3 +19,13 @@ checked min_budget config =
     else if nat_lt (2 ^ 40) config.period then Err PeriodTooLong
     else if nat_lt 64 config.extra then Err TooManyRefills
     else Ok (kind_of config)
+
+-- a configuration that passes the check, whatever the least budget was
+pub record IsConfig (config : Config) : Type 0 where
+  pub some : 1 ≤ config.budget
+  pub within : config.budget ≤ config.period
+  pub short : config.period ≤ 2 ^ 40
+  pub few : config.extra ≤ 64
+
+abbrev pub PassedAreConfigs : Type 0
+PassedAreConfigs = (min_budget : ℕ) (config : Config) (kind : Kind) → checked min_budget config ≡ Ok kind → IsConfig config × (kind ≡ kind_of config)

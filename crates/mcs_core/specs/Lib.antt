@@ -5,4 +5,6 @@ pub mod Clock
 pub mod Run
 pub mod Quiet
 pub mod WellFormed
+pub mod Equality
+pub mod EqualityLaws
 pub mod Views

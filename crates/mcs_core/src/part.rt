@@ -4,7 +4,7 @@ use mcs_script::Script;
 use mcs_ticks::{ContextId, CoreId, Sequence, Tick};
 
 /// A scheduling context of a system: a budget on a core.
-#[derive(Debug, Drop)]
+#[derive(Debug, PartialEq, Eq, Drop)]
 pub struct ContextPart {
     pub name: Name,
     pub core: CoreId,
@@ -12,7 +12,7 @@ pub struct ContextPart {
 }
 
 /// A notification of a system, at home on a core.
-#[derive(Debug, Drop)]
+#[derive(Debug, PartialEq, Eq, Drop)]
 pub struct NotePart {
     pub name: Name,
     pub core: CoreId,

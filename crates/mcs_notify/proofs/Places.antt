@@ -1,10 +1,11 @@
 -- There is a place for each thread that waits.
-use Rattle.std.proofs.Common.{◌≡◌, ◌≢◌, ℕ, zero, suc, ◌+◌, ◌<◌, ◌≤◌, Bool, true, false, cond, ◌==◌, List, [], ◌∷◌, ◌++◌, length, refl, sym, ap, arith}
-use Rattle.std.specs.List.{remove, All}
+use Rattle.std.proofs.Common.{◌≡◌, ◌≢◌, ℕ, zero, suc, ◌+◌, ◌<◌, ◌≤◌, Bool, true, false, ◌||◌, cond, ◌==◌, List, [], ◌∷◌, ◌++◌, length, get_or, refl, sym, ap, arith}
+use Rattle.std.specs.List.{remove, list_any}
+use Rattle.std.proofs.lemmas.Bool.{false≢true}
 use Rattle.std.proofs.lemmas.Bool.Decides.{nat_tests}
-use Rattle.std.proofs.lemmas.List.Elements.{All-head, All-tail}
 use Rattle.mcs_ticks.specs.declared.queue.Queued.{Queued}
 use Rattle.mcs_notify.specs.declared.notes.Waiting.{Waiting}
+use Rattle.mcs_notify.specs.Note.{Note}
 use Rattle.mcs_notify.specs.Kept.{waiters_of, IsOff, AreWaiting}
 
 off-push : (thread : ℕ) (ws : List Waiting) (w : Waiting) → IsOff thread ws → w.thread.thread ≢ thread → IsOff thread (ws ++ w ∷ [])
@@ -94,7 +95,8 @@ length-waiting notes (suc threads) ws h =
     omega (arith, rest, one)
 
 -- a thread that waits on no notification stands nowhere in the list
-pub off_from : (thread notes threads : ℕ) (ws : List Waiting) → ((note : ℕ) → note < notes → All (λ (q : Queued). q.thread ≢ thread) (waiters_of note ws)) → AreWaiting notes threads ws → IsOff thread ws
+pub off_from : (thread notes threads : ℕ) (ws : List Waiting) → ((note : ℕ) → note < notes → list_any (λ (q : Queued). q.thread == thread) (waiters_of note ws) ≡ false) →
+    AreWaiting notes threads ws → IsOff thread ws
 off_from thread notes threads [] f h = tt
 off_from thread notes threads (x ∷ ws) f h =
     (head (x.note == x.note) (alike x.note) (f x.note h.0), off_from thread notes threads ws (λ note p. tail note (x.note == note) (f note p)) h.3)
@@ -102,10 +104,33 @@ off_from thread notes threads (x ∷ ws) f h =
     alike : (n : ℕ) → (n == n) ≡ true
     alike n = grind (arith, nat_tests)
 
-    head : (b : Bool) → b ≡ true → All (λ (q : Queued). q.thread ≢ thread) (cond b (x.thread ∷ waiters_of x.note ws) (waiters_of x.note ws)) → x.thread.thread ≢ thread
-    head true e a = All-head (λ (q : Queued). q.thread ≢ thread) x.thread (waiters_of x.note ws) a
+    neither : (a b : ℕ) (t : Bool) → ((a == b) || t) ≡ false → (a ≢ b) × (t ≡ false)
+    neither a b true e = absurd (ends (a == b) e)
+      where
+        ends : (s : Bool) → (s || true) ≡ false → ⊥
+        ends true e = false≢true (sym e)
+        ends false e = false≢true (sym e)
+    neither a b false e = grind (arith, nat_tests)
+
+    head : (b : Bool) → b ≡ true → list_any (λ (q : Queued). q.thread == thread) (cond b (x.thread ∷ waiters_of x.note ws) (waiters_of x.note ws)) ≡ false → x.thread.thread ≢ thread
+    head true e a = (neither x.thread.thread thread (list_any (λ (q : Queued). q.thread == thread) (waiters_of x.note ws)) a).0
     head false e a = cc
 
-    tail : (note : ℕ) (b : Bool) → All (λ (q : Queued). q.thread ≢ thread) (cond b (x.thread ∷ waiters_of note ws) (waiters_of note ws)) → All (λ (q : Queued). q.thread ≢ thread) (waiters_of note ws)
-    tail note true a = All-tail (λ (q : Queued). q.thread ≢ thread) x.thread (waiters_of note ws) a
+    tail : (note : ℕ) (b : Bool) → list_any (λ (q : Queued). q.thread == thread) (cond b (x.thread ∷ waiters_of note ws) (waiters_of note ws)) ≡ false →
+        list_any (λ (q : Queued). q.thread == thread) (waiters_of note ws) ≡ false
+    tail note true a = (neither x.thread.thread thread (list_any (λ (q : Queued). q.thread == thread) (waiters_of note ws)) a).1
     tail note false a = a
+
+-- where no notification passes a test, none of them does
+pub none_at : (p : Note → Bool) (notes : List Note) (i : ℕ) (d : Note) → i < length notes → list_any p notes ≡ false → p (get_or notes i d) ≡ false
+none_at p [] i d q e = absurd (omega arith)
+none_at p (x ∷ xs) zero d q e = first (p x) (list_any p xs) e
+  where
+    first : (s t : Bool) → (s || t) ≡ false → s ≡ false
+    first true t e = cc
+    first false t e = refl
+none_at p (x ∷ xs) (suc i) d q e = none_at p xs i d (omega arith) (second (p x) (list_any p xs) e)
+  where
+    second : (s t : Bool) → (s || t) ≡ false → t ≡ false
+    second true t e = cc
+    second false t e = e

@@ -1,18 +1,17 @@
 -- What a post and a wait do to what is kept, and how it is seen.
-use Rattle.std.proofs.Common.{◌≡◌, ◌≢◌, ℕ, ◌+◌, ◌-◌, ◌<◌, ◌≤◌, ◌==◌, true, false, List, [], ◌∷◌, ◌++◌, length, length-set, length-append, get_or, set, refl, sym, ap, subst, ◌∙◌, arith, bit_or}
-use Rattle.std.specs.List.{All}
+use Rattle.std.proofs.Common.{◌≡◌, ◌≢◌, ℕ, ◌+◌, ◌-◌, ◌<◌, ◌≤◌, ◌==◌, true, false, List, [], ◌∷◌, ◌++◌, length, length-set, length-append, get_or, set, refl, sym, ap, ◌∙◌, arith, bit_or}
+use Rattle.std.specs.List.{list_any}
 use Rattle.std.proofs.lemmas.Bool.Decides.{nat_tests}
 use Rattle.std.proofs.lemmas.List.{get_or_default, nil_from_length}
-use Rattle.std.proofs.lemmas.List.Elements.{All-get_or}
 use Rattle.mcs_ticks.specs.declared.queue.Queued.{Queued}
 use Rattle.mcs_ticks.specs.Queue.{without}
 use Rattle.mcs_notify.specs.declared.notes.Kept.{Kept}
 use Rattle.mcs_notify.specs.declared.notes.Waiting.{Waiting}
 use Rattle.mcs_notify.specs.declared.posted.Posted.TheVariants.{Woke, Held}
 use Rattle.mcs_notify.specs.declared.posted.Waited.TheVariants.{Got, Blocks}
-use Rattle.mcs_notify.specs.Note.{Note, note_of, quiet_note, Notifications, with_note, WaitsNowhere, posted, after_post, waited, after_wait}
+use Rattle.mcs_notify.specs.Note.{Note, note_of, quiet_note, Notifications, with_note, is_waiting, posted, after_post, waited, after_wait}
 use Rattle.mcs_notify.specs.Kept.{waiters_of, notes_from, seen_as, IsOff, AreWaiting, IsKept, BestLeaves}
-use Rattle.mcs_notify.proofs.Places.{waiting-push, waiting-remove, length-waiting, off_from}
+use Rattle.mcs_notify.proofs.Places.{waiting-push, waiting-remove, length-waiting, off_from, none_at}
 use Rattle.mcs_notify.proofs.Views.{length-notes_from, notes_from-at, notes_from-set, counted-at, counted-set, length-waiters_of}
 use Rattle.mcs_notify.proofs.Waiters.{waiters_of-push, waiters_of-push_other, waiters_of-remove, waiters_of-remove_other, length-waiters_of-remove}
 
@@ -87,22 +86,22 @@ module _ (kept : List Kept) (waiting : List Waiting) (threads room : ℕ) (all :
       }
 
   -- a thread joins the waiters
-  module _ (q : Queued) (p : q.thread < all.threads) (f : WaitsNowhere q.thread all.notes) where
+  module _ (q : Queued) (p : q.thread < all.threads) (f : is_waiting q.thread all.notes ≡ false) where
     joins : Waiting
     joins = record { note = note; thread = q }
 
     off : IsOff q.thread waiting
     off = off_from q.thread (length kept) threads waiting each r.is_kept.each
       where
-        each : (j : ℕ) → j < length kept → All (λ (x : Queued). x.thread ≢ q.thread) (waiters_of j waiting)
+        each : (j : ℕ) → j < length kept → list_any (λ (x : Queued). x.thread == q.thread) (waiters_of j waiting) ≡ false
         each j h =
             let none : Kept = record { word = 0; waiters = 0 } in
             let same = ap (λ (n : Notifications). length n.notes) r.view in
-            let here = All-get_or (λ (n : Note). All (λ (x : Queued). x.thread ≢ q.thread) n.waiters) all.notes j quiet_note (omega (arith, h, same, length-notes_from kept 0 waiting)) f in
+            let here = none_at (λ (n : Note). list_any (λ (x : Queued). x.thread == q.thread) n.waiters) all.notes j quiet_note (omega (arith, h, same, length-notes_from kept 0 waiting)) f in
             let view =
             ap (λ (n : Notifications). note_of n.notes j) (sym r.view)
             ∙ notes_from-at kept 0 j j waiting (get_or kept j none) h (get_or_default kept j none (get_or kept j none) h) (omega arith) in
-            subst (λ (n : Note). All (λ (x : Queued). x.thread ≢ q.thread) n.waiters) view here
+            sym (ap (λ (n : Note). list_any (λ (x : Queued). x.thread == q.thread) n.waiters) view) ∙ here
 
     in_range : (note < length kept) × (q.thread < threads)
     in_range =

@@ -1,5 +1,6 @@
 -- A notification: a word, and the threads that wait on it in the order in which they began to wait.
-use Rattle.std.specs.Prelude.{◌≢◌, ℕ, ◌==◌, bit_or, if◌then◌else◌, List, [], ◌∷◌, ◌++◌, get_or, set, All, Option, Some, None}
+use Rattle.std.specs.Prelude.{ℕ, Bool, ◌==◌, bit_or, if◌then◌else◌, List, [], ◌∷◌, ◌++◌, get_or, set, Option, Some, None}
+use Rattle.std.specs.List.{list_any}
 use Rattle.mcs_ticks.specs.Queue.{first_of_greatest, without}
 use Rattle.mcs_ticks.specs.declared.queue.Queued.{Queued}
 use Rattle.mcs_notify.specs.declared.posted.Posted.{Posted}
@@ -47,6 +48,6 @@ note_of notes note = get_or notes note quiet_note
 abbrev pub with_note : ℕ → Note → Notifications → Notifications
 with_note note state all = record { notes = set all.notes note state; threads = all.threads }
 
--- the thread waits on none of these
-abbrev pub WaitsNowhere : ℕ → List Note → Type 0
-WaitsNowhere thread notes = All (λ note. All (λ waiter. waiter.thread ≢ thread) note.waiters) notes
+-- whether the thread waits on one of these
+abbrev pub is_waiting : ℕ → List Note → Bool
+is_waiting thread notes = list_any (λ note. list_any (λ waiter. waiter.thread == thread) note.waiters) notes

@@ -1,6 +1,6 @@
-ghost use Rattle.std.specs.Prelude.{◌≡◌, ◌≢◌, ◌<◌, ◌≤◌, length, replicate, set, IfOk, MatchOption, vec_capacity, []};
+ghost use Rattle.std.specs.Prelude.{◌≡◌, ◌≢◌, ◌<◌, ◌≤◌, false, length, replicate, set, IfOk, MatchOption, vec_capacity, []};
 ghost use Rattle.mcs_ticks.specs.Queue.{first_of_greatest};
-ghost use Rattle.mcs_notify.specs.Note.{Notifications, quiet_note, note_of, with_note, WaitsNowhere, posted, after_post, waited, after_wait};
+ghost use Rattle.mcs_notify.specs.Note.{Notifications, quiet_note, note_of, with_note, is_waiting, posted, after_post, waited, after_wait};
 ghost use Rattle.mcs_notify.specs.Kept.{waiters_of, IsBest, BestLeaves, better};
 
 use crate::posted::{Posted, Waited};
@@ -82,7 +82,7 @@ impl Notes {
     pub fn wait(&mut self, note: NoteId, thread: ThreadId, priority: u8) -> Waited
         requires note { note < length self.old.notes }
         requires thread { thread < self.old.threads }
-        requires free { WaitsNowhere thread self.old.notes }
+        requires free { is_waiting thread self.old.notes ≡ false }
         ensures waited { result ≡ waited (note_of self.old.notes note) }
         ensures note { self.new ≡ with_note note (after_wait result (record { thread = thread; priority = priority }) (note_of self.old.notes note)) self.old }
     {

@@ -1,0 +1,89 @@
+-- The definitions at worked values, each way of each choice once.
+use Rattle.std.specs.Prelude.{◌≡◌, ℕ, Bool, true, false, List, [], ◌∷◌, Some, None, Ok, Err, refl}
+use Rattle.mcs_refills.specs.Spacing.Step.{Charge, Unblock}
+use Rattle.mcs_control.specs.declared.config.Config.{Config}
+use Rattle.mcs_control.specs.declared.config.Kind.TheVariants.{Sporadic, RoundRobin}
+use Rattle.mcs_control.specs.declared.config.ControlFault.TheVariants.{ZeroBudget, BudgetTooSmall, BudgetOverPeriod, PeriodTooLong, TooManyRefills}
+use Rattle.mcs_control.specs.Control.{checked}
+use Rattle.mcs_control.specs.Context.{Context, new_context, context_charged, context_unblocked, context_ordered, context_ready, head_amount, head_moment, view_of}
+use Rattle.mcs_control.specs.Kept.{consumed_from}
+
+abbrev config : ℕ → ℕ → ℕ → Config
+config budget period extra = record { budget = budget; period = period; extra = extra }
+
+-- a sporadic context and a round robin one
+abbrev sporadic : Context
+sporadic = new_context (config 10 100 0) 0
+
+abbrev round_robin : Context
+round_robin = new_context (config 3 3 0) 0
+
+-- the check, fault by fault: the first stands before all others
+zero_budget_is_first : checked 4 (config 0 0 65) ≡ Err ZeroBudget
+zero_budget_is_first = refl
+
+budget_too_small : checked 4 (config 3 2 65) ≡ Err BudgetTooSmall
+budget_too_small = refl
+
+budget_over_period : checked 4 (config 2000000000000 1999999999999 65) ≡ Err BudgetOverPeriod
+budget_over_period = refl
+
+period_too_long : checked 4 (config 4 1099511627777 65) ≡ Err PeriodTooLong
+period_too_long = refl
+
+too_many_refills : checked 4 (config 4 1099511627776 65) ≡ Err TooManyRefills
+too_many_refills = refl
+
+greatest_configuration_passes : checked 4 (config 4 1099511627776 64) ≡ Ok Sporadic
+greatest_configuration_passes = refl
+
+budget_that_is_the_period_is_round_robin : checked 3 (config 3 3 0) ≡ Ok RoundRobin
+budget_that_is_the_period_is_round_robin = refl
+
+-- a charge
+small_head_joins : view_of 0 0 (context_charged 7 4 sporadic) ≡ record { context = 0; refills = record { begins = 97; amount = 10 } ∷ []; left = None; using = 0 }
+small_head_joins = refl
+
+slice_is_charged : view_of 1 2 (context_charged 1 1 round_robin) ≡ record { context = 1; refills = []; left = Some 2; using = 2 }
+slice_is_charged = refl
+
+slice_is_full_again : head_amount (context_charged 3 1 round_robin) ≡ 3
+slice_is_full_again = refl
+
+-- a wake
+wake_moves_the_head : head_moment (context_unblocked 50 (context_charged 3 1 sporadic)) ≡ 50
+wake_moves_the_head = refl
+
+wake_leaves_a_slice : context_unblocked 50 round_robin ≡ round_robin
+wake_leaves_a_slice = refl
+
+-- an order
+reconfigure_after_unblock : view_of 0 0 (context_ordered 60 (config 12 40 0) (context_unblocked 50 (context_charged 3 1 sporadic)))
+    ≡ record { context = 0; refills = record { begins = 60; amount = 7 } ∷ record { begins = 95; amount = 5 } ∷ []; left = None; using = 0 }
+reconfigure_after_unblock = refl
+
+order_shortens_a_slice : head_amount (context_ordered 1 (config 2 2 0) round_robin) ≡ 2
+order_shortens_a_slice = refl
+
+greater_budget_shows_at_the_next_slice : head_amount (context_ordered 1 (config 5 5 0) round_robin) ≡ 3
+greater_budget_shows_at_the_next_slice = refl
+
+-- readiness
+ready_at_the_head : context_ready 100 (context_charged 10 1 sporadic) ≡ true
+ready_at_the_head = refl
+
+not_ready_before_the_head : context_ready 99 (context_charged 10 1 sporadic) ≡ false
+not_ready_before_the_head = refl
+
+slice_is_always_ready : context_ready 0 (context_charged 3 1 round_robin) ≡ true
+slice_is_always_ready = refl
+
+slice_has_the_moment_0 : head_moment round_robin ≡ 0
+slice_has_the_moment_0 = refl
+
+-- the dates in use
+dates_in_use : consumed_from (Charge 3 1 ∷ Unblock 50 ∷ Charge 2 1 ∷ []) sporadic ≡ 0 ∷ 1 ∷ 2 ∷ 50 ∷ 51 ∷ []
+dates_in_use = refl
+
+slice_has_no_dates : consumed_from (Charge 3 1 ∷ Unblock 50 ∷ Charge 2 1 ∷ []) round_robin ≡ []
+slice_has_no_dates = refl

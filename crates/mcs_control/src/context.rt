@@ -1,0 +1,187 @@
+ghost use Rattle.std.specs.Prelude.{◌≡◌, ◌+◌, ◌^◌, ◌≤◌, IfOk};
+ghost use Rattle.mcs_control.specs.Control.{IsConfig, kind_of};
+ghost use Rattle.mcs_control.specs.Context.{new_context, context_charged, context_unblocked, context_ordered, context_ready, head_amount, head_moment, max_refills_of, view_of};
+ghost use Rattle.mcs_control.specs.Kept.{IsContext};
+ghost use Rattle.mcs_refills.specs.Server.{refills_of};
+
+use crate::{Config, ContextView};
+use mcs_refills::{Refill, Refills, Slice};
+use mcs_ticks::{ContextId, NoMemory, Sequence, Tick};
+use std::alloc::Global;
+use std::marker::Model;
+
+/// What a context has to spend, by kind.
+#[derive(Drop)]
+enum Budget {
+    Sporadic(Refills),
+    RoundRobin(Slice),
+}
+
+/// A scheduling context: the configuration in force, and its refills or its time slice. Contracts see the context, by its budget
+/// dates or by what is left of its slice, and beside it for how many refills there is room. Only [`Context::new`] and
+/// [`Context::view`] take memory.
+#[derive(Drop)]
+pub struct Context {
+    config: Config,
+    budget: Budget,
+    room: usize,
+}
+
+impl Model for Context {
+    ghost use Rattle.mcs_control.specs.Context.{WithRoom};
+
+    ghost Value = { WithRoom };
+
+    ghost use Rattle.mcs_control.specs.Held.{held, IsHeld};
+
+    ghost view = { λ a. record { context = held a.config a.budget; room = a.room } };
+
+    ghost invariant = { λ a. IsHeld a.config a.budget a.room };
+}
+
+impl Context {
+    /// A context that may be used from `at` on. There is room for `room` refills, 2 to 66; a round robin context takes no memory.
+    /// `NoMemory` is answered where the room is refused.
+    pub fn new(alloc: Global, config: Config, at: Tick, room: usize) -> Result<Self, NoMemory>
+        requires checked { IsConfig config }
+        requires early { at ≤ 2 ^ 40 }
+        requires fits { max_refills_of config ≤ room }
+        requires few { room ≤ 66 }
+        ensures context { IfOk result (λ made. made.context ≡ new_context config at) }
+        ensures room { IfOk result (λ made. made.room ≡ room) }
+    {
+        let budget = if config.budget == config.period {
+            Budget::RoundRobin(Slice::new(config.budget))
+        } else {
+            let max_refills = 2 + config.extra as usize;
+            Budget::Sporadic(Refills::new(
+                alloc,
+                at,
+                config.budget,
+                config.period,
+                max_refills,
+                room,
+            )?)
+        };
+        Ok(Context {
+            config,
+            budget,
+            room,
+        })
+    }
+
+    /// Charges ticks of the head, by kind: the first ticks of the refills return a period later, and then the head has at least
+    /// `min_budget`; a slice that is used up is full again.
+    pub fn charge(&mut self, ticks: u64, min_budget: u64)
+        requires some { 1 ≤ ticks }
+        requires in_head { ticks ≤ head_amount self.old.context }
+        requires early { head_moment self.old.context ≤ 2 ^ 40 }
+        ensures context { self.new.context ≡ context_charged ticks min_budget self.old.context }
+        ensures room { self.new.room ≡ self.old.room }
+    {
+        match &mut self.budget {
+            Budget::Sporadic(refills) => refills.charge(ticks, min_budget),
+            Budget::RoundRobin(slice) => slice.charge(ticks),
+        }
+    }
+
+    /// A notification wakes the context's thread at `t`: the refills are unblocked. A slice does not change.
+    pub fn wake(&mut self, t: Tick)
+        requires { t ≤ 2 ^ 40 }
+        ensures context { self.new.context ≡ context_unblocked t self.old.context }
+        ensures room { self.new.room ≡ self.old.room }
+    {
+        match &mut self.budget {
+            Budget::Sporadic(refills) => refills.unblock(t),
+            Budget::RoundRobin(_) => {}
+        }
+    }
+
+    /// A SchedControl order at `t`: this configuration, of the same kind, is in force from now on.
+    pub fn order(&mut self, t: Tick, config: Config)
+        requires early { t ≤ 2 ^ 40 }
+        requires checked { IsConfig config }
+        requires same_kind { kind_of config ≡ kind_of self.old.context.config }
+        requires fits { max_refills_of config ≤ self.old.room }
+        ensures context { self.new.context ≡ context_ordered t config self.old.context }
+        ensures room { self.new.room ≡ self.old.room }
+    {
+        match &mut self.budget {
+            Budget::Sporadic(refills) => {
+                let max_refills = 2 + config.extra as usize;
+                refills.reorder(t, config.budget, config.period, max_refills);
+            }
+            Budget::RoundRobin(slice) => slice.reorder(config.budget),
+        }
+        self.config = config;
+    }
+
+    /// Whether the context may be used at `t`. A round robin one always may.
+    pub fn ready(&self, t: Tick) -> bool
+        ensures { result ≡ context_ready t self.now.context }
+    {
+        match &self.budget {
+            Budget::Sporadic(refills) => refills.ready(t),
+            Budget::RoundRobin(_) => true,
+        }
+    }
+
+    /// The ticks of the head, at least 1: of the first refill, or what is left of the slice.
+    pub fn head_amount(&self) -> u64
+        ensures value { result ≡ head_amount self.now.context }
+        ensures some { 1 ≤ result }
+    {
+        match &self.budget {
+            Budget::Sporadic(refills) => refills.head().amount,
+            Budget::RoundRobin(slice) => slice.left(),
+        }
+    }
+
+    /// The moment from which the head may be used, 0 for a slice.
+    pub fn head_moment(&self) -> Tick
+        ensures { result ≡ head_moment self.now.context }
+    {
+        match &self.budget {
+            Budget::Sporadic(refills) => Tick::new(refills.head().begins).unwrap(),
+            Budget::RoundRobin(_) => Tick::ZERO,
+        }
+    }
+
+    /// What there is to see of the context, which has the number `id` and of which `using` ticks are in use. `NoMemory` is
+    /// answered where the list of refills is refused.
+    pub fn view(&self, alloc: Global, id: ContextId, using: u64) -> Result<ContextView, NoMemory>
+        ensures { IfOk result (λ view. view ≡ view_of id using self.now.context) }
+    {
+        let (refills, left) = match &self.budget {
+            Budget::Sporadic(refills) => (all_refills(alloc, refills)?, None),
+            Budget::RoundRobin(slice) => (Vec::new(alloc), Some(slice.left())),
+        };
+        Ok(ContextView {
+            context: id,
+            refills: Sequence::new(refills),
+            left,
+            using,
+        })
+    }
+
+    /// A law of the type: each context's configuration passed its check, and its budget is one of its kind.
+    pub fn in_good_order(&self)
+        ensures { IsContext self.now.context }
+    {
+        let _config = &self.config;
+    }
+}
+
+/// A copy of all refills.
+fn all_refills(alloc: Global, refills: &Refills) -> Result<Vec<Refill>, NoMemory>
+    ensures { IfOk result (λ list. list.items ≡ refills_of refills.now.dates) }
+{
+    let count = refills.len();
+    let mut list = Vec::with_capacity(alloc, count)?;
+    for i in 0..count {
+        if let Some(refill) = refills.get(i) {
+            list.push(refill)?;
+        }
+    }
+    Ok(list)
+}
