@@ -8,6 +8,7 @@ mod context;
 mod fault;
 mod file;
 mod key;
+mod laws;
 mod names;
 mod note;
 mod numbers;
@@ -21,4 +22,5 @@ mod words;
 
 pub use fault::{FaultKind, LoadFault};
 pub use file::load;
+pub use laws::accepted_systems_are_well_formed;
 pub use spot::{Key, Section, Spot};
