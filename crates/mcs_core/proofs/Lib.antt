@@ -1,3 +1,4 @@
 pub mod Clock
 pub mod Distinct
 pub mod Mails
+pub mod Worked

@@ -136,7 +136,7 @@ budgets-kept system takes_time budgets x t on =
 
 -- a well-formed system: its signals take time, and its configurations give budgets
 pub takes-time : (system : System) → IsWellFormed system → TakesTime system
-takes-time system well maker home = well.delay.0
+takes-time system well maker to = well.limits.delay.0
 
 pub gives-budgets : (system : System) → IsWellFormed system → told.GivesBudgets system
 gives-budgets system well =

@@ -13,7 +13,7 @@ use crate::order::orders;
 use crate::spot::{Key, Section};
 use crate::thread::threads;
 use crate::words::{number_with_default, only_keys, whole_number};
-use mcs_core::SystemParts;
+use mcs_core::{System, SystemParts};
 use mcs_ticks::{Limits, Sequence};
 use std::alloc::Global;
 use toml::Table;
@@ -92,11 +92,14 @@ fn walk(alloc: Global, file: &Table) -> Result<SystemParts, LoadFault>
     })
 }
 
-/// The system that a file describes, or the first fault of its bytes.
+/// The system that the text of a file describes, or the first fault of the walk: the text as TOML, the keys and numbers at the top,
+/// then contexts, notifications, threads and orders, each array row by row. Want of memory is answered, as
+/// [`FaultKind::NoMemory`](crate::FaultKind::NoMemory), where a growth was refused, before any later fault.
 #[tactic(auto, using(crate::proofs::Steps::both, crate::proofs::Steps::or_else_none, crate::proofs::Steps::or_else_some), unfolding(crate::specs::Walk::file))]
-pub fn load(alloc: Global, bytes: &[u8]) -> Result<SystemParts, LoadFault>
-    ensures { Gives (λ s. s) result (file bytes.now) }
+pub fn load(alloc: Global, text: &[u8]) -> Result<System, LoadFault>
+    ensures { Gives (λ s. s) result (file text.now) }
 {
-    let table = document(alloc, bytes)?;
-    walk(alloc, &table)
+    let table = document(alloc, text)?;
+    let parts = walk(alloc, &table)?;
+    Ok(System::new(parts))
 }

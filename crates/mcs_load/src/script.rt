@@ -1,6 +1,6 @@
 ghost use Rattle.std.specs.Prelude.{◌≡◌, ◌+◌, ◌<◌, ◌≤◌, ◌^◌, ℕ, IfOk, List, suc, length, map, [], ◌∷◌, ◌++◌};
 ghost use Rattle.toml.specs.View.{view, table_view, items_view};
-ghost use Rattle.mcs_load.specs.Raw.{raw_view, read_as};
+ghost use Rattle.mcs_script.specs.Raw.{raw_view, read_as};
 ghost use Rattle.mcs_load.specs.Checks.{Gives};
 ghost use Rattle.mcs_load.specs.Words.{each};
 ghost use Rattle.mcs_load.specs.Script.{core_of, note_named, named, script_item, next_item, script, ends_without_wait, texts, said};
@@ -8,11 +8,10 @@ ghost use Rattle.mcs_load.specs.Script.{core_of, note_named, named, script_item,
 use crate::at::At;
 use crate::fault::{FaultKind, LoadFault};
 use crate::names::Names;
-use crate::raw::{RawItem, read_item};
 use crate::spot::Key;
 use crate::words::find;
 use mcs_core::NotePart;
-use mcs_script::{Item, Script};
+use mcs_script::{Item, RawItem, Script, read_item};
 use mcs_ticks::{CoreId, Limits, NoteId};
 use std::alloc::Global;
 use toml::{Table, Value};

@@ -2,10 +2,10 @@ ghost use Rattle.std.specs.Prelude.{◌≡◌, ◌^◌, ◌<◌, ◌≤◌, ℕ,
 ghost use Rattle.std.specs.List.{list_all};
 ghost use Rattle.toml.specs.Data.{get_member};
 ghost use Rattle.toml.specs.View.{view, table_view, items_view};
-ghost use Rattle.mcs_core.specs.WellFormed.{is_name_byte};
+ghost use Rattle.mcs_core.specs.WellFormed.{is_name, is_name_byte};
 ghost use Rattle.mcs_load.specs.Keys.{key_name};
 ghost use Rattle.mcs_load.specs.Checks.{Gives};
-ghost use Rattle.mcs_load.specs.Words.{has_only, is_listed, is_name, only_keys, number, whole_number, number_with_default, text, row_table, new_name, rows};
+ghost use Rattle.mcs_load.specs.Words.{has_only, is_listed, only_keys, number, whole_number, number_with_default, text, row_table, new_name, rows};
 
 use crate::at::At;
 use crate::fault::{FaultKind, LoadFault};

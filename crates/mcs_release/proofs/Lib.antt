@@ -1,0 +1,7 @@
+pub mod Closing
+pub mod Dues
+pub mod Earliest
+pub mod Entered
+pub mod Times
+pub mod Kept
+mod Worked

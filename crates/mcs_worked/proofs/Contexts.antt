@@ -1,7 +1,7 @@
 -- What the contexts of worked systems show at some moments, with the ticks in use.
 use Rattle.std.specs.Prelude.{◌≡◌, ℕ, ◌+◌, List, [], ◌∷◌, Some, None, refl}
 use Rattle.mcs_refills.specs.declared.refill.Refill.{Refill}
-use Rattle.mcs_control.specs.Context.{View}
+use Rattle.mcs_control.specs.declared.view.ContextView.{ContextView}
 use Rattle.mcs_core.specs.System.{System}
 use Rattle.mcs_core.specs.Clock.{world, core_at}
 use Rattle.mcs_core.specs.Views.{views_of}
@@ -12,16 +12,16 @@ use Rattle.mcs_worked.specs.Parts.{order}
 use Rattle.mcs_worked.proofs.Schedules as worked
 
 -- the views of the contexts of core 0 after all turns of moment t
-abbrev shown_after : System → ℕ → List View
+abbrev shown_after : System → ℕ → List ContextView
 shown_after system t = views_of system (core_at system (world system (t + 1)) 0)
 
 abbrev refill : ℕ → ℕ → Refill
 refill begins amount = record { begins = begins; amount = amount }
 
-abbrev sporadic : ℕ → List Refill → ℕ → View
+abbrev sporadic : ℕ → List Refill → ℕ → ContextView
 sporadic context refills using = record { context = context; refills = refills; left = None; using = using }
 
-abbrev slice : ℕ → ℕ → ℕ → View
+abbrev slice : ℕ → ℕ → ℕ → ContextView
 slice context left using = record { context = context; refills = []; left = Some left; using = using }
 
 -- while the thread runs its ticks are in use and not yet charged ..
