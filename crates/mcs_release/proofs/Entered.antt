@@ -14,6 +14,12 @@ entered-none (place ∷ places) none = by place (none zero) (entered-none places
     by None e ih = ih
     by (Some x) e ih = cc
 
+pub empty_from : (places : List (Option Dated)) (i : ℕ) → entered places ≡ [] → get_or places i None ≡ None
+empty_from [] i none = refl
+empty_from (None ∷ places) zero none = refl
+empty_from (None ∷ places) (suc i) none = empty_from places i none
+empty_from (Some x ∷ places) i none = cc
+
 -- an entry behind all others
 pub entered-push : (places : List (Option Dated)) (k : ℕ) (x : Dated) → k < length places → ((i : ℕ) → k ≤ i → get_or places i None ≡ None) →
     entered (set places k (Some x)) ≡ entered places ++ x ∷ []

@@ -16,7 +16,7 @@ use Rattle.mcs_release.specs.Places.{entered, due_at, dues_from, due_cmp, times,
 use Rattle.mcs_release.specs.Release.{ReleaseQueue, dated, is_held, earliest, next_date, first_due, without_first_due, when_left, AreBelow, AreDistinct}
 use Rattle.mcs_release.proofs.Dues.{dues-put, dues-left, dues-count, count-is-length}
 use Rattle.mcs_release.proofs.Earliest.{before-top, earliest-top, none-top, place-top}
-use Rattle.mcs_release.proofs.Entered.{entered-none, entered-push, entered-left, times-left}
+use Rattle.mcs_release.proofs.Entered.{empty_from, entered-none, entered-push, entered-left, times-left}
 use Rattle.mcs_release.proofs.Times.{times-append, times-cons_same, times-cons_other, times-free, one_if-le-one, length-le-room}
 
 -- the heap holds as many as have entered
@@ -30,6 +30,14 @@ module _ (places : List (Option Dated)) (end : ℕ) (heap : List (Reverse Due)) 
       nil : (xs : List Dated) → length xs ≡ 0 → xs ≡ []
       nil [] e = refl
       nil (x ∷ xs) e = absurd (omega arith)
+
+-- with no entry the first place is behind all
+pub IsPlaced-empty : (places : List (Option Dated)) (end : ℕ) (heap : List (Reverse Due)) → IsPlaced places end heap → length heap ≡ 0 → IsPlaced places 0 heap
+IsPlaced-empty places end heap placed none = record {
+  behind = λ i from. empty_from places i (entered-empty places end heap placed none);
+  same = placed.same;
+  order = placed.order;
+}
 
 pub none-held : (n : ℕ) → (0 < n → false ≡ true) → n ≡ 0
 none-held zero empty = refl

@@ -4,3 +4,4 @@ pub mod Earliest
 pub mod Entered
 pub mod Times
 pub mod Kept
+mod Worked

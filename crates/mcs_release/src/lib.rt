@@ -4,6 +4,8 @@
 
 mod dated;
 mod releases;
+#[cfg(test)]
+mod tests;
 
 pub use dated::Dated;
 pub use releases::{Releases, held_once};

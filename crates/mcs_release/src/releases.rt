@@ -145,7 +145,8 @@ fn close_up(places: &mut [Option<Dated>], heap: &mut BinaryHeap<Reverse<Due>>) -
     end
 }
 
-/// An empty place behind all entries, which are moved to the front where the last place was taken.
+/// An empty place behind all entries: the first one where there is no entry, and where the last place was taken, the entries
+/// move to the front. That comes once in as many entrances as there are threads, at most.
 fn place_behind(
     places: &mut [Option<Dated>],
     heap: &mut BinaryHeap<Reverse<Due>>,
@@ -159,7 +160,9 @@ fn place_behind(
     ensures placed { IsPlaced places.new result (heap_items heap.new) }
     ensures capacity { heap_capacity heap.old ≤ heap_capacity heap.new }
 {
-    if end < places.len() {
+    if heap.is_empty() {
+        0
+    } else if end < places.len() {
         end
     } else {
         close_up(places, heap)
@@ -172,4 +175,28 @@ pub fn held_once(releases: &Releases)
     ensures below { AreBelow releases.now.room releases.now.queue }
 {
     let _ = &releases.room;
+}
+
+#[cfg(test)]
+impl Releases {
+    /// Whether `x` is held, by a look at every place.
+    pub(crate) fn holds(&self, x: ThreadId) -> bool
+        ensures { result ≡ is_held x self.now.queue }
+    {
+        holds_in(&self.places, x)
+    }
+}
+
+#[cfg(test)]
+fn holds_in(places: &[Option<Dated>], x: ThreadId) -> bool
+    ensures { result ≡ is_held x (entered places.now) }
+{
+    for place in places {
+        if let Some(entry) = place {
+            if entry.thread == x {
+                return true;
+            }
+        }
+    }
+    false
 }

@@ -1,0 +1,5 @@
+pub mod Accounts
+pub mod Alone
+pub mod Counts
+pub mod Runs
+pub mod Agree
