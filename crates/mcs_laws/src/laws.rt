@@ -2,6 +2,7 @@ ghost use Rattle.mcs_core.specs.System.{System, TakesTime};
 ghost use Rattle.mcs_core.specs.WellFormed.{IsWellFormed};
 ghost use Rattle.mcs_laws.specs.Turns.{CoresAreOfTurns, RowsAreOfTurns, SignalsAreOfTurns, ArrivalsAreOfTurns};
 ghost use Rattle.mcs_laws.specs.Disciplines.{DisciplinesAgree};
+ghost use Rattle.mcs_laws.specs.Places.{ThreadsHaveOnePlace};
 ghost use Rattle.mcs_laws.specs.Histories.{GivesBudgets, ContextsHaveHistories, ContextsHaveTheirBudgets, ContextsAreSpaced};
 
 /// A law of well-formed systems, for the premises of the laws of the clock: each signal takes time, and each configuration that
@@ -33,6 +34,12 @@ pub fn signals_are_of_turns()
 /// priority give the same rows and the same signals over whole schedules.
 pub fn disciplines_agree()
     ensures { (system : System) → DisciplinesAgree system }
+{}
+
+/// A law of the clock: a thread has at most one place on a core. One that runs is in no queue and waits on nothing, and one that is
+/// queued, has a date or waits does so once.
+pub fn threads_have_one_place()
+    ensures { (system : System) → TakesTime system → ThreadsHaveOnePlace system }
 {}
 
 /// A law of the clock: all that turns do to a context, from the opening on, is to charge it, to unblock it and to obey its orders. The

@@ -1,5 +1,5 @@
 use crate::{Mail, Mailbox};
-use mcs_ticks::{CoreId, NoteId, Tick};
+use mcs_ticks::{CoreId, NoMemory, NoteId, Tick};
 use std::test::Fail;
 
 // The badge tells the mail apart.
@@ -11,6 +11,18 @@ fn mail(arrives: u64, made: u64, maker: usize, badge: u32) -> Option<Mail> {
         note: NoteId(0),
         badge,
     })
+}
+
+// A second try: of one refused growth the mail comes back, and the mailbox is as it was.
+fn put(mailbox: &mut Mailbox, mail: Mail) -> Result<(), NoMemory> {
+    let count = mailbox.len();
+    match mailbox.put(mail) {
+        Ok(()) => Ok(()),
+        Err((back, refusal)) if back == mail && mailbox.len() == count => mailbox
+            .put(back)
+            .map_err(|_back| refusal),
+        Err((_back, refusal)) => Err(refusal),
+    }
 }
 
 #[test]
@@ -36,7 +48,7 @@ fn mail_is_taken_in_order_of_delivery(rt: HostRuntime) -> Result<(), Fail> {
     ];
     for (arrives, made, maker, badge) in rows {
         let mail = mail(arrives, made, maker, badge).ok_or("mail")?;
-        mailbox.put(mail).map_err(|back| back.1)?;
+        put(&mut mailbox, mail)?;
     }
     assert_eq!(rt; mailbox.len(), 10);
     for badge in 1..11 {
@@ -55,7 +67,9 @@ fn only_what_is_due_is_taken(rt: HostRuntime) -> Result<(), Fail> {
     let early = mail(5, 3, 1, 1).ok_or("mail")?;
     let late = mail(7, 3, 1, 2).ok_or("mail")?;
     let mut mailbox = Mailbox::new(rt.alloc());
-    mailbox.reserve(2)?;
+    if mailbox.reserve(2).is_err() {
+        mailbox.reserve(2)?;
+    }
     assert_eq!(rt; mailbox.len(), 0);
     assert!(rt; mailbox.put(late).is_ok());
     assert!(rt; mailbox.put(early).is_ok());

@@ -1,5 +1,5 @@
 -- The threads of a core that wait for a date, in the order in which they entered.
-use Rattle.std.specs.Prelude.{ℕ, ◌<◌, ◌≢◌, ◌==◌, nat_lt, nat_le, if◌then◌else◌, Bool, List, [], ◌∷◌, filter, All, AllPairs, Option, Some, None, option_map}
+use Rattle.std.specs.Prelude.{◌≡◌, ℕ, ◌<◌, ◌≢◌, ◌==◌, nat_lt, nat_le, if◌then◌else◌, Bool, List, [], ◌∷◌, not, drop, filter, slice_get, All, AllPairs, Option, Some, None, option_map}
 use Rattle.std.specs.List.{list_any}
 use Rattle.mcs_release.specs.declared.dated.Dated.{Dated}
 
@@ -30,9 +30,13 @@ earliest (x ∷ xs) = Some (earlier x (earliest xs))
 abbrev pub next_date : List Dated → Option ℕ
 next_date queue = option_map (λ x. x.date) (earliest queue)
 
--- the one that leaves at the moment t: the earliest of those with date at most t
+-- whether the date has come
+abbrev pub is_due : ℕ → Dated → Bool
+is_due t x = nat_le x.date t
+
+-- the one that leaves at the moment t: the earliest of those whose date has come
 abbrev pub first_due : ℕ → List Dated → Option Dated
-first_due t queue = earliest (filter (λ x. nat_le x.date t) queue)
+first_due t queue = earliest (filter (is_due t) queue)
 
 abbrev pub thread_of : Option Dated → Option ℕ
 thread_of = option_map (λ x. x.thread)
@@ -57,3 +61,12 @@ AreDistinct queue = AllPairs (λ x y. x.thread ≢ y.thread) queue
 -- each thread of the queue has a number below this
 abbrev pub AreBelow : ℕ → List Dated → Type 0
 AreBelow room queue = All (λ x. x.thread < room) queue
+
+-- where all that are due have one date, the first of them in order of entering leaves, and the others stay as they are: so one
+-- after another they leave in that order
+abbrev pub LeaveInOrder : Type 0
+LeaveInOrder =
+    (t date : ℕ) (queue : List Dated) → AreDistinct queue → All (λ x. x.date ≡ date) (filter (is_due t) queue) →
+    (first_due t queue ≡ slice_get (filter (is_due t) queue) 0)
+    × (filter (is_due t) (without_first_due t queue) ≡ drop 1 (filter (is_due t) queue))
+    × (filter (λ x. not (is_due t x)) (without_first_due t queue) ≡ filter (λ x. not (is_due t x)) queue)

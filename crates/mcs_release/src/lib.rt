@@ -3,9 +3,11 @@
 #![tactic(auto)]
 
 mod dated;
+mod laws;
 mod releases;
 #[cfg(test)]
 mod tests;
 
 pub use dated::Dated;
+pub use laws::equal_dates_leave_in_order;
 pub use releases::{Releases, held_once};

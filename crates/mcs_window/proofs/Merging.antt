@@ -1,0 +1,171 @@
+-- The rows of the cores, each in order of its moments, merge into the schedule.
+use Rattle.std.proofs.Common.{◌≡◌, ◌≢◌, ℕ, zero, suc, ◌+◌, ◌-◌, ◌<◌, ◌≤◌, Bool, true, false, cond, List, [], ◌∷◌, ◌++◌, map, refl, sym, ap, ◌∙◌, append-nil, arith}
+use Rattle.std.specs.Prelude.{filter, flat_map, ◌==◌, nat_lt}
+use Rattle.std.specs.List.{range_with_len}
+use Rattle.std.proofs.lemmas.Bool.Decides.{nat_tests}
+use Rattle.std.proofs.lemmas.List.Elements.{filter-append}
+use Rattle.std.proofs.lemmas.List.Folds.{flat_map-map}
+use Rattle.mcs_ticks.specs.declared.row.Row.{Row}
+use Rattle.mcs_ticks.specs.declared.row.What.{What}
+use Rattle.mcs_merge.specs.Merge.{rows_at, merged, AreFrom, DoNotFall, AreMerged}
+use Rattle.mcs_merge.proofs.Joins.{AreFrom-earlier}
+use Rattle.mcs_merge.proofs.Pushes.{AreUntil, DoNotFall-append}
+use Rattle.mcs_merge.proofs.Merges.{merged-is}
+use Rattle.mcs_core.specs.System.{System, TakesTime}
+use Rattle.mcs_core.specs.Clock as clocks
+use Rattle.mcs_core.specs.Clock.{rows_of, schedule}
+use Rattle.mcs_core.proofs.Clock.{rows-clock}
+use Rattle.mcs_window.specs.Merging as merging
+use Rattle.mcs_window.specs.Merging.{rows_of_cores}
+use Rattle.mcs_window.specs.Stretch.{rows_between}
+use Rattle.mcs_window.proofs.Ranges.{flat_map-join}
+
+-- all rows have this moment
+abbrev AreAt : ℕ → List Row → Type 0
+AreAt t [] = Unit {0}
+AreAt t (row ∷ rows) = (row.moment ≡ t) × AreAt t rows
+
+AreAt-append : (t : ℕ) (rows more : List Row) → AreAt t rows → AreAt t more → AreAt t (rows ++ more)
+AreAt-append t [] more h k = k
+AreAt-append t (row ∷ rows) more h k = (h.0, AreAt-append t rows more h.1 k)
+
+AreAt-flat_map : (t : ℕ) (f : ℕ → List Row) → ((c : ℕ) → AreAt t (f c)) → (n a : ℕ) → AreAt t (flat_map f (range_with_len a n))
+AreAt-flat_map t f h zero a = tt
+AreAt-flat_map t f h (suc n) a = AreAt-append t (f a) (flat_map f (range_with_len (a + 1) n)) (h a) (AreAt-flat_map t f h n (a + 1))
+
+AreAt-map : (t c : ℕ) (whats : List What) → AreAt t (map (λ what. record { moment = t; core = c; what = what }) whats)
+AreAt-map t c [] = tt
+AreAt-map t c (what ∷ whats) = (refl, AreAt-map t c whats)
+
+from_at : (t : ℕ) (rows : List Row) → AreAt t rows → AreFrom t rows
+from_at t [] h = tt
+from_at t (row ∷ rows) h = (let e = h.0 in omega arith, from_at t rows h.1)
+
+until_at : (t : ℕ) (rows : List Row) → AreAt t rows → AreUntil t rows
+until_at t [] h = tt
+until_at t (row ∷ rows) h = (let e = h.0 in omega arith, until_at t rows h.1)
+
+order_at : (t : ℕ) (rows : List Row) → AreAt t rows → DoNotFall rows
+order_at t [] h = tt
+order_at t (row ∷ rows) h = (AreFrom-earlier row.moment t rows (let e = h.0 in omega arith) (from_at t rows h.1), order_at t rows h.1)
+
+rows_at-same : (t : ℕ) (rows : List Row) → AreAt t rows → rows_at t rows ≡ rows
+rows_at-same t [] h = refl
+rows_at-same t (row ∷ rows) h = by (row.moment == t) refl (rows_at-same t rows h.1)
+  where
+    by : (b : Bool) → (row.moment == t) ≡ b → rows_at t rows ≡ rows → cond b (row ∷ rows_at t rows) (rows_at t rows) ≡ row ∷ rows
+    by true e i = ap (λ xs. row ∷ xs) i
+    by false e i = absurd (let f = h.0 in grind (arith, nat_tests))
+
+rows_at-other : (t u : ℕ) (rows : List Row) → u ≢ t → AreAt u rows → rows_at t rows ≡ []
+rows_at-other t u [] n h = refl
+rows_at-other t u (row ∷ rows) n h = by (row.moment == t) refl (rows_at-other t u rows n h.1)
+  where
+    by : (b : Bool) → (row.moment == t) ≡ b → rows_at t rows ≡ [] → cond b (row ∷ rows_at t rows) (rows_at t rows) ≡ []
+    by true e i =
+        let f = h.0 in
+        let g : row.moment ≡ t = grind (arith, nat_tests) in
+        absurd (omega arith)
+    by false e i = i
+
+-- parts of which each has the rows of one moment
+module _ (f : ℕ → List Row) (at : (t : ℕ) → AreAt t (f t)) where
+  from_parts : (n a b : ℕ) → b ≤ a → AreFrom b (flat_map f (range_with_len a n))
+  from_parts zero a b l = tt
+  from_parts (suc n) a b l =
+      both (f a) (flat_map f (range_with_len (a + 1) n)) (AreFrom-earlier b a (f a) l (from_at a (f a) (at a))) (from_parts n (a + 1) b (omega arith))
+    where
+      both : (xs ys : List Row) → AreFrom b xs → AreFrom b ys → AreFrom b (xs ++ ys)
+      both [] ys h k = k
+      both (x ∷ xs) ys h k = (h.0, both xs ys h.1 k)
+
+  pub order_parts : (n a : ℕ) → DoNotFall (flat_map f (range_with_len a n))
+  order_parts zero a = tt
+  order_parts (suc n) a =
+      DoNotFall-append a (f a) (flat_map f (range_with_len (a + 1) n)) (order_at a (f a) (at a)) (until_at a (f a) (at a)) (order_parts n (a + 1)) (from_parts n (a + 1) a (omega arith))
+
+  outside : (t n a : ℕ) → ((m : ℕ) → a ≤ m → m < a + n → m ≢ t) → rows_at t (flat_map f (range_with_len a n)) ≡ []
+  outside t zero a h = refl
+  outside t (suc n) a h =
+      filter-append (λ row. row.moment == t) (f a) (flat_map f (range_with_len (a + 1) n))
+      ∙ both _ _ (rows_at-other t a (f a) (h a (omega arith) (omega arith)) (at a)) (outside t n (a + 1) (λ m p q. h m (omega arith) (omega arith)))
+    where
+      both : (xs ys : List Row) → xs ≡ [] → ys ≡ [] → xs ++ ys ≡ []
+      both xs ys e g = cc
+
+  inside : (t n a : ℕ) → a ≤ t → t < a + n → rows_at t (flat_map f (range_with_len a n)) ≡ f t
+  inside t zero a l h = absurd (omega arith)
+  inside t (suc n) a l h =
+      filter-append (λ row. row.moment == t) (f a) (flat_map f (range_with_len (a + 1) n)) ∙ by (a == t) refl (λ m. inside t n (a + 1) m (omega arith))
+    where
+      both : (xs ys us vs : List Row) → xs ≡ us → ys ≡ vs → xs ++ ys ≡ us ++ vs
+      both xs ys us vs e g = cc
+
+      same : a ≡ t → rows_at t (f a) ≡ f t
+      same e = ap (λ m. rows_at t (f m)) e ∙ rows_at-same t (f t) (at t)
+
+      rest : a ≡ t → rows_at t (flat_map f (range_with_len (a + 1) n)) ≡ []
+      rest e = outside t n (a + 1) (λ m p q. omega arith)
+
+      by : (b : Bool) → (a == t) ≡ b → (a + 1 ≤ t → rows_at t (flat_map f (range_with_len (a + 1) n)) ≡ f t) → rows_at t (f a) ++ rows_at t (flat_map f (range_with_len (a + 1) n)) ≡ f t
+      by true e i =
+          let g : a ≡ t = grind (arith, nat_tests) in
+          both _ _ _ _ (same g) (rest g) ∙ append-nil (f t)
+      by false e i =
+          let g : a ≢ t = grind (arith, nat_tests) in
+          both _ _ _ _ (rows_at-other t a (f a) g (at a)) (i (omega arith))
+
+module _ (system : System) where
+  row_moments : (c t : ℕ) → AreAt t (rows_of system c t)
+  row_moments c t = AreAt-map t c (clocks.turn_of system c t).rows
+
+  -- the rows of a core are in order of their moments
+  pub order-between : (c a b : ℕ) → DoNotFall (rows_between system c a b)
+  order-between c a b = order_parts (rows_of system c) (row_moments c) (b - a) a
+
+  abbrev moment_rows : ℕ → List Row
+  moment_rows t = flat_map (λ c. rows_of system c t) (range_with_len 0 system.cores)
+
+  moment_moments : (t : ℕ) → AreAt t (moment_rows t)
+  moment_moments t = AreAt-flat_map t (λ c. rows_of system c t) (λ c. row_moments c t) system.cores 0
+
+  by_clock : TakesTime system → (n : ℕ) → (clocks.clock system n).rows ≡ flat_map moment_rows (range_with_len 0 n)
+  by_clock takes_time zero = refl
+  by_clock takes_time (suc n) =
+      let e : n + 1 ≡ suc n = omega arith in
+      let g : 0 + n ≡ n = omega arith in
+      rows-clock system takes_time n ∙ ap (λ xs. xs ++ moment_rows n) (by_clock takes_time n)
+      ∙ ap (λ xs. flat_map moment_rows (range_with_len 0 n) ++ xs) (sym (append-nil (moment_rows n)) ∙ ap (λ m. flat_map moment_rows (range_with_len m 1)) (sym g))
+      ∙ flat_map-join moment_rows n 1 0 ∙ ap (λ m. flat_map moment_rows (range_with_len 0 m)) e
+
+  flat_map-same : (f g : ℕ → List Row) (n a : ℕ) → ((i : ℕ) → f i ≡ g i) → flat_map f (range_with_len a n) ≡ flat_map g (range_with_len a n)
+  flat_map-same f g zero a h = refl
+  flat_map-same f g (suc n) a h = both _ _ _ _ (h a) (flat_map-same f g n (a + 1) h)
+    where
+      both : (xs ys us vs : List Row) → xs ≡ ys → us ≡ vs → xs ++ us ≡ ys ++ vs
+      both xs ys us vs e k = cc
+
+  all_none : (n a : ℕ) → flat_map {X = ℕ} {A = Row} (λ c. []) (range_with_len a n) ≡ []
+  all_none zero a = refl
+  all_none (suc n) a = all_none n (a + 1)
+
+  at_each : (horizon t : ℕ) → rows_at t (flat_map moment_rows (range_with_len 0 (suc horizon))) ≡ flat_map (rows_at t) (rows_of_cores system horizon)
+  at_each horizon t = by (nat_lt t (suc horizon)) refl ∙ sym (flat_map-map (rows_at t) (λ c. rows_between system c 0 (suc horizon)) (range_with_len 0 system.cores))
+    where
+      by : (u : Bool) → nat_lt t (suc horizon) ≡ u → rows_at t (flat_map moment_rows (range_with_len 0 (suc horizon))) ≡ flat_map (λ c. rows_at t (rows_between system c 0 (suc horizon))) (range_with_len 0 system.cores)
+      by true e =
+          let l : t < suc horizon = grind (arith, nat_tests) in
+          inside moment_rows moment_moments t (suc horizon) 0 (omega arith) (omega arith)
+          ∙ sym (flat_map-same (λ c. rows_at t (rows_between system c 0 (suc horizon))) (λ c. rows_of system c t) system.cores 0
+          (λ c. inside (rows_of system c) (row_moments c) t (suc horizon - 0) 0 (omega arith) (omega arith)))
+      by false e =
+          let l : suc horizon ≤ t = grind (arith, nat_tests) in
+          outside moment_rows moment_moments t (suc horizon) 0 (λ m p q. omega arith)
+          ∙ sym (flat_map-same (λ c. rows_at t (rows_between system c 0 (suc horizon))) (λ c. []) system.cores 0
+          (λ c. outside (rows_of system c) (row_moments c) t (suc horizon - 0) 0 (λ m p q. omega arith)) ∙ all_none system.cores 0)
+
+  pub rows_merge : TakesTime system → merging.RowsMerge system
+  rows_merge takes_time horizon =
+      sym (merged-is (rows_of_cores system horizon) (flat_map moment_rows (range_with_len 0 (suc horizon)))
+      (record { in_order = order_parts moment_rows moment_moments (suc horizon) 0; at_each = at_each horizon }))
+      ∙ sym (by_clock takes_time (suc horizon))
