@@ -369,7 +369,7 @@ module _ (system : System) (c t y : ℕ) where
       counted = rw e refl
 
   -- a whole turn
-  turn-held : (mails : List Mail) (k : Core) → held system t y (turns.turn_with by_priority system c t mails k).core ≤ held system t y k
+  pub turn-held : (mails : List Mail) (k : Core) → held system t y (turns.turn_with by_priority system c t mails k).core ≤ held system t y k
   turn-held mails k = chain _ _ _ _ _ _ _
       (tick_of-held k.running k refl)
       (each-held system t y (turns.arrives by_priority system t) (arrives-held system t y) mails first.core)

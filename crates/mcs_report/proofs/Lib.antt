@@ -3,3 +3,5 @@ pub mod Alone
 pub mod Counts
 pub mod Runs
 pub mod Agree
+pub mod Walks
+pub mod Schedules
