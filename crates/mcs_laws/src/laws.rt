@@ -57,5 +57,5 @@ pub fn contexts_keep_their_budgets()
 /// A law of the clock: of the dates that the charges of a sporadic context take, where no order names it, the one a whole budget later
 /// is at least a period later.
 pub fn contexts_are_spaced()
-    ensures { (system : System) → TakesTime system → GivesBudgets system → ContextsAreSpaced system }
+    ensures { (system : System) → GivesBudgets system → ContextsAreSpaced system }
 {}

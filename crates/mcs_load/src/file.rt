@@ -1,6 +1,6 @@
 ghost use Rattle.std.specs.Prelude.{◌≡◌, ◌≤◌, IfOk};
 ghost use Rattle.toml.specs.View.{table_view};
-ghost use Rattle.mcs_load.specs.Checks.{Gives};
+ghost use Rattle.mcs_load.specs.Checks.{Gives, Tells};
 ghost use Rattle.mcs_load.specs.Walk.{document, numbers, walk, file};
 
 use crate::at::At;
@@ -47,7 +47,7 @@ fn document(alloc: Global, bytes: &[u8]) -> Result<Table, LoadFault>
 #[tactic(auto, using(crate::proofs::Steps::both, crate::proofs::Steps::or_else_none, crate::proofs::Steps::or_else_some), unfolding(crate::specs::Walk::numbers))]
 fn numbers(file: &Table) -> Result<Numbers, LoadFault>
     ensures range { IfOk result (λ n. (1 ≤ n.cores) × (n.cores ≤ 64)) }
-    ensures gives { Gives (λ n. n) result (numbers (table_view file.now)) }
+    ensures gives { Tells (λ n. n) result (numbers (table_view file.now)) }
 {
     let top = At::array(Section::Top);
     only_keys(top, &TOP_KEYS, file)?;
