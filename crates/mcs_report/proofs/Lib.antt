@@ -5,3 +5,4 @@ pub mod Runs
 pub mod Agree
 pub mod Walks
 pub mod Schedules
+pub mod Worked
