@@ -15,18 +15,21 @@ const PARTS: &str = "version = 1\ncores = 2\ndelay = 1
 context = [{name='a',core=0,budget=2,period=5},{name='b',core=1,budget=4,period=4}]
 note = [{name='n',core=0},{name='m',core=1}]\n";
 
-/// What a file is answered: the text of its fault, or `accepted`.
-fn answer(alloc: Global, text: &str) -> Result<String, AllocError> {
-    match load(alloc, text.as_bytes()) {
+/// What a file that begins as given and goes on with the text is answered: the text of its fault, or `accepted`.
+fn answer(alloc: Global, begin: &str, text: &str) -> Result<String, AllocError> {
+    let file = format!(in alloc; "{begin}{text}")?;
+    match load(alloc, file.as_bytes()) {
         Ok(_) => String::from_str(alloc, "accepted"),
         Err(fault) => fault.to_string(alloc),
     }
 }
 
-/// Whether a file that begins as given and goes on with the text is answered so.
+/// Whether the file is answered so; after one refused growth it is asked again.
 fn expect(rt: &impl Abort, alloc: Global, begin: &str, text: &str, want: &str) -> Result<(), Fail> {
-    let file = format!(in alloc; "{begin}{text}")?;
-    let found = answer(alloc, file.as_str())?;
+    let found = match answer(alloc, begin, text) {
+        Ok(found) if found.as_str() != "no memory" => found,
+        _ => answer(alloc, begin, text)?,
+    };
     assert_eq!(rt; found.as_str(), want, "of {text}");
     Ok(())
 }
@@ -274,6 +277,11 @@ fn faults_of_threads(rt: HostRuntime) -> Result<(), Fail> {
     Ok(())
 }
 
+/// A thread with this script.
+fn with_script(alloc: Global, script: &str) -> Result<String, AllocError> {
+    format!(in alloc; "thread = [{{name='A',context='a',priority=5,script={script}}}]\norder = 1\n")
+}
+
 #[test]
 fn faults_of_scripts(rt: HostRuntime) -> Result<(), Fail> {
     for (script, want) in [
@@ -309,9 +317,10 @@ fn faults_of_scripts(rt: HostRuntime) -> Result<(), Fail> {
             "wait is last at thread 1 script item 2",
         ),
     ] {
-        let text = format!(in rt.alloc();
-            "order = 1\nthread = [{{name='A',context='a',priority=5,script={script}}}]\n"
-        )?;
+        let text = match with_script(rt.alloc(), script) {
+            Ok(text) => text,
+            Err(_refusal) => with_script(rt.alloc(), script)?,
+        };
         expect(&rt, rt.alloc(), PARTS, text.as_str(), want)?;
     }
     Ok(())
@@ -417,9 +426,9 @@ budget = 6
 period = 6
 ";
 
-fn contexts(alloc: Global) -> Result<Vec<ContextPart>, AllocError> {
+fn contexts(alloc: Global) -> Option<Vec<ContextPart>> {
     let a = ContextPart {
-        name: name(alloc, "a-1")?,
+        name: name(alloc, "a-1").ok()?,
         core: CoreId(1),
         config: Config {
             budget: 4,
@@ -428,7 +437,7 @@ fn contexts(alloc: Global) -> Result<Vec<ContextPart>, AllocError> {
         },
     };
     let b = ContextPart {
-        name: name(alloc, "A_1")?,
+        name: name(alloc, "A_1").ok()?,
         core: CoreId(0),
         config: Config {
             budget: 5,
@@ -436,36 +445,36 @@ fn contexts(alloc: Global) -> Result<Vec<ContextPart>, AllocError> {
             extra: 0,
         },
     };
-    Ok(vec![in alloc; a, b]?)
+    vec![in alloc; a, b].ok()
 }
 
-fn threads(alloc: Global) -> Result<Vec<ThreadPart>, Fail> {
-    let signals = vec![in alloc; Item::Signal(NoteId(0), 8), Item::Compute(10), Item::Yield]?;
-    let waits = vec![in alloc; Item::Wait(NoteId(0)), Item::Compute(1)]?;
+fn threads(alloc: Global) -> Option<Vec<ThreadPart>> {
+    let signals = vec![in alloc; Item::Signal(NoteId(0), 8), Item::Compute(10), Item::Yield].ok()?;
+    let waits = vec![in alloc; Item::Wait(NoteId(0)), Item::Compute(1)].ok()?;
     let t = ThreadPart {
-        name: name(alloc, "T")?,
+        name: name(alloc, "T").ok()?,
         context: ContextId(1),
         priority: 255,
-        start: Tick::new(6).ok_or("6 ticks")?,
+        start: Tick::new(6)?,
         rounds: 2,
         deadline: 9,
-        script: Script::new(signals).ok().ok_or("a script")?,
+        script: Script::new(signals).ok()?,
     };
     let u = ThreadPart {
-        name: name(alloc, "U")?,
+        name: name(alloc, "U").ok()?,
         context: ContextId(0),
         priority: 0,
         start: Tick::ZERO,
         rounds: 0,
         deadline: 0,
-        script: Script::new(waits).ok().ok_or("a script")?,
+        script: Script::new(waits).ok()?,
     };
-    Ok(vec![in alloc; t, u]?)
+    vec![in alloc; t, u].ok()
 }
 
-fn orders(alloc: Global) -> Result<Vec<Order>, Fail> {
+fn orders(alloc: Global) -> Option<Vec<Order>> {
     let a = Order {
-        moment: Tick::new(12).ok_or("12 ticks")?,
+        moment: Tick::new(12)?,
         context: ContextId(0),
         config: Config {
             budget: 2,
@@ -474,7 +483,7 @@ fn orders(alloc: Global) -> Result<Vec<Order>, Fail> {
         },
     };
     let b = Order {
-        moment: Tick::new(11).ok_or("11 ticks")?,
+        moment: Tick::new(11)?,
         context: ContextId(1),
         config: Config {
             budget: 6,
@@ -482,28 +491,42 @@ fn orders(alloc: Global) -> Result<Vec<Order>, Fail> {
             extra: 0,
         },
     };
-    Ok(vec![in alloc; a, b]?)
+    vec![in alloc; a, b].ok()
+}
+
+/// The parts of that file.
+fn parts(alloc: Global) -> Option<SystemParts> {
+    let n = NotePart {
+        name: name(alloc, "n").ok()?,
+        core: CoreId(1),
+    };
+    Some(SystemParts {
+        cores: 2,
+        delay: 7,
+        call: 3,
+        min_budget: 2,
+        contexts: Sequence::new(contexts(alloc)?),
+        notes: Sequence::new(vec![in alloc; n].ok()?),
+        threads: Sequence::new(threads(alloc)?),
+        orders: Sequence::new(orders(alloc)?),
+    })
 }
 
 // with ample memory: rows keep the file's order, names become numbers, absent keys have their defaults
 #[test]
 fn a_whole_file_is_its_system(rt: HostRuntime) -> Result<(), Fail> {
     let alloc = rt.alloc();
-    let n = NotePart {
-        name: name(alloc, "n")?,
-        core: CoreId(1),
+    let want = match parts(alloc) {
+        Some(want) => want,
+        None => parts(alloc).ok_or("its parts")?,
     };
-    let want = SystemParts {
-        cores: 2,
-        delay: 7,
-        call: 3,
-        min_budget: 2,
-        contexts: Sequence::new(contexts(alloc)?),
-        notes: Sequence::new(vec![in alloc; n]?),
-        threads: Sequence::new(threads(alloc)?),
-        orders: Sequence::new(orders(alloc)?),
+    let system = match load(alloc, WHOLE.as_bytes()) {
+        Ok(system) => system,
+        Err(fault) => {
+            assert_eq!(rt; fault.kind, FaultKind::NoMemory);
+            load(alloc, WHOLE.as_bytes())?
+        }
     };
-    let system = load(alloc, WHOLE.as_bytes())?;
     assert!(rt; *system.parts() == want, "found {system:?}");
     accepted_systems_are_well_formed();
     Ok(())
@@ -521,7 +544,11 @@ fn no_memory_has_no_place(rt: HostRuntime) -> Result<(), Fail> {
         kind: FaultKind::NoMemory,
         spot,
     };
-    assert_eq!(rt; fault.to_string(rt.alloc())?.as_str(), "no memory");
+    let text = match fault.to_string(rt.alloc()) {
+        Ok(text) => text,
+        Err(_refusal) => fault.to_string(rt.alloc())?,
+    };
+    assert_eq!(rt; text.as_str(), "no memory");
     Ok(())
 }
 
@@ -613,6 +640,11 @@ fn limits_of_contexts(rt: HostRuntime) -> Result<(), Fail> {
     Ok(())
 }
 
+/// A thread with these keys beside its name and its context.
+fn with_keys(alloc: Global, keys: &str) -> Result<String, AllocError> {
+    format!(in alloc; "thread = [{{name='A',context='a',{keys}}}]\n")
+}
+
 #[test]
 fn limits_of_threads(rt: HostRuntime) -> Result<(), Fail> {
     for (keys, want) in [
@@ -661,7 +693,10 @@ fn limits_of_threads(rt: HostRuntime) -> Result<(), Fail> {
             "wait is last at thread 1 script item 1",
         ),
     ] {
-        let text = format!(in rt.alloc(); "thread = [{{name='A',context='a',{keys}}}]\n")?;
+        let text = match with_keys(rt.alloc(), keys) {
+            Ok(text) => text,
+            Err(_refusal) => with_keys(rt.alloc(), keys)?,
+        };
         expect(&rt, rt.alloc(), PARTS, text.as_str(), want)?;
     }
     Ok(())
@@ -684,9 +719,9 @@ fn limits_of_orders(rt: HostRuntime) -> Result<(), Fail> {
     Ok(())
 }
 
-/// A file with so many contexts, named c0, c1 and so on.
-fn with_contexts(alloc: Global, count: usize) -> Result<String, AllocError> {
-    let mut text = String::from_str(alloc, TOP)?;
+/// So many contexts, named c0, c1 and so on.
+fn context_rows(alloc: Global, count: usize) -> Result<String, AllocError> {
+    let mut text = String::new(alloc);
     for i in 0..count {
         write!(
             text,
@@ -696,70 +731,111 @@ fn with_contexts(alloc: Global, count: usize) -> Result<String, AllocError> {
     Ok(text)
 }
 
+/// So many contexts, and so many threads that have them in order.
+fn thread_rows(alloc: Global, contexts: usize, threads: usize) -> Result<String, AllocError> {
+    let mut text = context_rows(alloc, contexts)?;
+    for i in 0..threads {
+        write!(
+            text,
+            "[[thread]]\nname = 't{i}'\ncontext = 'c{i}'\npriority = 5\nscript = ['yield']\n"
+        )?;
+    }
+    Ok(text)
+}
+
+fn note_rows(alloc: Global, count: usize) -> Result<String, AllocError> {
+    let mut text = String::new(alloc);
+    for i in 0..count {
+        write!(text, "[[note]]\nname = 'n{i}'\ncore = 1\n")?;
+    }
+    Ok(text)
+}
+
+fn order_rows(alloc: Global, count: usize) -> Result<String, AllocError> {
+    let mut text = String::new(alloc);
+    for i in 0..count {
+        write!(
+            text,
+            "[[order]]\nat = {i}\ncore = 1\ncontext = 'b'\nbudget = 7\nperiod = 7\n"
+        )?;
+    }
+    Ok(text)
+}
+
+/// A thread whose script has so many items.
+fn script_items(alloc: Global, count: usize) -> Result<String, AllocError> {
+    let mut text = String::from_str(
+        alloc,
+        "[[thread]]\nname = 'A'\ncontext = 'a'\npriority = 5\nscript = [",
+    )?;
+    for _ in 0..count {
+        text.push_str("'yield',")?;
+    }
+    text.push_str("]\n")?;
+    Ok(text)
+}
+
 #[test]
 fn most_contexts(rt: HostRuntime) -> Result<(), Fail> {
+    let alloc = rt.alloc();
     for (count, want) in [(4_096, "accepted"), (4_097, "too many at context")] {
-        let text = with_contexts(rt.alloc(), count)?;
-        expect(&rt, rt.alloc(), "", text.as_str(), want)?;
+        let text = match context_rows(alloc, count) {
+            Ok(text) => text,
+            Err(_refusal) => context_rows(alloc, count)?,
+        };
+        expect(&rt, alloc, TOP, text.as_str(), want)?;
     }
     Ok(())
 }
 
 #[test]
 fn most_notifications(rt: HostRuntime) -> Result<(), Fail> {
+    let alloc = rt.alloc();
     for (count, want) in [(4_096, "accepted"), (4_097, "too many at note")] {
-        let mut text = String::new(rt.alloc());
-        for i in 0..count {
-            write!(text, "[[note]]\nname = 'n{i}'\ncore = 1\n")?;
-        }
-        expect(&rt, rt.alloc(), TOP, text.as_str(), want)?;
+        let text = match note_rows(alloc, count) {
+            Ok(text) => text,
+            Err(_refusal) => note_rows(alloc, count)?,
+        };
+        expect(&rt, alloc, TOP, text.as_str(), want)?;
     }
     Ok(())
 }
 
 #[test]
 fn most_threads(rt: HostRuntime) -> Result<(), Fail> {
-    let contexts = with_contexts(rt.alloc(), 4_096)?;
+    let alloc = rt.alloc();
     for (count, want) in [(4_096, "accepted"), (4_097, "too many at thread")] {
-        let mut text = String::new(rt.alloc());
-        for i in 0..count {
-            write!(
-                text,
-                "[[thread]]\nname = 't{i}'\ncontext = 'c{i}'\npriority = 5\nscript = ['yield']\n"
-            )?;
-        }
-        expect(&rt, rt.alloc(), contexts.as_str(), text.as_str(), want)?;
+        let text = match thread_rows(alloc, 4_096, count) {
+            Ok(text) => text,
+            Err(_refusal) => thread_rows(alloc, 4_096, count)?,
+        };
+        expect(&rt, alloc, TOP, text.as_str(), want)?;
     }
     Ok(())
 }
 
 #[test]
 fn most_orders(rt: HostRuntime) -> Result<(), Fail> {
+    let alloc = rt.alloc();
     for (count, want) in [(4_096, "accepted"), (4_097, "too many at order")] {
-        let mut text = String::new(rt.alloc());
-        for i in 0..count {
-            write!(
-                text,
-                "[[order]]\nat = {i}\ncore = 1\ncontext = 'b'\nbudget = 7\nperiod = 7\n"
-            )?;
-        }
-        expect(&rt, rt.alloc(), PARTS, text.as_str(), want)?;
+        let text = match order_rows(alloc, count) {
+            Ok(text) => text,
+            Err(_refusal) => order_rows(alloc, count)?,
+        };
+        expect(&rt, alloc, PARTS, text.as_str(), want)?;
     }
     Ok(())
 }
 
 #[test]
 fn most_items(rt: HostRuntime) -> Result<(), Fail> {
+    let alloc = rt.alloc();
     for (count, want) in [(1_024, "accepted"), (1_025, "too many at thread 1 script")] {
-        let mut text = String::from_str(
-            rt.alloc(),
-            "[[thread]]\nname = 'A'\ncontext = 'a'\npriority = 5\nscript = [",
-        )?;
-        for _ in 0..count {
-            text.push_str("'yield',")?;
-        }
-        text.push_str("]\n")?;
-        expect(&rt, rt.alloc(), PARTS, text.as_str(), want)?;
+        let text = match script_items(alloc, count) {
+            Ok(text) => text,
+            Err(_refusal) => script_items(alloc, count)?,
+        };
+        expect(&rt, alloc, PARTS, text.as_str(), want)?;
     }
     Ok(())
 }

@@ -1,4 +1,4 @@
-ghost use Rattle.std.specs.Prelude.{◌≡◌, ◌≤◌, ◌^◌, [], length, map, sum, fold, ◌+◌, vec_capacity, IfOk};
+ghost use Rattle.std.specs.Prelude.{◌≡◌, ◌≤◌, ◌+◌, [], length, map, fold, vec_capacity, IfOk};
 ghost use Rattle.std.specs.List.{range_with_len};
 ghost use Rattle.mcs_core.specs.System.{core_of};
 ghost use Rattle.mcs_report.specs.Reports.{capped, core_report_of};
@@ -147,7 +147,7 @@ fn all_core_reports(
 }
 
 impl Tally {
-    /// The tally before the first row, of a run of the system up to the horizon.
+    /// The tally before the first row, of a run of the system up to the horizon. `NoMemory` where a growth was refused.
     pub fn new(alloc: Global, system: &System, horizon: Tick) -> Result<Self, NoMemory>
         ensures { IfOk result (λ tally. tally ≡ opened_tally system.now horizon) }
     {
@@ -162,7 +162,7 @@ impl Tally {
         })
     }
 
-    /// Counts one row more.
+    /// Counts one row more, in constant time and without memory. A row of a thread that the system does not have is not counted.
     pub fn add(&mut self, row: &Row)
         ensures { self.new ≡ added self.old row.now }
     {
@@ -175,7 +175,7 @@ impl Tally {
         );
     }
 
-    /// The reports of the rows that were added: runs that were not stopped end at the horizon.
+    /// The reports of the rows that were added, without taking memory: runs that were not stopped end at the horizon.
     pub fn finish(self) -> Reports
         ensures { result ≡ finished self }
     {
