@@ -17,7 +17,7 @@ use Rattle.mcs_window.specs.Inbox.{inbox, signals_between, IsMade, IsFor, Rises}
 use Rattle.mcs_window.specs.Kept.{AreHere, AreKept}
 use Rattle.mcs_window.specs.Stretch.{StandsAt, rows_between, IsReachedBy, IsAfter}
 use Rattle.mcs_window.proofs.Deliveries.{signals_from, flat_map-one, inbox-delivered}
-use Rattle.mcs_window.proofs.Joins.{from_inbox}
+use Rattle.mcs_window.proofs.Inboxes.{from_inbox}
 use Rattle.mcs_window.proofs.Known.{known-signals}
 use Rattle.mcs_window.proofs.Ranges.{rows-join}
 use Rattle.mcs_window.proofs.Stretches.{stretches}

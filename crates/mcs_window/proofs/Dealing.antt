@@ -178,16 +178,6 @@ views-here system well clocks states boxes here d =
     let k = core-known system well x (omega arith) in
     ap (λ (core : Core). own_view system x core.running (get_or core.contexts x None)) (here.states_are (context_part system x).core d k).core_is)
 
--- such states are of all cores, and none failed
-pub states-here : (system : System) (clocks : List ℕ) (states : List State) (boxes : List Content) → AreHere system clocks states boxes → length states ≡ system.cores → AreStates system states
-states-here system clocks states boxes here many =
-    record {
-      many = many;
-      number_is = λ c x l. (here.states_are c x l).number_is;
-      whole = λ c x l. (here.states_are c x l).whole;
-      fit = λ c x l. (here.states_are c x l).fits;
-    }
-
 -- where all clocks are at one moment, the views are those before it
 pub views-at_one : (system : System) → IsWellFormed system → (clocks : List ℕ) (t : ℕ) → ((c : ℕ) → c < system.cores → slice_index clocks c ≡ t) → views_at system clocks ≡ views_before system t
 views-at_one system well clocks t at =

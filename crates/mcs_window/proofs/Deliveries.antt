@@ -16,7 +16,8 @@ use Rattle.mcs_window.specs.Stretch.{IsReachedBy}
 use Rattle.mcs_window.specs.Inbox as boxes
 use Rattle.mcs_window.specs.Inbox.{inbox, news, signals_between}
 use Rattle.mcs_window.proofs.Boxes.{out_of_turn}
-use Rattle.mcs_window.proofs.Joins.{inbox-joined, news-are}
+use Rattle.mcs_window.proofs.Joins.{inbox-joined}
+use Rattle.mcs_window.proofs.News.{news-are}
 
 pub put_all-append : (mails more held : List Mail) → put_all (mails ++ more) held ≡ put_all more (put_all mails held)
 put_all-append [] more held = refl

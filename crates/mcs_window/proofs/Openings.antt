@@ -16,7 +16,7 @@ use Rattle.mcs_window.specs.Kept.{IsKept}
 use Rattle.mcs_window.specs.Opening.{AreOpening, AreEmptyBoxes, AreEmptyRows}
 use Rattle.mcs_window.specs.Stretch.{StandsAt, rows_between}
 use Rattle.mcs_window.specs.declared.cores.Cores.TheInside.{Inside}
-use Rattle.mcs_window.proofs.Joins.{from_inbox}
+use Rattle.mcs_window.proofs.Inboxes.{from_inbox}
 use Rattle.mcs_window.proofs.Ranges.{rows-none}
 
 pub empty_boxes-more : (many : ℕ) (boxes more : List Content) (box : Content) → AreEmptyBoxes many boxes → box.mails ≡ [] → more ≡ boxes ++ box ∷ [] → AreEmptyBoxes (many + 1) more

@@ -1,4 +1,4 @@
-use Rattle.std.proofs.Common.{◌≡◌, ◌∙◌, ap, subst, sym, All}
+use Rattle.std.proofs.Common.{◌∙◌, ap, subst, sym, All}
 use Rattle.std.proofs.lemmas.List.Elements.{All-push}
 use Rattle.mcs_merge.specs.Merge.{DoNotFall}
 use Rattle.mcs_window.specs.Progress.{Progress, clock_of, taken_of}
