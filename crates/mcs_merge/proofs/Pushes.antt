@@ -2,6 +2,7 @@
 use Rattle.std.proofs.Common.{ℕ, ◌≤◌, List, [], ◌∷◌, ◌++◌, arith}
 use Rattle.mcs_ticks.specs.declared.row.Row.{Row}
 use Rattle.mcs_merge.specs.Merge.{AreFrom, DoNotFall}
+use Rattle.mcs_merge.proofs.Joins.{AreFrom-earlier}
 
 -- no moment of the rows is above this one
 abbrev pub AreUntil : ℕ → List Row → Type 0
@@ -20,15 +21,11 @@ AreFrom-append : (t : ℕ) (rows more : List Row) → AreFrom t rows → AreFrom
 AreFrom-append t [] more h k = k
 AreFrom-append t (row ∷ rows) more h k = (h.0, AreFrom-append t rows more h.1 k)
 
-AreFrom-past : (t u : ℕ) (rows : List Row) → t ≤ u → AreFrom u rows → AreFrom t rows
-AreFrom-past t u [] l h = tt
-AreFrom-past t u (row ∷ rows) l h = (let first = h.0 in omega arith, AreFrom-past t u rows l h.1)
-
 -- rows until a moment, and then rows from it on
 pub DoNotFall-append : (t : ℕ) (rows more : List Row) → DoNotFall rows → AreUntil t rows → DoNotFall more → AreFrom t more → DoNotFall (rows ++ more)
 DoNotFall-append t [] more h k i j = i
 DoNotFall-append t (row ∷ rows) more h k i j =
-    (AreFrom-append row.moment rows more h.0 (AreFrom-past row.moment t more k.0 j), DoNotFall-append t rows more h.1 k.1 i j)
+    (AreFrom-append row.moment rows more h.0 (AreFrom-earlier row.moment t more k.0 j), DoNotFall-append t rows more h.1 k.1 i j)
 
 -- one more row, at this moment or later
 pub DoNotFall-push : (t : ℕ) (rows : List Row) (row : Row) → DoNotFall rows → AreUntil t rows → t ≤ row.moment → DoNotFall (rows ++ row ∷ [])

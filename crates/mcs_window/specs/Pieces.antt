@@ -1,5 +1,5 @@
 -- A piece of a core's work, and what it is when it is done, as contracts see them.
-use Rattle.std.specs.Prelude.{◌≡◌, ℕ, ◌+◌, ◌<◌, ◌≤◌, ◌^◌, List}
+use Rattle.std.specs.Prelude.{◌≡◌, ℕ, ◌+◌, ◌<◌, ◌≤◌, ◌^◌, List, slice_index}
 use Rattle.mcs_ticks.specs.declared.row.Row.{Row}
 use Rattle.mcs_mail.specs.declared.mail.Mail.{Mail}
 use Rattle.mcs_mail.specs.Box.{Content}
@@ -28,12 +28,13 @@ pub record Outcome : Type 0 where
   pub out : List Mail
   pub mail : Content
 
--- the moments from `first` to before `past`, which the clocks in `front` allow
+-- the moments from `first` to before `past`, which the clocks in `front` allow; it has 0 past the last core
 pub record IsStretch (system : System) (core first past : ℕ) (front : List ℕ) : Type 0 where
   pub known : core < system.cores
   pub in_order : first ≤ past
   pub in_time : past ≤ 2 ^ 40 + 1
   pub reached : IsReachedBy system core past front
+  pub idle : (b : ℕ) → system.cores ≤ b → slice_index front b ≡ 0
 
 -- what stands before the stretch, and what stands after it
 pub record IsWork (work : Work) : Type 0 where

@@ -24,7 +24,7 @@ pub struct Piece {
     /// The signals for the core that the cores made before their moments in `front` and that arrive at `first` or later.
     pub mail: Mailbox,
     // For the rows and signals that the turns make.
-    alloc: Global,
+    pub(crate) alloc: Global,
 }
 
 impl Model for Piece {
