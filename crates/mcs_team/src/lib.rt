@@ -1,2 +1,15 @@
 //! Whole simulations.
 #![tactic(auto)]
+
+mod alone;
+mod fault;
+mod snapshot;
+#[cfg(test)]
+mod tests;
+mod whole;
+mod windows;
+
+pub use alone::simulate_alone;
+pub use fault::SimFault;
+pub use snapshot::probe;
+pub use whole::Whole;

@@ -1,13 +1,13 @@
 -- The rows of the cores, each in order of its moments, merge into the schedule.
 use Rattle.std.proofs.Common.{◌≡◌, ◌≢◌, ℕ, zero, suc, ◌+◌, ◌-◌, ◌<◌, ◌≤◌, Bool, true, false, cond, List, [], ◌∷◌, ◌++◌, map, refl, sym, ap, ◌∙◌, append-nil, arith}
-use Rattle.std.specs.Prelude.{filter, flat_map, ◌==◌, nat_lt}
+use Rattle.std.specs.Prelude.{flat_map, ◌==◌, nat_lt}
 use Rattle.std.specs.List.{range_with_len}
 use Rattle.std.proofs.lemmas.Bool.Decides.{nat_tests}
 use Rattle.std.proofs.lemmas.List.Elements.{filter-append}
 use Rattle.std.proofs.lemmas.List.Folds.{flat_map-map}
 use Rattle.mcs_ticks.specs.declared.row.Row.{Row}
 use Rattle.mcs_ticks.specs.declared.row.What.{What}
-use Rattle.mcs_merge.specs.Merge.{rows_at, merged, AreFrom, DoNotFall, AreMerged}
+use Rattle.mcs_merge.specs.Merge.{rows_at, AreFrom, DoNotFall}
 use Rattle.mcs_merge.proofs.Joins.{AreFrom-earlier}
 use Rattle.mcs_merge.proofs.Pushes.{AreUntil, DoNotFall-append}
 use Rattle.mcs_merge.proofs.Merges.{merged-is}

@@ -1,0 +1,67 @@
+-- The cores of a window, one after another.
+use Rattle.std.proofs.Common.{◌≡◌, ◌≢◌, ℕ, ◌+◌, ◌<◌, ◌≤◌, Bool, true, false, length, inl, inr, refl, sym, ap, ◌∙◌, subst, arith}
+use Rattle.std.specs.Prelude.{nat_lt, slice_index}
+use Rattle.std.proofs.lemmas.Bool.Decides.{eqb_tells, nat_tests}
+use Rattle.std.proofs.lemmas.List.{get_or-set_same, get_or-set_other, length-set}
+use Rattle.mcs_core.specs.System.{System, delay_between}
+use Rattle.mcs_window.specs.Progress.{Progress, clock_of, advanced}
+use Rattle.mcs_window.specs.Stretch.{IsReachedBy}
+use Rattle.mcs_team.specs.Windows.{AllAt, AreAllowed, AreBetween}
+
+pub between-reached : (start : Progress) (past n : ℕ) (progress : Progress) → AreAllowed start past → n < start.system.cores → AreBetween start past n progress →
+    IsReachedBy progress.system n past progress.clocks
+between-reached start past n progress allowed l so_far b known other = by (nat_lt b n) refl
+  where
+    delay : delay_between progress.system b n ≡ delay_between start.system b n
+    delay = ap (λ system. delay_between system b n) so_far.system_is
+
+    there : b < start.system.cores
+    there = let e = ap (λ (system : System). system.cores) so_far.system_is in omega arith
+
+    by : (u : Bool) → nat_lt b n ≡ u → past ≤ slice_index progress.clocks b + delay_between progress.system b n
+    by true e =
+        let k : b < n = grind (arith, nat_tests) in
+        let clock : slice_index progress.clocks b ≡ past = so_far.done b k in
+        omega arith
+    by false e =
+        let k : n ≤ b = grind (arith, nat_tests) in
+        let clock : slice_index progress.clocks b ≡ slice_index start.clocks b = so_far.left b k in
+        let reach : past ≤ slice_index start.clocks b + delay_between start.system b n = allowed.reached n l b there other in
+        let same = delay in
+        omega arith
+
+pub between-more : (start : Progress) (past n : ℕ) (progress next : Progress) → AreAllowed start past → n < start.system.cores → AreBetween start past n progress → next ≡ advanced progress n past →
+    AreBetween start past (n + 1) next
+between-more start past n progress next allowed l so_far is =
+    subst (AreBetween start past (n + 1)) (sym is)
+    (record {
+      system_is = so_far.system_is;
+      horizon_is = so_far.horizon_is;
+      taken_is = so_far.taken_is;
+      many_are = length-set progress.clocks n past ∙ so_far.many_are;
+      done = done;
+      left = λ c k. get_or-set_other progress.clocks n c past 0 (let e : c ≢ n = omega arith in e) ∙ so_far.left c (omega arith);
+    })
+  where
+    there : n < length progress.clocks
+    there = let many = so_far.many_are in let all = allowed.many_are in omega arith
+
+    done : (c : ℕ) → c < n + 1 → clock_of (advanced progress n past) c ≡ past
+    done c k = elim (eqb_tells c n) [
+      | inl e ↦ ap (λ d. clock_of (advanced progress n past) d) e.1 ∙ get_or-set_same progress.clocks n past 0 there
+      | inr e ↦ get_or-set_other progress.clocks n c past 0 e.1 ∙ so_far.done c (let f = e.1 in omega arith)
+    ]
+
+pub all-between : (start : Progress) (past : ℕ) (progress : Progress) → AreAllowed start past → AreBetween start past start.system.cores progress → AllAt start.system start.horizon past progress
+all-between start past progress allowed so_far =
+    record { system_is = so_far.system_is; horizon_is = so_far.horizon_is; many_are = so_far.many_are ∙ allowed.many_are; clocks_are = so_far.done }
+
+-- a window that is no longer than the delay, or of a core that is alone
+pub all-allowed : (progress : Progress) (first past : ℕ) → AllAt progress.system progress.horizon first progress → first ≤ past → (2 ≤ progress.system.cores → past ≤ first + progress.system.delay) →
+    AreAllowed progress past
+all-allowed progress first past at l reach =
+    record {
+      many_are = at.many_are;
+      not_back = λ c k. let clock = at.clocks_are c k in omega arith;
+      reached = λ c k b h other. let clock = at.clocks_are b h in let far = reach (omega arith) in omega arith;
+    }

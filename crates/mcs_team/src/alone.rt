@@ -1,0 +1,48 @@
+ghost use Rattle.std.specs.Prelude.{◌≡◌, ◌≤◌, ◌+◌, ◌^◌, IfOk};
+ghost use Rattle.std.specs.Arc.{arc_value};
+ghost use Rattle.mcs_core.specs.Clock.{schedule};
+ghost use Rattle.mcs_merge.specs.Lists.{rows_of_lists};
+ghost use Rattle.mcs_window.specs.Merging.{rows_of_cores};
+ghost use Rattle.mcs_team.specs.Windows.{AllAt, AreUntaken};
+
+use crate::windows::Windows;
+use crate::{SimFault, Whole};
+use mcs_core::System;
+use mcs_merge::merge;
+use mcs_ticks::{CoreId, NoMemory, Row, Sequence, Tick};
+use mcs_window::{Cores, rows_merge};
+use std::alloc::Global;
+use std::sync::Arc;
+
+/// The whole simulation up to the horizon, at most 2^40, on this thread. The cores go in windows of `delay` moments, and one core alone
+/// in one window: no signal of a window arrives before the next.
+pub fn simulate_alone(alloc: Global, system: Arc<System>, horizon: Tick) -> Result<Whole, SimFault>
+    requires { horizon ≤ 2 ^ 40 }
+    ensures { IfOk result (λ whole. whole.rows ≡ schedule (arc_value system) horizon) }
+{
+    let windows = Windows::of(&system, horizon);
+    let mut cores = Cores::new(alloc, system, horizon)?;
+    windows.run_all(&mut cores)?;
+    let lists = all_rows(alloc, &mut cores, windows.cores)?;
+    let rows = merge(alloc, lists)?;
+    rows_merge();
+    Ok(Whole {
+        rows: Sequence::new(rows),
+    })
+}
+
+// The rows of each core, from moment 0 to the horizon.
+fn all_rows(alloc: Global, cores: &mut Cores, many: usize) -> Result<Vec<Vec<Row>>, NoMemory>
+    requires many { many ≡ cores.old.system.cores }
+    requires at_end { AllAt cores.old.system cores.old.horizon (cores.old.horizon + 1) cores.old }
+    requires untaken { AreUntaken cores.old.system cores.old }
+    ensures { IfOk result (λ lists. rows_of_lists lists.items ≡ rows_of_cores cores.old.system cores.old.horizon) }
+{
+    let mut lists = Vec::with_capacity(alloc, many)?;
+    for number in 0..many {
+        let core = CoreId(number);
+        let rows = cores.take_rows(core);
+        lists.push(rows)?;
+    }
+    Ok(lists)
+}

@@ -1,0 +1,24 @@
+ghost use Rattle.std.specs.Prelude.{◌≡◌, ◌≤◌, ◌+◌, ◌^◌, IfOk};
+ghost use Rattle.std.specs.Arc.{arc_value};
+ghost use Rattle.mcs_window.specs.Views.{views_before};
+
+use crate::SimFault;
+use crate::windows::Windows;
+use mcs_control::ContextView;
+use mcs_core::System;
+use mcs_ticks::Tick;
+use mcs_window::Cores;
+use std::alloc::Global;
+use std::sync::Arc;
+
+/// All contexts in file order as they are after all turns of moment `t`, which is at most 2^40. It knows no horizon.
+pub fn probe(alloc: Global, system: Arc<System>, t: Tick) -> Result<Vec<ContextView>, SimFault>
+    requires { t ≤ 2 ^ 40 }
+    ensures { IfOk result (λ views. views.items ≡ views_before (arc_value system) (t + 1)) }
+{
+    let windows = Windows::of(&system, t);
+    let mut cores = Cores::new(alloc, system, t)?;
+    windows.pass_all(&mut cores)?;
+    let views = cores.contexts(alloc)?;
+    Ok(views)
+}

@@ -1,0 +1,3 @@
+mod orders;
+mod sketch;
+mod whole;

@@ -1,0 +1,119 @@
+ghost use Rattle.std.specs.Prelude.{◌≡◌, ◌≤◌, ◌<◌, ◌+◌, ◌^◌, IfOk, OnOk, false};
+ghost use Rattle.mcs_core.specs.WellFormed.{IsWellFormed};
+ghost use Rattle.mcs_team.specs.Windows.{AllAt, AreAllowed, AreFor, AreOf};
+
+use mcs_core::System;
+use mcs_ticks::{CoreId, NoMemory, Tick};
+use mcs_window::Cores;
+
+/// What does not change while a system is simulated in windows.
+#[derive(Drop)]
+pub(crate) struct Windows {
+    /// How many cores there are.
+    pub cores: usize,
+    /// How long a signal is under way, in ticks: how long a window is, unless there is one core.
+    pub delay: u64,
+    /// The moment after the last.
+    pub end: Tick,
+}
+
+impl Windows {
+    /// Those of a system up to a horizon.
+    pub(crate) fn of(system: &System, horizon: Tick) -> Self
+        requires { horizon ≤ 2 ^ 40 }
+        ensures windows { AreOf result system.now horizon }
+        ensures well_formed { IsWellFormed system.now }
+    {
+        let parts = system.parts();
+        Windows {
+            cores: parts.cores,
+            delay: parts.delay,
+            end: horizon.plus(1).unwrap_or(horizon),
+        }
+    }
+
+    // Where the window that begins at `first` ends.
+    fn past(&self, first: Tick) -> Tick
+        requires { first < self.now.end }
+        ensures later { (1 ≤ self.now.delay) → first < result }
+        ensures in_time { result ≤ self.now.end }
+        ensures reached { (2 ≤ self.now.cores) → result ≤ first + self.now.delay }
+    {
+        if self.cores < 2 || self.end.get() - first.get() <= self.delay {
+            return self.end;
+        }
+        first.plus(self.delay).unwrap_or(self.end)
+    }
+
+    // Each core takes its turns of the window that begins at `first`. Answers where it ends.
+    pub(crate) fn run(&self, cores: &mut Cores, first: Tick) -> Result<Tick, NoMemory>
+        requires windows { AreFor self.now cores.old }
+        requires first { first < self.now.end }
+        requires at_first { AllAt cores.old.system cores.old.horizon first cores.old }
+        ensures at_past { IfOk result (λ past. AllAt cores.old.system cores.old.horizon past cores.new) }
+        ensures later { IfOk result (λ past. first < past) }
+        ensures in_time { IfOk result (λ past. past ≤ self.now.end) }
+        ensures taken { OnOk result (cores.new.taken ≡ cores.old.taken) }
+    {
+        let past = self.past(first);
+        let many = self.cores;
+        advance_all(cores, many, past)?;
+        Ok(past)
+    }
+
+    /// All windows from moment 0 on.
+    pub(crate) fn run_all(&self, cores: &mut Cores) -> Result<(), NoMemory>
+        requires windows { AreFor self.now cores.old }
+        requires at_first { AllAt cores.old.system cores.old.horizon 0 cores.old }
+        ensures at_end { OnOk result (AllAt cores.old.system cores.old.horizon self.now.end cores.new) }
+        ensures taken { OnOk result (cores.new.taken ≡ cores.old.taken) }
+    {
+        let mut first = Tick::ZERO;
+        let end = self.end;
+        'windows: while first < end {
+            first = self.run(cores, first)?;
+        }
+        Ok(())
+    }
+
+    /// All windows from moment 0 on. No rows are kept.
+    pub(crate) fn pass_all(&self, cores: &mut Cores) -> Result<(), NoMemory>
+        requires windows { AreFor self.now cores.old }
+        requires at_first { AllAt cores.old.system cores.old.horizon 0 cores.old }
+        ensures at_end { OnOk result (AllAt cores.old.system cores.old.horizon self.now.end cores.new) }
+    {
+        let end = self.end;
+        let mut first = Tick::ZERO;
+        'windows: while first < end {
+            first = self.run(cores, first)?;
+            drop_rows(cores, self.cores);
+        }
+        Ok(())
+    }
+}
+
+// Each core takes its turns up to before `past`, which the clocks of all allow.
+fn advance_all(cores: &mut Cores, many: usize, past: Tick) -> Result<(), NoMemory>
+    requires many { many ≡ cores.old.system.cores }
+    requires in_time { past ≤ cores.old.horizon + 1 }
+    requires at_one { AreAllowed cores.old past }
+    ensures at_past { OnOk result (AllAt cores.old.system cores.old.horizon past cores.new) }
+    ensures taken { OnOk result (cores.new.taken ≡ cores.old.taken) }
+{
+    for number in 0..many {
+        let core = CoreId(number);
+        cores.advance(core, past)?;
+    }
+    Ok(())
+}
+
+// Takes all rows, which nobody wants.
+fn drop_rows(cores: &mut Cores, many: usize)
+    requires { many ≡ cores.old.system.cores }
+    ensures { cores.new ≡ record cores.old { taken = cores.new.taken } }
+{
+    for number in 0..many {
+        let core = CoreId(number);
+        let _rows = cores.take_rows(core);
+    }
+}

@@ -1,0 +1,136 @@
+-- Signals that are put into the boxes of their homes make the inboxes of the later clocks.
+use Rattle.std.proofs.Common.{◌≡◌, ◌≢◌, ℕ, zero, suc, ◌+◌, ◌-◌, ◌<◌, ◌≤◌, Bool, true, false, ◌&&◌, cond, List, [], ◌∷◌, ◌++◌, length, get_or, set, take, refl, sym, ap, ◌∙◌, arith, append-nil}
+use Rattle.std.specs.Prelude.{filter, flat_map, ◌==◌, nat_le, slice_index}
+use Rattle.std.specs.List.{range_with_len}
+use Rattle.std.proofs.lemmas.Bool.Decides.{nat_tests}
+use Rattle.std.proofs.lemmas.List.{get_or-set_same, get_or-set_other, get_or_default, length-set, take_more}
+use Rattle.std.proofs.lemmas.List.Elements.{filter-append}
+use Rattle.mcs_ticks.specs.Queue.{by_priority}
+use Rattle.mcs_mail.specs.declared.mail.Mail.{Mail}
+use Rattle.mcs_mail.specs.Box.{Content, put, put_all}
+use Rattle.mcs_core.specs.System.{System, note_part, delay_between, TakesTime}
+use Rattle.mcs_core.specs.Clock as clocks
+use Rattle.mcs_core.proofs.Mails as mails
+use Rattle.mcs_window.specs.Delivery.{is_home, AreDelivered}
+use Rattle.mcs_window.specs.Stretch.{IsReachedBy}
+use Rattle.mcs_window.specs.Inbox as boxes
+use Rattle.mcs_window.specs.Inbox.{inbox, news, signals_between}
+use Rattle.mcs_window.proofs.Boxes.{out_of_turn}
+use Rattle.mcs_window.proofs.Joins.{inbox-joined}
+use Rattle.mcs_window.proofs.News.{news-are}
+
+pub put_all-append : (mails more held : List Mail) → put_all (mails ++ more) held ≡ put_all more (put_all mails held)
+put_all-append [] more held = refl
+put_all-append (first ∷ mails) more held = put_all-append mails more (put first held)
+
+-- one more signal is put into the box of its home
+pub delivered-more : (system : System) (signals : List Mail) (i h : ℕ) (mail : Mail) (before boxes : List Content) (new held : Content) → AreDelivered system (take i signals) before boxes →
+    i < length signals → mail ≡ get_or signals i mail → h ≡ (note_part system mail.note).core → h < length before → held ≡ get_or boxes h held → new.mails ≡ put mail held.mails →
+    AreDelivered system (take (i + 1) signals) before (set boxes h new)
+delivered-more system signals i h mail before boxes new held so_far l is home known at puts =
+    record { many = length-set boxes h new ∙ so_far.many; each = λ c x k. rw (takes, filter-append, put_all-append) (by c x k (h == c) refl) }
+  where
+    takes : take (i + 1) signals ≡ take i signals ++ mail ∷ []
+    takes = take_more signals i mail l ∙ ap (λ m. take i signals ++ m ∷ []) (sym is)
+
+    there : h < length boxes
+    there = let many = so_far.many in omega arith
+
+    same_test : (c : ℕ) → (h == c) ≡ ((note_part system mail.note).core == c)
+    same_test c = ap (λ home. home == c) home
+
+    own : (c : ℕ) (x : Content) → c < length before → h ≡ c → (get_or (set boxes h new) c x).mails ≡ put mail (put_all (filter (is_home system c) (take i signals)) (get_or before c x).mails)
+    own c x k e =
+        let got : get_or (set boxes h new) c x ≡ new = ap (λ j. get_or (set boxes h new) j x) (sym e) ∙ get_or-set_same boxes h new x there in
+        let had : held ≡ get_or boxes c x = at ∙ get_or_default boxes h held x there ∙ ap (λ j. get_or boxes j x) e in
+        ap (λ (y : Content). y.mails) got ∙ puts ∙ ap (λ (y : Content). put mail y.mails) had ∙ ap (put mail) (so_far.each c x k)
+
+    other : (c : ℕ) (x : Content) → c < length before → h ≢ c → (get_or (set boxes h new) c x).mails ≡ put_all (filter (is_home system c) (take i signals)) (get_or before c x).mails
+    other c x k e = ap (λ (y : Content). y.mails) (get_or-set_other boxes h c new x (λ f. e (sym f))) ∙ so_far.each c x k
+
+    by : (c : ℕ) (x : Content) → c < length before → (u : Bool) → (h == c) ≡ u →
+        (get_or (set boxes h new) c x).mails ≡ put_all (filter (is_home system c) (mail ∷ [])) (put_all (filter (is_home system c) (take i signals)) (get_or before c x).mails)
+    by c x k true e =
+        let f : h ≡ c = grind (arith, nat_tests) in
+        rw (← same_test c, e) (own c x k f)
+    by c x k false e =
+        let f : h ≢ c = grind (arith, nat_tests) in
+        rw (← same_test c, e) (other c x k f)
+
+flat_map-same : (f g : ℕ → List Mail) (n a : ℕ) → ((i : ℕ) → a ≤ i → i < a + n → f i ≡ g i) → flat_map f (range_with_len a n) ≡ flat_map g (range_with_len a n)
+flat_map-same f g zero a h = refl
+flat_map-same f g (suc n) a h = both _ _ _ _ (h a (omega arith) (omega arith)) (flat_map-same f g n (a + 1) (λ i p q. h i (omega arith) (omega arith)))
+  where
+    both : (xs ys us vs : List Mail) → xs ≡ ys → us ≡ vs → xs ++ us ≡ ys ++ vs
+    both xs ys us vs e f = cc
+
+filter-flat_map : (p : Mail → Bool) (f : ℕ → List Mail) (n a : ℕ) → filter p (flat_map f (range_with_len a n)) ≡ flat_map (λ i. filter p (f i)) (range_with_len a n)
+filter-flat_map p f zero a = refl
+filter-flat_map p f (suc n) a =
+    filter-append p (f a) (flat_map f (range_with_len (a + 1) n)) ∙ ap (λ xs. filter p (f a) ++ xs) (filter-flat_map p f n (a + 1))
+
+-- of many parts all but one are empty
+pub flat_map-one : (f : ℕ → List Mail) (c n a : ℕ) → a ≤ c → c < a + n → ((i : ℕ) → i ≢ c → f i ≡ []) → flat_map f (range_with_len a n) ≡ f c
+flat_map-one f c zero a l h none = absurd (omega arith)
+flat_map-one f c (suc n) a l h none = by (c == a) refl (λ m. flat_map-one f c n (a + 1) m (omega arith) none)
+  where
+    others : c ≡ a → flat_map f (range_with_len (a + 1) n) ≡ []
+    others e = all_empty n (a + 1) (omega arith)
+      where
+        all_empty : (n b : ℕ) → c < b → flat_map f (range_with_len b n) ≡ []
+        all_empty zero b l = refl
+        all_empty (suc n) b l = let other : b ≢ c = omega arith in rw (none b other) (all_empty n (b + 1) (omega arith))
+
+    first : c ≡ a → f a ≡ f c
+    first e = ap f (sym e)
+
+    both : (xs ys us : List Mail) → xs ≡ us → ys ≡ [] → xs ++ ys ≡ us
+    both xs ys us e g = rw (e, g) (append-nil us)
+
+    by : (b : Bool) → (c == a) ≡ b → (a + 1 ≤ c → flat_map f (range_with_len (a + 1) n) ≡ f c) → f a ++ flat_map f (range_with_len (a + 1) n) ≡ f c
+    by true e i =
+        let g : c ≡ a = grind (arith, nat_tests) in
+        both (f a) (flat_map f (range_with_len (a + 1) n)) (f c) (first g) (others g)
+    by false e i =
+        let g : a ≢ c = grind (arith, nat_tests) in
+        rw (none a g) (i (omega arith))
+
+module _ (system : System) where
+  -- the signals that each core makes from its moment in `front` to before that in `later`
+  abbrev pub signals_from : List ℕ → List ℕ → List Mail
+  signals_from front later = flat_map (λ b. signals_between system b (slice_index front b) (slice_index later b)) (range_with_len 0 system.cores)
+
+  late : (c past : ℕ) (front : List ℕ) (b m : ℕ) → b < system.cores → IsReachedBy system c past front → slice_index front b ≤ m →
+      (ms : List Mail) → mails.IsOutgoing by_priority system b m ms → filter (is_home system c) ms ≡ filter (boxes.is_for system c past) ms
+  late c past front b m h reached l [] k = refl
+  late c past front b m h reached l (mail ∷ []) k = by ((note_part system mail.note).core == c) refl
+    where
+      in_time : (note_part system mail.note).core ≡ c → nat_le past mail.arrives ≡ true
+      in_time e =
+          let other : b ≢ c = λ f. k.away (e ∙ sym f) in
+          let reach = reached b h other in
+          let arrives : mail.arrives ≡ m + delay_between system b c = k.arrives ∙ ap (λ home. m + delay_between system b home) e in
+          grind (arith, nat_tests)
+
+      by : (u : Bool) → ((note_part system mail.note).core == c) ≡ u → cond u (mail ∷ []) [] ≡ cond (u && nat_le past mail.arrives) (mail ∷ []) []
+      by true e =
+          let same : (note_part system mail.note).core ≡ c = grind (arith, nat_tests) in
+          rw (in_time same) refl
+      by false e = refl
+  late c past front b m h reached l (mail ∷ next ∷ ms) k = absurd k
+
+  -- what is at home at c arrives no earlier than the clocks allow
+  pub home-news : (c past : ℕ) (front later : List ℕ) → IsReachedBy system c past front → filter (is_home system c) (signals_from front later) ≡ news system c past front later
+  home-news c past front later reached =
+      filter-flat_map (is_home system c) (λ b. signals_between system b (slice_index front b) (slice_index later b)) system.cores 0
+      ∙ flat_map-same _ _ system.cores 0 (λ b _ h.
+      filter-flat_map (is_home system c) (λ m. (clocks.turn_of system b m).mails) (slice_index later b - slice_index front b) (slice_index front b)
+      ∙ flat_map-same _ _ (slice_index later b - slice_index front b) (slice_index front b) (λ m l _. late c past front b m (omega arith) reached l (clocks.turn_of system b m).mails (out_of_turn system 0 [] b m))
+      ∙ sym (filter-flat_map (boxes.is_for system c past) (λ m. (clocks.turn_of system b m).mails) (slice_index later b - slice_index front b) (slice_index front b)))
+
+  -- so an inbox with them is the inbox by the later clocks
+  pub inbox-delivered : TakesTime system → (c past : ℕ) (front later : List ℕ) → boxes.Rises system front later → IsReachedBy system c past front →
+      put_all (filter (is_home system c) (signals_from front later)) (inbox system c past front) ≡ inbox system c past later
+  inbox-delivered takes_time c past front later rises reached =
+      ap (λ ms. put_all ms (inbox system c past front)) (home-news c past front later reached)
+      ∙ inbox-joined system takes_time c past front later (news system c past front later) rises (news-are system c past front later)

@@ -1,0 +1,122 @@
+-- What `Cores` keeps, after a core's turns and after want of memory.
+use Rattle.std.proofs.Common.{◌≡◌, ℕ, ◌+◌, ◌<◌, ◌≤◌, true, false, List, [], ◌++◌, length, Vec, get_or, set, inl, inr, sym, ap, ◌∙◌, subst, arith}
+use Rattle.std.specs.Prelude.{slice_index}
+use Rattle.std.specs.Arc.{arc_value}
+use Rattle.std.specs.Vec.{with_item, with_items}
+use Rattle.std.specs.declared.alloc.Global.{Global}
+use Rattle.std.proofs.lemmas.Bool.Decides.{eqb_tells}
+use Rattle.std.proofs.lemmas.List.{get_or-set_same, get_or-set_other, length-set, with_items_is}
+use Rattle.mcs_ticks.specs.declared.row.Row.{Row}
+use Rattle.mcs_mail.specs.declared.mail.Mail.{Mail}
+use Rattle.mcs_mail.specs.Box.{Content}
+use Rattle.mcs_core.specs.System.{System}
+use Rattle.mcs_core.specs.State.{State, Fits, made_by, state_after}
+use Rattle.mcs_window.specs.Delivery.{AreDelivered}
+use Rattle.mcs_window.specs.Kept.{AreHere, AreWhole, IsKept}
+use Rattle.mcs_window.specs.Stretch.{StandsAt, rows_between, IsReachedBy, IsAfter}
+use Rattle.mcs_window.specs.declared.cores.Cores.TheInside.{Inside}
+use Rattle.mcs_window.proofs.Deliveries.{signals_from}
+use Rattle.mcs_window.proofs.Advances.{ran_here, state_here, signals_own, here_later, kept_later}
+
+-- what a core has made, its turns taken
+pub record HasRun (system : System) (to : ℕ) (state after : State) (box left : Content) (fresh rows : List Row) (signals made : List Mail) : Type 0 where
+  pub state_is : after ≡ state_after state to (made_by system state to box.mails)
+  pub fits : Fits system after
+  pub rows_are : rows ≡ fresh ++ (made_by system state to box.mails).rows
+  pub signals_are : made ≡ signals ++ (made_by system state to box.mails).mails
+  pub box_is : left.mails ≡ (made_by system state to box.mails).box
+
+module _ (a : Inside) (kept : IsKept a) where
+  abbrev system : System
+  system = arc_value a.system
+
+  pub boxes_are : (k : ℕ) (box : Content) (full : List Content) → length full ≡ length (set a.boxes.items k box) → (with_items (with_item a.boxes k box) full).items ≡ full
+  boxes_are k box full e = with_items_is (with_item a.boxes k box) full (let ok = (with_item a.boxes k box).ok.0 in omega arith)
+
+  -- the rows of a core stay, whatever became of its turns
+  pub spent_kept : (k : ℕ) (state : State) (box : Content) (full : List Content) (old new fresh : Vec Row Global) (signals : Vec Mail Global) → k < system.cores → length full ≡ length (set a.boxes.items k box) →
+      old ≡ get_or a.rows.items k old → new.items ≡ old.items →
+      IsKept (record a { states = with_item a.states k state; boxes = with_items (with_item a.boxes k box) full; rows = with_item a.rows k new; spent = true; fresh = fresh; signals = signals })
+  spent_kept k state box full old new fresh signals h many at same =
+      record {
+        horizon = kept.horizon;
+        well_formed = kept.well_formed;
+        states_of = length-set a.states.items k state ∙ kept.states_of;
+        boxes_of = ap length (boxes_are k box full many) ∙ many ∙ length-set a.boxes.items k box ∙ kept.boxes_of;
+        kept = record {
+          clocks_of = kept.kept.clocks_of;
+          taken_of = kept.kept.taken_of;
+          rows_of = length-set a.rows.items k new ∙ kept.kept.rows_of;
+          in_time = kept.kept.in_time;
+          in_order = kept.kept.in_order;
+          rows_are = rows_same;
+        };
+        whole = λ e. cc;
+      }
+    where
+      rows_same : (b : ℕ) (x : Vec Row Global) → b < system.cores → (get_or (set a.rows.items k new) b x).items ≡ rows_between system b (slice_index a.taken.items b) (slice_index a.clocks.items b)
+      rows_same b x p = elim (eqb_tells b k) [
+        | inl e ↦ ap (λ d. (get_or (set a.rows.items k new) d x).items) e.1 ∙ ap (λ (v : Vec Row Global). v.items) (get_or-set_same a.rows.items k new x (let all = kept.kept.rows_of in omega arith))
+            ∙ same ∙ ap (λ (v : Vec Row Global). v.items) at ∙ kept.kept.rows_are k old h
+            ∙ ap (λ d. rows_between system d (slice_index a.taken.items d) (slice_index a.clocks.items d)) (sym e.1)
+        | inr e ↦ ap (λ (v : Vec Row Global). v.items) (get_or-set_other a.rows.items k b new x e.1) ∙ kept.kept.rows_are b x p
+      ]
+
+  -- the core has taken its turns
+  pub advanced_kept : (k to : ℕ) (state after : State) (box left : Content) (full : List Content) (old new fresh empty : Vec Row Global) (signals none : Vec Mail Global) → a.spent ≡ false →
+      k < system.cores → slice_index a.clocks.items k ≤ to → to ≤ a.horizon + 1 → IsReachedBy system k to a.clocks.items →
+      state ≡ get_or a.states.items k state → box ≡ get_or a.boxes.items k box → HasRun system to state after box left a.fresh.items fresh.items a.signals.items signals.items →
+      AreDelivered system signals.items (set a.boxes.items k left) full → old ≡ get_or a.rows.items k old → new.items ≡ old.items ++ fresh.items → empty.items ≡ [] → none.items ≡ [] →
+      IsKept (record a {
+        clocks = with_item a.clocks k to;
+        states = with_item a.states k after;
+        boxes = with_items (with_item a.boxes k left) full;
+        rows = with_item a.rows k new;
+        spent = false;
+        fresh = empty;
+        signals = none;
+      })
+  advanced_kept k to state after box left full old new fresh empty signals none unspent h l in_time reached s_at b_at run delivered r_at more no_rows no_signals =
+      record {
+        horizon = kept.horizon;
+        well_formed = kept.well_formed;
+        states_of = length-set a.states.items k after ∙ kept.states_of;
+        boxes_of = ap length boxes_full ∙ delivered.many ∙ length-set a.boxes.items k left ∙ kept.boxes_of;
+        kept = kept_later system kept.well_formed a.clocks.items k to there a.horizon a.taken.items a.rows.items kept.kept h l in_time old new r_at rows_more;
+        whole = λ e. record { here = subst (λ boxes. AreHere system (set a.clocks.items k to) (set a.states.items k after) boxes) (sym boxes_full) here; no_rows = no_rows; no_signals = no_signals };
+      }
+    where
+      there : k < length a.clocks.items
+      there = let all = kept.kept.clocks_of in omega arith
+
+      whole : AreWhole system a.clocks.items a.states.items a.boxes.items a.fresh.items a.signals.items
+      whole = kept.whole unspent
+
+      stood : StandsAt system k (slice_index a.clocks.items k) state
+      stood = subst (StandsAt system k (slice_index a.clocks.items k)) (sym s_at) (whole.here.states_are k state h)
+
+      ran : IsAfter system k (slice_index a.clocks.items k) to a.clocks.items (made_by system state to box.mails)
+      ran =
+          ran_here system kept.well_formed k (slice_index a.clocks.items k) to a.clocks.items state box.mails stood
+          (ap (λ (y : Content). y.mails) b_at ∙ whole.here.boxes_are k box h) h l reached
+
+      fresh_is : fresh.items ≡ rows_between system k (slice_index a.clocks.items k) to
+      fresh_is = run.rows_are ∙ ap (λ xs. xs ++ (made_by system state to box.mails).rows) whole.no_rows ∙ ran.rows_are
+
+      signals_are : signals.items ≡ signals_from system a.clocks.items (set a.clocks.items k to)
+      signals_are =
+          run.signals_are ∙ ap (λ xs. xs ++ (made_by system state to box.mails).mails) whole.no_signals ∙ ran.out_is
+          ∙ signals_own system kept.well_formed a.clocks.items k to there h
+
+      rows_more : new.items ≡ old.items ++ rows_between system k (slice_index a.clocks.items k) to
+      rows_more = more ∙ ap (λ xs. old.items ++ xs) fresh_is
+
+      boxes_full : (with_items (with_item a.boxes k left) full).items ≡ full
+      boxes_full = boxes_are k left full delivered.many
+
+      here : AreHere system (set a.clocks.items k to) (set a.states.items k after) full
+      here =
+          here_later system kept.well_formed a.clocks.items k to there a.states.items a.boxes.items full whole.here h l reached kept.states_of kept.boxes_of after left
+          (state_here system kept.well_formed k (slice_index a.clocks.items k) to a.clocks.items state after (made_by system state to box.mails) stood l run.fits run.state_is ran)
+          (run.box_is ∙ ran.mail_is)
+          (subst (λ ms. AreDelivered system ms (set a.boxes.items k left) full) signals_are delivered)

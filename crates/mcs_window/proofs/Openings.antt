@@ -1,0 +1,131 @@
+-- At the beginning each core stands as the clock has it.
+use Rattle.std.proofs.Common.{◌≡◌, ℕ, zero, suc, ◌+◌, ◌<◌, ◌≤◌, ◌^◌, Bool, true, false, List, [], ◌∷◌, ◌++◌, length, map, replicate, get_or, inl, refl, sym, ap, ◌∙◌, subst, arith}
+use Rattle.std.specs.Prelude.{nat_lt, slice_index}
+use Rattle.std.specs.List.{range_with_len}
+use Rattle.std.specs.Arc.{arc_value}
+use Rattle.std.proofs.lemmas.Bool.Decides.{nat_tests}
+use Rattle.std.proofs.lemmas.List.{get_or_append_left, get_or_push, get_or-replicate, length_push, length-replicate}
+use Rattle.mcs_mail.specs.declared.mail.Mail.{Mail}
+use Rattle.mcs_mail.specs.Box.{Content, IsIn}
+use Rattle.mcs_core.specs.System.{System}
+use Rattle.mcs_core.specs.WellFormed.{IsWellFormed}
+use Rattle.mcs_core.specs.Core.{Core, opening_core}
+use Rattle.mcs_core.specs.State.{State, Fits, opening_state}
+use Rattle.mcs_window.specs.Inbox.{inbox}
+use Rattle.mcs_window.specs.Kept.{IsKept}
+use Rattle.mcs_window.specs.Opening.{AreOpening, AreEmptyBoxes, AreEmptyRows}
+use Rattle.mcs_window.specs.Stretch.{StandsAt, rows_between}
+use Rattle.mcs_window.specs.declared.cores.Cores.TheInside.{Inside}
+use Rattle.mcs_window.proofs.Inboxes.{from_inbox}
+use Rattle.mcs_window.proofs.Ranges.{rows-none}
+
+pub empty_boxes-more : (many : ℕ) (boxes more : List Content) (box : Content) → AreEmptyBoxes many boxes → box.mails ≡ [] → more ≡ boxes ++ box ∷ [] → AreEmptyBoxes (many + 1) more
+empty_boxes-more many boxes more box h empty e =
+    record { many_are = ap length e ∙ length_push boxes box ∙ ap (λ n. n + 1) h.many_are; each = λ c x l. ap (λ xs. (get_or xs c x).mails) e ∙ by c x l (nat_lt c many) refl }
+  where
+    by : (c : ℕ) (x : Content) → c < many + 1 → (u : Bool) → nat_lt c many ≡ u → (get_or (boxes ++ box ∷ []) c x).mails ≡ []
+    by c x l true f =
+        let below : c < many = grind (arith, nat_tests) in
+        ap (λ (y : Content). y.mails) (get_or_append_left boxes (box ∷ []) x c (let many_are = h.many_are in omega arith)) ∙ h.each c x below
+    by c x l false f =
+        let last : length boxes ≡ c = (let many_are = h.many_are in grind (arith, nat_tests)) in
+        ap (λ (y : Content). y.mails) (get_or_push boxes box x c last) ∙ empty
+
+pub opening-more : (system : System) (many : ℕ) (states more : List State) (state : State) → AreOpening system many states → state ≡ opening_state system many → Fits system state → more ≡ states ++ state ∷ [] →
+    AreOpening system (many + 1) more
+opening-more system many states more state h is fits e =
+    record {
+      many_are = ap length e ∙ length_push states state ∙ ap (λ n. n + 1) h.many_are;
+      each = λ c x l. ap (λ xs. get_or xs c x) e ∙ by c x l (nat_lt c many) refl;
+      fit = λ c x l. subst (λ xs. Fits system (get_or xs c x)) (sym e) (fit_by c x l (nat_lt c many) refl);
+    }
+  where
+    below : (c : ℕ) (x : State) → c < many → get_or (states ++ state ∷ []) c x ≡ get_or states c x
+    below c x l = get_or_append_left states (state ∷ []) x c (let many_are = h.many_are in omega arith)
+
+    last : (c : ℕ) (x : State) → c ≡ many → get_or (states ++ state ∷ []) c x ≡ state
+    last c x f = get_or_push states state x c (let many_are = h.many_are in omega arith)
+
+    by : (c : ℕ) (x : State) → c < many + 1 → (u : Bool) → nat_lt c many ≡ u → get_or (states ++ state ∷ []) c x ≡ opening_state system c
+    by c x l true f =
+        let k : c < many = grind (arith, nat_tests) in
+        below c x k ∙ h.each c x k
+    by c x l false f =
+        let k : c ≡ many = grind (arith, nat_tests) in
+        last c x k ∙ is ∙ ap (opening_state system) (sym k)
+
+    fit_by : (c : ℕ) (x : State) → c < many + 1 → (u : Bool) → nat_lt c many ≡ u → Fits system (get_or (states ++ state ∷ []) c x)
+    fit_by c x l true f =
+        let k : c < many = grind (arith, nat_tests) in
+        subst (Fits system) (sym (below c x k)) (h.fit c x k)
+    fit_by c x l false f =
+        let k : c ≡ many = grind (arith, nat_tests) in
+        subst (Fits system) (sym (last c x k)) fits
+
+none_in : (mails : List Mail) → ((mail : Mail) → IsIn mail mails → ⊥) → mails ≡ []
+none_in [] h = refl
+none_in (mail ∷ mails) h = absurd (h mail (inl refl))
+
+core_opening : (f : ℕ → Core) (n a c : ℕ) (d : Core) → c < n → get_or (map f (range_with_len a n)) c d ≡ f (a + c)
+core_opening f zero a c d l = absurd (omega arith)
+core_opening f (suc n) a zero d l = ap f (omega arith)
+core_opening f (suc n) a (suc c) d l = core_opening f n (a + 1) c d (omega arith) ∙ ap f (omega arith)
+
+module _ (system : System) where
+  pub opening_stands : (c : ℕ) (state : State) → c < system.cores → state ≡ opening_state system c → Fits system state → StandsAt system c 0 state
+  opening_stands c state l e fits =
+      record {
+        number_is = ap (λ (s : State). s.number) e;
+        clock_is = ap (λ (s : State). s.clock) e;
+        core_is = ap (λ (s : State). s.core) e ∙ sym (core_opening (opening_core system) system.cores 0 c (opening_core system c) l ∙ ap (opening_core system) (omega arith));
+        whole = ap (λ (s : State). s.failed) e;
+        fits = fits;
+      }
+
+  -- nothing is made before moment 0
+  pub inbox-opening : (c from : ℕ) (front : List ℕ) → ((b : ℕ) → b < system.cores → slice_index front b ≡ 0) → inbox system c from front ≡ []
+  inbox-opening c from front zeros =
+      none_in (inbox system c from front) (λ mail k.
+      let made = (from_inbox system c front from mail k).0 in
+      let never = zeros made.maker made.known in
+      omega (arith, made.before))
+
+zero_at : (n c : ℕ) → c < n → slice_index (replicate n 0) c ≡ 0
+zero_at n c l = get_or-replicate n c 0 0 l
+
+pub opened_kept : (a : Inside) → a.horizon ≤ 2 ^ 40 → IsWellFormed (arc_value a.system) → a.clocks.items ≡ replicate (arc_value a.system).cores 0 → a.taken.items ≡ replicate (arc_value a.system).cores 0 →
+    AreOpening (arc_value a.system) (arc_value a.system).cores a.states.items → AreEmptyBoxes (arc_value a.system).cores a.boxes.items → AreEmptyRows (arc_value a.system).cores a.rows.items →
+    a.fresh.items ≡ [] → a.signals.items ≡ [] → IsKept a
+opened_kept a in_time well clocks_are taken_are states boxes rows no_rows no_signals =
+    record {
+      horizon = in_time;
+      well_formed = well;
+      states_of = states.many_are;
+      boxes_of = boxes.many_are;
+      kept = record {
+        clocks_of = ap length clocks_are ∙ length-replicate (arc_value a.system).cores 0;
+        taken_of = ap length taken_are ∙ length-replicate (arc_value a.system).cores 0;
+        rows_of = rows.many_are;
+        in_time = λ c l. let e = clock c l in omega arith;
+        in_order = λ c l. let e = clock c l in let f = taken c l in omega arith;
+        rows_are = λ c x l. rows.each c x l ∙ sym (rows-none (arc_value a.system) c 0) ∙ both c (sym (taken c l)) (sym (clock c l));
+      };
+      whole = λ _. record {
+        here = record {
+          reached = λ c b l _ _. let e = clock c l in omega arith;
+          states_are = λ c x l. rw (clock c l) (opening_stands (arc_value a.system) c _ l (states.each c x l) (states.fit c x l));
+          boxes_are = λ c x l. boxes.each c x l ∙ sym (inbox-opening (arc_value a.system) c (slice_index a.clocks.items c) a.clocks.items clock);
+        };
+        no_rows = no_rows;
+        no_signals = no_signals;
+      };
+    }
+  where
+    clock : (c : ℕ) → c < (arc_value a.system).cores → slice_index a.clocks.items c ≡ 0
+    clock c l = ap (λ xs. slice_index xs c) clocks_are ∙ zero_at (arc_value a.system).cores c l
+
+    taken : (c : ℕ) → c < (arc_value a.system).cores → slice_index a.taken.items c ≡ 0
+    taken c l = ap (λ xs. slice_index xs c) taken_are ∙ zero_at (arc_value a.system).cores c l
+
+    both : (c : ℕ) {p q : ℕ} → 0 ≡ p → 0 ≡ q → rows_between (arc_value a.system) c 0 0 ≡ rows_between (arc_value a.system) c p q
+    both c e f = rw (← e, ← f) refl

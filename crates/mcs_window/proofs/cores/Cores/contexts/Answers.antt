@@ -1,0 +1,16 @@
+use Rattle.std.proofs.Common.{◌∙◌, ap}
+use Rattle.std.specs.Arc.{arc_value}
+use Rattle.mcs_core.specs.State.{opening_state}
+use Rattle.mcs_window.specs.Progress.{Progress}
+use Rattle.mcs_window.specs.Views.{views_at}
+use Rattle.mcs_window.proofs.Dealing.{views-here}
+use Rattle.mcs_window.proofs.cores.Cores.contexts.Goals as goal
+
+pub returns-clause-views : goal.returns-clause-views
+returns-clause-views c =
+    let a = c.self.inside in
+    let s = arc_value a.system in
+    let here = (c.self.invariant.whole c.if-self.false).here in
+    (rw (c.deref.ensures, c.deref-2.ensures.value) at (c.in_ok-views.ensures (opening_state s 0)))
+    ∙ views-here s c.self.invariant.well_formed a.clocks.items a.states.items a.boxes.items here (opening_state s 0)
+    ∙ ap (λ (p : Progress). views_at p.system p.clocks) c.self.view_is

@@ -1,0 +1,82 @@
+-- How far each core of a system has come: every core has a clock of its own, the next moment that it takes.
+use Rattle.std.specs.Prelude.{◌≡◌, ◌≢◌, ◌⊎◌, ℕ, suc, ◌+◌, ◌<◌, ◌≤◌, Bool, true, false, List, [], ◌∷◌, replicate, slice_index, slice_set}
+use Rattle.mcs_core.specs.System.{System, delay_between}
+use Rattle.mcs_window.specs.declared.fault.StepFault.{StepFault}
+use Rattle.mcs_window.specs.declared.fault.StepFault.TheVariants.{Ended, NotSafe, NoMemory}
+use Rattle.mcs_window.specs.Safe.{MayStep, IsSafe}
+
+-- the clocks, the clocks at the last taking of each core's rows, and whether there was no memory for a step
+pub record Progress : Type 0 where
+  pub system : System
+  pub horizon : ℕ
+  pub clocks : List ℕ
+  pub taken : List ℕ
+  pub spent : Bool
+
+abbrev pub clock_of : Progress → ℕ → ℕ
+clock_of progress c = slice_index progress.clocks c
+
+abbrev pub taken_of : Progress → ℕ → ℕ
+taken_of progress c = slice_index progress.taken c
+
+abbrev pub opening_progress : System → ℕ → Progress
+opening_progress system horizon =
+    record { system = system; horizon = horizon; clocks = replicate system.cores 0; taken = replicate system.cores 0; spent = false }
+
+-- core c comes to a later moment, or takes the turn at its clock
+abbrev pub advanced : Progress → ℕ → ℕ → Progress
+advanced progress c to = record progress { clocks = slice_set progress.clocks c to }
+
+abbrev pub stepped : Progress → ℕ → Progress
+stepped progress c = advanced progress c (suc (clock_of progress c))
+
+-- the rows of core c are taken
+abbrev pub with_taken : Progress → ℕ → Progress
+with_taken progress c = record progress { taken = slice_set progress.taken c (clock_of progress c) }
+
+-- there was no memory for a step
+abbrev pub with_spent : Progress → Progress
+with_spent progress = record progress { spent = true }
+
+-- a signal that core b still makes could reach core c at its clock
+pub record IsBehind (progress : Progress) (c b : ℕ) : Type 0 where
+  pub known : b < progress.system.cores
+  pub other : b ≢ c
+  pub reaches : clock_of progress b + delay_between progress.system b c ≤ clock_of progress c
+
+-- core b is the first that is behind
+pub record IsFirstBehind (progress : Progress) (c b : ℕ) : Type 0 where
+  pub behind : IsBehind progress c b
+  pub first : (d : ℕ) → d < b → ¬ IsBehind progress c d
+
+-- core c may step, and no want of memory was met before
+pub record IsReady (progress : Progress) (c : ℕ) : Type 0 where
+  pub whole : progress.spent ≡ false
+  pub may : MayStep progress.system progress.horizon progress.clocks c
+
+-- when each fault of a step comes, in this order of tests; there is no memory after it was wanted once
+abbrev pub IsFault : Progress → ℕ → StepFault → Type 0
+IsFault progress c Ended = (progress.spent ≡ false) × (clock_of progress c ≡ progress.horizon + 1)
+IsFault progress c (NotSafe b) = (progress.spent ≡ false) × (clock_of progress c ≤ progress.horizon) × IsFirstBehind progress c b
+IsFault progress c NoMemory = (progress.spent ≡ true) ⊎ IsReady progress c
+
+-- only want of memory changes anything
+abbrev pub after_fault : StepFault → Progress → Progress
+after_fault Ended progress = progress
+after_fault (NotSafe b) progress = progress
+after_fault NoMemory progress = with_spent progress
+
+-- the cores of the list take one turn each, in its order
+abbrev pub TakeTurns : Progress → List ℕ → Type 0
+TakeTurns progress [] = Unit {0}
+TakeTurns progress (c ∷ cs) = IsReady progress c × TakeTurns (stepped progress c) cs
+
+-- then the list is a safe order
+abbrev pub TurnsAreSafe : Type 0
+TurnsAreSafe = (progress : Progress) (cs : List ℕ) → TakeTurns progress cs → IsSafe progress.system progress.horizon progress.clocks cs
+
+-- a core that no other one is behind is not refused, unless it has taken its turn at the horizon
+abbrev pub TheLeastMayStep : System → Type 0
+TheLeastMayStep system =
+    (horizon : ℕ) (clocks : List ℕ) (c : ℕ) → c < system.cores → slice_index clocks c ≤ horizon →
+    ((b : ℕ) → b < system.cores → slice_index clocks c ≤ slice_index clocks b) → MayStep system horizon clocks c

@@ -1,0 +1,27 @@
+use mcs_ticks::{CoreId, NoMemory};
+use thiserror::Error;
+
+/// Why a core does not take its turn. The tests come in this order.
+#[derive(Clone, Copy, Debug, PartialEq, Eq, Error)]
+pub enum StepFault {
+    /// The core has taken its turn at the horizon.
+    #[error("the core is past the horizon")]
+    Ended,
+    /// A signal that this other core still makes could reach the core at its clock. It is the first such core.
+    #[error("core {} is behind", .0.0)]
+    NotSafe(CoreId),
+    /// There was no memory, now or at an earlier step.
+    #[error("no memory")]
+    NoMemory,
+}
+
+impl From<NoMemory> for StepFault {
+    ghost use Rattle.std.specs.Prelude.{◌≡◌};
+    ghost use Rattle.mcs_window.specs.declared.fault.StepFault.TheVariants as fault;
+
+    ghost from_gives = { λ _ given. given ≡ fault.NoMemory };
+
+    fn from(_refusal: NoMemory) -> Self {
+        StepFault::NoMemory
+    }
+}

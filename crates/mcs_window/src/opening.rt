@@ -1,0 +1,42 @@
+ghost use Rattle.std.specs.Prelude.{◌≡◌, IfOk, All, length, map};
+ghost use Rattle.mcs_window.specs.Opening.{AreOpening, AreEmptyBoxes, AreEmptyRows};
+
+use mcs_core::{CoreState, System};
+use mcs_mail::Mailbox;
+use mcs_ticks::{CoreId, NoMemory, Row};
+use std::alloc::Global;
+
+// The first state of each core.
+pub(crate) fn opening_states(alloc: Global, system: &System) -> Result<Vec<CoreState>, NoMemory>
+    ensures { IfOk result (λ states. AreOpening system.now system.now.cores states.items) }
+{
+    let cores = system.parts().cores;
+    let mut states = Vec::with_capacity(alloc, cores)?;
+    for core in 0..cores {
+        let state = CoreState::new(alloc, system, CoreId(core))?;
+        states.push(state)?;
+    }
+    Ok(states)
+}
+
+// As many empty boxes.
+pub(crate) fn empty_boxes(alloc: Global, cores: usize) -> Result<Vec<Mailbox>, NoMemory>
+    ensures { IfOk result (λ boxes. AreEmptyBoxes cores boxes.items) }
+{
+    let mut boxes = Vec::with_capacity(alloc, cores)?;
+    for _ in 0..cores {
+        boxes.push(Mailbox::new(alloc))?;
+    }
+    Ok(boxes)
+}
+
+// As many empty lists of rows.
+pub(crate) fn empty_rows(alloc: Global, cores: usize) -> Result<Vec<Vec<Row>>, NoMemory>
+    ensures { IfOk result (λ rows. AreEmptyRows cores rows.items) }
+{
+    let mut rows = Vec::with_capacity(alloc, cores)?;
+    for _ in 0..cores {
+        rows.push(Vec::new(alloc))?;
+    }
+    Ok(rows)
+}
