@@ -1,7 +1,7 @@
 -- What the command line makes of some words.
 use Rattle.std.proofs.Common.{◌≡◌, refl, true, codes, List, [], ◌∷◌, map, Some}
 use Rattle.std.specs.Borrow.{Bor}
-use Rattle.clap.specs.Words.{App, Text, fault_of, first_of, matches_of, takes, is_simple_and_free}
+use Rattle.clap.specs.Words.{App, Text, fault_of, first_of, matches_of, takes}
 use Rattle.clap.specs.declared.error.kind.ErrorKind.TheVariants as kind
 use Rattle.clap.proofs.OnLiterals.{clap_on_literals}
 use Rattle.mcs_cli.specs.CommandLine.{command_line, number_of, show_words, text_of}
@@ -43,11 +43,10 @@ twice : fault_of line (codes "--horizon=1" ∷ codes "--horizon=2" ∷ []) ≡ k
 unfolding clap_on_literals
 twice = refl
 
--- with a version, too
-with_version : is_simple_and_free (record line { top = record line.top { has_version = true } }) ≡ true
+no_version : fault_of line (codes "--version" ∷ []) ≡ kind.UnknownArgument ∷ []
 unfolding clap_on_literals
-with_version = refl
+no_version = refl
 
-version : fault_of (record line { top = record line.top { has_version = true } }) (codes "--version" ∷ []) ≡ kind.DisplayVersion ∷ []
+too_far : fault_of line (codes "--horizon" ∷ codes "1099511627777" ∷ []) ≡ kind.ValueValidation ∷ []
 unfolding clap_on_literals
-version = refl
+too_far = refl

@@ -53,6 +53,7 @@ module _ (shows : Bor (List (Bor Text))) where
   show_rule = record (new_rule (codes "show")) {
     long = Some (codes "show");
     action = Some Set;
+    value_names = 1;
     defaults = codes "schedule" ∷ [];
     parser = Some (parser.Names shows);
   }
@@ -114,6 +115,8 @@ IsFaultOf kinds fault.NoMemory = ⊤
 IsFaultOf kinds (fault.Help text) = IsAmong kind.DisplayHelp kinds
 IsFaultOf kinds (fault.Words text) = (k : ErrorKind) × (k ≡ kind.DisplayHelp → ⊥) × IsAmong k kinds
 
+-- What the words are answered: the values that the command line gives them, where they have no fault; where it takes them, nothing but
+-- want of memory; else help where help is among their faults, or the text of another of them.
 pub record IsAnswer (words : List Text) (r : Result Options WordsFault) : Type 0 where
   -- the names of what is shown, wherever they lie
   pub shows : Bor (List (Bor Text))

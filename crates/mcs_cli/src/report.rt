@@ -4,18 +4,14 @@ ghost use Rattle.mcs_cli.specs.Text.{after, core_line, reports_text, thread_line
 
 use crate::line::{append_counted, append_number, append_word};
 use crate::names::thread_name;
-use mcs_core::SystemParts;
+use mcs_core::System;
 use mcs_report::{CoreReport, Reports, ThreadReport};
 use mcs_ticks::{NoMemory, ThreadId};
 
 /// Appends the lines of reports: one for each thread in the file's order, then one for each core from 0. After a refusal the text is
 /// as it was.
-pub fn put_reports(
-    text: &mut Vec<u8>,
-    system: &SystemParts,
-    reports: &Reports,
-) -> Result<(), NoMemory>
-    ensures ok { OnOk result (text.new.items ≡ text.old.items ++ reports_text system.now reports.now.threads.items reports.now.cores.items) }
+pub fn put_reports(text: &mut Vec<u8>, system: &System, reports: &Reports) -> Result<(), NoMemory>
+    ensures ok { OnOk result (text.new.items ≡ text.old.items ++ reports_text system.now reports.now) }
     ensures err { OnErr result (text.new.items ≡ text.old.items) }
 {
     let start = text.len();
@@ -26,18 +22,14 @@ pub fn put_reports(
     result
 }
 
-fn append_reports(
-    text: &mut Vec<u8>,
-    system: &SystemParts,
-    reports: &Reports,
-) -> Result<(), NoMemory>
-    ensures ok { OnOk result (text.new.items ≡ text.old.items ++ reports_text system.now reports.now.threads.items reports.now.cores.items) }
+fn append_reports(text: &mut Vec<u8>, system: &System, reports: &Reports) -> Result<(), NoMemory>
+    ensures ok { OnOk result (text.new.items ≡ text.old.items ++ reports_text system.now reports.now) }
     ensures kept { StartsWith text.new.items text.old.items }
 {
-    for (thread, report) in reports.threads.iter().enumerate() {
+    for (thread, report) in reports.threads.as_slice().iter().enumerate() {
         append_thread(text, thread_name(system, ThreadId(thread)), report)?;
     }
-    for (core, report) in reports.cores.iter().enumerate() {
+    for (core, report) in reports.cores.as_slice().iter().enumerate() {
         append_core(text, core, report)?;
     }
     Ok(())

@@ -5,12 +5,12 @@ ghost use Rattle.mcs_cli.specs.Text.{after, row_text, until_words, why_word, wor
 use crate::line::{append_counted, append_named, append_number, append_word};
 use crate::names::{context_name, note_name, thread_name};
 use itoa::Buffer;
-use mcs_core::SystemParts;
+use mcs_core::System;
 use mcs_ticks::{NoMemory, Row, Tick, What, Why};
 
 /// Appends the line of a row: `<moment> <core> ` and what happened, with the names that the system has. After a refusal the text is
 /// as it was.
-pub fn put_row(text: &mut Vec<u8>, system: &SystemParts, row: &Row) -> Result<(), NoMemory>
+pub fn put_row(text: &mut Vec<u8>, system: &System, row: &Row) -> Result<(), NoMemory>
     ensures ok { OnOk result (text.new.items ≡ text.old.items ++ row_text system.now row.now) }
     ensures err { OnErr result (text.new.items ≡ text.old.items) }
 {
@@ -22,7 +22,7 @@ pub fn put_row(text: &mut Vec<u8>, system: &SystemParts, row: &Row) -> Result<()
     result
 }
 
-fn append_row(text: &mut Vec<u8>, system: &SystemParts, row: &Row) -> Result<(), NoMemory>
+fn append_row(text: &mut Vec<u8>, system: &System, row: &Row) -> Result<(), NoMemory>
     ensures ok { OnOk result (text.new.items ≡ text.old.items ++ row_text system.now row.now) }
     ensures kept { StartsWith text.new.items text.old.items }
 {
@@ -35,7 +35,7 @@ fn append_row(text: &mut Vec<u8>, system: &SystemParts, row: &Row) -> Result<(),
 }
 
 /// Appends what a row says after its moment and its core.
-fn append_what(text: &mut Vec<u8>, system: &SystemParts, what: What) -> Result<(), NoMemory>
+fn append_what(text: &mut Vec<u8>, system: &System, what: What) -> Result<(), NoMemory>
     ensures ok { OnOk result (text.new.items ≡ text.old.items ++ after (words_of system.now what)) }
     ensures kept { StartsWith text.new.items text.old.items }
 {

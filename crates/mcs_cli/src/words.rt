@@ -51,8 +51,10 @@ fn matches_of<'a>(alloc: Global, words: &'a [String]) -> Result<ArgMatches<'a>, 
 fn command_line<'a>(alloc: Global) -> Result<Command<'a>, AllocError>
     ensures { IfOk result IsCommandLine }
 {
-    let horizon = number(alloc, "horizon", "1000", 0, 1 << 40).help("The last moment, 0 to 2^40");
-    let workers = number(alloc, "workers", "1", 1, 64).help(
+    let horizon = number(alloc, "horizon", "N", "1000", 0, 1 << 40).help(
+        "The last moment of the run, 0 to 2^40",
+    );
+    let workers = number(alloc, "workers", "W", "1", 1, 64).help(
         "How many workers may run cores, 1 to 64",
     );
     let bare = Command::new(alloc, "mcsim")
@@ -68,13 +70,20 @@ fn file<'a>(alloc: Global) -> Arg<'a>
     ensures rule { rule_of result ≡ file_rule }
     ensures fits { FitsChain result }
 {
-    Arg::new(alloc, "FILE")
-        .action(ArgAction::Set)
-        .help("The system in TOML; standard input where it is left out")
+    Arg::new(alloc, "FILE").action(ArgAction::Set).help(
+        "The file of the system, in TOML; without it standard input is read",
+    )
 }
 
 /// An option whose value is a number from `least` to `most`.
-fn number<'a>(alloc: Global, name: &'a str, default: &'a str, least: u64, most: u64) -> Arg<'a>
+fn number<'a>(
+    alloc: Global,
+    name: &'a str,
+    value: &'a str,
+    default: &'a str,
+    least: u64,
+    most: u64,
+) -> Arg<'a>
     requires named { name.now ≢ [] }
     requires not_help { name.now ≢ codes "help" }
     requires not_version { name.now ≢ codes "version" }
@@ -88,7 +97,7 @@ fn number<'a>(alloc: Global, name: &'a str, default: &'a str, least: u64, most: 
     Arg::new(alloc, name)
         .long(name)
         .action(ArgAction::Set)
-        .value_name("N")
+        .value_name(value)
         .default_value(default)
         .value_parser(ValueParser::unsigned(least, most))
 }
@@ -102,6 +111,7 @@ fn show<'a>(alloc: Global) -> Arg<'a>
     Arg::new(alloc, "show")
         .long("show")
         .action(ArgAction::Set)
+        .value_name("WHAT")
         .default_value("schedule")
         .value_parser(SHOWS.as_slice())
         .help("What is written; both is the schedule, then the reports")

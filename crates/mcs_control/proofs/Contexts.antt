@@ -4,7 +4,8 @@ use Rattle.std.specs.Prelude.{◌==◌}
 use Rattle.std.proofs.lemmas.Bool.Decides.{nat_tests}
 use Rattle.mcs_refills.specs.Server.{Server, dates_from, charged, with_enough, unblocked}
 use Rattle.mcs_refills.specs.Slice.{slice_charged}
-use Rattle.mcs_refills.specs.Spacing.{IsServer, Step, AreProper, IsSpaced, consumed}
+use Rattle.mcs_refills.specs.Kept.{IsServer}
+use Rattle.mcs_refills.specs.Spacing.{Step, AreProper, IsSpaced, consumed}
 use Rattle.mcs_refills.specs.Spacing.Step.{Charge, Unblock}
 use Rattle.mcs_refills.proofs.Servers.{servers-kept}
 use Rattle.mcs_refills.proofs.Spaces.{consumed-spaced}

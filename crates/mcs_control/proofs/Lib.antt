@@ -1,3 +1,4 @@
+pub mod Configs
 pub mod Contexts
 pub mod Helds
 mod Lists

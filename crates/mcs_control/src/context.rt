@@ -147,10 +147,10 @@ impl Context {
         }
     }
 
-    /// What there is to see of the context, which has the number `id` and of which `using` ticks are in use. `NoMemory` is
+    /// What there is to see of the context, which has the number `id` and of which `in_use` ticks are in use. `NoMemory` is
     /// answered where the list of refills is refused.
-    pub fn view(&self, alloc: Global, id: ContextId, using: u64) -> Result<ContextView, NoMemory>
-        ensures { IfOk result (λ view. view ≡ view_of id using self.now.context) }
+    pub fn view(&self, alloc: Global, id: ContextId, in_use: u64) -> Result<ContextView, NoMemory>
+        ensures { IfOk result (λ view. view ≡ view_of id in_use self.now.context) }
     {
         let (refills, left) = match &self.budget {
             Budget::Sporadic(refills) => (all_refills(alloc, refills)?, None),
@@ -160,7 +160,7 @@ impl Context {
             context: id,
             refills: Sequence::new(refills),
             left,
-            using,
+            using: in_use,
         })
     }
 

@@ -79,7 +79,7 @@ module _ (queue : Discipline) (system : System) (c t : ℕ) where
   chooses_of-none None (Some best) core = refl
 
   -- only the end of the tick makes signals
-  mails-turn : (mails : List Mail) (core : Core) → (turns.turn_with queue system c t mails core).mails ≡ (turns.tick queue system c t core).mails
+  pub mails-turn : (mails : List Mail) (core : Core) → (turns.turn_with queue system c t mails core).mails ≡ (turns.tick queue system c t core).mails
   mails-turn mails core = nothing_more (turns.tick queue system c t core).mails _ _ _ _ _
       (each-none (turns.arrives queue system t) arrives-none mails _)
       (each-none (turns.obeys queue system t) obeys-none (filter (turns.is_for_now system c t) system.orders) _)
@@ -130,7 +130,7 @@ module _ (queue : Discipline) (system : System) (c t : ℕ) where
   takes_effect-out x (Some Yield) core = IsOutgoing-none _ (moves_on-none x core)
   takes_effect-out x None core = tt
 
-  may_stop-none : (x using : ℕ) (cause : Why) (core : Core) → (turns.may_stop queue system c t x using cause core).mails ≡ []
+  pub may_stop-none : (x using : ℕ) (cause : Why) (core : Core) → (turns.may_stop queue system c t x using cause core).mails ≡ []
   may_stop-none x using why.Done core = refl
   may_stop-none x using why.Wait core = refl
   may_stop-none x using why.Yield core = refl

@@ -1,8 +1,7 @@
 -- The state of one core.
-use Rattle.std.specs.Prelude.{ℕ, ◌==◌, ◌+◌, if◌then◌else◌, List, [], ◌∷◌, ◌++◌, map, get_or, set, Option, Some, None, unwrap_or}
+use Rattle.std.specs.Prelude.{ℕ, ◌==◌, ◌+◌, if◌then◌else◌, List, [], ◌∷◌, ◌++◌, map, get_or, set, Option, Some, None}
 use Rattle.mcs_ticks.specs.declared.queue.Queued.{Queued}
 use Rattle.mcs_control.specs.Context.{Context, new_context}
-use Rattle.mcs_control.specs.Context.Budget.{Slice}
 use Rattle.mcs_notify.specs.Note.{Note, quiet_note}
 use Rattle.mcs_script.specs.Script.{first_place}
 use Rattle.mcs_core.specs.declared.standing.Standing.{Standing}
@@ -12,6 +11,7 @@ use Rattle.mcs_core.specs.declared.standing.Chosen.{Chosen}
 use Rattle.mcs_release.specs.declared.dated.Dated.{Dated}
 use Rattle.mcs_core.specs.declared.part.ContextPart.{ContextPart}
 use Rattle.mcs_core.specs.declared.part.ThreadPart.{ThreadPart}
+use Rattle.mcs_core.specs.Contexts.{held}
 use Rattle.mcs_core.specs.System.{System, core_of, start_of}
 
 -- The ready queue is by priority, the greatest first, and first in first out within one. Threads, contexts and notifications of
@@ -27,14 +27,11 @@ pub record Core : Type 0 where
 abbrev pub no_state : Thread
 no_state = record { standing = Elsewhere; place = record { round = 0; item = 0; left = 0 }; since = 0 }
 
-abbrev pub no_server : Context
-no_server = record { config = record { budget = 0; period = 0; extra = 0 }; budget = Slice 0 }
-
 abbrev pub thread_of : Core → ℕ → Thread
 thread_of core thread = get_or core.threads thread no_state
 
 abbrev pub context_of : Core → ℕ → Context
-context_of core context = unwrap_or (get_or core.contexts context None) no_server
+context_of core context = held context core.contexts
 
 abbrev pub note_of : Core → ℕ → Note
 note_of core note = get_or core.notes note quiet_note

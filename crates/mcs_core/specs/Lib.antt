@@ -1,8 +1,14 @@
 pub mod System
+pub mod Contexts
 pub mod Core
+pub mod Local
 pub mod Turn
 pub mod Clock
 pub mod Run
+pub mod Sound
+pub mod Items
+pub mod Orders
+pub mod State
 pub mod Quiet
 pub mod WellFormed
 pub mod Equality

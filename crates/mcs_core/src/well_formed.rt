@@ -276,3 +276,6 @@ impl SystemParts {
             .all(|order| self.is_order(order))
     }
 }
+
+#[cfg(test)]
+mod tests;

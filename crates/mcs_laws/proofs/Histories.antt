@@ -1,10 +1,9 @@
 -- The history of a context from the opening on, and the budget that it has at each moment.
-use Rattle.std.proofs.Common.{◌≡◌, ℕ, zero, suc, ◌+◌, ◌<◌, Bool, true, false, cond, List, [], ◌∷◌, ◌++◌, length, get_or, Option, Some, None, refl, sym, ap, ◌∙◌, arith}
+use Rattle.std.proofs.Common.{◌≡◌, ℕ, zero, suc, ◌+◌, ◌<◌, Bool, true, false, cond, List, [], ◌∷◌, length, get_or, Option, Some, None, refl, sym, ap, ◌∙◌, arith}
 use Rattle.std.specs.Prelude.{filter, ◌==◌, unwrap_or}
 use Rattle.std.proofs.lemmas.Bool.Decides.{nat_tests}
 use Rattle.std.proofs.lemmas.List.FromFn.{get_or-map-range_with_len}
 use Rattle.mcs_ticks.specs.Queue.{by_priority}
-use Rattle.mcs_ticks.specs.declared.row.What.{What}
 use Rattle.mcs_control.specs.declared.config.Order.{Order}
 use Rattle.mcs_control.specs.Context.{Context, new_context}
 use Rattle.mcs_core.specs.System.{System, TakesTime, context_part, no_context, start_of}
@@ -13,11 +12,11 @@ use Rattle.mcs_core.specs.declared.part.ContextPart.{ContextPart}
 use Rattle.mcs_core.specs.declared.standing.Chosen.{Chosen}
 use Rattle.mcs_core.specs.Clock as clocks
 use Rattle.mcs_core.proofs.Clock.{core_at-world}
-use Rattle.mcs_laws.specs.Changes.{IsBudget, KeepsItsBudget, changed_by, AreSound}
+use Rattle.mcs_laws.specs.Changes.{IsBudget, KeepsItsBudget, changed_by}
 use Rattle.mcs_laws.specs.Histories as told
-use Rattle.mcs_laws.proofs.Ranges.{flat_map-moments-more, by_recursion}
+use Rattle.mcs_laws.proofs.Ranges.{by_recursion}
 use Rattle.mcs_core.specs.WellFormed.{IsWellFormed}
-use Rattle.mcs_laws.proofs.Kept.{accepted-gives, keeps-new, keeps-changes, changed_by-append, sound-append}
+use Rattle.mcs_laws.proofs.Kept.{accepted-gives, keeps-new, keeps-changes}
 use Rattle.mcs_laws.proofs.Traces as traces
 use Rattle.mcs_laws.proofs.Traces.{charges_of-append, orders_of-append, carry}
 
@@ -62,81 +61,81 @@ module _ (system : System) (takes_time : TakesTime system) (budgets : told.Gives
   abbrev Uses : ℕ → Option Chosen → Context → Type 0
   Uses t = traces.Uses by_priority system home t x 0 1
 
-  -- all that is known before moment t
+  -- what the turn at t does to the context
+  turn-at : (t : ℕ) → traces.Traced by_priority system home t x (Uses t) (Uses t) (told.orders_at system x t) (before t) (clocks.turn_of system home t)
+  turn-at t =
+      traces.turn-traced by_priority system home t x (by_recursion (λ (order : Order). IsBudget order.config) system.orders budgets.orders)
+      (filter (clocks.arrives_at system t home) (clocks.world system t).mails) (before t)
+
+  before-opening : context_of (before 0) x ≡ first
+  before-opening =
+      ap (λ (k : Core). context_of k x) before-first ∙ opening-at system home 0 system.contexts x on.known refl
+      ∙ ap (λ n. new_context (context_part system x).config (start_of system.threads n)) (omega arith)
+
+  -- what is known before moment t
   record Life (t : ℕ) : Type 0 where
     many : length (before t).contexts ≡ length system.contexts
-    history : told.History system x t
+    keeps : KeepsItsBudget (context_of (before t) x)
     uses : Uses t (before t).running (context_of (before t) x)
-
-  keeps : (t : ℕ) → Life t → KeepsItsBudget (context_of (before t) x)
-  keeps t life =
-      rw life.history.after
-      (keeps-changes least life.history.changes first (keeps-new _ (start_of system.threads x) (budgets.contexts x no_context on.known)) life.history.sound)
-
-  abbrev row_list : ℕ → List What
-  row_list t = (clocks.turn_of system home t).rows
 
   idle : (k : Core) → k ≡ opening_core system home → Uses 0 k.running (context_of k x)
   idle k e = rw e tt
+
+  inside : (t : ℕ) → Life t → x < length (before t).contexts
+  inside t life = rw life.many on.known
 
   life : (t : ℕ) → Life t
   life zero =
       record {
         many = ap (λ (k : Core). length k.contexts) before-first ∙ opening-many system home 0 system.contexts;
-        history = record {
-          changes = [];
-          after = ap (λ (k : Core). context_of k x) before-first ∙ opening-at system home 0 system.contexts x on.known refl
-              ∙ ap (λ n. new_context (context_part system x).config (start_of system.threads n)) (omega arith);
-          sound = tt;
-          charges = refl;
-          orders = refl;
-        };
+        keeps = rw before-opening (keeps-new _ (start_of system.threads x) (budgets.contexts x no_context on.known));
         uses = idle (before 0) before-first;
       }
-  life (suc t) = next (life t) (traces.turn-traced by_priority system home t x (by_recursion (λ (order : Order). IsBudget order.config) system.orders budgets.orders) (filter (clocks.arrives_at system t home) (clocks.world system t).mails) (before t))
+  life (suc t) = next (life t)
     where
-      both : {A : Type 0} (xs ys us vs : List A) → xs ≡ ys → us ≡ vs → xs ++ us ≡ ys ++ vs
-      both xs ys us vs p q = cc
-
       moved : (a b : Core) → a ≡ b → Uses (suc t) b.running (context_of b x) → Uses (suc t) a.running (context_of a x)
       moved a b e p = rw e p
 
-      next : Life t → traces.Traced by_priority system home t x (Uses t) (Uses t) (told.orders_at system x t) (before t) (clocks.turn_of system home t) → Life (suc t)
-      next l s =
-          let h = l.history in
-          let known : x < length (before t).contexts = rw l.many on.known in
+      next : Life t → Life (suc t)
+      next l =
+          let s = turn-at t in
           record {
             many = ap (λ (k : Core). length k.contexts) (before-next t) ∙ s.many ∙ l.many;
-            history = record {
-              changes = h.changes ++ s.changes;
-              after = ap (λ (k : Core). context_of k x) (before-next t) ∙ s.after known ∙ ap (changed_by least s.changes) h.after
-                  ∙ sym (changed_by-append least h.changes s.changes first);
-              sound = sound-append least h.changes s.changes first h.sound
-                  (carry (AreSound least s.changes) (context_of (before t) x) (changed_by least h.changes first) h.after (s.sound known (keeps t l) l.uses));
-              charges = flat_map-moments-more (λ m. told.charges_told system x (row_list m)) t ∙ both _ _ _ _ h.charges s.told ∙ sym (charges_of-append h.changes s.changes);
-              orders = flat_map-moments-more (told.orders_at system x) t ∙ both _ _ _ _ h.orders s.ordered ∙ sym (orders_of-append h.changes s.changes);
-            };
-            uses = moved (before (suc t)) (clocks.turn_of system home t).core (before-next t) (s.runs known (keeps t l) l.uses);
+            keeps = carry KeepsItsBudget (changed_by least s.changes (context_of (before t) x)) (context_of (before (suc t)) x)
+                (sym (ap (λ (k : Core). context_of k x) (before-next t) ∙ s.after (inside t l)))
+                (keeps-changes least s.changes (context_of (before t) x) l.keeps (s.sound (inside t l) l.keeps l.uses));
+            uses = moved (before (suc t)) (clocks.turn_of system home t).core (before-next t) (s.runs (inside t l) l.keeps l.uses);
           }
+
+  history : told.History system x
+  history =
+      record {
+        changes = λ t. (turn-at t).changes;
+        opening = before-opening;
+        after = λ t. ap (λ (k : Core). context_of k x) (before-next t) ∙ (turn-at t).after (inside t (life t));
+        sound = λ t. (turn-at t).sound (inside t (life t)) (life t).keeps (life t).uses;
+        charges = λ t. (turn-at t).told;
+        orders = λ t. (turn-at t).ordered;
+      }
 
   uses_less : (o : Option Chosen) (k : Context) (t : ℕ) → Uses t o k → told.UsesLess system x o k
   uses_less None k t p = tt
   uses_less (Some chosen) k t p = λ own. omega (arith, (p own).1)
 
 pub histories : (system : System) → TakesTime system → told.GivesBudgets system → told.ContextsHaveHistories system
-histories system takes_time budgets x t on = (life system takes_time budgets x on t).history
+histories system takes_time budgets x on = history system takes_time budgets x on
 
 pub budgets-kept : (system : System) → TakesTime system → told.GivesBudgets system → told.ContextsHaveTheirBudgets system
 budgets-kept system takes_time budgets x t on =
     let l = life system takes_time budgets x on t in
     record {
-      keeps = keeps system takes_time budgets x on t l;
+      keeps = l.keeps;
       uses = uses_less system takes_time budgets x on (told.home_before system x t).running (told.context_before system x t) t l.uses;
     }
 
 -- a well-formed system: its signals take time, and its configurations give budgets
 pub takes-time : (system : System) → IsWellFormed system → TakesTime system
-takes-time system well maker home = well.delay.0
+takes-time system well maker to = well.limits.delay.0
 
 pub gives-budgets : (system : System) → IsWellFormed system → told.GivesBudgets system
 gives-budgets system well =

@@ -5,3 +5,4 @@ pub mod Kept
 pub mod Traces
 pub mod Histories
 pub mod Spaced
+pub mod Places

@@ -1,7 +1,7 @@
 -- The dates that a context's charges take are those of a server's steps, so they are spaced.
-use Rattle.std.proofs.Common.{◌≡◌, ◌≢◌, ℕ, zero, suc, ◌+◌, ◌≤◌, Bool, true, false, cond, List, [], ◌∷◌, ◌++◌, take, refl, sym, ap, ◌∙◌, arith}
-use Rattle.std.specs.Prelude.{filter, flat_map, ◌==◌}
-use Rattle.std.specs.List.{range_with_len, AllByRecursion}
+use Rattle.std.proofs.Common.{◌≡◌, ◌≢◌, ℕ, zero, suc, ◌≤◌, Bool, true, false, cond, List, [], ◌∷◌, ◌++◌, take, refl, sym, ap, ◌∙◌, arith}
+use Rattle.std.specs.Prelude.{filter, ◌==◌}
+use Rattle.std.specs.List.{AllByRecursion}
 use Rattle.std.proofs.lemmas.Bool.Decides.{nat_tests}
 use Rattle.mcs_refills.specs.Server.{dates_from, with_enough, charged, unblocked}
 use Rattle.mcs_refills.specs.Spacing.{Step, consumed, AreProper, IsSpaced}
@@ -11,13 +11,14 @@ use Rattle.mcs_control.specs.declared.config.Config.{Config}
 use Rattle.mcs_control.specs.declared.config.Order.{Order}
 use Rattle.mcs_control.specs.Context.{max_refills_of}
 use Rattle.mcs_control.specs.Context.Budget.{Dates}
-use Rattle.mcs_core.specs.System.{System, TakesTime, context_part, no_context, start_of}
+use Rattle.mcs_core.specs.System.{System, context_part, no_context, start_of}
 use Rattle.mcs_core.specs.Turn.{is_for_now}
-use Rattle.mcs_laws.specs.Changes.{Change, orders_of, AreSound, taken_by}
+use Rattle.mcs_laws.specs.Changes.{Change, orders_of, changed_by, AreSound, taken_by}
 use Rattle.mcs_laws.specs.Changes.Change.{Charged, Unblocked, Ordered}
 use Rattle.mcs_laws.specs.Histories as told
-use Rattle.mcs_laws.proofs.Ranges.{by_recursion}
-use Rattle.mcs_laws.proofs.Histories.{histories}
+use Rattle.mcs_laws.proofs.Ranges.{by_recursion, flat_map-moments-more}
+use Rattle.mcs_laws.proofs.Kept.{changed_by-append, sound-append}
+use Rattle.mcs_laws.proofs.Traces.{carry, orders_of-append}
 
 -- charges and unblocking as steps of a server
 steps_of : ℕ → List Change → List Step
@@ -58,13 +59,37 @@ no_orders_at x p (order ∷ orders) h = by (p order) (no_orders_at x p orders h.
     by true i = rw (differs order.context x h.0) i
     by false i = i
 
-none : (f : ℕ → List Order) → ((t : ℕ) → f t ≡ []) → (n a : ℕ) → flat_map f (range_with_len a n) ≡ []
-none f h zero a = refl
-none f h (suc n) a = rw (h a) (none f h n (a + 1))
+-- the changes of all turns before a moment, one after another
+module _ (system : System) (x : ℕ) (history : told.History system x) where
+  abbrev changes : ℕ → List Change
+  changes t = told.changes_before system x history t
 
-pub contexts-spaced : (system : System) → TakesTime system → told.GivesBudgets system → told.ContextsAreSpaced system
-contexts-spaced system takes_time budgets x t on kind unordered =
-    record { history = h; spaced = rw opening (rw steps.same spaced) }
+  changes-next : (t : ℕ) → changes (suc t) ≡ changes t ++ history.changes t
+  changes-next t = flat_map-moments-more history.changes t
+
+  all-after : (t : ℕ) → told.context_before system x t ≡ changed_by system.min_budget (changes t) (told.opening_context system x)
+  all-after zero = history.opening
+  all-after (suc t) =
+      history.after t ∙ ap (changed_by system.min_budget (history.changes t)) (all-after t)
+      ∙ sym (changed_by-append system.min_budget (changes t) (history.changes t) (told.opening_context system x))
+      ∙ ap (λ cs. changed_by system.min_budget cs (told.opening_context system x)) (sym (changes-next t))
+
+  all-sound : (t : ℕ) → AreSound system.min_budget (changes t) (told.opening_context system x)
+  all-sound zero = tt
+  all-sound (suc t) =
+      rw (changes-next t)
+      (sound-append system.min_budget (changes t) (history.changes t) (told.opening_context system x) (all-sound t)
+      (carry (AreSound system.min_budget (history.changes t)) (told.context_before system x t) (changed_by system.min_budget (changes t) (told.opening_context system x)) (all-after t) (history.sound t)))
+
+  all-orders : ((t : ℕ) → told.orders_at system x t ≡ []) → (t : ℕ) → orders_of (changes t) ≡ []
+  all-orders h zero = refl
+  all-orders h (suc t) = ap orders_of (changes-next t) ∙ orders_of-append (changes t) (history.changes t) ∙ none _ _ (all-orders h t) (sym (history.orders t) ∙ h t)
+    where
+      none : (os us : List Order) → os ≡ [] → us ≡ [] → os ++ us ≡ []
+      none os us e f = rw (e, f) refl
+
+pub contexts-spaced : (system : System) → told.GivesBudgets system → told.ContextsAreSpaced system
+contexts-spaced system budgets x history on kind unordered t = rw opening (rw steps.same spaced)
   where
     config : Config
     config = (context_part system x).config
@@ -72,20 +97,25 @@ contexts-spaced system takes_time budgets x t on kind unordered =
     at : ℕ
     at = start_of system.threads x
 
-    h : told.History system x t
-    h = histories system takes_time budgets x t on
+    changes_of : List Change
+    changes_of = told.changes_before system x history t
 
     opening : told.opening_context system x ≡ record { config = config; budget = Dates (dates_from at config.budget) }
     opening = rw kind refl
 
-    no_orders : orders_of h.changes ≡ []
-    no_orders = sym h.orders ∙ none (told.orders_at system x) (λ m. no_orders_at x (is_for_now system (told.home_of system x) m) system.orders (by_recursion (λ (order : Order). order.context ≢ x) system.orders unordered)) t 0
+    no_orders : orders_of changes_of ≡ []
+    no_orders =
+        all-orders system x history
+        (λ m. no_orders_at x (is_for_now system (told.home_of system x) m) system.orders (by_recursion (λ (order : Order). order.context ≢ x) system.orders unordered)) t
 
     fits : config.budget ≤ config.period
     fits = (budgets.contexts x no_context on.known).fits
 
-    steps : AreSteps system.min_budget h.changes config (dates_from at config.budget)
-    steps = are_steps system.min_budget h.changes config (dates_from at config.budget) no_orders (rw opening at h.sound)
+    steps : AreSteps system.min_budget changes_of config (dates_from at config.budget)
+    steps = are_steps system.min_budget changes_of config (dates_from at config.budget) no_orders
+        (carry (AreSound system.min_budget changes_of) (told.opening_context system x) (record { config = config; budget = Dates (dates_from at config.budget) }) opening (all-sound system x history t))
 
-    spaced : IsSpaced config.budget config.period (consumed config.period (max_refills_of config) (steps_of system.min_budget h.changes) (dates_from at config.budget))
-    spaced = consumed-spaced config.budget config.period (max_refills_of config) (steps_of system.min_budget h.changes) (dates_from at config.budget) (kept-new config.budget config.period at fits) steps.proper
+    spaced : IsSpaced config.budget config.period (consumed config.period (max_refills_of config) (steps_of system.min_budget changes_of) (dates_from at config.budget))
+    spaced =
+        consumed-spaced config.budget config.period (max_refills_of config) (steps_of system.min_budget changes_of) (dates_from at config.budget)
+        (kept-new config.budget config.period at fits) steps.proper

@@ -1,5 +1,5 @@
 -- The history of a context: all that turns do to it, from the opening on.
-use Rattle.std.specs.Prelude.{◌≡◌, ◌≢◌, ℕ, ◌<◌, Bool, ◌==◌, if◌then◌else◌, List, [], ◌∷◌, filter, flat_map, length, All, Option, Some, None}
+use Rattle.std.specs.Prelude.{◌≡◌, ◌≢◌, ℕ, suc, ◌<◌, Bool, ◌==◌, if◌then◌else◌, List, [], ◌∷◌, filter, flat_map, length, All, Option, Some, None}
 use Rattle.std.specs.List.{range_with_len}
 use Rattle.mcs_ticks.specs.declared.row.What.{What}
 use Rattle.mcs_ticks.specs.declared.row.What.TheVariants as row
@@ -47,29 +47,31 @@ module _ (system : System) where
   abbrev pub context_before : ℕ → ℕ → Context
   context_before context t = context_of (home_before context t) context
 
-  -- the charges that the rows before a moment tell
-  abbrev pub charges_before : ℕ → ℕ → List ℕ
-  charges_before context past = flat_map (λ t. charges_told context (turn_of system (home_of context) t).rows) (range_with_len 0 past)
+  -- the charges that the rows of its core's turn at t tell
+  abbrev pub charges_at : ℕ → ℕ → List ℕ
+  charges_at context t = charges_told context (turn_of system (home_of context) t).rows
 
-  -- the orders for the context at moments before this one, by moment and then in file order
+  -- the orders for the context at t, in file order
   abbrev pub orders_at : ℕ → ℕ → List Order
   orders_at context t = filter (is_order_for context) (filter (is_for_now system (home_of context) t) system.orders)
-
-  abbrev pub orders_before : ℕ → ℕ → List Order
-  orders_before context past = flat_map (orders_at context) (range_with_len 0 past)
 
   -- the context as it is at first
   abbrev pub opening_context : ℕ → Context
   opening_context context = new_context (context_part system context).config (start_of system.threads context)
 
-  -- all that turns did to the context before moment t: its charges are those that the rows tell, each of at least a tick and of no
-  -- more than the head then has; its orders are those of the system; and nothing else but unblocking
-  pub record History (context t : ℕ) : Type 0 where
-    pub changes : List Change
-    pub after : context_before context t ≡ changed_by system.min_budget changes (opening_context context)
-    pub sound : AreSound system.min_budget changes (opening_context context)
-    pub charges : charges_before context t ≡ charges_of changes
-    pub orders : orders_before context t ≡ orders_of changes
+  -- all that turns do to the context, by moment: its charges are those that the rows tell, each of at least a tick and of no more
+  -- than the head then has; its orders are those of the system; and nothing else but unblocking
+  pub record History (context : ℕ) : Type 0 where
+    pub changes : ℕ → List Change
+    pub opening : context_before context 0 ≡ opening_context context
+    pub after : (t : ℕ) → context_before context (suc t) ≡ changed_by system.min_budget (changes t) (context_before context t)
+    pub sound : (t : ℕ) → AreSound system.min_budget (changes t) (context_before context t)
+    pub charges : (t : ℕ) → charges_at context t ≡ charges_of (changes t)
+    pub orders : (t : ℕ) → orders_at context t ≡ orders_of (changes t)
+
+  -- the changes of all turns before a moment
+  abbrev pub changes_before : (context : ℕ) → History context → ℕ → List Change
+  changes_before context history past = flat_map history.changes (range_with_len 0 past)
 
   -- the running thread, where it is bound to the context, has used less than the head
   abbrev pub UsesLess : ℕ → Option Chosen → Context → Type 0
@@ -95,17 +97,16 @@ module _ (system : System) where
   ContextsHaveTheirBudgets = (context t : ℕ) → IsOnACore context → HasItsBudget context t
 
   abbrev pub ContextsHaveHistories : Type 0
-  ContextsHaveHistories = (context t : ℕ) → IsOnACore context → History context t
+  ContextsHaveHistories = (context : ℕ) → IsOnACore context → History context
 
   -- of the dates that a sporadic context's charges take, where no order names it, the one a whole budget later is at least a period
   -- later
-  pub record IsSpacedUse (context t : ℕ) : Type 0 where
-    pub history : History context t
-    pub spaced :
-        IsSpaced (context_part system context).config.budget (context_part system context).config.period
-        (taken_by system.min_budget history.changes (opening_context context))
+  abbrev pub IsSpacedBefore : (context : ℕ) → History context → ℕ → Type 0
+  IsSpacedBefore context history t =
+      IsSpaced (context_part system context).config.budget (context_part system context).config.period
+      (taken_by system.min_budget (changes_before context history t) (opening_context context))
 
   abbrev pub ContextsAreSpaced : Type 0
   ContextsAreSpaced =
-      (context t : ℕ) → IsOnACore context → kind_of (context_part system context).config ≡ Sporadic →
-      All (λ (order : Order). order.context ≢ context) system.orders → IsSpacedUse context t
+      (context : ℕ) (history : History context) → IsOnACore context → kind_of (context_part system context).config ≡ Sporadic →
+      All (λ (order : Order). order.context ≢ context) system.orders → (t : ℕ) → IsSpacedBefore context history t

@@ -2,3 +2,4 @@ pub mod Turns
 pub mod Disciplines
 pub mod Changes
 pub mod Histories
+pub mod Places

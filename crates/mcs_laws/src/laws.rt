@@ -2,6 +2,7 @@ ghost use Rattle.mcs_core.specs.System.{System, TakesTime};
 ghost use Rattle.mcs_core.specs.WellFormed.{IsWellFormed};
 ghost use Rattle.mcs_laws.specs.Turns.{CoresAreOfTurns, RowsAreOfTurns, SignalsAreOfTurns, ArrivalsAreOfTurns};
 ghost use Rattle.mcs_laws.specs.Disciplines.{DisciplinesAgree};
+ghost use Rattle.mcs_laws.specs.Places.{ThreadsHaveOnePlace};
 ghost use Rattle.mcs_laws.specs.Histories.{GivesBudgets, ContextsHaveHistories, ContextsHaveTheirBudgets, ContextsAreSpaced};
 
 /// A law of well-formed systems, for the premises of the laws of the clock: each signal takes time, and each configuration that
@@ -35,6 +36,12 @@ pub fn disciplines_agree()
     ensures { (system : System) → DisciplinesAgree system }
 {}
 
+/// A law of the clock: a thread has at most one place on a core. One that runs is in no queue and waits on nothing, and one that is
+/// queued, has a date or waits does so once.
+pub fn threads_have_one_place()
+    ensures { (system : System) → TakesTime system → ThreadsHaveOnePlace system }
+{}
+
 /// A law of the clock: all that turns do to a context, from the opening on, is to charge it, to unblock it and to obey its orders. The
 /// charges are those that the rows of its thread's stops tell; each takes at least a tick and no more than the head then has.
 pub fn contexts_have_histories()
@@ -50,5 +57,5 @@ pub fn contexts_keep_their_budgets()
 /// A law of the clock: of the dates that the charges of a sporadic context take, where no order names it, the one a whole budget later
 /// is at least a period later.
 pub fn contexts_are_spaced()
-    ensures { (system : System) → TakesTime system → GivesBudgets system → ContextsAreSpaced system }
+    ensures { (system : System) → GivesBudgets system → ContextsAreSpaced system }
 {}

@@ -40,6 +40,11 @@ abbrev pub Gives : {X A : Type 0} → (X → A) → Result X LoadFault → Check
 Gives view (Ok x) step = (first_failed step.tests ≡ None) × (step.value ≡ view x)
 Gives view (Err fault) step = ¬ (fault ≡ no_memory) → first_failed step.tests ≡ Some fault
 
+-- The same of a function that takes no memory: whatever fault it returned is the first failed test's.
+abbrev pub Tells : {X A : Type 0} → (X → A) → Result X LoadFault → Checked A → Type 0
+Tells view (Ok x) step = (first_failed step.tests ≡ None) × (step.value ≡ view x)
+Tells view (Err fault) step = first_failed step.tests ≡ Some fault
+
 -- the first failed test, or else what is read
 abbrev pub or_fault : {A : Type 0} → A → Option LoadFault → Result A LoadFault
 or_fault value None = Ok value

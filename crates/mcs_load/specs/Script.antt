@@ -1,10 +1,10 @@
 -- The tests of a script's items.
 use Rattle.std.specs.Prelude.{ℕ, suc, Bool, false, not, ◌==◌, nat_le, List, [], length, get_or, map, Option, Some, None, is_some, option_and_then, Result, Ok, Err}
 use Rattle.toml.specs.Data.{Data, Items, Members, get_member, as_str, as_array}
-use Rattle.mcs_load.specs.declared.raw.ItemFault.{ItemFault}
+use Rattle.mcs_script.specs.declared.fault.ItemFault.{ItemFault}
 use Rattle.mcs_script.specs.declared.item.Item.{Item}
 use Rattle.mcs_script.specs.declared.item.Item.TheVariants as items
-use Rattle.mcs_load.specs.Raw.{Raw, Compute, Signal, Wait, Yield, read_as}
+use Rattle.mcs_script.specs.Raw.{Raw, Compute, Signal, Wait, Yield, read_as}
 use Rattle.mcs_script.specs.Script.{waits_last}
 use Rattle.mcs_core.specs.declared.part.NotePart.{NotePart}
 use Rattle.mcs_core.specs.System.{no_note}

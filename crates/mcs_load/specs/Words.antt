@@ -3,7 +3,7 @@ use Rattle.std.specs.Prelude.{ℕ, suc, ℤ, pos, negsuc, Bool, true, false, not
 use Rattle.std.specs.List.{list_any, list_all}
 use Rattle.std.specs.Cmp.Lexicographic.{pointwise}
 use Rattle.toml.specs.Data.{Data, Items, no_items, item, Members, no_members, member, get_member, as_integer, as_str, as_array, as_table}
-use Rattle.mcs_core.specs.WellFormed.{is_name_byte}
+use Rattle.mcs_core.specs.WellFormed.{is_name}
 use Rattle.mcs_load.specs.declared.at.At.{At}
 use Rattle.mcs_load.specs.declared.fault.FaultKind.{FaultKind}
 use Rattle.mcs_load.specs.declared.fault.FaultKind.TheVariants.{UnknownKey, MissingKey, WrongKind, OutOfRange, TooMany, BadName, DoubleName}
@@ -75,10 +75,6 @@ text at key members = let found = get_member (key_name key) members in do
   _ ← must_at at key MissingKey (is_some found)
   _ ← must_at at key WrongKind (if_there (λ d. is_some (as_str d)) found)
   reads (bytes_or_none (option_and_then as_str found))
-
--- 1 to 32 characters of A-Z a-z 0-9 _ -
-abbrev pub is_name : List ℕ → Bool
-is_name bytes = nat_le 1 (length bytes) && nat_le (length bytes) 32 && list_all is_name_byte bytes
 
 -- the place of a name among others
 abbrev pub place_of : List ℕ → List (List ℕ) → Option ℕ

@@ -1,6 +1,6 @@
 ghost use Rattle.std.specs.Prelude.{◌≡◌};
 ghost use Rattle.toml.specs.View.{table_view};
-ghost use Rattle.mcs_load.specs.Checks.{Gives};
+ghost use Rattle.mcs_load.specs.Checks.{Tells};
 ghost use Rattle.mcs_load.specs.Walk.{config, accepts, accepted_config, key_of};
 ghost use Rattle.mcs_control.specs.Control.{checked, kind_of};
 
@@ -17,7 +17,7 @@ const GREATEST: u64 = (1 << 63) - 1;
 /// The budget, the period and the extra refills of a row, which Config::check is yet to see.
 #[tactic(auto, using(crate::proofs::Steps::both, crate::proofs::Steps::or_else_none, crate::proofs::Steps::or_else_some), unfolding(crate::specs::Walk::config))]
 fn config(at: At, row: &Table) -> Result<Config, LoadFault>
-    ensures { Gives (λ x. x) result (config at (table_view row.now)) }
+    ensures { Tells (λ x. x) result (config at (table_view row.now)) }
 {
     let budget = whole_number(at, Key::Budget, 0, GREATEST, row)?;
     let period = whole_number(at, Key::Period, 0, GREATEST, row)?;
@@ -43,7 +43,7 @@ fn key_of(fault: ControlFault) -> Key
 
 #[tactic(auto, unfolding(crate::specs::Walk::accepts))]
 fn accept(at: At, min_budget: u64, config: Config) -> Result<(), LoadFault>
-    ensures { Gives (λ x. x) result (accepts at (checked min_budget config)) }
+    ensures { Tells (λ x. x) result (accepts at (checked min_budget config)) }
 {
     match config.check(min_budget) {
         Ok(_) => Ok(()),
@@ -54,7 +54,7 @@ fn accept(at: At, min_budget: u64, config: Config) -> Result<(), LoadFault>
 /// The configuration of a row, which passes Config::check.
 #[tactic(auto, using(crate::proofs::Steps::both, crate::proofs::Steps::or_else_none, crate::proofs::Steps::or_else_some), unfolding(crate::specs::Walk::accepted_config))]
 pub(crate) fn accepted_config(at: At, min_budget: u64, row: &Table) -> Result<Config, LoadFault>
-    ensures { Gives (λ x. x) result (accepted_config min_budget at (table_view row.now)) }
+    ensures { Tells (λ x. x) result (accepted_config min_budget at (table_view row.now)) }
 {
     let config = config(at, row)?;
     accept(at, min_budget, config)?;

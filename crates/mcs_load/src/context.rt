@@ -2,7 +2,7 @@ ghost use Rattle.std.specs.Prelude.{◌≡◌, ◌^◌, ◌<◌, ◌≤◌, ℕ,
 ghost use Rattle.toml.specs.View.{table_view, view, items_view};
 ghost use Rattle.mcs_load.specs.declared.spot.Section.TheVariants as section;
 ghost use Rattle.mcs_load.specs.Words.{row, each};
-ghost use Rattle.mcs_load.specs.Checks.{Gives};
+ghost use Rattle.mcs_load.specs.Checks.{Gives, Tells};
 ghost use Rattle.mcs_load.specs.Walk.{context, contexts, known, known_context, part_at};
 ghost use Rattle.mcs_control.specs.Control.{kind_of};
 ghost use Rattle.mcs_core.specs.declared.part.ContextPart.{ContextPart};
@@ -112,7 +112,7 @@ pub(crate) fn contexts<'a>(
 /// The place of the context that has this name.
 #[tactic(auto, unfolding(crate::specs::Walk::known))]
 fn known<'a>(at: At, names: &Names<'a>, name: &'a str) -> Result<usize, LoadFault>
-    ensures gives { Gives (λ n. n) result (known at names.now name.now) }
+    ensures gives { Tells (λ n. n) result (known at names.now name.now) }
     ensures within { IfOk result (λ n. n < length names.now) }
 {
     match names.find(name) {
@@ -128,7 +128,7 @@ pub(crate) fn known_context<'a>(
     names: &Names<'a>,
     row: &'a Table,
 ) -> Result<usize, LoadFault>
-    ensures gives { Gives (λ n. n) result (known_context names.now at (table_view row.now)) }
+    ensures gives { Tells (λ n. n) result (known_context names.now at (table_view row.now)) }
     ensures within { IfOk result (λ n. n < length names.now) }
 {
     let name = text(at, Key::Context, row)?;

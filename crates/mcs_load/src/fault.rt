@@ -1,8 +1,8 @@
 ghost use Rattle.std.specs.Prelude.{◌≡◌};
 
-use crate::raw::ItemFault;
 use crate::spot::{Key, Section, Spot};
 use mcs_control::ControlFault;
+use mcs_script::ItemFault;
 use std::alloc::{AllocError, AllocFailed};
 use std::fmt;
 use thiserror::Error;
@@ -44,7 +44,7 @@ pub enum FaultKind {
     #[error("wait is last")]
     WaitLast,
     /// A configuration that SchedControl refuses.
-    #[error("control: {}", refusal(*.0))]
+    #[error("control: {0}")]
     Control(ControlFault),
     /// A context that an earlier thread has.
     #[error("context taken")]
@@ -115,15 +115,5 @@ impl<T: Drop> From<AllocFailed<T>> for LoadFault {
 
     fn from(_refusal: AllocFailed<T>) -> Self {
         LoadFault::NO_MEMORY
-    }
-}
-
-fn refusal(fault: ControlFault) -> &'static str {
-    match fault {
-        ControlFault::ZeroBudget => "zero budget",
-        ControlFault::BudgetTooSmall => "budget too small",
-        ControlFault::BudgetOverPeriod => "budget over period",
-        ControlFault::PeriodTooLong => "period too long",
-        ControlFault::TooManyRefills => "too many refills",
     }
 }

@@ -1,6 +1,6 @@
 ghost use Rattle.std.specs.Prelude.{◌≡◌, ◌≤◌, IfOk};
 ghost use Rattle.toml.specs.View.{table_view};
-ghost use Rattle.mcs_load.specs.Checks.{Gives};
+ghost use Rattle.mcs_load.specs.Checks.{Gives, Tells};
 ghost use Rattle.mcs_load.specs.Walk.{document, numbers, walk, file};
 
 use crate::at::At;
@@ -13,7 +13,7 @@ use crate::order::orders;
 use crate::spot::{Key, Section};
 use crate::thread::threads;
 use crate::words::{number_with_default, only_keys, whole_number};
-use mcs_core::SystemParts;
+use mcs_core::{System, SystemParts};
 use mcs_ticks::{Limits, Sequence};
 use std::alloc::Global;
 use toml::Table;
@@ -47,7 +47,7 @@ fn document(alloc: Global, bytes: &[u8]) -> Result<Table, LoadFault>
 #[tactic(auto, using(crate::proofs::Steps::both, crate::proofs::Steps::or_else_none, crate::proofs::Steps::or_else_some), unfolding(crate::specs::Walk::numbers))]
 fn numbers(file: &Table) -> Result<Numbers, LoadFault>
     ensures range { IfOk result (λ n. (1 ≤ n.cores) × (n.cores ≤ 64)) }
-    ensures gives { Gives (λ n. n) result (numbers (table_view file.now)) }
+    ensures gives { Tells (λ n. n) result (numbers (table_view file.now)) }
 {
     let top = At::array(Section::Top);
     only_keys(top, &TOP_KEYS, file)?;
@@ -92,11 +92,14 @@ fn walk(alloc: Global, file: &Table) -> Result<SystemParts, LoadFault>
     })
 }
 
-/// The system that a file describes, or the first fault of its bytes.
+/// The system that the text of a file describes, or the first fault of the walk: the text as TOML, the keys and numbers at the top,
+/// then contexts, notifications, threads and orders, each array row by row. Want of memory is answered, as
+/// [`FaultKind::NoMemory`](crate::FaultKind::NoMemory), where a growth was refused, before any later fault.
 #[tactic(auto, using(crate::proofs::Steps::both, crate::proofs::Steps::or_else_none, crate::proofs::Steps::or_else_some), unfolding(crate::specs::Walk::file))]
-pub fn load(alloc: Global, bytes: &[u8]) -> Result<SystemParts, LoadFault>
-    ensures { Gives (λ s. s) result (file bytes.now) }
+pub fn load(alloc: Global, text: &[u8]) -> Result<System, LoadFault>
+    ensures { Gives (λ s. s) result (file text.now) }
 {
-    let table = document(alloc, bytes)?;
-    walk(alloc, &table)
+    let table = document(alloc, text)?;
+    let parts = walk(alloc, &table)?;
+    Ok(System::new(parts))
 }

@@ -8,16 +8,19 @@ mod context;
 mod fault;
 mod file;
 mod key;
+mod laws;
 mod names;
 mod note;
 mod numbers;
 mod order;
-mod raw;
 mod script;
 mod spot;
+#[cfg(test)]
+mod tests;
 mod thread;
 mod words;
 
 pub use fault::{FaultKind, LoadFault};
 pub use file::load;
+pub use laws::accepted_systems_are_well_formed;
 pub use spot::{Key, Section, Spot};

@@ -3,7 +3,7 @@ ghost use Rattle.toml.specs.View.{table_view, view, items_view};
 ghost use Rattle.mcs_control.specs.Control.{kind_of};
 ghost use Rattle.mcs_control.specs.declared.config.Order.{Order};
 ghost use Rattle.mcs_load.specs.declared.spot.Section.TheVariants as section;
-ghost use Rattle.mcs_load.specs.Checks.{Gives};
+ghost use Rattle.mcs_load.specs.Checks.{Gives, Tells};
 ghost use Rattle.mcs_load.specs.Words.{row, each};
 ghost use Rattle.mcs_load.specs.Walk.{part_at, ordered_context, keeps_kind, order, orders};
 
@@ -41,7 +41,7 @@ fn ordered_context<'a>(
 ) -> Result<usize, LoadFault>
     requires range { (1 ≤ cores) × (cores ≤ 64) }
     requires names { names.now ≡ map (λ c. c.name) contexts.now }
-    ensures gives { Gives (λ n. n) result (ordered_context cores contexts.now at (table_view row.now)) }
+    ensures gives { Tells (λ n. n) result (ordered_context cores contexts.now at (table_view row.now)) }
     ensures within { IfOk result (λ n. n < length contexts.now) }
 {
     let core = whole_number(at, Key::Core, 0, cores - 1, row)?;
@@ -61,7 +61,7 @@ fn keep_kind(
     config: Config,
 ) -> Result<(), LoadFault>
     requires { context < length contexts.now }
-    ensures { Gives (λ x. x) result (keeps_kind at (kind_of (part_at contexts.now context).config) (kind_of config)) }
+    ensures { Tells (λ x. x) result (keeps_kind at (kind_of (part_at contexts.now context).config) (kind_of config)) }
 {
     if kind_of_part(contexts, context) == kind_of(config) {
         Ok(())
@@ -81,7 +81,7 @@ fn order_row<'a>(
 ) -> Result<Order, LoadFault>
     requires range { (1 ≤ cores) × (cores ≤ 64) }
     requires names { names.now ≡ map (λ c. c.name) contexts.now }
-    ensures { (earlier : List Order) → Gives (λ x. x) result (order cores min_budget contexts.now at earlier (table_view row.now)) }
+    ensures { (earlier : List Order) → Tells (λ x. x) result (order cores min_budget contexts.now at earlier (table_view row.now)) }
 {
     only_keys(at, &ORDER_KEYS, row)?;
     let ticks = whole_number(at, Key::At, 0, Limits::ORDER_MOMENT, row)?;
@@ -106,7 +106,7 @@ fn order_at<'a>(
 ) -> Result<Order, LoadFault>
     requires range { (1 ≤ cores) × (cores ≤ 64) }
     requires names { names.now ≡ map (λ c. c.name) contexts.now }
-    ensures { (earlier : List Order) → number ≡ suc (length earlier) → Gives (λ x. x) result (row section.Order (order cores min_budget contexts.now) earlier (view value.now)) }
+    ensures { (earlier : List Order) → number ≡ suc (length earlier) → Tells (λ x. x) result (row section.Order (order cores min_budget contexts.now) earlier (view value.now)) }
 {
     let at = At {
         section: Section::Order,

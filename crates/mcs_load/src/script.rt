@@ -1,18 +1,17 @@
 ghost use Rattle.std.specs.Prelude.{◌≡◌, ◌+◌, ◌<◌, ◌≤◌, ◌^◌, ℕ, IfOk, List, suc, length, map, [], ◌∷◌, ◌++◌};
 ghost use Rattle.toml.specs.View.{view, table_view, items_view};
-ghost use Rattle.mcs_load.specs.Raw.{raw_view, read_as};
-ghost use Rattle.mcs_load.specs.Checks.{Gives};
+ghost use Rattle.mcs_script.specs.Raw.{raw_view, read_as};
+ghost use Rattle.mcs_load.specs.Checks.{Gives, Tells};
 ghost use Rattle.mcs_load.specs.Words.{each};
 ghost use Rattle.mcs_load.specs.Script.{core_of, note_named, named, script_item, next_item, script, ends_without_wait, texts, said};
 
 use crate::at::At;
 use crate::fault::{FaultKind, LoadFault};
 use crate::names::Names;
-use crate::raw::{RawItem, read_item};
 use crate::spot::Key;
 use crate::words::find;
 use mcs_core::NotePart;
-use mcs_script::{Item, Script};
+use mcs_script::{Item, RawItem, Script, read_item};
 use mcs_ticks::{CoreId, Limits, NoteId};
 use std::alloc::Global;
 use toml::{Table, Value};
@@ -25,7 +24,7 @@ fn note_named<'a>(
     names: &Names<'a>,
     name: &'a str,
 ) -> Result<NoteId, LoadFault>
-    ensures gives { Gives (λ n. n) result (note_named at number names.now name.now) }
+    ensures gives { Tells (λ n. n) result (note_named at number names.now name.now) }
     ensures within { IfOk result (λ n. n < length names.now) }
 {
     match names.find(name) {
@@ -53,7 +52,7 @@ fn named<'a>(
     raw: RawItem<'a>,
 ) -> Result<Item, LoadFault>
     requires { names.now ≡ map (λ n. n.name) notes.now }
-    ensures { Gives (λ x. x) result (named notes.now core at number (raw_view raw.entry)) }
+    ensures { Tells (λ x. x) result (named notes.now core at number (raw_view raw.entry)) }
 {
     match raw {
         RawItem::Compute(ticks) => Ok(Item::Compute(ticks)),
@@ -75,7 +74,7 @@ fn named<'a>(
 /// What a text says.
 #[tactic(auto, unfolding(crate::specs::Script::said))]
 fn said(at: At, number: usize, text: &str) -> Result<RawItem<'_>, LoadFault>
-    ensures { Gives (λ raw. raw_view raw) result (said at number (read_as text.now)) }
+    ensures { Tells (λ raw. raw_view raw) result (said at number (read_as text.now)) }
 {
     match read_item(text) {
         Ok(raw) => Ok(raw),
@@ -94,7 +93,7 @@ fn script_item<'a>(
     value: &'a Value,
 ) -> Result<Item, LoadFault>
     requires { names.now ≡ map (λ n. n.name) notes.now }
-    ensures { Gives (λ x. x) result (script_item notes.now core at number (view value.now)) }
+    ensures { Tells (λ x. x) result (script_item notes.now core at number (view value.now)) }
 {
     let Some(text) = value.as_str() else {
         return Err(at.item_fault(Key::Script, number, FaultKind::WrongKind));
@@ -127,7 +126,7 @@ fn script_items<'a>(
 #[tactic(auto, unfolding(crate::specs::Script::ends_without_wait))]
 fn ends_without_wait(at: At, items: Vec<Item>) -> Result<Script, LoadFault>
     requires { (1 ≤ length items.items) × (length items.items ≤ 1024) }
-    ensures { Gives (λ s. s) result (ends_without_wait at items.items) }
+    ensures { Tells (λ s. s) result (ends_without_wait at items.items) }
 {
     match Script::new(items) {
         Ok(script) => Ok(script),
@@ -138,7 +137,7 @@ fn ends_without_wait(at: At, items: Vec<Item>) -> Result<Script, LoadFault>
 /// The array at the key `script`.
 #[tactic(auto, using(crate::proofs::Steps::both, crate::proofs::Steps::or_else_none, crate::proofs::Steps::or_else_some, crate::proofs::Members::item_count_view), unfolding(crate::specs::Script::texts))]
 fn texts(at: At, row: &Table) -> Result<&[Value], LoadFault>
-    ensures gives { Gives (λ v. items_view v.now) result (texts at (table_view row.now)) }
+    ensures gives { Tells (λ v. items_view v.now) result (texts at (table_view row.now)) }
     ensures count { IfOk result (λ v. (1 ≤ length v.now) × (length v.now ≤ 1024)) }
 {
     let Some(value) = find(row, Key::Script) else {

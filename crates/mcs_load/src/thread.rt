@@ -2,7 +2,7 @@ ghost use Rattle.std.specs.Prelude.{◌≡◌, ◌≤◌, ◌<◌, ℕ, IfOk, Li
 ghost use Rattle.toml.specs.View.{table_view, view, items_view};
 ghost use Rattle.mcs_core.specs.declared.part.ThreadPart.{ThreadPart};
 ghost use Rattle.mcs_load.specs.declared.spot.Section.TheVariants as section;
-ghost use Rattle.mcs_load.specs.Checks.{Gives};
+ghost use Rattle.mcs_load.specs.Checks.{Gives, Tells};
 ghost use Rattle.mcs_load.specs.Words.{row, each};
 ghost use Rattle.mcs_load.specs.Walk.{own_context, times, thread, threads};
 
@@ -60,7 +60,7 @@ fn own_context<'a>(
 /// The start, the rounds and the deadline of a row.
 #[tactic(auto, using(crate::proofs::Steps::both, crate::proofs::Steps::or_else_none, crate::proofs::Steps::or_else_some), unfolding(crate::specs::Walk::times))]
 fn times(at: At, row: &Table) -> Result<Timing, LoadFault>
-    ensures { Gives (λ x. x) result (times at (table_view row.now)) }
+    ensures { Tells (λ x. x) result (times at (table_view row.now)) }
 {
     let start = number_with_default(at, Key::Start, 0, Limits::START, 0, row)?;
     let rounds = number_with_default(at, Key::Rounds, 0, Limits::ROUNDS, 0, row)?;

@@ -2,10 +2,10 @@ ghost use Rattle.std.specs.Prelude.{◌≡◌, ◌^◌, ◌<◌, ◌≤◌, ℕ,
 ghost use Rattle.std.specs.List.{list_all};
 ghost use Rattle.toml.specs.Data.{get_member};
 ghost use Rattle.toml.specs.View.{view, table_view, items_view};
-ghost use Rattle.mcs_core.specs.WellFormed.{is_name_byte};
+ghost use Rattle.mcs_core.specs.WellFormed.{is_name, is_name_byte};
 ghost use Rattle.mcs_load.specs.Keys.{key_name};
-ghost use Rattle.mcs_load.specs.Checks.{Gives};
-ghost use Rattle.mcs_load.specs.Words.{has_only, is_listed, is_name, only_keys, number, whole_number, number_with_default, text, row_table, new_name, rows};
+ghost use Rattle.mcs_load.specs.Checks.{Gives, Tells};
+ghost use Rattle.mcs_load.specs.Words.{has_only, is_listed, only_keys, number, whole_number, number_with_default, text, row_table, new_name, rows};
 
 use crate::at::At;
 use crate::fault::{FaultKind, LoadFault};
@@ -36,7 +36,7 @@ fn number(
 ) -> Result<u64, LoadFault>
     requires { (least ≤ default) × (default ≤ most) }
     ensures in_range { IfOk result (λ n. (least ≤ n) × (n ≤ most)) }
-    ensures gives { Gives (λ n. n) result (number at key least most default (option_map (λ v. view v.now) found.entry)) }
+    ensures gives { Tells (λ n. n) result (number at key least most default (option_map (λ v. view v.now) found.entry)) }
 {
     let Some(value) = found else {
         return Ok(default);
@@ -60,7 +60,7 @@ pub(crate) fn whole_number(
 ) -> Result<u64, LoadFault>
     requires { least ≤ most }
     ensures in_range { IfOk result (λ n. (least ≤ n) × (n ≤ most)) }
-    ensures gives { Gives (λ n. n) result (whole_number at key least most (table_view table.now)) }
+    ensures gives { Tells (λ n. n) result (whole_number at key least most (table_view table.now)) }
 {
     let Some(value) = find(table, key) else {
         return Err(at.fault(key, FaultKind::MissingKey));
@@ -79,14 +79,14 @@ pub(crate) fn number_with_default(
 ) -> Result<u64, LoadFault>
     requires { (least ≤ default) × (default ≤ most) }
     ensures in_range { IfOk result (λ n. (least ≤ n) × (n ≤ most)) }
-    ensures gives { Gives (λ n. n) result (number_with_default at key least most default (table_view table.now)) }
+    ensures gives { Tells (λ n. n) result (number_with_default at key least most default (table_view table.now)) }
 {
     number(at, key, least, most, default, find(table, key))
 }
 
 #[tactic(auto, unfolding(crate::specs::Words::text))]
 pub(crate) fn text(at: At, key: Key, table: &Table) -> Result<&str, LoadFault>
-    ensures { Gives (λ s. s.now) result (text at key (table_view table.now)) }
+    ensures { Tells (λ s. s.now) result (text at key (table_view table.now)) }
 {
     let Some(value) = find(table, key) else {
         return Err(at.fault(key, FaultKind::MissingKey));
@@ -99,7 +99,7 @@ pub(crate) fn text(at: At, key: Key, table: &Table) -> Result<&str, LoadFault>
 
 #[tactic(auto, unfolding(crate::specs::Words::row_table))]
 pub(crate) fn row_table(at: At, row: &Value) -> Result<&Table, LoadFault>
-    ensures { Gives (λ t. table_view t.now) result (row_table at (view row.now)) }
+    ensures { Tells (λ t. table_view t.now) result (row_table at (view row.now)) }
 {
     match row.as_table() {
         Some(table) => Ok(table),
@@ -127,7 +127,7 @@ fn has_only(keys: &[Key], table: &Table) -> bool
 
 #[tactic(auto, unfolding(crate::specs::Words::only_keys))]
 pub(crate) fn only_keys(at: At, keys: &[Key], table: &Table) -> Result<(), LoadFault>
-    ensures { Gives (λ x. x) result (only_keys at keys.now (table_view table.now)) }
+    ensures { Tells (λ x. x) result (only_keys at keys.now (table_view table.now)) }
 {
     if has_only(keys, table) {
         Ok(())
@@ -176,7 +176,7 @@ pub(crate) fn new_name<'a>(
 /// The rows at a key: the values of its array, or none.
 #[tactic(auto, using(crate::proofs::Members::item_count_view), unfolding(crate::specs::Words::rows))]
 pub(crate) fn rows(section: Section, key: Key, table: &Table) -> Result<&[Value], LoadFault>
-    ensures { Gives (λ v. items_view v.now) result (rows section key (table_view table.now)) }
+    ensures { Tells (λ v. items_view v.now) result (rows section key (table_view table.now)) }
 {
     let at = At::array(section);
     let Some(value) = find(table, key) else {

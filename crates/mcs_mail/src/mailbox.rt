@@ -54,11 +54,12 @@ impl Mailbox {
         }
     }
 
-    /// Makes room for `n` more puts. The mail is as it was.
+    /// Makes room for `n` more puts, which succeeds where `spare` is `n` already. The mail is as it was.
     pub fn reserve(&mut self, n: usize) -> Result<(), NoMemory>
         ensures mails { self.new.mails ≡ self.old.mails }
         ensures spare { OnOk result (n ≤ self.new.spare) }
         ensures no_less { self.old.spare ≤ self.new.spare }
+        ensures enough { n ≤ self.old.spare → IsOk result }
     {
         self.mails.reserve(n)?;
         Ok(())

@@ -41,7 +41,7 @@ made notes threads = record { notes = notes; threads = threads }
 both : (ns ms : List Note) (a b : ℕ) → ns ≡ ms → a ≡ b → made ns a ≡ made ms b
 both ns ms a b e f = cc
 
-module _ (kept : List Kept) (waiting : List Waiting) (threads room : ℕ) (all : Notifications) (note i : ℕ) (k : Kept) (r : IsRead kept waiting threads room all note i k) where
+module _ {kept : List Kept} {waiting : List Waiting} {threads room : ℕ} {all : Notifications} {note i : ℕ} {k : Kept} (r : IsRead kept waiting threads room all note i k) where
   below : i < length kept
   below = let p = within_kept kept waiting threads all note r.view r.within in omega (arith, r.index)
 

@@ -1,11 +1,25 @@
+ghost use Rattle.std.specs.Prelude.{◌≡◌, replicate, IfOk};
+ghost use Rattle.mcs_notify.specs.Note.{quiet_note};
+
 use crate::{Notes, Posted, Waited};
-use mcs_ticks::{NoteId, ThreadId};
+use mcs_ticks::{NoMemory, NoteId, ThreadId};
+use std::alloc::Global;
 use std::test::Fail;
+
+// A second try: one refused growth is an answer, and nothing is left of it.
+fn made(alloc: Global, notes: usize, threads: usize) -> Result<Notes, NoMemory>
+    ensures { IfOk result (λ made. made ≡ record { notes = replicate notes quiet_note; threads = threads }) }
+{
+    match Notes::new(alloc, notes, threads) {
+        Ok(made) => Ok(made),
+        Err(_refusal) => Notes::new(alloc, notes, threads),
+    }
+}
 
 #[test]
 fn badges_are_held_and_taken(rt: HostRuntime) -> Result<(), Fail> {
     let (a, b) = (NoteId(0), NoteId(1));
-    let mut notes = Notes::new(rt.alloc(), 2, 1)?;
+    let mut notes = made(rt.alloc(), 2, 1)?;
     assert_eq!(rt; notes.word(a), 0);
     assert_eq!(rt; notes.post(a, 5), Posted::Held(5));
     assert_eq!(rt; notes.post(a, 6), Posted::Held(7));
@@ -21,7 +35,7 @@ fn badges_are_held_and_taken(rt: HostRuntime) -> Result<(), Fail> {
 #[test]
 fn the_best_waiter_is_woken(rt: HostRuntime) -> Result<(), Fail> {
     let (a, b) = (NoteId(0), NoteId(1));
-    let mut notes = Notes::new(rt.alloc(), 2, 5)?;
+    let mut notes = made(rt.alloc(), 2, 5)?;
     assert_eq!(rt; notes.wait(a, ThreadId(4), 1), Waited::Blocks);
     assert_eq!(rt; notes.wait(a, ThreadId(2), 9), Waited::Blocks);
     assert_eq!(rt; notes.wait(b, ThreadId(3), 200), Waited::Blocks);

@@ -115,7 +115,7 @@ IsLike-gathered min_budget n from end r (s ∷ rs) h = by (nat_lt r.amount min_b
     by true i = i
     by false i = h
 
-IsLike-enough : (min_budget n from end : ℕ) (rs : List Refill) → IsLike rs n from end → IsLike (enough min_budget rs) n from end
+pub IsLike-enough : (min_budget n from end : ℕ) (rs : List Refill) → IsLike rs n from end → IsLike (enough min_budget rs) n from end
 IsLike-enough min_budget n from end [] h = h
 IsLike-enough min_budget n from end (r ∷ rs) h = IsLike-gathered min_budget n from end r rs h
 

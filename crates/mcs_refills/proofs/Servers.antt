@@ -5,7 +5,8 @@ use Rattle.std.proofs.lemmas.Bool.Decides.{nat_tests}
 use Rattle.mcs_refills.specs.declared.refill.Refill.{Refill}
 use Rattle.mcs_refills.specs.Keeping.{AreApart, IsKept, end_of, after_charge, after_unblock}
 use Rattle.mcs_refills.specs.Server.{Server, dates_of, with_date, refills_of, first_amount, head_amount, charged, with_enough, unblocked}
-use Rattle.mcs_refills.specs.Spacing.{IsWithin, IsServer, ServersAreKept}
+use Rattle.mcs_refills.specs.Spacing.{IsWithin}
+use Rattle.mcs_refills.specs.Kept.{IsServer, ServersAreKept}
 use Rattle.mcs_refills.proofs.Dates.{refills_of-dates_of}
 use Rattle.mcs_refills.proofs.Charges.{IsLike, IsLike-charge, dates_of-charge}
 use Rattle.mcs_refills.proofs.Gathers.{end_of-first}
@@ -30,7 +31,7 @@ apart-with_date high date (r ∷ rs) l a = by (date + 1 == r.begins) refl rs a
         let q : date + 1 < r.begins = grind (arith, nat_tests) in
         (p, q, a)
 
-apart-refills_of : (low high : ℕ) (us : List ℕ) → IsWithin low high us → AreApart (refills_of us)
+pub apart-refills_of : (low high : ℕ) (us : List ℕ) → IsWithin low high us → AreApart (refills_of us)
 apart-refills_of low high [] h = tt
 apart-refills_of low high (u ∷ us) h =
     apart-with_date high u (refills_of us) (laid-refills_of (u + 1) high us (omega (arith, h.1)) h.2) (apart-refills_of (u + 1) high us h.2)

@@ -354,11 +354,11 @@ consumed-spaced budget period max_refills steps us h p j l =
     reached-at period us (consumed period max_refills steps us) (consumed period max_refills steps us) (j + budget) j (reached budget period max_refills steps us h p) (ap (λ n. j + n) (sym h.all)) l (omega arith)
 
 -- an order
-length-range : (n a : ℕ) → length (range_with_len a n) ≡ n
+pub length-range : (n a : ℕ) → length (range_with_len a n) ≡ n
 length-range zero a = refl
 length-range (suc n) a = ap suc (length-range n (a + 1))
 
-length-both : (xs ys : List ℕ) → length (xs ++ ys) ≡ length xs + length ys
+pub length-both : (xs ys : List ℕ) → length (xs ++ ys) ≡ length xs + length ys
 length-both [] ys = omega arith
 length-both (x ∷ xs) ys = ap suc (length-both xs ys) ∙ omega arith
 

@@ -2,7 +2,7 @@
 use Rattle.std.specs.Prelude.{◌≡◌, ℕ, true, false, List, [], ◌∷◌, refl}
 use Rattle.mcs_refills.specs.declared.refill.Refill.{Refill}
 use Rattle.mcs_refills.specs.Server.{dates_of, refills_of, is_ready, charged, with_enough, unblocked, reconfigured}
-use Rattle.mcs_refills.specs.Slice.{slice_charged, slice_reconfigured}
+use Rattle.mcs_refills.specs.Slice.{slice_charged, slice_reconfigured, times_used_up, left_after_all}
 use Rattle.mcs_refills.specs.Spacing.{consumed}
 use Rattle.mcs_refills.specs.Spacing.Step.{Charge, Unblock}
 
@@ -109,3 +109,10 @@ order_to_more_than_is_left = refl
 -- the dates in use: the eleventh is a period after the first
 dates_in_use : consumed 100 2 (Charge 3 1 ∷ Unblock 50 ∷ Charge 7 1 ∷ Charge 2 1 ∷ []) (dates_of (r 0 10 ∷ [])) ≡ 0 ∷ 1 ∷ 2 ∷ 50 ∷ 51 ∷ 52 ∷ 53 ∷ 54 ∷ 55 ∷ 56 ∷ 100 ∷ 101 ∷ []
 dates_in_use = refl
+
+-- a slice of 3 is used up by 1 and 2, and again by 3; of the third one 2 are used
+slices_used_up : times_used_up (1 ∷ 2 ∷ 3 ∷ 2 ∷ []) 3 3 ≡ 2
+slices_used_up = refl
+
+left_of_the_last_slice : left_after_all (1 ∷ 2 ∷ 3 ∷ 2 ∷ []) 3 3 ≡ 1
+left_of_the_last_slice = refl

@@ -1,5 +1,5 @@
 -- The time slice of a round robin context: the number of ticks that are left of its budget.
-use Rattle.std.specs.Prelude.{ℕ, ◌-◌, ◌^◌, ◌≤◌, min, ◌==◌, if◌then◌else◌}
+use Rattle.std.specs.Prelude.{◌≡◌, ℕ, ◌+◌, ◌-◌, ◌*◌, ◌^◌, ◌≤◌, min, ◌==◌, if◌then◌else◌, List, [], ◌∷◌, sum}
 
 -- a charge of k: what is left, or the full budget where nothing is
 abbrev pub slice_charged : ℕ → ℕ → ℕ → ℕ
@@ -28,3 +28,24 @@ charged_slice k slice = record { budget = slice.budget; left = slice_charged k s
 
 abbrev pub reconfigured_slice : ℕ → TimeSlice → TimeSlice
 reconfigured_slice budget slice = record { budget = budget; left = slice_reconfigured budget slice.left }
+
+-- each charge takes something, and at most what is left
+abbrev pub AreWithin : List ℕ → ℕ → ℕ → Type 0
+AreWithin [] budget left = Unit {0}
+AreWithin (k ∷ ks) budget left = (1 ≤ k) × (k ≤ left) × AreWithin ks budget (slice_charged k budget left)
+
+-- what is left after charges
+abbrev pub left_after_all : List ℕ → ℕ → ℕ → ℕ
+left_after_all [] budget left = left
+left_after_all (k ∷ ks) budget left = left_after_all ks budget (slice_charged k budget left)
+
+-- how often they use the slice up
+abbrev pub times_used_up : List ℕ → ℕ → ℕ → ℕ
+times_used_up [] budget left = 0
+times_used_up (k ∷ ks) budget left =
+    if left - k == 0 then times_used_up ks budget (slice_charged k budget left) + 1 else times_used_up ks budget (slice_charged k budget left)
+
+-- from a full slice on, the charges sum to the budgets that they used up and what they used of the last: so from one full slice
+-- to the next they sum to the budget
+abbrev pub SlicesAreSpent : Type 0
+SlicesAreSpent = (budget : ℕ) (ks : List ℕ) → AreWithin ks budget budget → sum ks + left_after_all ks budget budget ≡ budget + times_used_up ks budget budget * budget

@@ -1,7 +1,7 @@
 -- What the charges of a server take from it, where no order comes between: from one date to the one a whole budget later
 -- there is at least a period.
 use Rattle.std.specs.Prelude.{◌≡◌, ℕ, ◌+◌, ◌<◌, ◌≤◌, List, [], ◌∷◌, ◌++◌, map, take, drop, length, slice_index}
-use Rattle.mcs_refills.specs.Server.{Server, new_server, server_charged, server_unblocked, server_reconfigured, refills_of, head_amount, charged, with_enough, unblocked}
+use Rattle.mcs_refills.specs.Server.{charged, with_enough, unblocked}
 
 -- each date is at most the one in its place of the other list, and the lists are equally long
 abbrev pub IsUnder : List ℕ → List ℕ → Type 0
@@ -20,19 +20,6 @@ pub record AreKept (budget period : ℕ) (dates : List ℕ) : Type 0 where
   pub all : length dates ≡ budget
   pub low : ℕ
   pub within : IsWithin low (low + period) dates
-
--- a server in good order with this budget: its dates are kept, and it has no more refills than it may have
-pub record IsServer (budget : ℕ) (server : Server) : Type 0 where
-  pub kept : AreKept budget server.period server.dates
-  pub few : length (refills_of server.dates) ≤ server.max_refills
-
--- a new server is in good order, a charge and unblocking leave it so, and an order makes it so with the new budget and period
-abbrev pub ServersAreKept : Type 0
-ServersAreKept =
-    ((at budget period max_refills room : ℕ) → budget ≤ period → 1 ≤ max_refills → IsServer budget (new_server at budget period max_refills room))
-    × ((k min_budget budget : ℕ) (server : Server) → IsServer budget server → 1 ≤ k → k ≤ head_amount server.dates → IsServer budget (server_charged k min_budget server))
-    × ((t budget : ℕ) (server : Server) → IsServer budget server → IsServer budget (server_unblocked t server))
-    × ((t budget period max_refills : ℕ) (server : Server) → budget ≤ period → 2 ≤ max_refills → IsServer budget (server_reconfigured t budget period max_refills server))
 
 -- the dates after a charge of k, in the order of the dates before it: those that are not used, and those that return
 abbrev pub after_use : ℕ → ℕ → List ℕ → List ℕ

@@ -1,6 +1,6 @@
 ghost use Rattle.std.specs.Prelude.{◌≡◌, ◌^◌, ◌<◌, ◌≤◌, IfOk, length, slice_get};
 ghost use Rattle.mcs_refills.specs.Server.{new_server, refills_of, is_ready, first_date, head_amount, server_charged, server_unblocked, server_reconfigured};
-ghost use Rattle.mcs_refills.specs.Spacing.{IsServer};
+ghost use Rattle.mcs_refills.specs.Kept.{IsServer};
 
 use crate::Refill;
 use crate::steps::{charge_list, reconfigure_list, unblock_list};
@@ -12,7 +12,7 @@ use std::marker::Model;
 /// Reference Manual (MCS). Contracts see a server: its budget dates, one for each tick of the budget in ascending order, its
 /// period, at most how many refills it has, and for how many there is room. The refills are the longest runs of consecutive
 /// dates. Only [`Refills::new`] takes memory.
-#[derive(Drop)]
+#[derive(Debug, Drop)]
 pub struct Refills {
     list: Vec<Refill>,
     period: u64,

@@ -28,7 +28,6 @@ const ROOM: usize = 4;
 const LATEST: u64 = 1 << 40;
 
 // What is left is that of the theorem of the same name in proofs/Sequences.antt, where the definitions are evaluated.
-
 const LIVES: [Life; 39] = [
     Life {
         shows: "a_new_list_is_one_refill",

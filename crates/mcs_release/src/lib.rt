@@ -1,6 +1,13 @@
-//! Release queues: threads that wait for a date.
+//! Release queues of one core, after the seL4 Reference Manual: threads that wait for a date, each with the date from which it may
+//! leave. They leave by date, and at one date in the order in which they entered. No call but `new` takes memory.
 #![tactic(auto)]
 
 mod dated;
+mod laws;
+mod releases;
+#[cfg(test)]
+mod tests;
 
 pub use dated::Dated;
+pub use laws::equal_dates_leave_in_order;
+pub use releases::{Releases, held_once};

@@ -1,27 +1,28 @@
 -- What the contexts of worked systems show at some moments, with the ticks in use.
-use Rattle.std.specs.Prelude.{◌≡◌, ℕ, ◌+◌, List, [], ◌∷◌, Some, None, refl}
+use Rattle.std.specs.Prelude.{◌≡◌, ℕ, ◌+◌, List, [], ◌∷◌, Some, None, refl, flat_map}
+use Rattle.std.specs.List.{range_with_len}
 use Rattle.mcs_refills.specs.declared.refill.Refill.{Refill}
-use Rattle.mcs_control.specs.Context.{View}
+use Rattle.mcs_control.specs.declared.view.ContextView.{ContextView}
 use Rattle.mcs_core.specs.System.{System}
 use Rattle.mcs_core.specs.Clock.{world, core_at}
 use Rattle.mcs_core.specs.Views.{views_of}
 use Rattle.mcs_laws.specs.Changes.{Change, changed_by, taken_by}
 use Rattle.mcs_laws.specs.Changes.Change.{Charged, Ordered}
-use Rattle.mcs_laws.specs.Histories.{charges_before, context_before, opening_context}
+use Rattle.mcs_laws.specs.Histories.{charges_at, context_before, opening_context}
 use Rattle.mcs_worked.specs.Parts.{order}
 use Rattle.mcs_worked.proofs.Schedules as worked
 
 -- the views of the contexts of core 0 after all turns of moment t
-abbrev shown_after : System → ℕ → List View
+abbrev shown_after : System → ℕ → List ContextView
 shown_after system t = views_of system (core_at system (world system (t + 1)) 0)
 
 abbrev refill : ℕ → ℕ → Refill
 refill begins amount = record { begins = begins; amount = amount }
 
-abbrev sporadic : ℕ → List Refill → ℕ → View
+abbrev sporadic : ℕ → List Refill → ℕ → ContextView
 sporadic context refills using = record { context = context; refills = refills; left = None; using = using }
 
-abbrev slice : ℕ → ℕ → ℕ → View
+abbrev slice : ℕ → ℕ → ℕ → ContextView
 slice context left using = record { context = context; refills = []; left = Some left; using = using }
 
 -- while the thread runs its ticks are in use and not yet charged ..
@@ -49,7 +50,7 @@ slices : shown_after worked.round_robin_takes_turns_system 3 ≡ slice 0 2 1 ∷
 slices = refl
 
 -- a context that is only charged: its charges as the rows tell them, the dates that they take, and what they leave
-charges : charges_before worked.depletes_and_refills_system 0 12 ≡ 2 ∷ 2 ∷ 1 ∷ []
+charges : flat_map (charges_at worked.depletes_and_refills_system 0) (range_with_len 0 12) ≡ 2 ∷ 2 ∷ 1 ∷ []
 charges = refl
 
 abbrev three_charges : List Change

@@ -5,12 +5,12 @@ use Rattle.mcs_cli.proofs.report.append_reports.Given as goal
 
 abbrev pub invariant-loop-thread : goal.invariant-loop-thread
 invariant-loop-thread l = record {
-  rest : l.text.items ++ thread_lines l.system l.thread (drop l.thread l.reports.threads.items) ≡ l.fn.text.items ++ thread_lines l.system 0 l.reports.threads.items;
+  rest : l.text.items ++ thread_lines l.system l.thread (drop l.thread l.reports.threads) ≡ l.fn.text.items ++ thread_lines l.system 0 l.reports.threads;
   kept : StartsWith l.text.items l.fn.text.items;
 }
 
 abbrev pub invariant-loop-core : goal.invariant-loop-core
 invariant-loop-core l = record {
-  rest : l.text.items ++ core_lines l.core (drop l.core l.reports.cores.items) ≡ l.fn.text.items ++ reports_text l.system l.reports.threads.items l.reports.cores.items;
+  rest : l.text.items ++ core_lines l.core (drop l.core l.reports.cores) ≡ l.fn.text.items ++ reports_text l.system l.reports;
   kept : StartsWith l.text.items l.fn.text.items;
 }

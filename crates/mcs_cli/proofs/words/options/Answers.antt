@@ -1,4 +1,4 @@
-use Rattle.mcs_cli.proofs.Fault.{fault_answer}
+use Rattle.mcs_cli.proofs.Refusals.{fault_answer}
 use Rattle.mcs_cli.proofs.words.options.Goals as goal
 
 pub returns-in-Err : goal.returns-in-Err

@@ -11,7 +11,7 @@ pub returns-in_err-order_at : goal.returns-in_err-order_at
 returns-in_err-order_at c =
     let p = err_from_is_err_and c.from_residual.result c.from_residual.ensures.1 in
     let failed = c.in_err-order_at.ensures c.loop-i.orders.items (omega (arith, c.loop-i.invariant.count)) in
-    rw (p.1, p.2) (λ h. sym c.loop-i.invariant.tests ∙ step_fails (row section.Order (order c.args.cores c.args.min_budget c.args.contexts.now)) _ c.args.rows.now c.loop-i.i c.index-rows-i.result c.in_err-order_at.field-0.0 (omega arith) c.index-rows-i.is (failed h))
+    rw (p.1, p.2) (λ _. sym c.loop-i.invariant.tests ∙ step_fails (row section.Order (order c.args.cores c.args.min_budget c.args.contexts.now)) _ c.args.rows.now c.loop-i.i c.index-rows-i.result c.in_err-order_at.field-0.0 (omega arith) c.index-rows-i.is failed)
 
 pub loop-i-preserved : goal.loop-i-preserved
 loop-i-preserved c =

@@ -10,7 +10,7 @@ returns-in_err-script_item-clause-gives c =
     let p = err_from_is_err_and c.from_residual.result c.from_residual.ensures.1 in
     let number : c.loop-i.i + 1 ≡ suc (length c.loop-i.items.items) = omega (arith, c.loop-i.invariant.count) in
     let failed = rw number at c.in_err-script_item.ensures in
-    rw (p.1, p.2) (λ h. sym c.loop-i.invariant.tests ∙ step_fails (next_item c.args.notes.now c.args.core c.args.at) _ c.args.values.now c.loop-i.i c.index-values-i.result c.in_err-script_item.field-0.0 (omega arith) c.index-values-i.is (failed h))
+    rw (p.1, p.2) (λ _. sym c.loop-i.invariant.tests ∙ step_fails (next_item c.args.notes.now c.args.core c.args.at) _ c.args.values.now c.loop-i.i c.index-values-i.result c.in_err-script_item.field-0.0 (omega arith) c.index-values-i.is failed)
 
 pub loop-i-preserved : goal.loop-i-preserved
 loop-i-preserved c =

@@ -9,43 +9,36 @@ index_mut-kept-requires c =
 
 pub invariant_of-self : goal.invariant_of-self
 invariant_of-self c =
-    rewritten-kept c.self.inside.notes.items c.self.inside.waiting.items c.self.inside.threads _ c.args.self.now c.args.note c.note.inside.0 c.index_mut-kept.result.now
-    (record { is_kept = c.self.invariant; view = c.self.view_is; index = c.note.view_is; within = c.requires; read = c.index_mut-kept.ensures.value })
+    rewritten-kept (record { is_kept = c.self.invariant; view = c.self.view_is; index = c.note.view_is; within = c.requires; read = c.index_mut-kept.ensures.value })
     _ refl
 
 pub returns-then-kept-eq0-clause-posted : goal.returns-then-kept-eq0-clause-posted
 returns-then-kept-eq0-clause-posted c =
-    held-answer c.self.inside.notes.items c.self.inside.waiting.items c.self.inside.threads _ c.args.self.now c.args.note c.note.inside.0 c.index_mut-kept.result.now
-    (record { is_kept = c.self.invariant; view = c.self.view_is; index = c.note.view_is; within = c.requires; read = c.index_mut-kept.ensures.value })
+    held-answer (record { is_kept = c.self.invariant; view = c.self.view_is; index = c.note.view_is; within = c.requires; read = c.index_mut-kept.ensures.value })
     c.args.badge c.if-kept-eq0.true
 
 pub returns-then-kept-eq0-clause-note : goal.returns-then-kept-eq0-clause-note
 returns-then-kept-eq0-clause-note c =
-    held-note c.self.inside.notes.items c.self.inside.waiting.items c.self.inside.threads _ c.args.self.now c.args.note c.note.inside.0 c.index_mut-kept.result.now
-    (record { is_kept = c.self.invariant; view = c.self.view_is; index = c.note.view_is; within = c.requires; read = c.index_mut-kept.ensures.value })
+    held-note (record { is_kept = c.self.invariant; view = c.self.view_is; index = c.note.view_is; within = c.requires; read = c.index_mut-kept.ensures.value })
     _
 
 pub take_best-woken-requires : goal.take_best-woken-requires
 take_best-woken-requires c =
-    some_wait c.self.inside.notes.items c.self.inside.waiting.items c.self.inside.threads _ c.args.self.now c.args.note c.note.inside.0 c.index_mut-kept.result.now
-    (record { is_kept = c.self.invariant; view = c.self.view_is; index = c.note.view_is; within = c.requires; read = c.index_mut-kept.ensures.value })
+    some_wait (record { is_kept = c.self.invariant; view = c.self.view_is; index = c.note.view_is; within = c.requires; read = c.index_mut-kept.ensures.value })
     c.if-kept-eq0.false
 
 pub invariant_of-self-2 : goal.invariant_of-self-2
 invariant_of-self-2 c =
     rw c.take_best-woken.ensures.room
-    (woke-kept c.self.inside.notes.items c.self.inside.waiting.items c.self.inside.threads _ c.args.self.now c.args.note c.note.inside.0 c.index_mut-kept.result.now
-    (record { is_kept = c.self.invariant; view = c.self.view_is; index = c.note.view_is; within = c.requires; read = c.index_mut-kept.ensures.value })
+    (woke-kept (record { is_kept = c.self.invariant; view = c.self.view_is; index = c.note.view_is; within = c.requires; read = c.index_mut-kept.ensures.value })
     c.args.badge _ _ c.take_best-woken.ensures.best)
 
 pub returns-clause-posted : goal.returns-clause-posted
 returns-clause-posted c =
-    woke-answer c.self.inside.notes.items c.self.inside.waiting.items c.self.inside.threads _ c.args.self.now c.args.note c.note.inside.0 c.index_mut-kept.result.now
-    (record { is_kept = c.self.invariant; view = c.self.view_is; index = c.note.view_is; within = c.requires; read = c.index_mut-kept.ensures.value })
+    woke-answer (record { is_kept = c.self.invariant; view = c.self.view_is; index = c.note.view_is; within = c.requires; read = c.index_mut-kept.ensures.value })
     c.args.badge _ _ c.take_best-woken.ensures.best
 
 pub returns-clause-note : goal.returns-clause-note
 returns-clause-note c =
-    woke-note c.self.inside.notes.items c.self.inside.waiting.items c.self.inside.threads _ c.args.self.now c.args.note c.note.inside.0 c.index_mut-kept.result.now
-    (record { is_kept = c.self.invariant; view = c.self.view_is; index = c.note.view_is; within = c.requires; read = c.index_mut-kept.ensures.value })
+    woke-note (record { is_kept = c.self.invariant; view = c.self.view_is; index = c.note.view_is; within = c.requires; read = c.index_mut-kept.ensures.value })
     c.args.badge _ _ c.take_best-woken.ensures.best

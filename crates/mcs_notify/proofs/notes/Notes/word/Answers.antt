@@ -12,5 +12,4 @@ pub returns : goal.returns
 returns c =
     sym
     (ap (λ (n : Note). n.word)
-    (seen c.self.inside.notes.items c.self.inside.waiting.items c.self.inside.threads _ c.args.self.now c.args.note c.note.inside.0 c.index.result.now
-    (record { is_kept = c.self.invariant; view = c.self.view_is; index = c.note.view_is; within = c.requires; read = c.index.ensures })))
+    (seen (record { is_kept = c.self.invariant; view = c.self.view_is; index = c.note.view_is; within = c.requires; read = c.index.ensures })))

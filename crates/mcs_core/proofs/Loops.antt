@@ -1,0 +1,166 @@
+-- A part for each of several things, done one after another.
+use Rattle.std.proofs.Common.{◌≡◌, ℕ, suc, ◌+◌, ◌<◌, ◌≤◌, Bool, true, false, cond, List, [], ◌∷◌, ◌++◌, length, refl, sym, ap, subst, ◌∙◌, append_assoc, append-nil, arith}
+use Rattle.std.specs.Prelude.{◌==◌, nat_le, Some, None, All}
+use Rattle.std.specs.List.{AllByRecursion}
+use Rattle.std.proofs.lemmas.Bool.Decides.{nat_tests}
+use Rattle.mcs_ticks.specs.declared.row.Row.{Row}
+use Rattle.mcs_ticks.specs.declared.row.What.{What}
+use Rattle.mcs_control.specs.declared.config.Order.{Order}
+use Rattle.mcs_mail.specs.declared.mail.Mail.{Mail}
+use Rattle.mcs_mail.specs.Box.{due, without_due, arriving}
+use Rattle.mcs_core.specs.System.{System}
+use Rattle.mcs_core.specs.Core.{Core}
+use Rattle.mcs_core.specs.Turn.{Turn, silent, ◌followed_by◌}
+use Rattle.mcs_core.specs.Run.{stamped}
+use Rattle.mcs_core.specs.Orders.{first_due, without_first, due_now, to_come, AreByMoment, IsPlanned, ArePlanned}
+
+pub stamped-append : (c t : ℕ) (xs ys : List What) → stamped c t (xs ++ ys) ≡ stamped c t xs ++ stamped c t ys
+stamped-append c t [] ys = refl
+stamped-append c t (x ∷ xs) ys = ap (λ rs. record { moment = t; core = c; what = x } ∷ rs) (stamped-append c t xs ys)
+
+-- what is left to do from here on makes, with what was told so far, what the whole makes
+pub record GoesOn (c t : ℕ) (before : List Row) (whole rest : Turn) (rows : List Row) : Type 0 where
+  pub core : rest.core ≡ whole.core
+  pub told : rows ++ stamped c t rest.rows ≡ before ++ stamped c t whole.rows
+
+pub goes-start : (c t : ℕ) (before : List Row) (whole : Turn) → GoesOn c t before whole whole before
+goes-start c t before whole = record { core = refl; told = refl }
+
+pub goes-step : (c t : ℕ) (before : List Row) (whole rest : Turn) (rows rows' : List Row) (first : Turn) (part : Core → Turn) (core : Core) → GoesOn c t before whole rest rows →
+    rest ≡ (first followed_by part) → core ≡ first.core → rows' ≡ rows ++ stamped c t first.rows → GoesOn c t before whole (part core) rows'
+goes-step c t before whole rest rows rows' first part core h e f g = record {
+  core = rw f (ap (λ (made : Turn). made.core) (sym e) ∙ h.core);
+  told = rw (g, f) (append_assoc rows (stamped c t first.rows) (stamped c t (part first.core).rows)
+      ∙ ap (λ rs. rows ++ rs) (sym (stamped-append c t first.rows (part first.core).rows))
+      ∙ ap (λ (made : Turn). rows ++ stamped c t made.rows) (sym e) ∙ h.told);
+}
+
+pub goes-end-core : (c t : ℕ) (before : List Row) (whole rest : Turn) (rows : List Row) (core : Core) → GoesOn c t before whole rest rows → rest ≡ silent core → core ≡ whole.core
+goes-end-core c t before whole rest rows core h e = ap (λ (made : Turn). made.core) (sym e) ∙ h.core
+
+pub goes-end-rows : (c t : ℕ) (before : List Row) (whole rest : Turn) (rows : List Row) (core : Core) → GoesOn c t before whole rest rows → rest ≡ silent core → rows ≡ before ++ stamped c t whole.rows
+goes-end-rows c t before whole rest rows core h e = sym (append-nil rows) ∙ ap (λ (made : Turn). rows ++ stamped c t made.rows) (sym e) ∙ h.told
+
+-- the first order that is due, and the others
+pub record IsFirstDue (system : System) (c t : ℕ) (order : Order) (orders : List Order) : Type 0 where
+  pub now : due_now t orders ≡ order ∷ due_now t (without_first t orders)
+  pub later : to_come (t + 1) orders ≡ to_come (t + 1) (without_first t orders)
+  pub by_moment : AreByMoment t (without_first t orders)
+  pub planned : ArePlanned system c (without_first t orders)
+  pub fewer : length (without_first t orders) < length orders
+
+pub first-due-is : (system : System) (c t : ℕ) (order : Order) (orders : List Order) → AreByMoment t orders → ArePlanned system c orders → first_due t orders ≡ Some order → IsFirstDue system c t order orders
+first-due-is system c t order [] h p e = cc
+first-due-is system c t order (x ∷ xs) h p e = by (nat_le x.moment t) refl e
+  where
+    at : (a : ℕ) → t ≤ a → nat_le a t ≡ true → (a == t) ≡ true
+    at a l f = grind (arith, nat_tests)
+
+    past : (a : ℕ) → t ≤ a → nat_le a t ≡ true → nat_le (t + 1) a ≡ false
+    past a l f = grind (arith, nat_tests)
+
+    from_now : (xs : List Order) → AreByMoment x.moment xs → t ≤ x.moment → AreByMoment t xs
+    from_now [] h l = tt
+    from_now (y ∷ ys) h l = (omega (arith, h.0), h.1)
+
+    by : (b : Bool) → nat_le x.moment t ≡ b → cond b (Some x) None ≡ Some order → IsFirstDue system c t order (x ∷ xs)
+    by true f g =
+        let same : x ≡ order = cc in
+        record {
+          now = rw (f, at x.moment h.0 f) (ap (λ y. y ∷ due_now t xs) same);
+          later = rw (f, past x.moment h.0 f) refl;
+          by_moment = rw f (from_now xs h.1 h.0);
+          planned = rw f p.1;
+          fewer = rw f (omega arith);
+        }
+    by false f g = cc
+
+-- where none is due
+pub none-due-now : (t : ℕ) (orders : List Order) → AreByMoment t orders → first_due t orders ≡ None → due_now t orders ≡ []
+none-due-now t [] h e = refl
+none-due-now t (x ∷ xs) h e = by (nat_le x.moment t) refl e
+  where
+    none : (from : ℕ) (xs : List Order) → t < from → AreByMoment from xs → due_now t xs ≡ []
+    none from [] l h = refl
+    none from (y ∷ ys) l h = rw (other y.moment (omega (arith, h.0))) (none y.moment ys (omega (arith, h.0)) h.1)
+      where
+        other : (a : ℕ) → t < a → (a == t) ≡ false
+        other a l = grind (arith, nat_tests)
+
+    by : (b : Bool) → nat_le x.moment t ≡ b → cond b (Some x) None ≡ None → due_now t (x ∷ xs) ≡ []
+    by true f g = cc
+    by false f g = let l : t < x.moment = grind (arith, nat_tests) in none x.moment (x ∷ xs) l (omega arith, h.1)
+
+pub none-due-later : (t : ℕ) (orders : List Order) → AreByMoment t orders → first_due t orders ≡ None → to_come (t + 1) orders ≡ orders
+none-due-later t [] h e = refl
+none-due-later t (x ∷ xs) h e = by (nat_le x.moment t) refl e
+  where
+    all : (from : ℕ) (xs : List Order) → t < from → AreByMoment from xs → to_come (t + 1) xs ≡ xs
+    all from [] l h = refl
+    all from (y ∷ ys) l h = rw (later y.moment (omega (arith, h.0))) (ap (λ zs. y ∷ zs) (all y.moment ys (omega (arith, h.0)) h.1))
+      where
+        later : (a : ℕ) → t < a → nat_le (t + 1) a ≡ true
+        later a l = grind (arith, nat_tests)
+
+    by : (b : Bool) → nat_le x.moment t ≡ b → cond b (Some x) None ≡ None → to_come (t + 1) (x ∷ xs) ≡ x ∷ xs
+    by true f g = cc
+    by false f g = let l : t < x.moment = grind (arith, nat_tests) in all x.moment (x ∷ xs) l (omega arith, h.1)
+
+-- what holds of all mail holds of what is left of it
+pub all-without_due : (P : Mail → Type 0) (t : ℕ) (mails : List Mail) → All P mails → All P (without_due t mails)
+all-without_due P t [] h = h
+all-without_due P t (x ∷ xs) h = by (nat_le x.arrives t)
+  where
+    by : (b : Bool) → All P (cond b xs (x ∷ xs))
+    by true = λ k d l. h (suc k) d (omega arith)
+    by false = h
+
+pub fewer-without_due : (t : ℕ) (mail : Mail) (mails : List Mail) → due t mails ≡ Some mail → length (without_due t mails) < length mails
+fewer-without_due t mail [] e = cc
+fewer-without_due t mail (x ∷ xs) e = by (nat_le x.arrives t) e
+  where
+    by : (b : Bool) → cond b (Some x) None ≡ Some mail → length (cond b xs (x ∷ xs)) < length (x ∷ xs)
+    by true f = omega arith
+    by false f = cc
+
+pub first-known : (P : Mail → Type 0) (t : ℕ) (mail : Mail) (mails : List Mail) → All P mails → due t mails ≡ Some mail → P mail
+first-known P t mail [] h e = cc
+first-known P t mail (x ∷ xs) h e = by (nat_le x.arrives t) e
+  where
+    by : (b : Bool) → cond b (Some x) None ≡ Some mail → P mail
+    by true f = let g : x ≡ mail = cc in subst P g (h 0 x (omega arith))
+    by false f = cc
+
+pub none-taken : (t : ℕ) (mails : List Mail) → due t mails ≡ None → without_due t mails ≡ mails
+none-taken t [] e = refl
+none-taken t (x ∷ xs) e = by (nat_le x.arrives t) e
+  where
+    by : (b : Bool) → cond b (Some x) None ≡ None → cond b xs (x ∷ xs) ≡ x ∷ xs
+    by true f = cc
+    by false f = refl
+
+pub no-order-taken : (t : ℕ) (orders : List Order) → first_due t orders ≡ None → without_first t orders ≡ orders
+no-order-taken t [] e = refl
+no-order-taken t (x ∷ xs) e = by (nat_le x.moment t) e
+  where
+    by : (b : Bool) → cond b (Some x) None ≡ None → cond b xs (x ∷ xs) ≡ x ∷ xs
+    by true f = cc
+    by false f = refl
+
+-- the first order is a planned one
+pub first-planned : (system : System) (c t : ℕ) (order : Order) (orders : List Order) → ArePlanned system c orders → first_due t orders ≡ Some order → IsPlanned system c order
+first-planned system c t order [] p e = cc
+first-planned system c t order (x ∷ xs) p e = by (nat_le x.moment t) e
+  where
+    by : (b : Bool) → cond b (Some x) None ≡ Some order → IsPlanned system c order
+    by true f = let g : x ≡ order = cc in let P : Order → Type 0 = IsPlanned system c in subst P g p.0
+    by false f = cc
+
+-- the notifications of the mail that arrives
+pub known-arriving : (t notes : ℕ) (mails : List Mail) → All (λ (mail : Mail). mail.note < notes) mails → AllByRecursion (λ (mail : Mail). mail.note < notes) (arriving t mails)
+known-arriving t notes [] h = tt
+known-arriving t notes (x ∷ xs) h = by (x.arrives == t) (known-arriving t notes xs (λ k d l. h (suc k) d (omega arith)))
+  where
+    by : (b : Bool) → AllByRecursion (λ (mail : Mail). mail.note < notes) (arriving t xs) → AllByRecursion (λ (mail : Mail). mail.note < notes) (cond b (x ∷ arriving t xs) (arriving t xs))
+    by true i = (h 0 x (omega arith), i)
+    by false i = i

@@ -1,0 +1,320 @@
+-- The core with which a run opens is sound.
+use Rattle.std.proofs.Common.{◌≡◌, ℕ, zero, suc, ◌+◌, ◌^◌, ◌<◌, ◌≤◌, ◌⊎◌, inl, inr, Bool, true, false, cond, List, [], ◌∷◌, ◌++◌, length, take, replicate, map, get_or, add-one, refl, sym, ap, ◌∙◌, arith}
+use Rattle.std.specs.Prelude.{◌==◌, Option, Some, None, unwrap_or, option_map, All}
+use Rattle.std.specs.List.{AllByRecursion}
+use Rattle.std.proofs.lemmas.Bool.Decides.{nat_tests}
+use Rattle.std.proofs.lemmas.List.{get_or-map, get_or_past, length-map}
+use Rattle.mcs_ticks.specs.declared.queue.Queued.{Queued}
+use Rattle.mcs_refills.specs.Server.{first_date, dates_from}
+use Rattle.mcs_refills.proofs.Spaces.{kept-new}
+use Rattle.mcs_control.specs.declared.config.Config.{Config}
+use Rattle.mcs_control.specs.declared.config.Kind.{Kind}
+use Rattle.mcs_control.specs.declared.config.Kind.TheVariants.{Sporadic, RoundRobin}
+use Rattle.mcs_control.specs.Control.{kind_of}
+use Rattle.mcs_control.specs.Context.{Context, WithRoom, new_context, first_budget, head_moment, moment_of}
+use Rattle.mcs_notify.specs.Note.{Note, quiet_note}
+use Rattle.mcs_release.specs.declared.dated.Dated.{Dated}
+use Rattle.mcs_core.specs.declared.part.ContextPart.{ContextPart}
+use Rattle.mcs_core.specs.declared.part.NotePart.{NotePart}
+use Rattle.mcs_core.specs.declared.part.ThreadPart.{ThreadPart}
+use Rattle.mcs_core.specs.declared.standing.Standing.TheVariants.{Pending, Elsewhere}
+use Rattle.mcs_core.specs.declared.standing.Thread.{Thread}
+use Rattle.mcs_core.specs.System.{System, context_part, thread_part, no_context, no_thread, core_of, start_of}
+use Rattle.mcs_core.specs.Contexts.{no_server, is_some, is_own, seen_contexts, HasRoom, HaveRoom}
+use Rattle.mcs_core.specs.Core.{Core, no_state, thread_of, context_of, opening_thread, opening_releases, opening_contexts, opening_core}
+use Rattle.mcs_core.specs.Sound.{times_dated, times_waiting, times_ready, times_pending, times_blocked, is_here, may_run, has_context, IsKeptBudget, IsPlaced, AreEarly, IsBudget, IsSound}
+use Rattle.mcs_core.specs.Sound.Phase.{Between}
+use Rattle.mcs_core.specs.WellFormed.{IsWellFormed, IsContext, IsThread}
+use Rattle.mcs_control.specs.declared.config.Order.{Order}
+use Rattle.mcs_core.specs.Orders.{orders_of}
+use Rattle.mcs_core.specs.State.{Fits}
+use Rattle.mcs_core.proofs.Budgets.{IsAccepted, accepted-is}
+use Rattle.mcs_core.proofs.Plans.{to_come-all}
+
+-- no start is later than a moment of a run
+pub start-early : (system : System) (threads : List ThreadPart) (k : ℕ) → All (IsThread system) threads → start_of threads k ≤ 2 ^ 40
+start-early system [] k h = omega arith
+start-early system (thread ∷ threads) k h = by (thread.context == k) (start-early system threads k (λ i d l. h (suc i) d (omega arith)))
+  where
+    by : (b : Bool) → start_of threads k ≤ 2 ^ 40 → cond b thread.start (start_of threads k) ≤ 2 ^ 40
+    by true i = let t : IsThread system thread = h 0 thread (omega arith) in t.start
+    by false i = i
+
+-- nor is the head of a new context
+new-early : (config : Config) (at : ℕ) → at ≤ 2 ^ 40 → head_moment (new_context config at) ≤ 2 ^ 40
+new-early config at l = by (kind_of config)
+  where
+    first : (n : ℕ) → first_date (dates_from at n) ≤ 2 ^ 40
+    first zero = omega arith
+    first (suc n) = l
+
+    by : (kind : Kind) → moment_of (first_budget kind at config.budget) ≤ 2 ^ 40
+    by Sporadic = first config.budget
+    by RoundRobin = omega arith
+
+-- a new context's budget is kept
+new-kept : (min_budget : ℕ) (config : Config) (at : ℕ) → IsAccepted min_budget config → IsKeptBudget config (new_context config at).budget
+new-kept min_budget config at a = by (kind_of config)
+  where
+    by : (kind : Kind) → IsKeptBudget config (first_budget kind at config.budget)
+    by Sporadic = kept-new config.budget config.period at a.within
+    by RoundRobin = (a.some, omega arith)
+
+-- no thread waits on a quiet notification
+none-waits : (x : ℕ) (notes : List NotePart) → times_waiting x (map (λ _. quiet_note) notes) ≡ 0
+none-waits x [] = refl
+none-waits x (note ∷ notes) = let i = none-waits x notes in omega arith
+
+module _ (system : System) (c : ℕ) where
+  -- the release queue has no thread before the first, and each thread of the core once
+  none-before : (x n : ℕ) (threads : List ThreadPart) → x < n → times_dated x (opening_releases system c n threads) ≡ 0
+  none-before x n [] l = refl
+  none-before x n (thread ∷ threads) l = by (core_of system thread == c) (n == x) refl (none-before x (n + 1) threads (omega arith))
+    where
+      by : (b t : Bool) → (n == x) ≡ t → times_dated x (opening_releases system c (n + 1) threads) ≡ 0 →
+          times_dated x (cond b (record { thread = n; date = thread.start } ∷ opening_releases system c (n + 1) threads) (opening_releases system c (n + 1) threads)) ≡ 0
+      by true true e i = absurd (grind (arith, nat_tests))
+      by true false e i = rw e (omega arith)
+      by false t e i = i
+
+  once-each : (x n k : ℕ) (threads : List ThreadPart) → x ≡ n + k →
+      times_dated x (opening_releases system c n threads) ≡ times_pending (get_or (map (opening_thread system c) threads) k no_state).standing
+  once-each x n k [] e = refl
+  once-each x n zero (thread ∷ threads) e = by (core_of system thread == c) (n == x) refl (none-before x (n + 1) threads (omega arith))
+    where
+      by : (b t : Bool) → (n == x) ≡ t → times_dated x (opening_releases system c (n + 1) threads) ≡ 0 →
+          times_dated x (cond b (record { thread = n; date = thread.start } ∷ opening_releases system c (n + 1) threads) (opening_releases system c (n + 1) threads)) ≡ times_pending (cond b Pending Elsewhere)
+      by true true f i = rw f (omega arith)
+      by true false f i = absurd (grind (arith, nat_tests))
+      by false t f i = i
+  once-each x n (suc k) (thread ∷ threads) e = by (core_of system thread == c) (n == x) refl (once-each x (n + 1) k threads (omega arith))
+    where
+      by : (b t : Bool) → (n == x) ≡ t → times_dated x (opening_releases system c (n + 1) threads) ≡ times_pending (get_or (map (opening_thread system c) threads) k no_state).standing →
+          times_dated x (cond b (record { thread = n; date = thread.start } ∷ opening_releases system c (n + 1) threads) (opening_releases system c (n + 1) threads)) ≡ times_pending (get_or (map (opening_thread system c) threads) k no_state).standing
+      by true true f i = absurd (grind (arith, nat_tests))
+      by true false f i = rw f (omega arith)
+      by false t f i = i
+
+  -- the contexts by number
+  many-contexts : (n : ℕ) (contexts : List ContextPart) → length (opening_contexts system c n contexts) ≡ length contexts
+  many-contexts n [] = refl
+  many-contexts n (context ∷ contexts) = ap suc (many-contexts (n + 1) contexts)
+
+  abbrev own_context : ℕ → ContextPart → Option Context
+  own_context number context = cond (context.core == c) (Some (new_context context.config (start_of system.threads number))) None
+
+  context-at : (j n k : ℕ) (contexts : List ContextPart) → j ≡ n + k → k < length contexts →
+      get_or (opening_contexts system c n contexts) k None ≡ own_context j (get_or contexts k no_context)
+  context-at j n k [] e l = absurd (omega arith)
+  context-at j n zero (context ∷ contexts) e l = let same : n ≡ j = omega arith in ap (λ m. own_context m context) same
+  context-at j n (suc k) (context ∷ contexts) e l = context-at j (n + 1) k contexts (omega arith) (omega arith)
+
+  context-own : (k : ℕ) → k < length system.contexts → has_context k (opening_core system c) ≡ ((context_part system k).core == c)
+  context-own k l = ap is_some (context-at k 0 k system.contexts (omega arith) l) ∙ by ((context_part system k).core == c)
+    where
+      by : (b : Bool) → is_some (cond b (Some (new_context (context_part system k).config (start_of system.threads k))) None) ≡ b
+      by true = refl
+      by false = refl
+
+  context-within : (k : ℕ) → has_context k (opening_core system c) ≡ true → k < length system.contexts
+  context-within k h = within k 0 system.contexts h
+    where
+      within : (k n : ℕ) (contexts : List ContextPart) → is_own k (opening_contexts system c n contexts) ≡ true → k < length contexts
+      within k n [] h = cc
+      within zero n (context ∷ contexts) h = omega arith
+      within (suc k) n (context ∷ contexts) h = let i = within k (n + 1) contexts h in omega arith
+
+  context-new : (k : ℕ) → has_context k (opening_core system c) ≡ true →
+      context_of (opening_core system c) k ≡ new_context (context_part system k).config (start_of system.threads k)
+  context-new k h =
+      let l : k < length system.contexts = context-within k h in
+      ap (λ o. unwrap_or o no_server) (context-at k 0 k system.contexts (omega arith) l) ∙ by ((context_part system k).core == c) (sym (context-own k l) ∙ h)
+    where
+      by : (b : Bool) → b ≡ true →
+          unwrap_or (cond b (Some (new_context (context_part system k).config (start_of system.threads k))) None) no_server ≡ new_context (context_part system k).config (start_of system.threads k)
+      by true e = refl
+      by false e = cc
+
+  -- where a thread stands, and what it then is
+  record IsOwn (x : ℕ) : Type 0 where
+    known : x < length system.threads
+    own : (core_of system (thread_part system x) == c) ≡ true
+    state : thread_of (opening_core system c) x ≡ opening_thread system c (thread_part system x)
+
+  opens : (x : ℕ) → IsOwn x ⊎ ((thread_of (opening_core system c) x).standing ≡ Elsewhere)
+  opens x = by (cases x (length system.threads))
+    where
+      cases : (a b : ℕ) → (a < b) ⊎ (b ≤ a)
+      cases a b = grind arith
+
+      own : (b : Bool) → (core_of system (thread_part system x) == c) ≡ b → x < length system.threads →
+          thread_of (opening_core system c) x ≡ opening_thread system c (thread_part system x) → IsOwn x ⊎ ((thread_of (opening_core system c) x).standing ≡ Elsewhere)
+      own true e l s = inl (record { known = l; own = e; state = s })
+      own false e l s = inr (ap (λ (k : Thread). k.standing) s ∙ ap (λ b. cond b Pending Elsewhere) e)
+
+      by : (x < length system.threads) ⊎ (length system.threads ≤ x) → IsOwn x ⊎ ((thread_of (opening_core system c) x).standing ≡ Elsewhere)
+      by (inl l) = own (core_of system (thread_part system x) == c) refl l (get_or-map (opening_thread system c) system.threads x no_thread no_state l)
+      by (inr l) =
+          let past : length (map (opening_thread system c) system.threads) ≤ x = rw (length-map system.threads (opening_thread system c)) l in
+          inr (ap (λ (k : Thread). k.standing) (get_or_past (map (opening_thread system c) system.threads) x no_state past))
+
+  stands-own : (x : ℕ) → IsOwn x → (thread_of (opening_core system c) x).standing ≡ Pending
+  stands-own x h = ap (λ (k : Thread). k.standing) h.state ∙ ap (λ b. cond b Pending Elsewhere) h.own
+
+  -- the core with which a run opens
+  opening : IsWellFormed system → IsSound system c 0 Between None (opening_core system c)
+  opening w = record {
+    threads = length-map system.threads (opening_thread system c);
+    contexts = many-contexts 0 system.contexts;
+    notes = length-map system.notes (λ _. quiet_note);
+    ready = λ x. ready x (opens x);
+    pending = λ x. once-each x 0 x system.threads (omega arith);
+    blocked = λ x. none-waits x system.notes ∙ blocked x (opens x);
+    here = λ x h. placed x (opens x) h;
+    early = λ x h. absurd (resting x (opens x) h);
+    dates = dates (opening_releases system c 0 system.threads);
+    running = tt;
+    budgets = budgets;
+    own = context-own;
+    later = later (opening_releases system c 0 system.threads);
+  }
+    where
+      ready : (x : ℕ) → IsOwn x ⊎ ((thread_of (opening_core system c) x).standing ≡ Elsewhere) → 0 ≡ times_ready (thread_of (opening_core system c) x).standing
+      ready x (inl h) = rw (stands-own x h) refl
+      ready x (inr h) = rw h refl
+
+      blocked : (x : ℕ) → IsOwn x ⊎ ((thread_of (opening_core system c) x).standing ≡ Elsewhere) → 0 ≡ times_blocked (thread_of (opening_core system c) x).standing
+      blocked x (inl h) = rw (stands-own x h) refl
+      blocked x (inr h) = rw h refl
+
+      resting : (x : ℕ) → IsOwn x ⊎ ((thread_of (opening_core system c) x).standing ≡ Elsewhere) → may_run (thread_of (opening_core system c) x).standing ≡ true → ⊥
+      resting x (inl h) g = let f : false ≡ true = ap may_run (sym (stands-own x h)) ∙ g in cc
+      resting x (inr h) g = let f : false ≡ true = ap may_run (sym h) ∙ g in cc
+
+      placed : (x : ℕ) → IsOwn x ⊎ ((thread_of (opening_core system c) x).standing ≡ Elsewhere) → is_here (thread_of (opening_core system c) x).standing ≡ true → IsPlaced system x (opening_core system c)
+      placed x (inl h) g =
+          let t : IsThread system (thread_part system x) = w.threads x no_thread h.known in
+          let item : (thread_of (opening_core system c) x).place.item ≡ 0 = ap (λ (k : Thread). k.place.item) h.state in
+          record { known = h.known; item = rw item t.script.some; bound = t.bound; has = context-own (thread_part system x).context t.bound ∙ h.own }
+      placed x (inr h) g = let f : false ≡ true = ap is_here (sym h) ∙ g in absurd (let no : ⊥ = cc in no)
+
+      head : (k : ℕ) → head_moment (context_of (opening_core system c) k) ≤ 2 ^ 40
+      head k = by (has_context k (opening_core system c)) refl
+        where
+          none : (o : Option Context) → is_some o ≡ false → head_moment (unwrap_or o no_server) ≤ 2 ^ 40
+          none None e = omega arith
+          none (Some context) e = cc
+
+          by : (b : Bool) → has_context k (opening_core system c) ≡ b → head_moment (context_of (opening_core system c) k) ≤ 2 ^ 40
+          by true e = rw (context-new k e) (new-early (context_part system k).config (start_of system.threads k) (start-early system system.threads k w.threads))
+          by false e = none (get_or (opening_core system c).contexts k None) e
+
+      dates : (ds : List Dated) → AreEarly system (opening_core system c) ds
+      dates [] = tt
+      dates (d ∷ ds) = (λ _. head (thread_part system d.thread).context, dates ds)
+
+      later : (ds : List Dated) → AllByRecursion (λ dated. 0 ≤ dated.date) ds
+      later [] = tt
+      later (d ∷ ds) = (omega arith, later ds)
+
+      budgets : (k : ℕ) → has_context k (opening_core system c) ≡ true → IsBudget system k (context_of (opening_core system c) k)
+      budgets k h =
+          let part : IsContext system (context_part system k) = w.contexts k no_context (context-within k h) in
+          rw (context-new k h)
+          (record {
+            accepted = part.accepted;
+            same_kind = refl;
+            kept = new-kept system.min_budget (context_part system k).config (start_of system.threads k) (accepted-is system.min_budget (context_part system k).config part.accepted);
+          })
+
+-- the core with which a run opens is sound
+pub opening-sound : (system : System) → IsWellFormed system → (c : ℕ) → c < system.cores → IsSound system c 0 Between None (opening_core system c)
+opening-sound system w c l = opening system c w
+
+-- and with the orders of the core it is a first state
+pub fits-opening : (system : System) → IsWellFormed system → (c : ℕ) → c < system.cores → (core : Core) (orders : List Order) →
+    core ≡ opening_core system c → orders ≡ orders_of system c →
+    Fits system (record { number = c; clock = 0; core = core; orders = orders; failed = false })
+fits-opening system w c l core orders e f = rw (e, f) record {
+  known = l;
+  early = omega arith;
+  sound = λ g. opening-sound system w c l;
+  orders = λ g. sym (to_come-all (orders_of system c));
+}
+
+-- how the code makes it: the release queue thread by thread
+module _ (system : System) (c : ℕ) where
+  pub none-after : (x n : ℕ) (threads : List ThreadPart) → n + length threads ≤ x → times_dated x (opening_releases system c n threads) ≡ 0
+  none-after x n [] l = refl
+  none-after x n (thread ∷ threads) l = by (core_of system thread == c) (n == x) refl (none-after x (n + 1) threads (omega arith))
+    where
+      by : (b t : Bool) → (n == x) ≡ t → times_dated x (opening_releases system c (n + 1) threads) ≡ 0 →
+          times_dated x (cond b (record { thread = n; date = thread.start } ∷ opening_releases system c (n + 1) threads) (opening_releases system c (n + 1) threads)) ≡ 0
+      by true true e i = let same : n ≡ x = grind (arith, nat_tests) in absurd (omega arith)
+      by true false e i = rw e (omega arith)
+      by false t e i = i
+
+  next-release : (n k : ℕ) (threads : List ThreadPart) (i : ℕ) (x : ThreadPart) → i < length threads → x ≡ get_or threads i x → k ≡ n + i →
+      opening_releases system c n (take (suc i) threads)
+      ≡ opening_releases system c n (take i threads) ++ cond (core_of system x == c) (record { thread = k; date = x.start } ∷ []) []
+  next-release n k [] i x l e f = absurd (omega arith)
+  next-release n k (y ∷ threads) zero x l e f =
+      let same : n ≡ k = omega arith in
+      rw (← e, ← same) refl
+  next-release n k (y ∷ threads) (suc i) x l e f = by (core_of system y == c) (next-release (n + 1) k threads i x (omega arith) e (omega arith))
+    where
+      by : (b : Bool) →
+          opening_releases system c (n + 1) (take (suc i) threads) ≡ opening_releases system c (n + 1) (take i threads) ++ cond (core_of system x == c) (record { thread = k; date = x.start } ∷ []) [] →
+          cond b (record { thread = n; date = y.start } ∷ opening_releases system c (n + 1) (take (suc i) threads)) (opening_releases system c (n + 1) (take (suc i) threads))
+          ≡ cond b (record { thread = n; date = y.start } ∷ opening_releases system c (n + 1) (take i threads)) (opening_releases system c (n + 1) (take i threads))
+          ++ cond (core_of system x == c) (record { thread = k; date = x.start } ∷ []) []
+      by true h = ap (λ ds. record { thread = n; date = y.start } ∷ ds) h
+      by false h = h
+
+  pub released-next : (threads : List ThreadPart) (i : ℕ) (x : ThreadPart) (b : Bool) → i < length threads → x ≡ get_or threads i x → (core_of system x == c) ≡ b →
+      opening_releases system c 0 (take (i + 1) threads) ≡ opening_releases system c 0 (take i threads) ++ cond b (record { thread = i; date = x.start } ∷ []) []
+  released-next threads i x b l e f = rw (add-one, ← f) (next-release 0 i threads i x l e (omega arith))
+
+  -- and the contexts one by one
+  next-context : (n k : ℕ) (contexts : List ContextPart) (i : ℕ) (x : ContextPart) → i < length contexts → x ≡ get_or contexts i x → k ≡ n + i →
+      opening_contexts system c n (take (suc i) contexts)
+      ≡ opening_contexts system c n (take i contexts) ++ cond (x.core == c) (Some (new_context x.config (start_of system.threads k))) None ∷ []
+  next-context n k [] i x l e f = absurd (omega arith)
+  next-context n k (y ∷ contexts) zero x l e f =
+      let same : n ≡ k = omega arith in
+      rw (← e, ← same) refl
+  next-context n k (y ∷ contexts) (suc i) x l e f =
+      ap (λ os. cond (y.core == c) (Some (new_context y.config (start_of system.threads n))) None ∷ os) (next-context (n + 1) k contexts i x (omega arith) e (omega arith))
+
+  pub made-next : (contexts : List ContextPart) (i : ℕ) (x : ContextPart) (kept : List (Option WithRoom)) (more : Option WithRoom) → i < length contexts → x ≡ get_or contexts i x →
+      seen_contexts kept ≡ opening_contexts system c 0 (take i contexts) →
+      option_map (λ own. own.context) more ≡ cond (x.core == c) (Some (new_context x.config (start_of system.threads i))) None →
+      seen_contexts (kept ++ more ∷ []) ≡ opening_contexts system c 0 (take (i + 1) contexts)
+  made-next contexts i x kept more l e f g =
+      rw add-one
+      (seen-append kept more ∙ ap (λ xs. xs ++ option_map (λ own. own.context) more ∷ []) f
+      ∙ ap (λ o. opening_contexts system c 0 (take i contexts) ++ o ∷ []) g ∙ sym (next-context 0 i contexts i x l e (omega arith)))
+    where
+      seen-append : (xs : List (Option WithRoom)) (y : Option WithRoom) → seen_contexts (xs ++ y ∷ []) ≡ seen_contexts xs ++ option_map (λ own. own.context) y ∷ []
+      seen-append [] y = refl
+      seen-append (x ∷ xs) y = ap (λ ys. option_map (λ own. own.context) x ∷ ys) (seen-append xs y)
+
+-- each with its room
+pub room-next : (kept : List (Option WithRoom)) (more : Option WithRoom) → HaveRoom kept → HasRoom more → HaveRoom (kept ++ more ∷ [])
+room-next [] more h r = (r, tt)
+room-next (x ∷ kept) more h r = (h.0, room-next kept more h.1 r)
+
+-- and the notifications, as many quiet ones
+pub quiet_notes : (notes : List NotePart) (made : List Note) (n : ℕ) → n ≡ length notes → made ≡ replicate n quiet_note → made ≡ map (λ _. quiet_note) notes
+quiet_notes notes made n e f = rw (f, e) (all notes)
+  where
+    all : (notes : List NotePart) → replicate (length notes) quiet_note ≡ map (λ _. quiet_note) notes
+    all [] = refl
+    all (note ∷ notes) = ap (λ made. quiet_note ∷ made) (all notes)
+
+-- the parts together
+pub opened : (system : System) (c : ℕ) (core : Core) (threads : List Thread) (ready : List Queued) (releases : List Dated) (contexts : List (Option Context)) (notes : List Note) →
+    core ≡ record { running = None; threads = threads; ready = ready; releases = releases; contexts = contexts; notes = notes } →
+    threads ≡ map (opening_thread system c) system.threads → ready ≡ [] → releases ≡ opening_releases system c 0 system.threads →
+    contexts ≡ opening_contexts system c 0 system.contexts → notes ≡ map (λ _. quiet_note) system.notes → core ≡ opening_core system c
+opened system c core threads ready releases contexts notes e a b d f g = e ∙ rw (a, b, d, f, g) refl

@@ -1,0 +1,122 @@
+-- A thread that is due leaves the release queue, as the code takes it.
+use Rattle.std.proofs.Common.{◌≡◌, ℕ, ◌+◌, ◌^◌, ◌<◌, ◌≤◌, Bool, true, false, cond, List, [], ◌∷◌, length, refl, sym, ap, subst, ◌∙◌, arith}
+use Rattle.std.specs.Prelude.{◌==◌, Option, Some, None}
+use Rattle.std.proofs.lemmas.Bool.Decides.{nat_tests}
+use Rattle.mcs_ticks.specs.Queue.{by_priority, first_of, rest_of}
+use Rattle.mcs_ticks.specs.declared.queue.Queued.{Queued}
+use Rattle.mcs_ready.specs.Ready.{thread_of as thread_of_queued}
+use Rattle.mcs_release.specs.declared.dated.Dated.{Dated}
+use Rattle.mcs_release.specs.Release.{first_due, without, without_first_due, when_left, thread_of}
+use Rattle.mcs_core.specs.declared.standing.Standing.{Standing}
+use Rattle.mcs_core.specs.declared.standing.Standing.TheVariants.{Done}
+use Rattle.mcs_core.specs.System.{System}
+use Rattle.mcs_core.specs.Core.{Core, thread_of as state_of}
+use Rattle.mcs_core.specs.Turn.{silent, ◌followed_by◌, enters_back, released, releases}
+use Rattle.mcs_core.specs.Sound.{times_queued, times_dated, times_ready, times_pending, Phase, IsFree, IsSound}
+use Rattle.mcs_core.specs.Sound.Phase.{PastTick}
+use Rattle.mcs_core.proofs.Counts.{times_queued-rest}
+use Rattle.mcs_core.proofs.Soundness.{IsOneEach}
+use Rattle.mcs_core.proofs.Turning.{all_due, first_entered, first-due, stands-due, releases-step, releases-none, release-sound, leaves-sound, placed-from, at_most_once, ready_from_count}
+
+fewer-without : (x : ℕ) (ds : List Dated) → 1 ≤ times_dated x ds → length (without x ds) < length ds
+fewer-without x [] h = absurd (omega arith)
+fewer-without x (d ∷ ds) h = by (d.thread == x) h (fewer-without x ds)
+  where
+    by : (b : Bool) → 1 ≤ cond b 1 0 + times_dated x ds → (1 ≤ times_dated x ds → length (without x ds) < length ds) → length (cond b ds (d ∷ without x ds)) < length (d ∷ ds)
+    by true h i = omega arith
+    by false h i = let j = i (omega arith) in omega arith
+
+-- the thread x that the code takes at t, and what follows
+pub record IsReleased (system : System) (c t x : ℕ) (core : Core) : Type 0 where
+  pub due : Dated
+  pub its : due.thread ≡ x
+  pub left : without_first_due t core.releases ≡ without x core.releases
+  pub fewer : length (without x core.releases) < length core.releases
+  pub free : IsFree system x (record core { releases = without x core.releases })
+  pub sound : IsSound system c t PastTick None (enters_back by_priority system x None (record core { releases = without x core.releases }))
+  pub step : releases by_priority system t core ≡ (released by_priority system t due (record core { releases = without x core.releases }) followed_by releases by_priority system t)
+
+module _ (system : System) (c : ℕ) (one_each : IsOneEach system) (t : ℕ) (soon : t ≤ 2 ^ 40) where
+  none_at : (x : ℕ) (f : Standing → ℕ) (s : Standing) → f Done ≡ 0 → f (cond (x == x) Done s) ≡ 0
+  none_at x f s e = by (x == x) (same x)
+    where
+      same : (a : ℕ) → (a == a) ≡ true
+      same a = grind (arith, nat_tests)
+
+      by : (b : Bool) → b ≡ true → f (cond b Done s) ≡ 0
+      by true g = e
+      by false g = cc
+
+  released-at : (core : Core) (d : Dated) (rest : List Dated) → all_due system t core.releases ≡ d ∷ rest → first_due t core.releases ≡ Some d → IsSound system c t PastTick None core →
+      IsReleased system c t d.thread core
+  released-at core d rest e first h =
+      let some = stands-due system t core.releases d rest e in
+      let left = leaves-sound system c t one_each d.thread core some h in
+      let p = placed-from system c t one_each d.thread (record core { releases = without d.thread core.releases }) left in
+      let few = at_most_once system c one_each t soon d.thread core h in
+      record {
+        due = d;
+        its = refl;
+        left = ap (λ o. when_left o core.releases) first;
+        fewer = fewer-without d.thread core.releases some;
+        free = record {
+          known = rw h.threads p.known;
+          placed = p;
+          not_ready = left.ready d.thread ∙ none_at d.thread times_ready (state_of core d.thread).standing refl;
+          not_pending = left.pending d.thread ∙ none_at d.thread times_pending (state_of core d.thread).standing refl;
+        };
+        sound = release-sound system c one_each t soon core d rest e h;
+        step = releases-step system t d rest core e few;
+      }
+
+  pub released-is : (x : ℕ) (core : Core) → IsSound system c t PastTick None core → thread_of (first_due t core.releases) ≡ Some x → IsReleased system c t x core
+  released-is x core h e = by (all_due system t core.releases) refl
+    where
+      by : (ds : List Dated) → all_due system t core.releases ≡ ds → IsReleased system c t x core
+      by [] f =
+          let none : first_due t core.releases ≡ None = first-due system t core.releases h.later ∙ ap first_entered_of f in
+          let g : thread_of None ≡ Some x = ap thread_of (sym none) ∙ e in cc
+        where
+          first_entered_of : List Dated → Option Dated
+          first_entered_of ds = first_entered system t ds
+      by (d ∷ rest) f =
+          let first : first_due t core.releases ≡ Some d = first-due system t core.releases h.later ∙ ap (λ ds. first_entered system t ds) f in
+          let g : Some d.thread ≡ Some x = ap thread_of (sym first) ∙ e in
+          let its : d.thread ≡ x = cc in
+          subst (IsReleased_at core) its (released-at core d rest f first h)
+        where
+          IsReleased_at : Core → ℕ → Type 0
+          IsReleased_at core y = IsReleased system c t y core
+
+  pub none-released : (core : Core) → IsSound system c t PastTick None core → thread_of (first_due t core.releases) ≡ None → releases by_priority system t core ≡ silent core
+  none-released core h e = by (all_due system t core.releases) refl
+    where
+      by : (ds : List Dated) → all_due system t core.releases ≡ ds → releases by_priority system t core ≡ silent core
+      by [] f = releases-none system t core f
+      by (d ∷ rest) f =
+          let first : first_due t core.releases ≡ Some d = first-due system t core.releases h.later ∙ ap (λ ds. first_entered system t ds) f in
+          let g : thread_of (Some d) ≡ None = ap thread_of (sym first) ∙ e in cc
+
+  pub none-left : (core : Core) → thread_of (first_due t core.releases) ≡ None → without_first_due t core.releases ≡ core.releases
+  none-left core e = by (first_due t core.releases) refl e
+    where
+      by : (o : Option Dated) → first_due t core.releases ≡ o → thread_of o ≡ None → when_left o core.releases ≡ core.releases
+      by None f g = refl
+      by (Some d) f g = cc
+
+-- the best ready thread is one of the core
+pub best-known : (system : System) (c from : ℕ) (phase : Phase) (x : ℕ) (core : Core) → IsSound system c from phase None core → thread_of_queued (first_of core.ready) ≡ Some x → x < length core.threads
+best-known system c from phase x core h e = by (first_of core.ready) refl e
+  where
+    by : (o : Option Queued) → first_of core.ready ≡ o → thread_of_queued o ≡ Some x → x < length core.threads
+    by None f g = cc
+    by (Some best) f g =
+        let its : best.thread ≡ x = cc in
+        let count = times_queued-rest best.thread best core.ready f in
+        let some : 1 ≤ times_queued best.thread core.ready = rw count (own best.thread (times_queued best.thread (rest_of core.ready))) in
+        let ready = ready_from_count (state_of core best.thread).standing (times_queued best.thread core.ready) (h.ready best.thread) some in
+        let p = h.here best.thread (rw ready refl) in
+        rw (sym its, h.threads) p.known
+      where
+        own : (a n : ℕ) → 1 ≤ cond (a == a) 1 0 + n
+        own a n = grind (arith, nat_tests)

@@ -1,0 +1,117 @@
+-- Turns one after another.
+use Rattle.std.proofs.Common.{◌≡◌, ℕ, suc, ◌+◌, ◌<◌, ◌≤◌, Bool, true, false, cond, List, [], ◌∷◌, ◌++◌, refl, sym, ap, subst, ◌∙◌, append_assoc, append-nil, arith}
+use Rattle.std.specs.Prelude.{◌==◌, nat_le, not, max, All, Result, Ok, Err, OnOk, is_err, IsTrue, ◌↔◌}
+use Rattle.mcs_ticks.specs.declared.memory.NoMemory.{NoMemory}
+use Rattle.mcs_control.specs.declared.config.Order.{Order}
+use Rattle.std.proofs.lemmas.Bool.Decides.{nat_tests}
+use Rattle.std.proofs.lemmas.List.Elements.{All-cons}
+use Rattle.mcs_ticks.specs.declared.row.Row.{Row}
+use Rattle.mcs_mail.specs.declared.mail.Mail.{Mail}
+use Rattle.mcs_mail.specs.Box.{arriving, staying}
+use Rattle.mcs_core.specs.System.{System}
+use Rattle.mcs_core.specs.Core.{Core}
+use Rattle.mcs_core.specs.Orders.{to_come}
+use Rattle.mcs_core.specs.State.{State}
+use Rattle.mcs_core.specs.Turn.{turn}
+use Rattle.mcs_core.specs.Run.{Ran, ran, with_turn, stamped}
+
+-- mail that stays arrives later
+pub later-staying : (t : ℕ) (mails : List Mail) → All (λ (mail : Mail). t ≤ mail.arrives) mails → All (λ (mail : Mail). t + 1 ≤ mail.arrives) (staying t mails)
+later-staying t [] h = λ k d l. absurd (omega arith)
+later-staying t (x ∷ xs) h = by (x.arrives == t) refl (later-staying t xs (λ k d l. h (suc k) d (omega arith)))
+  where
+    by : (b : Bool) → (x.arrives == t) ≡ b → All (λ (mail : Mail). t + 1 ≤ mail.arrives) (staying t xs) → All (λ (mail : Mail). t + 1 ≤ mail.arrives) (cond (not b) (x ∷ staying t xs) (staying t xs))
+    by true e i = i
+    by false e i = both
+      where
+        first : (a : ℕ) → t ≤ a → (a == t) ≡ false → t + 1 ≤ a
+        first a l e = grind (arith, nat_tests)
+
+        both : All (λ (mail : Mail). t + 1 ≤ mail.arrives) (x ∷ staying t xs)
+        both = All-cons (λ (mail : Mail). t + 1 ≤ mail.arrives) x (staying t xs) (first x.arrives (h 0 x (omega arith)) e) i
+
+pub known-staying : (t notes : ℕ) (mails : List Mail) → All (λ (mail : Mail). mail.note < notes) mails → All (λ (mail : Mail). mail.note < notes) (staying t mails)
+known-staying t notes [] h = h
+known-staying t notes (x ∷ xs) h = by (x.arrives == t) (known-staying t notes xs (λ k d l. h (suc k) d (omega arith)))
+  where
+    by : (b : Bool) → All (λ (mail : Mail). mail.note < notes) (staying t xs) → All (λ (mail : Mail). mail.note < notes) (cond (not b) (x ∷ staying t xs) (staying t xs))
+    by true i = i
+    by false i = All-cons (λ (mail : Mail). mail.note < notes) x (staying t xs) (h 0 x (omega arith)) i
+
+-- what the turns from here on make, with what was made so far, is what the whole makes
+pub record RunsOn (before : List Row) (sent : List Mail) (whole rest : Ran) (rows : List Row) (signals : List Mail) : Type 0 where
+  pub core : rest.core ≡ whole.core
+  pub told : rows ++ rest.rows ≡ before ++ whole.rows
+  pub made : signals ++ rest.mails ≡ sent ++ whole.mails
+  pub box : rest.box ≡ whole.box
+
+-- one more turn
+pub runs-step : (system : System) (c t n m : ℕ) (core : Core) (box : List Mail) (before rows rows' : List Row) (sent signals signals' : List Mail) (whole : Ran) (core' : Core) (box' : List Mail) →
+    n ≡ suc m → RunsOn before sent whole (ran system c n t core box) rows signals →
+    core' ≡ (turn system c t (arriving t box) core).core → box' ≡ staying t box →
+    rows' ≡ rows ++ stamped c t (turn system c t (arriving t box) core).rows → signals' ≡ signals ++ (turn system c t (arriving t box) core).mails →
+    RunsOn before sent whole (ran system c m (t + 1) core' box') rows' signals'
+runs-step system c t n m core box before rows rows' sent signals signals' whole core' box' e h f g i j =
+    let k : RunsOn before sent whole (with_turn system c t (turn system c t (arriving t box) core) (ran system c m (t + 1) core' box')) rows signals =
+    rw (f, g) (let P : ℕ → Type 0 = λ x. RunsOn before sent whole (ran system c x t core box) rows signals in subst P e h) in
+    record {
+      core = k.core;
+      told = rw i (append_assoc rows (stamped c t (turn system c t (arriving t box) core).rows) (ran system c m (t + 1) core' box').rows ∙ k.told);
+      made = rw j (append_assoc signals (turn system c t (arriving t box) core).mails (ran system c m (t + 1) core' box').mails ∙ k.made);
+      box = k.box;
+    }
+
+-- a call that was no refusal
+pub if_ok : (r : Result (Unit {0}) NoMemory) (P : Type 0) → is_err r ≡ false → OnOk r P → P
+if_ok (Ok x) P e p = p
+if_ok (Err x) P e p = cc
+
+pub same_state : (s : State) (number time : ℕ) (core : Core) (orders : List Order) (failed : Bool) → s.number ≡ number → s.clock ≡ time → s.core ≡ core → s.orders ≡ orders → s.failed ≡ failed →
+    s ≡ record { number = number; clock = time; core = core; orders = orders; failed = failed }
+same_state s number time core orders failed a b d e f = rw (sym a, sym b, sym d, sym e, sym f) refl
+
+-- what is to come from two moments on is what is to come from the later one on
+pub to_come-twice : (a b : ℕ) (os : List Order) → to_come a (to_come b os) ≡ to_come (max b a) os
+to_come-twice a b [] = refl
+to_come-twice a b (x ∷ xs) = by (nat_le b x.moment) (nat_le a x.moment) (nat_le (max b a) x.moment) refl refl refl (to_come-twice a b xs)
+  where
+    by : (p q r : Bool) → nat_le b x.moment ≡ p → nat_le a x.moment ≡ q → nat_le (max b a) x.moment ≡ r → to_come a (to_come b xs) ≡ to_come (max b a) xs →
+        to_come a (cond p (x ∷ to_come b xs) (to_come b xs)) ≡ cond r (x ∷ to_come (max b a) xs) (to_come (max b a) xs)
+    by true true true e f g i = rw f (ap (λ ys. x ∷ ys) i)
+    by true true false e f g i = absurd (no a b x.moment e f g)
+      where
+        no : (a b m : ℕ) → nat_le b m ≡ true → nat_le a m ≡ true → nat_le (max b a) m ≡ false → ⊥
+        no a b m e f g = grind (arith, nat_tests)
+    by true false true e f g i = absurd (no a b x.moment f g)
+      where
+        no : (a b m : ℕ) → nat_le a m ≡ false → nat_le (max b a) m ≡ true → ⊥
+        no a b m f g = grind (arith, nat_tests)
+    by true false false e f g i = rw f i
+    by false q true e f g i = absurd (no a b x.moment e g)
+      where
+        no : (a b m : ℕ) → nat_le b m ≡ false → nat_le (max b a) m ≡ true → ⊥
+        no a b m e g = grind (arith, nat_tests)
+    by false q false e f g i = i
+
+-- no turn is left
+pub runs-end : (system : System) (c t n : ℕ) (core : Core) (box : List Mail) (before rows : List Row) (sent signals : List Mail) (whole : Ran) →
+    n ≡ 0 → RunsOn before sent whole (ran system c n t core box) rows signals →
+    RunsOn before sent whole (record { core = core; rows = []; mails = []; box = box }) rows signals
+runs-end system c t n core box before rows sent signals whole e h =
+    let P : ℕ → Type 0 = λ x. RunsOn before sent whole (ran system c x t core box) rows signals in subst P e h
+
+pub told-all : (before rows : List Row) (sent signals : List Mail) (whole : Ran) (core : Core) (box : List Mail) →
+    RunsOn before sent whole (record { core = core; rows = []; mails = []; box = box }) rows signals → rows ≡ before ++ whole.rows
+told-all before rows sent signals whole core box h = sym (append-nil rows) ∙ h.told
+
+pub made-all : (before rows : List Row) (sent signals : List Mail) (whole : Ran) (core : Core) (box : List Mail) →
+    RunsOn before sent whole (record { core = core; rows = []; mails = []; box = box }) rows signals → signals ≡ sent ++ whole.mails
+made-all before rows sent signals whole core box h = sym (append-nil signals) ∙ h.made
+
+pub not_before : (b : Bool) (n m : ℕ) → (IsTrue b ↔ (n < m)) → b ≡ false → m ≤ n
+not_before true n m h e = absurd (cc)
+not_before false n m h e = by (nat_le m n) refl
+  where
+    by : (p : Bool) → nat_le m n ≡ p → m ≤ n
+    by true f = grind (arith, nat_tests)
+    by false f = let g : false ≡ true = h.1 (grind (arith, nat_tests)) in cc

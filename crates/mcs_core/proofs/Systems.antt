@@ -1,0 +1,63 @@
+-- What a well-formed system gives its cores.
+use Rattle.std.proofs.Common.{◌≡◌, ℕ, zero, suc, ◌^◌, ◌<◌, ◌≤◌, ◌⊎◌, inl, inr, List, [], ◌∷◌, length, sym, arith}
+use Rattle.std.specs.Prelude.{Some, All}
+use Rattle.std.specs.List.{slice_get, AllByRecursion}
+use Rattle.std.proofs.lemmas.List.{get_or_past}
+use Rattle.mcs_control.specs.declared.config.Order.{Order}
+use Rattle.mcs_script.specs.declared.item.Item.{Item}
+use Rattle.mcs_script.specs.declared.item.Item.TheVariants.{Compute, Signal, Wait, Yield}
+use Rattle.mcs_core.specs.System.{System, thread_part, no_thread, core_of}
+use Rattle.mcs_core.specs.WellFormed.{IsWellFormed, IsItem, IsOrder}
+use Rattle.mcs_core.specs.Items.{IsNoted}
+use Rattle.mcs_core.proofs.Soundness.{IsOneEach}
+use Rattle.mcs_core.proofs.Turning.{IsProperOrder}
+
+-- no two threads have one context
+pub one-each : (system : System) → IsWellFormed system → IsOneEach system
+one-each system w x y l m e = by (cases x y)
+  where
+    cases : (a b : ℕ) → (a < b) ⊎ ((b < a) ⊎ (a ≡ b))
+    cases a b = grind arith
+
+    by : (x < y) ⊎ ((y < x) ⊎ (x ≡ y)) → x ≡ y
+    by (inl h) = absurd (w.one_each x y no_thread h m e)
+    by (inr (inl h)) = absurd (w.one_each y x no_thread h l (sym e))
+    by (inr (inr h)) = h
+
+-- each order is a proper one
+pub orders-proper : (system : System) → IsWellFormed system → AllByRecursion (IsProperOrder system) system.orders
+orders-proper system w = each system.orders w.orders
+  where
+    each : (orders : List Order) → All (IsOrder system) orders → AllByRecursion (IsProperOrder system) orders
+    each [] h = tt
+    each (order ∷ orders) h =
+        let o : IsOrder system order = h 0 order (omega arith) in
+        (record { accepted = o.accepted; same_kind = o.same_kind; known = o.context }, each orders (λ k d l. h (suc k) d (omega arith)))
+
+-- the notifications of all items are the system's
+pub all-noted : (system : System) → IsWellFormed system → (x i : ℕ) → IsNoted (length system.notes) (slice_get (thread_part system x).script i)
+all-noted system w x i = by (cases x (length system.threads))
+  where
+    cases : (a b : ℕ) → (a < b) ⊎ (b ≤ a)
+    cases a b = grind arith
+
+    noted : (core : ℕ) (item : Item) → IsItem system core item → IsNoted (length system.notes) (Some item)
+    noted core (Compute ticks) h = tt
+    noted core (Signal note badge) h = h.0
+    noted core (Wait note) h = h.0
+    noted core Yield h = tt
+
+    items : (core : ℕ) (script : List Item) (i : ℕ) → All (IsItem system core) script → IsNoted (length system.notes) (slice_get script i)
+    items core [] i h = tt
+    items core (item ∷ script) zero h = noted core item (h 0 item (omega arith))
+    items core (item ∷ script) (suc i) h = items core script i (λ k d l. h (suc k) d (omega arith))
+
+    by : (x < length system.threads) ⊎ (length system.threads ≤ x) → IsNoted (length system.notes) (slice_get (thread_part system x).script i)
+    by (inl h) = items (core_of system (thread_part system x)) (thread_part system x).script i (w.threads x no_thread h).items
+    by (inr h) =
+        let none : thread_part system x ≡ no_thread = get_or_past system.threads x no_thread h in
+        rw none tt
+
+-- how long a signal is under way
+pub delay-short : (system : System) → IsWellFormed system → system.delay ≤ 2 ^ 20
+delay-short system w = w.limits.delay.1

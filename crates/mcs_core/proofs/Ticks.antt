@@ -1,0 +1,263 @@
+-- The end of the tick: the core stays sound.
+use Rattle.std.proofs.Common.{◌≡◌, ℕ, ◌+◌, ◌^◌, ◌<◌, ◌≤◌, Bool, true, false, cond, List, [], ◌∷◌, ◌++◌, length, set, refl, subst, ◌∙◌, arith}
+use Rattle.std.specs.Prelude.{◌==◌, Option, Some, None}
+use Rattle.std.specs.List.{slice_get}
+use Rattle.std.proofs.lemmas.Bool.Decides.{nat_tests}
+use Rattle.std.proofs.Math.ListN.{length-set}
+use Rattle.mcs_ticks.specs.Queue.{by_priority}
+use Rattle.mcs_ticks.specs.declared.row.Why.{Why}
+use Rattle.mcs_ticks.specs.declared.row.Why.TheVariants as why
+use Rattle.mcs_control.specs.Context.{head_amount}
+use Rattle.mcs_notify.specs.Note.{posted, waited, after_wait}
+use Rattle.mcs_notify.specs.declared.posted.Posted.{Posted}
+use Rattle.mcs_notify.specs.declared.posted.Posted.TheVariants.{Woke, Held}
+use Rattle.mcs_notify.specs.declared.posted.Waited.{Waited}
+use Rattle.mcs_notify.specs.declared.posted.Waited.TheVariants.{Got, Blocks}
+use Rattle.mcs_release.specs.declared.dated.Dated.{Dated}
+use Rattle.mcs_script.specs.declared.item.Item.{Item}
+use Rattle.mcs_script.specs.declared.item.Item.TheVariants.{Compute, Signal, Wait, Yield}
+use Rattle.mcs_script.specs.declared.moved.Moved.{Moved}
+use Rattle.mcs_script.specs.declared.moved.Moved.TheVariants.{Next, RoundEnds, AllDone}
+use Rattle.mcs_core.specs.declared.standing.Chosen.{Chosen}
+use Rattle.mcs_core.specs.declared.standing.Standing.TheVariants.{Blocked, Running, Done}
+use Rattle.mcs_core.specs.System.{System, thread_part, note_part}
+use Rattle.mcs_core.specs.Core.{Core, thread_of, note_of, with_note, off}
+use Rattle.mcs_core.specs.Items.{IsNoted}
+use Rattle.mcs_core.specs.Turn.{its_context, date_of, queued, enters_back, unblocked, given, moves, moves_on, move_of, wakes, posts_as, posts, mail_to, signals, waits_as, after_waited, may_stop, after_move, finishes, after_count, counts, item_of, tick_of, tick, stops_to_back}
+use Rattle.mcs_core.specs.Sound.{times_queued, Phase, IsPlaced, IsRunning, RunsRight, AreEarly, IsSound}
+use Rattle.mcs_core.specs.Sound.Phase.{Between, InTick, PastTick}
+use Rattle.mcs_core.proofs.Counts.{one_if_same, times_queued-append, times_waiting-set}
+use Rattle.mcs_core.proofs.Soundness.{IsOneEach, re_stands, loosened}
+use Rattle.mcs_core.proofs.Budgets.{accepted-is, kept-head}
+use Rattle.mcs_core.proofs.Enters.{zero_if, zero_if-zero}
+use Rattle.mcs_core.proofs.Stopping.{off-sound, stops-sound, stops_to_back-sound, replaced, moves-sound, given-sound, reworded}
+use Rattle.mcs_core.proofs.Wakes.{posts-sound}
+
+module _ (system : System) (number from : ℕ) (each : IsOneEach system) where
+  -- the running thread stays the same one
+
+  enters_back-running : (x : ℕ) (o : Option ℕ) (core : Core) → (enters_back by_priority system x o core).running ≡ core.running
+  enters_back-running x (Some date) core = refl
+  enters_back-running x None core = refl
+
+  pub moves-running : (t x : ℕ) (core : Core) → (moves_on system t x core).core.running ≡ core.running
+  moves-running t x core = by (move_of system t x core)
+    where
+      by : (m : Moved) → (moves system t x m core).core.running ≡ core.running
+      by Next = refl
+      by RoundEnds = refl
+      by AllDone = refl
+
+  wakes-running : (t x : ℕ) (core : Core) → (wakes by_priority system t x core).core.running ≡ core.running
+  wakes-running t x core =
+      enters_back-running x (date_of system t x (moves_on system t x (given system t x (unblocked by_priority system t x core))).core) (moves_on system t x (given system t x (unblocked by_priority system t x core))).core
+      ∙ moves-running t x (given system t x (unblocked by_priority system t x core))
+
+  pub posts-running : (t note badge : ℕ) (core : Core) → (posts by_priority system t note badge core).core.running ≡ core.running
+  posts-running t note badge core = by (posted badge (note_of core note))
+    where
+      by : (p : Posted) → (posts_as by_priority system t note p core).core.running ≡ core.running
+      by (Woke x word) = wakes-running t x _
+      by (Held word) = refl
+
+  pub runner : (phase : Phase) (chosen : Chosen) (core : Core) → IsSound system number from phase None core → core.running ≡ Some chosen → IsRunning system phase chosen core
+  runner phase chosen core h e = let P : Option Chosen → Type 0 = λ o. RunsRight system phase o core in subst P e h.running
+
+  pub runner-placed : (phase : Phase) (chosen : Chosen) (core : Core) → IsSound system number from phase None core → core.running ≡ Some chosen → IsPlaced system chosen.thread core
+  runner-placed phase chosen core h e = let r = runner phase chosen core h e in h.here chosen.thread (rw r.stands refl)
+
+  -- the head of the running thread's context is some
+  pub runner-head : (phase : Phase) (chosen : Chosen) (core : Core) → IsSound system number from phase None core → core.running ≡ Some chosen → 1 ≤ head_amount (its_context system chosen.thread core)
+  runner-head phase chosen core h e =
+      let p = runner-placed phase chosen core h e in
+      let b = h.budgets (thread_part system chosen.thread).context p.has in
+      kept-head (its_context system chosen.thread core).config (its_context system chosen.thread core).budget (accepted-is system.min_budget _ b.accepted).some b.kept
+
+  -- the running thread counts a tick
+  pub counts-sound : (chosen : Chosen) (core : Core) → IsSound system number from Between None core → core.running ≡ Some chosen → IsSound system number from InTick None (counts chosen core)
+  counts-sound chosen core h e =
+      let r = runner Between chosen core h e in
+      let p = runner-placed Between chosen core h e in
+      let counted : IsSound system number from InTick None (record core { running = Some (record { thread = chosen.thread; using = chosen.using + 1 }) }) = record {
+        threads = h.threads;
+        contexts = h.contexts;
+        notes = h.notes;
+        ready = h.ready;
+        pending = h.pending;
+        blocked = h.blocked;
+        here = λ y q. let i = h.here y q in record { known = i.known; item = i.item; bound = i.bound; has = i.has };
+        early = h.early;
+        dates = dates_same core.releases h.dates;
+        running = record { stands = r.stands; used = omega arith; unspent = more _ (head_amount (its_context system chosen.thread core)) r.unspent; early = r.early };
+        budgets = h.budgets;
+        own = h.own;
+        later = h.later;
+      } in
+      replaced system number from each InTick chosen.thread _ (record core { running = Some (record { thread = chosen.thread; using = chosen.using + 1 }) }) counted (rw h.threads p.known) refl (λ f. p.item)
+    where
+      more : (n m : ℕ) → n < m + 0 → n + 1 < m + 1
+      more n m h = omega arith
+
+      dates_same : (ds : List Dated) → AreEarly system core ds → AreEarly system (record core { running = Some (record { thread = chosen.thread; using = chosen.using + 1 }) }) ds
+      dates_same [] p = tt
+      dates_same (z ∷ ds) p = (p.0, dates_same ds p.1)
+
+  -- the running thread waits: it joins the waiters, or is given its word
+
+  pub blocks-sound : (phase : Phase) (note x : ℕ) (core : Core) → IsSound system number from phase None core → (thread_of core x).standing ≡ Running → note < length core.notes →
+      IsSound system number from phase (Some (record { thread = x; standing = Blocked })) (with_note note (after_wait Blocks (queued system x) (note_of core note)) core)
+  blocks-sound phase note x core h e l =
+      let i = re_stands system number from phase x Running Blocked core core.running core.ready core.releases (set core.notes note (after_wait Blocks (queued system x) (note_of core note)))
+      (loosened system number from phase x Running core e h)
+      (λ y. refl) (λ y. refl)
+      (λ y. joined (times_queued y (note_of core note).waiters) (one_if_same x y) (times_queued y ((note_of core note).waiters ++ queued system x ∷ [])) _ _ (zero_if (x == y)) (zero_if-zero (x == y))
+      (times_queued-append y (note_of core note).waiters (queued system x)) (times_waiting-set y note (after_wait Blocks (queued system x) (note_of core note)) core.notes l))
+      (length-set core.notes note _) refl (λ f. cc) h.dates h.later h.running in
+      record { threads = i.threads; contexts = i.contexts; notes = i.notes; ready = i.ready; pending = i.pending; blocked = i.blocked; here = i.here; early = i.early; dates = i.dates; running = i.running; budgets = i.budgets; own = i.own; later = i.later }
+    where
+      joined : (w d n a b z : ℕ) → z ≡ 0 → n ≡ d + w → a + w ≡ b + n → a + z ≡ b + d
+      joined w d n a b z o p q = omega arith
+
+  pub got-sound : (phase : Phase) (t note word : ℕ) (chosen : Chosen) (core : Core) → IsSound system number from phase None core → core.running ≡ Some chosen → note < length core.notes →
+      IsSound system number from phase None (waits_as system t chosen.thread note (Got word) core).core
+  got-sound phase t note word chosen core h e l =
+      let first = reworded system number from each phase note 0 core h l in
+      let second = given-sound system number from each phase t chosen.thread _ first (runner-placed phase chosen _ first e) in
+      moves-sound system number from each phase t chosen.thread _ second (runner-placed phase chosen _ second e)
+
+  -- a signal, and what else does not block
+  pub signals-sound : (c t note badge : ℕ) (x : ℕ) (core : Core) → t ≤ 2 ^ 40 → from ≤ t + 1 → note < length core.notes → IsSound system number from InTick None core →
+      IsSound system number from InTick None (signals by_priority system c t x note badge core).core
+  signals-sound c t note badge x core l f k h = by ((note_part system note).core == c)
+    where
+      by : (b : Bool) → IsSound system number from InTick None (cond b (posts by_priority system t note badge core) (record { core = core; rows = []; mails = mail_to by_priority system c t note badge ∷ [] })).core
+      by true = posts-sound system number from each InTick t note badge core l f k h
+      by false = h
+
+  pub signals-running : (c t note badge x : ℕ) (core : Core) → (signals by_priority system c t x note badge core).core.running ≡ core.running
+  signals-running c t note badge x core = by ((note_part system note).core == c)
+    where
+      by : (b : Bool) → (cond b (posts by_priority system t note badge core) (record { core = core; rows = []; mails = mail_to by_priority system c t note badge ∷ [] })).core.running ≡ core.running
+      by true = posts-running t note badge core
+      by false = refl
+
+  -- at most one stop, of a thread that did not block
+  pub may_stop-sound : (c t : ℕ) (chosen : Chosen) (cause : Why) (core : Core) → t ≤ 2 ^ 40 → from ≤ t + 1 → IsSound system number from InTick None core → core.running ≡ Some chosen → (cause ≡ why.Wait → ⊥) →
+      IsSound system number from PastTick None (may_stop by_priority system c t chosen.thread chosen.using cause core).core
+  may_stop-sound c t chosen cause core l f h e n = by cause n
+    where
+      r : IsRunning system InTick chosen core
+      r = runner InTick chosen core h e
+
+      p : IsPlaced system chosen.thread core
+      p = runner-placed InTick chosen core h e
+
+      gone : IsSound system number from PastTick (Some (record { thread = chosen.thread; standing = Done })) (off core)
+      gone = off-sound system number from each InTick PastTick chosen.thread chosen.using Running Done core (loosened system number from InTick chosen.thread Running core r.stands h) refl refl refl refl refl
+
+      back : (k : ℕ) (cause : Why) → 1 ≤ k → IsSound system number from PastTick None (stops_to_back by_priority system t chosen.thread cause k core).core
+      back k cause some = stops_to_back-sound system number from each PastTick t chosen.thread k cause core l f gone p some
+
+      stays : (chosen.using == head_amount (its_context system chosen.thread core)) ≡ false → IsSound system number from PastTick None core
+      stays f = record {
+        threads = h.threads;
+        contexts = h.contexts;
+        notes = h.notes;
+        ready = h.ready;
+        pending = h.pending;
+        blocked = h.blocked;
+        here = h.here;
+        early = h.early;
+        dates = h.dates;
+        running = rw e (record { stands = r.stands; used = r.used; unspent = less chosen.using (head_amount (its_context system chosen.thread core)) f r.unspent; early = r.early });
+        budgets = h.budgets;
+        own = h.own;
+        later = h.later;
+      }
+        where
+          less : (a b : ℕ) → (a == b) ≡ false → a < b + 1 → a < b + 0
+          less a b f g = grind (arith, nat_tests)
+
+      spent : (b : Bool) → (chosen.using == head_amount (its_context system chosen.thread core)) ≡ b →
+          IsSound system number from PastTick None (cond b (stops_to_back by_priority system t chosen.thread why.Spent chosen.using core) (record { core = core; rows = []; mails = [] })).core
+      spent true f = back chosen.using why.Spent r.used
+      spent false f = stays f
+
+      by : (cause : Why) → (cause ≡ why.Wait → ⊥) → IsSound system number from PastTick None (may_stop by_priority system c t chosen.thread chosen.using cause core).core
+      by why.Done n = stops-sound system number from each PastTick t chosen.thread chosen.using why.Done Done core gone p refl refl refl r.used
+      by why.Wait n = absurd (n refl)
+      by why.Yield n = back (head_amount (its_context system chosen.thread core)) why.Yield (runner-head InTick chosen core h e)
+      by why.Spent n = spent (chosen.using == head_amount (its_context system chosen.thread core)) refl
+      by why.Preempt n = spent (chosen.using == head_amount (its_context system chosen.thread core)) refl
+      by why.Order n = spent (chosen.using == head_amount (its_context system chosen.thread core)) refl
+
+  -- the stop of a thread that blocked
+  pub blocked-sound : (c t note : ℕ) (chosen : Chosen) (core : Core) → IsSound system number from InTick None core → core.running ≡ Some chosen → note < length core.notes →
+      IsSound system number from PastTick None (may_stop by_priority system c t chosen.thread chosen.using why.Wait (waits_as system t chosen.thread note Blocks core).core).core
+  blocked-sound c t note chosen core h e l =
+      let r = runner InTick chosen core h e in
+      let p = runner-placed InTick chosen core h e in
+      let waits = blocks-sound InTick note chosen.thread core h r.stands l in
+      let gone = off-sound system number from each InTick PastTick chosen.thread chosen.using Blocked Blocked _ waits refl refl refl refl refl in
+      stops-sound system number from each PastTick t chosen.thread chosen.using why.Wait Blocked (with_note note (after_wait Blocks (queued system chosen.thread) (note_of core note)) core) gone
+      (record { known = p.known; item = p.item; bound = p.bound; has = p.has }) refl refl refl r.used
+
+  moved-never : (m : Moved) (cause : Why) → (cause ≡ why.Wait → ⊥) → after_move m cause ≡ why.Wait → ⊥
+  moved-never Next cause n e = n e
+  moved-never RoundEnds cause n e = n e
+  moved-never AllDone cause n e = cc
+
+  -- the finished item takes effect, and at most one stop follows
+  pub finishes-sound : (c t : ℕ) (chosen : Chosen) (item : Option Item) (core : Core) → t ≤ 2 ^ 40 → from ≤ t + 1 → IsNoted (length system.notes) item → IsSound system number from InTick None core → core.running ≡ Some chosen →
+      IsSound system number from PastTick None (finishes by_priority system c t chosen.thread chosen.using item core).core
+  finishes-sound c t chosen (Some (Signal note badge)) core l f k h e =
+      let first = signals-sound c t note badge chosen.thread core l f (rw h.notes k) h in
+      let runs = signals-running c t note badge chosen.thread core ∙ e in
+      let second = moves-sound system number from each InTick t chosen.thread _ first (runner-placed InTick chosen _ first runs) in
+      may_stop-sound c t chosen _ _ l f second (moves-running t chosen.thread _ ∙ runs) (moved-never (move_of system t chosen.thread core) why.Spent (λ f. cc))
+  finishes-sound c t chosen (Some (Wait note)) core l f k h e = by (waited (note_of core note))
+    where
+      by : (w : Waited) → IsSound system number from PastTick None (may_stop by_priority system c t chosen.thread chosen.using (after_waited w) (waits_as system t chosen.thread note w core).core).core
+      by (Got word) = may_stop-sound c t chosen why.Spent _ l f (got-sound InTick t note word chosen core h e (rw h.notes k)) (moves-running t chosen.thread _ ∙ e) (λ f. cc)
+      by Blocks = blocked-sound c t note chosen core h e (rw h.notes k)
+  finishes-sound c t chosen (Some (Compute ticks)) core l f k h e =
+      may_stop-sound c t chosen _ _ l f (moves-sound system number from each InTick t chosen.thread core h (runner-placed InTick chosen core h e)) (moves-running t chosen.thread core ∙ e) (moved-never (move_of system t chosen.thread core) why.Spent (λ f. cc))
+  finishes-sound c t chosen (Some Yield) core l f k h e =
+      may_stop-sound c t chosen _ _ l f (moves-sound system number from each InTick t chosen.thread core h (runner-placed InTick chosen core h e)) (moves-running t chosen.thread core ∙ e) (moved-never (move_of system t chosen.thread core) why.Yield (λ f. cc))
+  finishes-sound c t chosen None core l f k h e = may_stop-sound c t chosen why.Spent core l f h e (λ f. cc)
+
+  -- the notifications of all items are the system's
+  abbrev pub AreNoted : Type 0
+  AreNoted = (x i : ℕ) → IsNoted (length system.notes) (slice_get (thread_part system x).script i)
+
+  -- no thread runs: nothing happens
+  idle-sound : (core : Core) → IsSound system number from Between None core → core.running ≡ None → IsSound system number from PastTick None core
+  idle-sound core h e = record {
+    threads = h.threads;
+    contexts = h.contexts;
+    notes = h.notes;
+    ready = h.ready;
+    pending = h.pending;
+    blocked = h.blocked;
+    here = h.here;
+    early = h.early;
+    dates = h.dates;
+    running = rw e tt;
+    budgets = h.budgets;
+    own = h.own;
+    later = h.later;
+  }
+
+  pub tick-sound : (c t : ℕ) (core : Core) → t ≤ 2 ^ 40 → from ≤ t + 1 → AreNoted → IsSound system number from Between None core → IsSound system number from PastTick None (tick by_priority system c t core).core
+  tick-sound c t core l f noted h = by core.running refl
+    where
+      counted : (chosen : Chosen) → IsSound system number from InTick None (counts chosen core) → IsSound system number from PastTick None (after_count by_priority system c t chosen.thread (chosen.using + 1) (counts chosen core)).core
+      counted chosen i = ends ((thread_of (counts chosen core) chosen.thread).place.left == 0)
+        where
+          ends : (b : Bool) → IsSound system number from PastTick None (cond b (finishes by_priority system c t chosen.thread (chosen.using + 1) (item_of system t chosen.thread (counts chosen core)) (counts chosen core)) (may_stop by_priority system c t chosen.thread (chosen.using + 1) why.Spent (counts chosen core))).core
+          ends true = finishes-sound c t (record { thread = chosen.thread; using = chosen.using + 1 }) (item_of system t chosen.thread (counts chosen core)) (counts chosen core) l f (noted chosen.thread (thread_of (counts chosen core) chosen.thread).place.item) i refl
+          ends false = may_stop-sound c t (record { thread = chosen.thread; using = chosen.using + 1 }) why.Spent (counts chosen core) l f i refl (λ f. cc)
+
+      by : (o : Option Chosen) → core.running ≡ o → IsSound system number from PastTick None (tick_of by_priority system c t o core).core
+      by None e = idle-sound core h e
+      by (Some chosen) e = counted chosen (counts-sound chosen core h e)

@@ -1,0 +1,157 @@
+-- Posts, and the threads that they wake: the core stays sound.
+use Rattle.std.proofs.Common.{◌≡◌, ℕ, ◌+◌, ◌^◌, ◌<◌, ◌≤◌, ◌≢◌, Bool, true, false, cond, length, set, refl, sym, ap, subst, ◌∙◌, arith}
+use Rattle.std.specs.Prelude.{◌==◌, bit_or, Option, Some, None}
+use Rattle.std.proofs.lemmas.Bool.Decides.{nat_tests}
+use Rattle.std.proofs.Math.ListN.{length-set}
+use Rattle.mcs_ticks.specs.Queue.{by_priority, first_of_greatest, without}
+use Rattle.mcs_ticks.specs.declared.queue.Queued.{Queued}
+use Rattle.mcs_control.specs.Context.{context_unblocked}
+use Rattle.mcs_notify.specs.Note.{Note, posted, after_post}
+use Rattle.mcs_notify.specs.declared.posted.Posted.{Posted}
+use Rattle.mcs_notify.specs.declared.posted.Posted.TheVariants.{Woke, Held}
+use Rattle.mcs_script.specs.declared.moved.Moved.{Moved}
+use Rattle.mcs_script.specs.declared.moved.Moved.TheVariants.{Next, RoundEnds, AllDone}
+use Rattle.mcs_script.specs.Script.{place_after}
+use Rattle.mcs_core.specs.declared.standing.Chosen.{Chosen}
+use Rattle.mcs_core.specs.declared.standing.Standing.{Standing}
+use Rattle.mcs_core.specs.declared.standing.Standing.TheVariants.{Blocked, Pending, Ready, Running, Done, Elsewhere}
+use Rattle.mcs_core.specs.declared.standing.Thread.{Thread}
+use Rattle.mcs_core.specs.System.{System, thread_part}
+use Rattle.mcs_core.specs.Core.{Core, thread_of, note_of, with_thread, with_note}
+use Rattle.mcs_core.specs.Turn.{its_context, date_of, unblocked, enters_back, given, moves, moves_on, move_of, wakes, posts_as, posts}
+use Rattle.mcs_core.specs.Sound.{times_queued, times_waiting, times_blocked, is_here, Phase, IsPlaced, RunsRight, IsSound}
+use Rattle.mcs_core.proofs.Counts.{one_if_same, times_queued-without, greatest-stands, times_waiting-set, times_waiting-at}
+use Rattle.mcs_core.proofs.Soundness.{IsOneEach, re_stands, loosened, recontexted, rethreaded, keeps_if, runs-other, runs-context, thread-same}
+use Rattle.mcs_core.proofs.Budgets.{unblocked-kept}
+use Rattle.mcs_core.proofs.Enters.{zero_if, zero_if-zero, date-early, enters_back-sound}
+use Rattle.mcs_core.proofs.Stopping.{place-within, unblocked-early, reworded}
+
+-- a thread that waits stands blocked
+blocked_from : (s : Standing) (n : ℕ) → n ≡ times_blocked s → 1 ≤ n → s ≡ Blocked
+blocked_from Blocked n e h = refl
+blocked_from Pending n e h = absurd (omega arith)
+blocked_from Ready n e h = absurd (omega arith)
+blocked_from Running n e h = absurd (omega arith)
+blocked_from Done n e h = absurd (omega arith)
+blocked_from Elsewhere n e h = absurd (omega arith)
+
+-- who is woken is the first of greatest priority
+woken_is : (badge x word : ℕ) (note : Note) → posted badge note ≡ Woke x word → 1 ≤ times_queued x note.waiters
+woken_is badge x word note e = by (first_of_greatest note.waiters) refl e
+  where
+    by : (o : Option Queued) → first_of_greatest note.waiters ≡ o → posted badge note ≡ Woke x word → 1 ≤ times_queued x note.waiters
+    by None f e = let g : posted badge note ≡ Held (bit_or note.word badge) = rw f refl in cc
+    by (Some q) f e =
+        let g : posted badge note ≡ Woke q.thread badge = rw f refl in
+        let i : q.thread ≡ x = cc in
+        let P : ℕ → Type 0 = λ n. 1 ≤ times_queued n note.waiters in subst P i (greatest-stands note.waiters q f)
+
+-- a thread that was woken and has left the waiters: it is on its way, and still stands blocked
+pub record IsWoken (system : System) (number from : ℕ) (phase : Phase) (x : ℕ) (core : Core) : Type 0 where
+  pub sound : IsSound system number from phase (Some (record { thread = x; standing = Done })) core
+  pub stands : (thread_of core x).standing ≡ Blocked
+  pub placed : IsPlaced system x core
+
+module _ (system : System) (number from : ℕ) (each : IsOneEach system) where
+  pub woken-sound : (phase : Phase) (note badge x word : ℕ) (core : Core) → IsSound system number from phase None core → note < length core.notes →
+      posted badge (note_of core note) ≡ Woke x word →
+      IsWoken system number from phase x (with_note note (after_post (Woke x word) (note_of core note)) core)
+  woken-sound phase note badge x word core h l e =
+      let waits = woken_is badge x word (note_of core note) e in
+      let at = times_waiting-at x note core.notes in
+      let blocked : (thread_of core x).standing ≡ Blocked = blocked_from _ (times_waiting x core.notes) (h.blocked x) (omega arith) in
+      let here : IsPlaced system x core = h.here x (rw blocked refl) in
+      let i = re_stands system number from phase x Blocked Done core core.running core.ready core.releases (set core.notes note (after_post (Woke x word) (note_of core note)))
+      (loosened system number from phase x Blocked core blocked h)
+      (λ y. refl) (λ y. refl)
+      (λ y. left (times_queued y (without x (note_of core note).waiters)) (one_if_same x y) (times_queued y (note_of core note).waiters) _ _ (zero_if (x == y)) (zero_if-zero (x == y)) (times_queued-without y x (note_of core note).waiters waits)
+      (times_waiting-set y note (after_post (Woke x word) (note_of core note)) core.notes l))
+      (length-set core.notes note _) refl (λ f. cc) h.dates h.later h.running in
+      record {
+        sound = record { threads = i.threads; contexts = i.contexts; notes = i.notes; ready = i.ready; pending = i.pending; blocked = i.blocked; here = i.here; early = i.early; dates = i.dates; running = i.running; budgets = i.budgets; own = i.own; later = i.later };
+        stands = blocked;
+        placed = record { known = here.known; item = here.item; bound = here.bound; has = here.has };
+      }
+    where
+      left : (w d n a b z : ℕ) → z ≡ 0 → n ≡ d + w → a + n ≡ b + w → a + d ≡ b + z
+      left w d n a b z o p q = omega arith
+
+  -- the woken thread goes on
+  away_from : (phase : Phase) (x : ℕ) (core : Core) → (thread_of core x).standing ≡ Blocked → RunsRight system phase core.running core → (state : Thread) → RunsRight system phase core.running (with_thread x state core)
+  away_from phase x core e h state = runs-other system number from phase x state core core.running (λ f. cc) h
+
+  pub unblocked-woken : (phase : Phase) (t x : ℕ) (core : Core) → t ≤ 2 ^ 40 → IsWoken system number from phase x core → IsWoken system number from phase x (unblocked by_priority system t x core)
+  unblocked-woken phase t x core l w =
+      let h = w.sound in
+      let p = w.placed in
+      let b = h.budgets (thread_part system x).context p.has in
+      let i = recontexted system number from phase (thread_part system x).context (Some (record { thread = x; standing = Done })) (context_unblocked t (its_context system x core)) core h
+      p.has (rw h.contexts p.bound) (record { accepted = b.accepted; same_kind = b.same_kind; kept = unblocked-kept t (its_context system x core) b.kept })
+      (keeps_if system number from (Some (record { thread = x; standing = Done })) (thread_part system x).context (context_unblocked t (its_context system x core)) core (unblocked-early t (its_context system x core) l))
+      (runs-context system number from phase (thread_part system x).context (context_unblocked t (its_context system x core)) core core.running (others core.running h.running) h.running) in
+      record { sound = i; stands = w.stands; placed = i.here x (here_x (x == x) (same x)) }
+    where
+      same : (a : ℕ) → (a == a) ≡ true
+      same a = grind (arith, nat_tests)
+
+      here_x : (b : Bool) → b ≡ true → is_here (cond b Done (thread_of core x).standing) ≡ true
+      here_x true e = refl
+      here_x false e = cc
+
+      others : (o : Option Chosen) → RunsRight system phase o core → (chosen : Chosen) → o ≡ Some chosen → (thread_part system chosen.thread).context ≢ (thread_part system x).context
+      others None r chosen e f = cc
+      others (Some other) r chosen e f =
+          let g : other ≡ chosen = cc in
+          let s : (thread_of core chosen.thread).standing ≡ Running = ap (λ (k : Chosen). (thread_of core k.thread).standing) (sym g) ∙ r.stands in
+          let n : x ≢ chosen.thread = λ i. differs (ap (λ k. (thread_of core k).standing) i) s in
+          n (sym (each chosen.thread x (w.sound.here chosen.thread (here_other (x == chosen.thread) refl s)).known w.placed.known f))
+        where
+          differs : (thread_of core x).standing ≡ (thread_of core chosen.thread).standing → (thread_of core chosen.thread).standing ≡ Running → ⊥
+          differs i s = let j : Blocked ≡ Running = sym w.stands ∙ i ∙ s in cc
+
+          here_other : (b : Bool) → (x == chosen.thread) ≡ b → (thread_of core chosen.thread).standing ≡ Running → is_here (cond b Done (thread_of core chosen.thread).standing) ≡ true
+          here_other true e s = refl
+          here_other false e s = rw s refl
+
+  -- its state changes, but not how it stands
+  changed : (phase : Phase) (x : ℕ) (state : Thread) (core : Core) → IsWoken system number from phase x core → state.standing ≡ (thread_of core x).standing →
+      state.place.item < length (thread_part system x).script → IsWoken system number from phase x (with_thread x state core)
+  changed phase x state core w e item =
+      let p = w.placed in
+      let l : x < length core.threads = rw w.sound.threads p.known in
+      let same : thread_of (with_thread x state core) x ≡ state = thread-same system number from x x state core l refl in
+      record {
+        sound = rethreaded system number from phase x Done state core w.sound l (λ f. item) (away_from phase x core w.stands w.sound.running state);
+        stands = rw same (e ∙ w.stands);
+        placed = record { known = p.known; item = rw same item; bound = p.bound; has = p.has };
+      }
+
+  pub given-woken : (phase : Phase) (t x : ℕ) (core : Core) → IsWoken system number from phase x core → IsWoken system number from phase x (given system t x core)
+  given-woken phase t x core w = changed phase x _ core w refl w.placed.item
+
+  pub moves-woken : (phase : Phase) (t x : ℕ) (core : Core) → IsWoken system number from phase x core → IsWoken system number from phase x (moves_on system t x core).core
+  moves-woken phase t x core w = by (move_of system t x core) (place-within system.call (thread_part system x).rounds (thread_part system x).script (thread_of core x).place w.placed.item)
+    where
+      by : (m : Moved) → (place_after system.call (thread_part system x).script m (thread_of core x).place).item < length (thread_part system x).script →
+          IsWoken system number from phase x (moves system t x m core).core
+      by Next i = changed phase x _ core w refl i
+      by RoundEnds i = changed phase x _ core w refl i
+      by AllDone i = w
+
+  pub entered-woken : (phase : Phase) (t x : ℕ) (core : Core) → t ≤ 2 ^ 40 → from ≤ t + 1 → IsWoken system number from phase x core → IsSound system number from phase None (enters_back by_priority system x (date_of system t x core) core)
+  entered-woken phase t x core l f w =
+      enters_back-sound system number from phase x (date_of system t x core) core w.sound (rw w.sound.threads w.placed.known) w.placed.item (date-early system number from t x core l f)
+      (away_from phase x core w.stands w.sound.running)
+
+  pub wakes-sound : (phase : Phase) (t x : ℕ) (core : Core) → t ≤ 2 ^ 40 → from ≤ t + 1 → IsWoken system number from phase x core → IsSound system number from phase None (wakes by_priority system t x core).core
+  wakes-sound phase t x core l f w =
+      entered-woken phase t x _ l f (moves-woken phase t x _ (given-woken phase t x _ (unblocked-woken phase t x core l w)))
+
+  -- a post
+  pub posts-sound : (phase : Phase) (t note badge : ℕ) (core : Core) → t ≤ 2 ^ 40 → from ≤ t + 1 → note < length core.notes → IsSound system number from phase None core →
+      IsSound system number from phase None (posts by_priority system t note badge core).core
+  posts-sound phase t note badge core l f k h = by (posted badge (note_of core note)) refl
+    where
+      by : (p : Posted) → posted badge (note_of core note) ≡ p → IsSound system number from phase None (posts_as by_priority system t note p core).core
+      by (Woke x word) e = wakes-sound phase t x _ l f (woken-sound phase note badge x word core h k e)
+      by (Held word) e = reworded system number from each phase note word core h k

@@ -1,0 +1,120 @@
+-- Two small systems and their schedules, worked by hand from the rules of the turn.
+use Rattle.std.specs.Prelude.{◌≡◌, ℕ, List, [], ◌∷◌, Some, None, refl}
+use Rattle.mcs_ticks.specs.declared.row.Row.{Row}
+use Rattle.mcs_ticks.specs.declared.row.What.{What}
+use Rattle.mcs_ticks.specs.declared.row.What.TheVariants as row
+use Rattle.mcs_ticks.specs.declared.row.Why.TheVariants as why
+use Rattle.mcs_script.specs.declared.item.Item.{Item}
+use Rattle.mcs_script.specs.declared.item.Item.TheVariants.{Compute, Signal, Wait}
+use Rattle.mcs_core.specs.declared.part.ContextPart.{ContextPart}
+use Rattle.mcs_core.specs.declared.part.ThreadPart.{ThreadPart}
+use Rattle.mcs_core.specs.System.{System}
+use Rattle.mcs_core.specs.Clock.{schedule}
+
+abbrev context : ℕ → ℕ → ℕ → ContextPart
+context core budget period = record { name = []; core = core; config = record { budget = budget; period = period; extra = 0 } }
+
+-- a thread: its context, priority, start and script, which it runs once
+abbrev thread : ℕ → ℕ → ℕ → List Item → ThreadPart
+thread context priority start script =
+    record { name = []; context = context; priority = priority; start = start; rounds = 1; deadline = 0; script = script }
+
+abbrev at : ℕ → ℕ → What → Row
+at moment core what = record { moment = moment; core = core; what = what }
+
+-- Thread 0 blocks at 1 and is woken by the signal that thread 2 makes at 3 on the other core and that arrives at 5. Thread 1 starts
+-- late and spends its budget, which returns at 6. The order at 4 is for the context of thread 2, on core 1 alone.
+abbrev two_cores : System
+two_cores = record {
+  cores = 2;
+  delay = 2;
+  call = 1;
+  min_budget = 1;
+  contexts = context 0 3 10 ∷ context 0 2 5 ∷ context 1 5 10 ∷ [];
+  notes = record { name = []; core = 0 } ∷ [];
+  threads =
+      thread 0 7 0 (Wait 0 ∷ Compute 1 ∷ [])
+      ∷ thread 1 5 1 (Compute 3 ∷ [])
+      ∷ thread 2 5 1 (Compute 1 ∷ Signal 0 5 ∷ Compute 9 ∷ [])
+      ∷ [];
+  orders = record { moment = 4; context = 2; config = record { budget = 4; period = 10; extra = 0 } } ∷ [];
+}
+
+two_cores_at_work : schedule two_cores 7 ≡
+    at 0 0 (row.Release 0)
+    ∷ at 0 0 (row.Run 0)
+    ∷ at 1 0 (row.Stop 0 why.Wait 1 None)
+    ∷ at 1 0 (row.Release 1)
+    ∷ at 1 0 (row.Run 1)
+    ∷ at 1 1 (row.Release 2)
+    ∷ at 1 1 (row.Run 2)
+    ∷ at 3 0 (row.Stop 1 why.Spent 2 (Some 6))
+    ∷ at 3 1 (row.Signal 2 0 5)
+    ∷ at 4 1 (row.Order 2)
+    ∷ at 4 1 (row.Stop 2 why.Order 3 None)
+    ∷ at 4 1 (row.Run 2)
+    ∷ at 5 0 (row.Arrive 0 5 1)
+    ∷ at 5 0 (row.Wake 0 0 5)
+    ∷ at 5 0 (row.Run 0)
+    ∷ at 6 0 (row.Round 0 1 1)
+    ∷ at 6 0 (row.Stop 0 why.Done 1 None)
+    ∷ at 6 0 (row.Release 1)
+    ∷ at 6 0 (row.Run 1)
+    ∷ at 6 1 (row.Stop 2 why.Spent 2 (Some 12))
+    ∷ at 7 0 (row.Round 1 1 6)
+    ∷ at 7 0 (row.Stop 1 why.Done 1 None)
+    ∷ []
+two_cores_at_work = refl
+
+-- Threads 0 and 1 have one priority, so they take turns only where one stops for another reason. Thread 2 has a greater one: the
+-- thread that it preempts goes to the front and runs again before thread 1. Threads 3 and 4 have one priority, too: the signal of
+-- thread 3 wakes thread 4 before thread 3 stops at that moment, so thread 4 runs before it.
+abbrev one_core : System
+one_core = record {
+  cores = 1;
+  delay = 1;
+  call = 1;
+  min_budget = 1;
+  contexts = context 0 9 20 ∷ context 0 9 20 ∷ context 0 9 20 ∷ context 0 2 2 ∷ context 0 9 20 ∷ [];
+  notes = record { name = []; core = 0 } ∷ [];
+  threads =
+      thread 0 5 0 (Compute 4 ∷ [])
+      ∷ thread 1 5 0 (Compute 1 ∷ [])
+      ∷ thread 2 9 2 (Compute 1 ∷ [])
+      ∷ thread 3 1 7 (Compute 1 ∷ Signal 0 1 ∷ Compute 1 ∷ [])
+      ∷ thread 4 1 6 (Wait 0 ∷ Compute 1 ∷ [])
+      ∷ [];
+  orders = [];
+}
+
+one_core_at_work : schedule one_core 11 ≡
+    at 0 0 (row.Release 0)
+    ∷ at 0 0 (row.Release 1)
+    ∷ at 0 0 (row.Run 0)
+    ∷ at 2 0 (row.Release 2)
+    ∷ at 2 0 (row.Stop 0 why.Preempt 2 None)
+    ∷ at 2 0 (row.Run 2)
+    ∷ at 3 0 (row.Round 2 1 1)
+    ∷ at 3 0 (row.Stop 2 why.Done 1 None)
+    ∷ at 3 0 (row.Run 0)
+    ∷ at 5 0 (row.Round 0 1 5)
+    ∷ at 5 0 (row.Stop 0 why.Done 2 None)
+    ∷ at 5 0 (row.Run 1)
+    ∷ at 6 0 (row.Round 1 1 6)
+    ∷ at 6 0 (row.Stop 1 why.Done 1 None)
+    ∷ at 6 0 (row.Release 4)
+    ∷ at 6 0 (row.Run 4)
+    ∷ at 7 0 (row.Stop 4 why.Wait 1 None)
+    ∷ at 7 0 (row.Release 3)
+    ∷ at 7 0 (row.Run 3)
+    ∷ at 9 0 (row.Signal 3 0 1)
+    ∷ at 9 0 (row.Wake 4 0 1)
+    ∷ at 9 0 (row.Stop 3 why.Spent 2 None)
+    ∷ at 9 0 (row.Run 4)
+    ∷ at 10 0 (row.Round 4 1 1)
+    ∷ at 10 0 (row.Stop 4 why.Done 1 None)
+    ∷ at 10 0 (row.Run 3)
+    ∷ at 11 0 (row.Round 3 1 4)
+    ∷ at 11 0 (row.Stop 3 why.Done 1 None)
+    ∷ []
+one_core_at_work = refl

@@ -1,0 +1,9 @@
+use Rattle.mcs_core.specs.Sound.Phase.{PastTick}
+use Rattle.mcs_core.proofs.Effects.{wakes_free}
+use Rattle.mcs_core.proofs.Systems.{one-each}
+use Rattle.mcs_core.proofs.local.Local.arrive.Goals as goal
+
+pub post-requires-clause-free : goal.post-requires-clause-free
+post-requires-clause-free c =
+    wakes_free c.args.system.now c.args.c c.args.t (one-each c.args.system.now c.requires.well_formed) PastTick c.args.mail.note c.args.mail.badge c.args.self.now
+    (rw c.requires.sound.notes c.requires.known) c.requires.sound

@@ -1,0 +1,16 @@
+use Rattle.std.proofs.Common.{length, None}
+use Rattle.mcs_ticks.specs.Queue.{by_priority}
+use Rattle.mcs_core.specs.Turn.{releases}
+use Rattle.mcs_core.specs.Sound.{IsSound}
+use Rattle.mcs_core.specs.Sound.Phase.{PastTick}
+use Rattle.mcs_core.proofs.Loops.{GoesOn}
+use Rattle.mcs_core.proofs.local.Local.releases.Given as goal
+
+abbrev pub invariant-due : goal.invariant-due
+invariant-due l = record {
+  sound : IsSound l.system l.c l.t PastTick None l.self;
+  goes : GoesOn l.c l.t l.initial.rows.items (releases by_priority l.system l.t l.initial.self) (releases by_priority l.system l.t l.self) l.rows.items;
+}
+
+abbrev pub decreases-due : goal.decreases-due
+decreases-due l = length l.self.releases

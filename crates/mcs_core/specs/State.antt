@@ -1,0 +1,43 @@
+-- The state of one core as a caller holds it.
+use Rattle.std.specs.Prelude.{◌≡◌, ℕ, ◌<◌, ◌≤◌, ◌-◌, ◌+◌, ◌^◌, max, Bool, false, List, length, None}
+use Rattle.mcs_control.specs.declared.config.Order.{Order}
+use Rattle.mcs_mail.specs.declared.mail.Mail.{Mail}
+use Rattle.mcs_core.specs.System.{System, note_part}
+use Rattle.mcs_core.specs.Core.{Core, opening_core}
+use Rattle.mcs_core.specs.Orders.{orders_of, to_come}
+use Rattle.mcs_core.specs.Run.{Ran, ran}
+use Rattle.mcs_core.specs.Sound.{IsSound}
+use Rattle.mcs_core.specs.Sound.Phase.{Between}
+
+-- which core it is, the moment whose turn is next, the core, the orders that it is yet to obey, and whether memory failed it
+pub record State : Type 0 where
+  pub number : ℕ
+  pub clock : ℕ
+  pub core : Core
+  pub orders : List Order
+  pub failed : Bool
+
+abbrev pub opening_state : System → ℕ → State
+opening_state system c = record { number = c; clock = 0; core = opening_core system c; orders = orders_of system c; failed = false }
+
+-- the state is one of a core of this system: which threads, contexts and notifications there are and which are its own, the threads'
+-- contexts and places, the kinds and the orders agree, and no budget in force is below the least; after a failure nothing is asked
+pub record Fits (system : System) (state : State) : Type 0 where
+  pub known : state.number < system.cores
+  pub early : state.clock ≤ 2 ^ 40 + 1
+  pub sound : state.failed ≡ false → IsSound system state.number state.clock Between None state.core
+  pub orders : state.failed ≡ false → state.orders ≡ to_come state.clock (orders_of system state.number)
+
+-- mail of its box: for a notification of this core, and not before the clock
+pub record IsExpected (system : System) (state : State) (mail : Mail) : Type 0 where
+  pub known : mail.note < length system.notes
+  pub home : (note_part system mail.note).core ≡ state.number
+  pub arrives : state.clock ≤ mail.arrives
+
+-- what the turns before moment `to` make, with this mail
+abbrev pub made_by : System → State → ℕ → List Mail → Ran
+made_by system state to box = ran system state.number (to - state.clock) state.clock state.core box
+
+-- the state after them; no turn is taken back
+abbrev pub state_after : State → ℕ → Ran → State
+state_after state to made = record state { clock = max state.clock to; core = made.core; orders = to_come to state.orders }

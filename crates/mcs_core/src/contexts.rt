@@ -1,0 +1,126 @@
+ghost use Rattle.std.specs.Prelude.{◌≡◌, ℕ, ◌^◌, ◌<◌, ◌≤◌, true, length, get_or, set, Some, None, option_map, IfOk};
+ghost use Rattle.mcs_control.specs.Context.{head_amount, head_moment, context_charged, context_unblocked, context_ordered, context_ready, view_of};
+ghost use Rattle.mcs_control.specs.Control.{IsConfig, kind_of};
+ghost use Rattle.mcs_core.specs.Contexts.{is_own, held, seen_contexts, HaveRoom};
+
+use mcs_control::{Config, Context, ContextView};
+use mcs_ticks::{ContextId, NoMemory, Tick};
+use std::alloc::Global;
+use std::marker::Model;
+
+/// The contexts of a system by number, of which a core holds its own.
+#[derive(Drop)]
+pub(crate) struct Contexts {
+    contexts: Vec<Option<Context>>,
+}
+
+impl Model for Contexts {
+    ghost use Rattle.std.specs.Prelude.{List, Option};
+    ghost use Rattle.mcs_control.specs.Context.{Context};
+    ghost use Rattle.mcs_core.specs.Contexts.{seen_contexts, HaveRoom};
+
+    ghost Value = { List (Option Context) };
+
+    ghost view = { λ a. seen_contexts a.contexts.items };
+
+    ghost invariant = { λ a. HaveRoom a.contexts.items };
+}
+
+impl Contexts {
+    /// A context is charged so many ticks.
+    pub(crate) fn charge(&mut self, k: ContextId, ticks: u64, min_budget: u64)
+        requires own { is_own k self.old ≡ true }
+        requires some { 1 ≤ ticks }
+        requires in_head { ticks ≤ head_amount (held k self.old) }
+        requires early { head_moment (held k self.old) ≤ 2 ^ 40 }
+        ensures { self.new ≡ set self.old k (Some (context_charged ticks min_budget (held k self.old))) }
+    {
+        match &mut self.contexts[k.0] {
+            Some(context) => context.charge(ticks, min_budget),
+            None => unreachable!(),
+        }
+    }
+
+    /// The thread of a context is woken.
+    pub(crate) fn wake(&mut self, k: ContextId, t: Tick)
+        requires own { is_own k self.old ≡ true }
+        requires soon { t ≤ 2 ^ 40 }
+        ensures { self.new ≡ set self.old k (Some (context_unblocked t (held k self.old))) }
+    {
+        match &mut self.contexts[k.0] {
+            Some(context) => context.wake(t),
+            None => unreachable!(),
+        }
+    }
+
+    /// A context is ordered to have this configuration, of the same kind.
+    pub(crate) fn order(&mut self, k: ContextId, t: Tick, config: Config)
+        requires own { is_own k self.old ≡ true }
+        requires soon { t ≤ 2 ^ 40 }
+        requires checked { IsConfig config }
+        requires same_kind { kind_of config ≡ kind_of (held k self.old).config }
+        ensures { self.new ≡ set self.old k (Some (context_ordered t config (held k self.old))) }
+    {
+        match &mut self.contexts[k.0] {
+            Some(context) => context.order(t, config),
+            None => unreachable!(),
+        }
+    }
+
+    /// Whether a context is ready at `t`.
+    pub(crate) fn ready(&self, k: ContextId, t: Tick) -> bool
+        requires own { is_own k self.now ≡ true }
+        ensures { result ≡ context_ready t (held k self.now) }
+    {
+        match &self.contexts[k.0] {
+            Some(context) => context.ready(t),
+            None => unreachable!(),
+        }
+    }
+
+    /// The head of a context, in ticks.
+    pub(crate) fn head_amount(&self, k: ContextId) -> u64
+        requires own { is_own k self.now ≡ true }
+        ensures { result ≡ head_amount (held k self.now) }
+    {
+        match &self.contexts[k.0] {
+            Some(context) => context.head_amount(),
+            None => unreachable!(),
+        }
+    }
+
+    /// The moment from which the head of a context may be used.
+    pub(crate) fn head_moment(&self, k: ContextId) -> Tick
+        requires own { is_own k self.now ≡ true }
+        ensures { result ≡ head_moment (held k self.now) }
+    {
+        match &self.contexts[k.0] {
+            Some(context) => context.head_moment(),
+            None => unreachable!(),
+        }
+    }
+
+    /// These contexts, each with room for as many refills as any configuration may ask for.
+    pub(crate) fn from_parts(contexts: Vec<Option<Context>>) -> Self
+        requires { HaveRoom contexts.items }
+        ensures { result ≡ seen_contexts contexts.items }
+    {
+        Contexts { contexts }
+    }
+
+    /// What there is to see of a context, if the core holds it. `NoMemory` is answered where the list of refills is refused.
+    pub(crate) fn view(
+        &self,
+        alloc: Global,
+        k: ContextId,
+        in_use: u64,
+    ) -> Result<Option<ContextView>, NoMemory>
+        requires known { k < length self.now }
+        ensures { IfOk result (λ view. view ≡ option_map (view_of k in_use) (get_or self.now k None)) }
+    {
+        match &self.contexts[k.0] {
+            Some(context) => Ok(Some(context.view(alloc, k, in_use)?)),
+            None => Ok(None),
+        }
+    }
+}

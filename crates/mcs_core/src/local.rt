@@ -1,0 +1,296 @@
+ghost use Rattle.std.specs.Prelude.{◌≡◌, ℕ, ◌^◌, ◌<◌, ◌≤◌, true, length, get_or, Some, None, option_map, IfOk};
+ghost use Rattle.mcs_ticks.specs.Queue.{by_priority};
+ghost use Rattle.mcs_control.specs.Context.{head_amount, head_moment, context_unblocked, context_ordered, view_of};
+ghost use Rattle.mcs_control.specs.Control.{IsConfig, kind_of};
+ghost use Rattle.mcs_notify.specs.Note.{posted, after_post, waited, after_wait};
+ghost use Rattle.mcs_ready.specs.Ready.{priority_of, thread_of as thread_of_queued};
+ghost use Rattle.mcs_release.specs.Release.{first_due, without_first_due, thread_of as thread_of_dated};
+ghost use Rattle.mcs_core.specs.System.{thread_part};
+ghost use Rattle.mcs_core.specs.Local.{IsRoomy};
+ghost use Rattle.mcs_core.specs.Core.{thread_of, context_of, note_of, with_thread, with_context, with_note, stands, pends, off};
+ghost use Rattle.mcs_core.specs.Turn.{its_context, charged, queued, date_of, enters_back, enters_front};
+ghost use Rattle.mcs_core.specs.Sound.{times_queued, times_dated, times_waiting, has_context};
+
+use crate::contexts::Contexts;
+use crate::{Chosen, Standing, SystemParts, Thread, ThreadPart};
+use mcs_control::{Config, ContextView};
+use mcs_notify::{Notes, Posted, Waited};
+use mcs_ready::Ready;
+use mcs_release::Releases;
+use mcs_ticks::{ContextId, NoMemory, NoteId, ThreadId, Tick};
+use std::alloc::Global;
+use std::marker::Model;
+
+/// What stands on a core: its threads, the queues, the contexts and the notifications.
+#[derive(Drop)]
+pub(crate) struct Local {
+    running: Option<Chosen>,
+    threads: Vec<Thread>,
+    ready: Ready,
+    releases: Releases,
+    contexts: Contexts,
+    notes: Notes,
+}
+
+impl Model for Local {
+    ghost use Rattle.std.specs.Prelude.{◌≡◌, length};
+    ghost use Rattle.mcs_core.specs.Core.{Core};
+    ghost use Rattle.mcs_core.specs.Local.{IsRoomy};
+
+    ghost Value = { Core };
+
+    ghost view = { λ a. record {
+      running = a.running;
+      threads = a.threads.items;
+      ready = a.ready.queue;
+      releases = a.releases.queue;
+      contexts = a.contexts;
+      notes = a.notes.notes;
+    } };
+
+    ghost invariant = { λ a. IsRoomy (length a.threads.items) a.ready.room a.releases.room a.notes.threads };
+}
+
+impl Local {
+    /// The thread stands so.
+    pub(crate) fn stand(&mut self, x: ThreadId, standing: Standing)
+        requires { x < length self.old.threads }
+        ensures { self.new ≡ stands x standing self.old }
+    {
+        self.threads[x.0].standing = standing;
+    }
+
+    /// The thread has this state.
+    pub(crate) fn set_thread(&mut self, x: ThreadId, state: Thread)
+        requires { x < length self.old.threads }
+        ensures { self.new ≡ with_thread x state self.old }
+    {
+        self.threads[x.0] = state;
+    }
+
+    /// The thread is in the release queue with this date.
+    #[tactic(auto, using(crate::proofs::Counts::not_held_releases))]
+    pub(crate) fn pend(&mut self, x: ThreadId, date: Tick)
+        requires known { x < length self.old.threads }
+        requires free { times_dated x self.old.releases ≡ 0 }
+        ensures { self.new ≡ pends x date self.old }
+    {
+        self.threads[x.0].standing = Standing::Pending;
+        self.releases.enter(x, date);
+    }
+
+    /// The running thread leaves the core.
+    pub(crate) fn leave(&mut self)
+        ensures { self.new ≡ off self.old }
+    {
+        self.running = None;
+    }
+
+    #[tactic(auto, using(crate::proofs::Counts::not_held_ready))]
+    /// The thread enters the ready queue at the back, or the release queue with a date.
+    pub(crate) fn enter_back(&mut self, system: &SystemParts, x: ThreadId, until: Option<Tick>)
+        requires known { x < length self.old.threads }
+        requires part { x < length system.now.threads }
+        requires not_ready { times_queued x self.old.ready ≡ 0 }
+        requires not_pending { times_dated x self.old.releases ≡ 0 }
+        ensures { self.new ≡ enters_back by_priority system.now x until self.old }
+    {
+        match until {
+            Some(date) => self.pend(x, date),
+            None => {
+                self.threads[x.0].standing = Standing::Ready;
+                self.ready.push_back(x, system.thread_at(x).priority);
+            }
+        }
+    }
+
+    #[tactic(auto, using(crate::proofs::Counts::not_held_ready))]
+    /// The thread enters the ready queue at the front, or the release queue with a date.
+    pub(crate) fn enter_front(&mut self, system: &SystemParts, x: ThreadId, until: Option<Tick>)
+        requires known { x < length self.old.threads }
+        requires part { x < length system.now.threads }
+        requires not_ready { times_queued x self.old.ready ≡ 0 }
+        requires not_pending { times_dated x self.old.releases ≡ 0 }
+        ensures { self.new ≡ enters_front by_priority system.now x until self.old }
+    {
+        match until {
+            Some(date) => self.pend(x, date),
+            None => {
+                self.threads[x.0].standing = Standing::Ready;
+                self.ready.push_front(x, system.thread_at(x).priority);
+            }
+        }
+    }
+
+    /// The context of the thread is charged so many ticks.
+    pub(crate) fn charge(&mut self, system: &SystemParts, x: ThreadId, ticks: u64)
+        requires part { x < length system.now.threads }
+        requires has { has_context (thread_part system.now x).context self.old ≡ true }
+        requires some { 1 ≤ ticks }
+        requires in_head { ticks ≤ head_amount (its_context system.now x self.old) }
+        requires early { head_moment (its_context system.now x self.old) ≤ 2 ^ 40 }
+        ensures { self.new ≡ charged system.now x ticks self.old }
+    {
+        self.contexts
+            .charge(system.thread_at(x).context, ticks, system.min_budget);
+    }
+
+    /// The date with which the thread has to wait for its context, if the context isn't ready at `t`.
+    pub(crate) fn date_of(&self, system: &SystemParts, t: Tick, x: ThreadId) -> Option<Tick>
+        requires part { x < length system.now.threads }
+        requires has { has_context (thread_part system.now x).context self.now ≡ true }
+        ensures { result ≡ date_of system.now t x self.now }
+    {
+        let context = system.thread_at(x).context;
+        if self.contexts.ready(context, t) {
+            None
+        } else {
+            Some(self.contexts.head_moment(context))
+        }
+    }
+
+    /// The head of the thread's context, in ticks.
+    pub(crate) fn head_amount(&self, system: &SystemParts, x: ThreadId) -> u64
+        requires part { x < length system.now.threads }
+        requires has { has_context (thread_part system.now x).context self.now ≡ true }
+        ensures { result ≡ head_amount (its_context system.now x self.now) }
+    {
+        self.contexts.head_amount(system.thread_at(x).context)
+    }
+
+    /// The state of a thread of the core.
+    pub(crate) fn thread(&self, x: ThreadId) -> Thread
+        requires { x < length self.now.threads }
+        ensures { result ≡ thread_of self.now x }
+    {
+        self.threads[x.0]
+    }
+
+    /// A context is unblocked.
+    pub(crate) fn wake_context(&mut self, context: ContextId, t: Tick)
+        requires own { has_context context self.old ≡ true }
+        requires soon { t ≤ 2 ^ 40 }
+        ensures { self.new ≡ with_context context (context_unblocked t (context_of self.old context)) self.old }
+    {
+        self.contexts.wake(context, t);
+    }
+
+    /// A context is ordered to have this configuration.
+    pub(crate) fn order_context(&mut self, context: ContextId, t: Tick, config: Config)
+        requires own { has_context context self.old ≡ true }
+        requires soon { t ≤ 2 ^ 40 }
+        requires checked { IsConfig config }
+        requires same_kind { kind_of config ≡ kind_of (context_of self.old context).config }
+        ensures { self.new ≡ with_context context (context_ordered t config (context_of self.old context)) self.old }
+    {
+        self.contexts.order(context, t, config);
+    }
+
+    /// A badge is posted on a notification: whom it wakes leaves the waiters.
+    pub(crate) fn post_note(&mut self, note: NoteId, badge: u32) -> Posted
+        requires { note < length self.old.notes }
+        ensures posted { result ≡ posted badge (note_of self.old note) }
+        ensures core { self.new ≡ with_note note (after_post result (note_of self.old note)) self.old }
+    {
+        self.notes.post(note, badge)
+    }
+
+    #[tactic(auto, using(crate::proofs::Counts::not_waiting))]
+    /// A thread waits on a notification.
+    pub(crate) fn wait_note(&mut self, system: &SystemParts, note: NoteId, x: ThreadId) -> Waited
+        requires note { note < length self.old.notes }
+        requires known { x < length self.old.threads }
+        requires part { x < length system.now.threads }
+        requires free { times_waiting x self.old.notes ≡ 0 }
+        ensures waited { result ≡ waited (note_of self.old note) }
+        ensures core { self.new ≡ with_note note (after_wait result (queued system.now x) (note_of self.old note)) self.old }
+    {
+        self.notes.wait(note, x, system.thread_at(x).priority)
+    }
+
+    /// The word of a notification.
+    pub(crate) fn word(&self, note: NoteId) -> u32
+        requires { note < length self.now.notes }
+        ensures { result ≡ (note_of self.now note).word }
+    {
+        self.notes.word(note)
+    }
+
+    /// The thread that runs, and the ticks that it has used.
+    pub(crate) fn running(&self) -> Option<Chosen>
+        ensures { result ≡ self.now.running }
+    {
+        self.running
+    }
+
+    /// This thread runs, and has used so many ticks.
+    pub(crate) fn set_running(&mut self, chosen: Chosen)
+        ensures { self.new ≡ record self.old { running = Some chosen } }
+    {
+        self.running = Some(chosen);
+    }
+
+    /// Takes the first thread whose date has come out of the release queue.
+    pub(crate) fn take_due(&mut self, t: Tick) -> Option<ThreadId>
+        ensures taken { result ≡ thread_of_dated (first_due t self.old.releases) }
+        ensures left { self.new ≡ record self.old { releases = without_first_due t self.old.releases } }
+    {
+        self.releases.pop_due(t)
+    }
+
+    /// The greatest priority of the ready threads.
+    pub(crate) fn best(&self) -> Option<u8>
+        ensures { result ≡ priority_of (by_priority.best self.now.ready) }
+    {
+        self.ready.best()
+    }
+
+    /// Takes the first thread of greatest priority out of the ready queue.
+    pub(crate) fn take_best(&mut self) -> Option<ThreadId>
+        ensures taken { result ≡ thread_of_queued (by_priority.best self.old.ready) }
+        ensures left { self.new ≡ record self.old { ready = by_priority.rest self.old.ready } }
+    {
+        self.ready.pop_best()
+    }
+
+    /// A core with these parts, on which no thread runs.
+    pub(crate) fn from_parts(
+        threads: Vec<Thread>,
+        ready: Ready,
+        releases: Releases,
+        contexts: Contexts,
+        notes: Notes,
+    ) -> Self
+        requires { IsRoomy (length threads.items) ready.room releases.room notes.threads }
+        ensures { result ≡ record {
+          running = None;
+          threads = threads.items;
+          ready = ready.queue;
+          releases = releases.queue;
+          contexts = contexts;
+          notes = notes.notes;
+        } }
+    {
+        Local {
+            running: None,
+            threads,
+            ready,
+            releases,
+            contexts,
+            notes,
+        }
+    }
+
+    /// What there is to see of a context, if the core holds it. `NoMemory` is answered where the list of refills is refused.
+    pub(crate) fn view_context(
+        &self,
+        alloc: Global,
+        context: ContextId,
+        in_use: u64,
+    ) -> Result<Option<ContextView>, NoMemory>
+        requires known { context < length self.now.contexts }
+        ensures { IfOk result (λ view. view ≡ option_map (view_of context in_use) (get_or self.now.contexts context None)) }
+    {
+        self.contexts.view(alloc, context, in_use)
+    }
+}

@@ -1,0 +1,175 @@
+ghost use Rattle.std.specs.Prelude.{◌≡◌, ℕ, ◌^◌, ◌==◌, ◌<◌, ◌≤◌, if◌then◌else◌, length, get_or, insert, map, option_map, IfOk, OnOk, Some, None};
+ghost use Rattle.mcs_control.specs.Context.{new_context};
+ghost use Rattle.mcs_control.specs.Control.{IsConfig};
+ghost use Rattle.mcs_core.specs.Contexts.{HasRoom};
+ghost use Rattle.mcs_core.specs.Core.{opening_thread, opening_releases, opening_contexts, opening_core};
+ghost use Rattle.mcs_core.specs.Orders.{AreByMoment, with_order, orders_of};
+ghost use Rattle.mcs_core.specs.System.{context_part, start_of};
+ghost use Rattle.mcs_core.specs.WellFormed.{IsWellFormed};
+
+use crate::agenda::Agenda;
+use crate::contexts::Contexts;
+use crate::local::Local;
+use crate::{ContextPart, Standing, SystemParts, Thread, ThreadPart};
+use mcs_control::{Context, Order};
+use mcs_notify::Notes;
+use mcs_ready::Ready;
+use mcs_release::Releases;
+use mcs_script::Place;
+use mcs_ticks::{ContextId, CoreId, Limits, NoMemory, ThreadId, Tick};
+use std::alloc::Global;
+
+/// Room for as many refills as any configuration may ask for.
+const ROOM: usize = 2 + Limits::EXTRA_REFILLS as usize;
+
+/// The core of a context.
+fn core_of(system: &SystemParts, context: ContextId) -> CoreId
+    ensures { result ≡ (context_part system.now context).core }
+{
+    match system.contexts.as_slice().get(context.0) {
+        Some(part) => part.core,
+        None => CoreId(0),
+    }
+}
+
+/// A thread at the start: pending, if it is one of the core's.
+fn opening_thread(system: &SystemParts, c: CoreId, thread: &ThreadPart) -> Thread
+    ensures { result ≡ opening_thread system.now c thread.now }
+{
+    Thread {
+        standing: if core_of(system, thread.context) == c {
+            Standing::Pending
+        } else {
+            Standing::Elsewhere
+        },
+        place: Place::first(&thread.script, system.call),
+        since: thread.start,
+    }
+}
+
+fn opening_threads(alloc: Global, system: &SystemParts, c: CoreId) -> Result<Vec<Thread>, NoMemory>
+    ensures { IfOk result (λ threads. threads.items ≡ map (opening_thread system.now c) system.now.threads) }
+{
+    let threads = system
+        .threads
+        .as_slice()
+        .iter()
+        .map(|thread| opening_thread(system, c, thread))
+        .collect(alloc)?;
+    Ok(threads)
+}
+
+/// The threads of the core wait for their starts.
+fn opening_releases(alloc: Global, system: &SystemParts, c: CoreId) -> Result<Releases, NoMemory>
+    ensures queue { IfOk result (λ releases. releases.queue ≡ opening_releases system.now c 0 system.now.threads) }
+    ensures room { IfOk result (λ releases. releases.room ≡ length system.now.threads) }
+{
+    let mut releases = Releases::new(alloc, system.threads.len())?;
+    for (i, thread) in system.threads.as_slice().iter().enumerate() {
+        if core_of(system, thread.context) == c {
+            releases.enter(ThreadId(i), thread.start);
+        }
+    }
+    Ok(releases)
+}
+
+/// For each context the start of its thread, or 0 where it has none.
+fn context_starts(alloc: Global, system: &SystemParts) -> Result<Vec<Tick>, NoMemory>
+    requires { IsWellFormed system.now }
+    ensures many { IfOk result (λ starts. length starts.items ≡ length system.now.contexts) }
+    ensures starts { IfOk result
+        (λ starts. (k : ℕ) → k < length system.now.contexts → get_or starts.items k 0 ≡ start_of system.now.threads k) }
+{
+    let mut starts = vec![in alloc; Tick::ZERO; system.contexts.len()]?;
+    let threads = system.threads.as_slice();
+    for i in (0..threads.len()).rev() {
+        let thread = &threads[i];
+        starts[thread.context.0] = thread.start;
+    }
+    Ok(starts)
+}
+
+/// A context of the core is new. One of another core takes no memory.
+fn opening_context(
+    alloc: Global,
+    c: CoreId,
+    part: &ContextPart,
+    start: Tick,
+) -> Result<Option<Context>, NoMemory>
+    requires checked { IsConfig part.now.config }
+    requires early { start ≤ 2 ^ 40 }
+    ensures context { IfOk result
+        (λ kept. option_map (λ own. own.context) kept
+        ≡ (if part.now.core == c then Some (new_context part.now.config start) else None)) }
+    ensures room { IfOk result HasRoom }
+{
+    if part.core != c {
+        return Ok(None);
+    }
+    let context = Context::new(alloc, part.config, start, ROOM)?;
+    Ok(Some(context))
+}
+
+fn opening_contexts(alloc: Global, system: &SystemParts, c: CoreId) -> Result<Contexts, NoMemory>
+    requires { IsWellFormed system.now }
+    ensures { IfOk result (λ contexts. contexts ≡ opening_contexts system.now c 0 system.now.contexts) }
+{
+    let starts = context_starts(alloc, system)?;
+    let parts = system.contexts.as_slice();
+    let mut contexts = Vec::with_capacity(alloc, parts.len())?;
+    for (k, part) in parts.iter().enumerate() {
+        let context = opening_context(alloc, c, part, starts[k])?;
+        contexts.push(context)?;
+    }
+    Ok(Contexts::from_parts(contexts))
+}
+
+impl Local {
+    /// The core with which a run opens: its threads wait for their starts, its contexts are new, and nothing runs.
+    pub(crate) fn open(alloc: Global, system: &SystemParts, c: CoreId) -> Result<Local, NoMemory>
+        requires { IsWellFormed system.now }
+        ensures { IfOk result (λ local. local ≡ opening_core system.now c) }
+    {
+        let count = system.threads.len();
+        Ok(Local::from_parts(
+            opening_threads(alloc, system, c)?,
+            Ready::new(alloc, count)?,
+            opening_releases(alloc, system, c)?,
+            opening_contexts(alloc, system, c)?,
+            Notes::new(alloc, system.notes.len(), count)?,
+        ))
+    }
+}
+
+/// Where to insert the order: behind those of its moment.
+fn place_of(orders: &[Order], order: &Order) -> usize
+    requires { AreByMoment 0 orders.now }
+    ensures within { result ≤ length orders.now }
+    ensures place { insert orders.now result order.now ≡ with_order orders.now order.now }
+{
+    orders.partition_point(|other| other.moment <= order.moment)
+}
+
+fn insert_order(orders: &mut Vec<Order>, order: Order) -> Result<(), NoMemory>
+    requires { AreByMoment 0 orders.old.items }
+    ensures { OnOk result (orders.new.items ≡ with_order orders.old.items order) }
+{
+    let place = place_of(orders.as_slice(), &order);
+    orders.insert(place, order)?;
+    Ok(())
+}
+
+impl Agenda {
+    /// The orders for the contexts of a core, by moment, and in file order within one moment.
+    pub(crate) fn new(alloc: Global, system: &SystemParts, c: CoreId) -> Result<Agenda, NoMemory>
+        ensures { IfOk result (λ agenda. agenda ≡ orders_of system.now c) }
+    {
+        let mut orders = Vec::new(alloc);
+        for order in system.orders.as_slice() {
+            if core_of(system, order.context) == c {
+                insert_order(&mut orders, *order)?;
+            }
+        }
+        Ok(Agenda::from_orders(orders))
+    }
+}

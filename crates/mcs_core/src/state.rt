@@ -1,0 +1,160 @@
+ghost use Rattle.std.specs.Prelude.{◌≡◌, ◌+◌, ◌^◌, ◌≤◌, ◌<◌, ◌++◌, true, false, OnOk, OnErr, IfOk, IsErr, IsTrue, ◌↔◌, All, None, length};
+ghost use Rattle.mcs_mail.specs.Box.{arriving, staying};
+ghost use Rattle.mcs_core.specs.Orders.{orders_of, to_come};
+ghost use Rattle.mcs_core.specs.Run.{stamped};
+ghost use Rattle.mcs_core.specs.Turn.{turn};
+ghost use Rattle.mcs_core.specs.Sound.{IsSound};
+ghost use Rattle.mcs_core.specs.Sound.Phase.{Between};
+ghost use Rattle.mcs_core.specs.State.{Fits, IsExpected, opening_state, made_by, state_after};
+ghost use Rattle.mcs_core.specs.Views.{views_of};
+
+use crate::System;
+use crate::agenda::Agenda;
+use crate::local::Local;
+use mcs_control::ContextView;
+use mcs_mail::{Mail, Mailbox};
+use mcs_ticks::{CoreId, NoMemory, Row, Tick};
+use std::alloc::Global;
+use std::marker::Model;
+
+/// The state of one core between two turns: the moment whose turn is next, what stands on the core, and the orders that it is yet
+/// to obey. After a call was refused memory the state is spent.
+#[derive(Drop)]
+pub struct CoreState {
+    number: CoreId,
+    clock: Tick,
+    failed: bool,
+    local: Local,
+    agenda: Agenda,
+}
+
+impl Model for CoreState {
+    ghost use Rattle.mcs_core.specs.State.{State};
+
+    ghost Value = { State };
+
+    ghost view = { λ a. record { number = a.number; clock = a.clock; core = a.local; orders = a.agenda; failed = a.failed } };
+}
+
+impl CoreState {
+    /// The first state of a core: each of its threads is pending with its start as date. `NoMemory` is answered where the room for
+    /// its threads, contexts, notifications or orders is refused; what a turn needs is made here.
+    pub fn new(alloc: Global, system: &System, core: CoreId) -> Result<Self, NoMemory>
+        requires { core < system.now.cores }
+        ensures state { IfOk result (λ state. state ≡ opening_state system.now core) }
+        ensures fits { IfOk result (λ state. Fits system.now state) }
+    {
+        let parts = system.parts();
+        let local = Local::open(alloc, parts, core)?;
+        let agenda = Agenda::new(alloc, parts, core)?;
+        Ok(CoreState {
+            number: core,
+            clock: Tick::ZERO,
+            failed: false,
+            local,
+            agenda,
+        })
+    }
+
+    /// What there is to see of the core's contexts, in file order, with the ticks in use of the thread that runs. `NoMemory` is
+    /// answered where a growth is refused, and by a state that is spent.
+    pub fn contexts(&self, alloc: Global, system: &System) -> Result<Vec<ContextView>, NoMemory>
+        requires { Fits system.now self.now }
+        ensures views { IfOk result (λ views. views.items ≡ views_of system.now self.now.core) }
+        ensures spent { self.now.failed ≡ true → IsErr result }
+    {
+        if self.failed {
+            return Err(NoMemory);
+        }
+        self.local.views(alloc, system.parts())
+    }
+
+    /// The moment whose turn is next.
+    pub fn clock(&self) -> Tick
+        ensures { result ≡ self.now.clock }
+    {
+        self.clock
+    }
+
+    /// Whether a call was refused memory: then the state is spent.
+    pub fn failed(&self) -> bool
+        ensures { result ≡ self.now.failed }
+    {
+        self.failed
+    }
+
+    /// Whether the clock is before a moment.
+    fn is_before(&self, to: Tick) -> bool
+        ensures { IsTrue result ↔ (self.now.clock < to) }
+    {
+        self.clock.get() < to.get()
+    }
+
+    /// One turn.
+    fn step(
+        &mut self,
+        system: &System,
+        mail: &mut Mailbox,
+        rows: &mut Vec<Row>,
+        signals: &mut Vec<Mail>,
+    ) -> Result<(), NoMemory>
+        requires sound { IsSound system.now self.old.number self.old.clock Between None self.old.core }
+        requires planned { self.old.orders ≡ to_come self.old.clock (orders_of system.now self.old.number) }
+        requires known { All (λ mail. mail.note < length system.now.notes) mail.old.mails }
+        requires come { All (λ mail. self.old.clock ≤ mail.arrives) mail.old.mails }
+        requires soon { self.old.clock ≤ 2 ^ 40 }
+        ensures state { OnOk result (self.new ≡ record {
+          number = self.old.number;
+          clock = self.old.clock + 1;
+          core = (turn system.now self.old.number self.old.clock (arriving self.old.clock mail.old.mails) self.old.core).core;
+          orders = to_come (self.old.clock + 1) (orders_of system.now self.old.number);
+          failed = self.old.failed;
+        }) }
+        ensures sound { OnOk result (IsSound system.now self.old.number (self.old.clock + 1) Between None self.new.core) }
+        ensures rows { OnOk result (rows.new.items ≡ rows.old.items ++ stamped self.old.number self.old.clock (turn system.now self.old.number self.old.clock (arriving self.old.clock mail.old.mails) self.old.core).rows) }
+        ensures signals { OnOk result (signals.new.items ≡ signals.old.items ++ (turn system.now self.old.number self.old.clock (arriving self.old.clock mail.old.mails) self.old.core).mails) }
+        ensures mail { OnOk result (mail.new.mails ≡ staying self.old.clock mail.old.mails) }
+        ensures kept { (self.new.number ≡ self.old.number) × (OnErr result (self.new.clock ≡ self.old.clock)) }
+    {
+        let t = self.clock;
+        let c = self.number;
+        self.local.turn(system.parts(), c, t, &mut self.agenda, mail, rows, signals)?;
+        self.clock = t.plus(1).unwrap();
+        Ok(())
+    }
+
+    /// Takes the turns from the clock up to, not including, moment `to`, with the mail of the box as arrivals. Rows are appended,
+    /// and so are the signals for other cores; mail that does not arrive stays in the box. Where memory is refused the state is
+    /// spent, and nothing is said of the box, the rows and the signals; a state that is spent refuses at once and changes nothing.
+    pub fn run(
+        &mut self,
+        system: &System,
+        mail: &mut Mailbox,
+        to: Tick,
+        rows: &mut Vec<Row>,
+        signals: &mut Vec<Mail>,
+    ) -> Result<(), NoMemory>
+        requires fits { Fits system.now self.old }
+        requires in_time { to ≤ 2 ^ 40 + 1 }
+        requires expected { All (IsExpected system.now self.old) mail.old.mails }
+        ensures state { OnOk result (self.new ≡ state_after self.old to (made_by system.now self.old to mail.old.mails)) }
+        ensures rows { OnOk result (rows.new.items ≡ rows.old.items ++ (made_by system.now self.old to mail.old.mails).rows) }
+        ensures signals { OnOk result (signals.new.items ≡ signals.old.items ++ (made_by system.now self.old to mail.old.mails).mails) }
+        ensures mail { OnOk result (mail.new.mails ≡ (made_by system.now self.old to mail.old.mails).box) }
+        ensures fits { Fits system.now self.new }
+        ensures failed { OnErr result (self.new.failed ≡ true) }
+        ensures going { OnOk result (self.old.failed ≡ false) }
+        ensures spent { self.old.failed ≡ true → (self.new ≡ self.old) × (rows.new ≡ rows.old) × (signals.new ≡ signals.old) × (mail.new ≡ mail.old) }
+    {
+        if self.failed {
+            return Err(NoMemory);
+        }
+        'turns: while self.is_before(to) {
+            if self.step(system, mail, rows, signals).is_err() {
+                self.failed = true;
+                return Err(NoMemory);
+            }
+        }
+        Ok(())
+    }
+}

@@ -1,0 +1,433 @@
+-- No part of a turn gives a thread a place more than it had.
+use Rattle.std.proofs.Common.{◌≡◌, ℕ, zero, suc, ◌+◌, ◌<◌, ◌≤◌, Bool, true, false, not, cond, List, [], ◌∷◌, ◌++◌, length, map, set, get_or, Option, Some, None, refl, ap, ◌∙◌, arith}
+use Rattle.std.specs.Prelude.{filter, ◌==◌, nat_lt}
+use Rattle.std.proofs.lemmas.Bool.Decides.{nat_tests}
+use Rattle.std.proofs.lemmas.List.FromFn.{get_or-map-range_with_len}
+use Rattle.std.proofs.lemmas.List.Sums.{sum_by-cons, sum_by_push, sum_by-set}
+use Rattle.mcs_ticks.specs.Queue.{by_priority, first_among, without, entered_back, entered_front, first_of}
+use Rattle.mcs_ticks.specs.declared.queue.Queued.{Queued}
+use Rattle.mcs_notify.specs.Note.{Note, quiet_note, posted, after_post, waited, after_wait}
+use Rattle.mcs_notify.specs.declared.posted.Posted.{Posted}
+use Rattle.mcs_notify.specs.declared.posted.Posted.TheVariants.{Woke, Held}
+use Rattle.mcs_release.specs.declared.dated.Dated.{Dated}
+use Rattle.mcs_core.specs.declared.standing.Chosen.{Chosen}
+use Rattle.mcs_core.specs.declared.standing.Standing.{Standing}
+use Rattle.mcs_core.specs.declared.standing.Standing.TheVariants.{Blocked, Done}
+use Rattle.mcs_ticks.specs.declared.row.Why.{Why}
+use Rattle.mcs_ticks.specs.declared.row.Why.TheVariants as why
+use Rattle.mcs_control.specs.declared.config.Order.{Order}
+use Rattle.mcs_control.specs.Context.{head_amount}
+use Rattle.mcs_notify.specs.declared.posted.Waited.{Waited}
+use Rattle.mcs_notify.specs.declared.posted.Waited.TheVariants.{Got, Blocks}
+use Rattle.mcs_script.specs.declared.item.Item.{Item}
+use Rattle.mcs_script.specs.declared.item.Item.TheVariants.{Compute, Signal, Wait, Yield}
+use Rattle.mcs_script.specs.declared.moved.Moved.{Moved}
+use Rattle.mcs_script.specs.declared.moved.Moved.TheVariants.{Next, RoundEnds, AllDone}
+use Rattle.mcs_mail.specs.declared.mail.Mail.{Mail}
+use Rattle.mcs_core.specs.System.{System, TakesTime, note_part, core_of}
+use Rattle.mcs_core.specs.declared.part.ThreadPart.{ThreadPart}
+use Rattle.mcs_core.specs.Core.{Core, note_of, thread_of, with_note, off, opening_core, opening_releases}
+use Rattle.mcs_core.specs.Turn as turns
+use Rattle.mcs_core.specs.Turn.{Turn, each, silent, says, ◌followed_by◌, is_for_now}
+use Rattle.mcs_core.specs.Clock as clocks
+use Rattle.mcs_core.proofs.Clock.{core_at-world}
+use Rattle.mcs_laws.specs.Places.{times_running, times_queued, times_dated, times_waiting, places, ThreadsHaveOnePlace}
+
+-- queues
+module _ (y : ℕ) where
+  abbrev one : ℕ → ℕ
+  one x = cond (x == y) 1 0
+
+  queued-cons : (x : Queued) (xs : List Queued) → times_queued y (x ∷ xs) ≡ one x.thread + times_queued y xs
+  queued-cons x xs = sum_by-cons (λ (q : Queued). one q.thread) x xs
+
+  queued-push : (xs : List Queued) (x : Queued) → times_queued y (xs ++ x ∷ []) ≡ times_queued y xs + one x.thread
+  queued-push xs x = sum_by_push (λ (q : Queued). one q.thread) xs x
+
+  dated-cons : (x : Dated) (xs : List Dated) → times_dated y (x ∷ xs) ≡ one x.thread + times_dated y xs
+  dated-cons x xs = sum_by-cons (λ (q : Dated). one q.thread) x xs
+
+  dated-push : (xs : List Dated) (x : Dated) → times_dated y (xs ++ x ∷ []) ≡ times_dated y xs + one x.thread
+  dated-push xs x = sum_by_push (λ (q : Dated). one q.thread) xs x
+
+  back-queued : (x : Queued) (xs : List Queued) → times_queued y (entered_back x xs) ≡ times_queued y xs + one x.thread
+  back-queued x [] = queued-push [] x
+  back-queued x (z ∷ zs) = by (nat_lt z.priority x.priority) (back-queued x zs)
+    where
+      by : (b : Bool) → times_queued y (entered_back x zs) ≡ times_queued y zs + one x.thread →
+          times_queued y (cond b (x ∷ z ∷ zs) (z ∷ entered_back x zs)) ≡ times_queued y (z ∷ zs) + one x.thread
+      by true i = omega (arith, queued-cons x (z ∷ zs))
+      by false i = omega (arith, i, queued-cons z (entered_back x zs), queued-cons z zs)
+
+  front-queued : (x : Queued) (xs : List Queued) → times_queued y (entered_front x xs) ≡ times_queued y xs + one x.thread
+  front-queued x [] = queued-push [] x
+  front-queued x (z ∷ zs) = by (nat_lt x.priority z.priority) (front-queued x zs)
+    where
+      by : (b : Bool) → times_queued y (entered_front x zs) ≡ times_queued y zs + one x.thread →
+          times_queued y (cond b (z ∷ entered_front x zs) (x ∷ z ∷ zs)) ≡ times_queued y (z ∷ zs) + one x.thread
+      by true i = omega (arith, i, queued-cons z (entered_front x zs), queued-cons z zs)
+      by false i = omega (arith, queued-cons x (z ∷ zs))
+
+-- the first of greatest priority is in the list
+among-in : (z : ℕ) (best : Queued) (xs : List Queued) → (first_among best xs).thread ≡ z → 1 ≤ times_queued z (best ∷ xs)
+among-in z best [] e = rw (queued-cons z best []) (is_one best.thread z e)
+  where
+    is_one : (a b : ℕ) → a ≡ b → 1 ≤ cond (a == b) 1 0 + 0
+    is_one a b e = by (a == b) refl
+      where
+        by : (d : Bool) → (a == b) ≡ d → 1 ≤ cond d 1 0 + 0
+        by true f = omega arith
+        by false f = absurd (no f)
+          where
+            no : (a == b) ≡ false → ⊥
+            no f = grind (arith, nat_tests)
+among-in z best (x ∷ xs) e = by (nat_lt best.priority x.priority) e (among-in z x xs) (among-in z best xs)
+  where
+    by : (b : Bool) → (cond b (first_among x xs) (first_among best xs)).thread ≡ z →
+        ((first_among x xs).thread ≡ z → 1 ≤ times_queued z (x ∷ xs)) → ((first_among best xs).thread ≡ z → 1 ≤ times_queued z (best ∷ xs)) → 1 ≤ times_queued z (best ∷ x ∷ xs)
+    by true e i j = omega (arith, i e, queued-cons z best (x ∷ xs))
+    by false e i j = omega (arith, j e, queued-cons z best xs, queued-cons z best (x ∷ xs), queued-cons z x xs)
+
+-- a post that wakes a thread finds it among the waiters
+woke : (x word badge held : ℕ) (ws : List Queued) → posted badge (record { word = held; waiters = ws }) ≡ Woke x word → 1 ≤ times_queued x ws
+woke x word badge held [] e = absurd (no e)
+  where
+    no : posted badge (record { word = held; waiters = [] }) ≡ Woke x word → ⊥
+    no e = cc
+woke x word badge held (w ∷ ws) e = among-in x w ws (the_same e)
+  where
+    the_same : posted badge (record { word = held; waiters = w ∷ ws }) ≡ Woke x word → (first_among w ws).thread ≡ x
+    the_same e = cc
+
+-- the notifications past the last
+past : (notes : List Note) (i : ℕ) → length notes ≤ i → get_or notes i quiet_note ≡ quiet_note
+past [] i l = refl
+past (n ∷ notes) zero l = absurd (omega (arith, l))
+past (n ∷ notes) (suc i) l = past notes i (omega (arith, l))
+
+set-past : (notes : List Note) (i : ℕ) (n : Note) → length notes ≤ i → set notes i n ≡ notes
+set-past [] i n l = refl
+set-past (m ∷ notes) zero n l = absurd (omega (arith, l))
+set-past (m ∷ notes) (suc i) n l = ap (λ ns. m ∷ ns) (set-past notes i n (omega (arith, l)))
+
+module _ (y : ℕ) where
+  -- a thread that is in the list leaves it once
+  without-queued : (z : ℕ) (xs : List Queued) → 1 ≤ times_queued z xs → times_queued y (without z xs) + one y z ≡ times_queued y xs
+  without-queued z [] l = absurd (omega (arith, l))
+  without-queued z (x ∷ xs) l = by (x.thread == z) refl (queued-cons z x xs) (without-queued z xs)
+    where
+      same : (a b : ℕ) → (a == b) ≡ true → one y a ≡ one y b
+      same a b e = ap (one y) (the_same a b e)
+        where
+          the_same : (a b : ℕ) → (a == b) ≡ true → a ≡ b
+          the_same a b e = grind (arith, nat_tests)
+
+      by : (b : Bool) → (x.thread == z) ≡ b → times_queued z (x ∷ xs) ≡ cond (x.thread == z) 1 0 + times_queued z xs →
+          (1 ≤ times_queued z xs → times_queued y (without z xs) + one y z ≡ times_queued y xs) →
+          times_queued y (cond b xs (x ∷ without z xs)) + one y z ≡ times_queued y (x ∷ xs)
+      by true e f i = omega (arith, queued-cons y x xs, same x.thread z e)
+      by false e f i =
+          let g : times_queued z (x ∷ xs) ≡ 0 + times_queued z xs = f ∙ ap (λ b. cond b 1 0 + times_queued z xs) e in
+          omega (arith, i (omega (arith, g, l)), queued-cons y x xs, queued-cons y x (without z xs))
+
+  -- a notification with other waiters
+  set-waiting : (notes : List Note) (i : ℕ) (n : Note) →
+      times_waiting y (set notes i n) + times_queued y (get_or notes i quiet_note).waiters ≤ times_waiting y notes + times_queued y n.waiters
+  set-waiting notes i n = by (nat_lt i (length notes)) refl
+    where
+      inside : (a b : ℕ) → nat_lt a b ≡ true → a < b
+      inside a b e = grind (arith, nat_tests)
+
+      outside : (a b : ℕ) → nat_lt a b ≡ false → b ≤ a
+      outside a b e = grind (arith, nat_tests)
+
+      by : (b : Bool) → nat_lt i (length notes) ≡ b →
+          times_waiting y (set notes i n) + times_queued y (get_or notes i quiet_note).waiters ≤ times_waiting y notes + times_queued y n.waiters
+      by true e = omega (arith, sum_by-set (λ (m : Note). times_queued y m.waiters) notes i n quiet_note (inside i (length notes) e))
+      by false e = rw (set-past notes i n (outside i (length notes) e), past notes i (outside i (length notes) e)) (omega arith)
+
+module _ (system : System) (t y : ℕ) where
+  abbrev held : Core → ℕ
+  held k = places y k
+
+  enters_back-held : (x : ℕ) (date : Option ℕ) (k : Core) → held (turns.enters_back by_priority system x date k) ≡ held k + one y x
+  enters_back-held x (Some date) k = omega (arith, dated-push y k.releases (record { thread = x; date = date }))
+  enters_back-held x None k = omega (arith, back-queued y (turns.queued system x) k.ready)
+
+  enters_front-held : (x : ℕ) (date : Option ℕ) (k : Core) → held (turns.enters_front by_priority system x date k) ≡ held k + one y x
+  enters_front-held x (Some date) k = omega (arith, dated-push y k.releases (record { thread = x; date = date }))
+  enters_front-held x None k = omega (arith, front-queued y (turns.queued system x) k.ready)
+
+  -- the running thread leaves
+  off-held : (k : Core) (x using : ℕ) → k.running ≡ Some (record { thread = x; using = using }) → held (off k) + one y x ≡ held k
+  off-held k x using e = by k.running e
+    where
+      by : (o : Option Chosen) → o ≡ Some (record { thread = x; using = using }) → 0 + times_queued y k.ready + times_dated y k.releases + times_waiting y k.notes + one y x
+          ≡ times_running y o + times_queued y k.ready + times_dated y k.releases + times_waiting y k.notes
+      by o e = rw e (omega arith)
+
+  moves-held : (x : ℕ) (m : Moved) (k : Core) → held (turns.moves system t x m k).core ≡ held k
+  moves-held x Next k = refl
+  moves-held x RoundEnds k = refl
+  moves-held x AllDone k = refl
+
+  moves-running : (x : ℕ) (m : Moved) (k : Core) → (turns.moves system t x m k).core.running ≡ k.running
+  moves-running x Next k = refl
+  moves-running x RoundEnds k = refl
+  moves-running x AllDone k = refl
+
+  enters_back-running : (x : ℕ) (date : Option ℕ) (k : Core) → (turns.enters_back by_priority system x date k).running ≡ k.running
+  enters_back-running x (Some date) k = refl
+  enters_back-running x None k = refl
+
+  -- a woken thread enters once
+  wakes-held : (x : ℕ) (k : Core) → held (turns.wakes by_priority system t x k).core ≡ held k + one y x
+  wakes-held x k =
+      enters_back-held x _ _
+      ∙ ap (λ n. n + one y x) (moves-held x (turns.move_of system t x (turns.given system t x (turns.unblocked by_priority system t x k))) (turns.given system t x (turns.unblocked by_priority system t x k)))
+
+  wakes-running : (x : ℕ) (k : Core) → (turns.wakes by_priority system t x k).core.running ≡ k.running
+  wakes-running x k =
+      enters_back-running x _ _ ∙ moves-running x (turns.move_of system t x (turns.given system t x (turns.unblocked by_priority system t x k))) (turns.given system t x (turns.unblocked by_priority system t x k))
+
+  posts_as-held : (note badge : ℕ) (p : Posted) (k : Core) → posted badge (note_of k note) ≡ p → held (turns.posts_as by_priority system t note p k).core ≤ held k
+  posts_as-held note badge (Woke x word) k e =
+      let waits = woke x word badge (note_of k note).word (note_of k note).waiters e in
+      omega (
+        arith,
+        wakes-held x (with_note note (after_post (Woke x word) (note_of k note)) k),
+        set-waiting y k.notes note (after_post (Woke x word) (note_of k note)),
+        without-queued y x (note_of k note).waiters waits,
+      )
+  posts_as-held note badge (Held word) k e = omega (arith, set-waiting y k.notes note (after_post (Held word) (note_of k note)))
+
+  posts_as-running : (note : ℕ) (p : Posted) (k : Core) → (turns.posts_as by_priority system t note p k).core.running ≡ k.running
+  posts_as-running note (Woke x word) k = wakes-running x (with_note note (after_post (Woke x word) (note_of k note)) k)
+  posts_as-running note (Held word) k = refl
+
+  posts-held : (note badge : ℕ) (k : Core) → held (turns.posts by_priority system t note badge k).core ≤ held k
+  posts-held note badge k = posts_as-held note badge (posted badge (note_of k note)) k refl
+
+  arrives-held : (mail : Mail) (k : Core) → held (turns.arrives by_priority system t mail k).core ≤ held k
+  arrives-held mail k = posts-held mail.note mail.badge k
+
+  each-held : {A : Type 0} (part : A → Core → Turn) → ((x : A) (k : Core) → held (part x k).core ≤ held k) → (xs : List A) (k : Core) → held (each part xs k).core ≤ held k
+  each-held part h [] k = omega arith
+  each-held part h (x ∷ xs) k = omega (arith, h x k, each-held part h xs (part x k).core)
+
+  -- a thread that stops and enters again
+  stops_to_front-held : (x using n : ℕ) (cause : Why) (k : Core) → k.running ≡ Some (record { thread = x; using = using }) →
+      held (turns.stops_to_front by_priority system t x cause n k).core ≤ held k
+  stops_to_front-held x using n cause k e = omega (arith, enters_front-held x (turns.date_of system t x k) (off k), off-held k x using e)
+
+  stops_to_back-held : (x using n : ℕ) (cause : Why) (k : Core) → k.running ≡ Some (record { thread = x; using = using }) →
+      held (turns.stops_to_back by_priority system t x cause n k).core ≤ held k
+  stops_to_back-held x using n cause k e =
+      omega (arith, enters_back-held x (turns.date_of system t x (turns.charged system x n k)) (off (turns.charged system x n k)), off-held (turns.charged system x n k) x using e)
+
+  by_test : (b : Bool) (k : Core) (u v : Turn) → held u.core ≤ held k → held v.core ≤ held k → held (cond b u v).core ≤ held k
+  by_test true k u v p q = p
+  by_test false k u v p q = q
+
+  orders_running-held : (order : Order) (o : Option Chosen) (k : Core) → k.running ≡ o → held (turns.orders_running by_priority system t order o k).core ≤ held k
+  orders_running-held order None k e = omega arith
+  orders_running-held order (Some chosen) k e =
+      by_test ((turns.part_of system chosen.thread).context == order.context) k
+      (turns.stops_to_front by_priority system t chosen.thread why.Order chosen.using (turns.applied by_priority system t order (turns.charged system chosen.thread chosen.using k)))
+      (silent (turns.applied by_priority system t order k))
+      (stops_to_front-held chosen.thread chosen.using chosen.using why.Order (turns.applied by_priority system t order (turns.charged system chosen.thread chosen.using k)) e)
+      (omega arith)
+
+  obeys-held : (order : Order) (k : Core) → held (turns.obeys by_priority system t order k).core ≤ held k
+  obeys-held order k = orders_running-held order k.running k refl
+
+  -- the due threads leave the release queue and enter the ready queue
+  due-held : (p : Dated → Bool) (xs : List Dated) → times_dated y (filter p xs) + times_dated y (filter (λ x. not (p x)) xs) ≡ times_dated y xs
+  due-held p [] = refl
+  due-held p (x ∷ xs) = by (p x) (due-held p xs)
+    where
+      by : (b : Bool) → times_dated y (filter p xs) + times_dated y (filter (λ x. not (p x)) xs) ≡ times_dated y xs →
+          times_dated y (cond b (x ∷ filter p xs) (filter p xs)) + times_dated y (cond (not b) (x ∷ filter (λ x. not (p x)) xs) (filter (λ x. not (p x)) xs)) ≡ times_dated y (x ∷ xs)
+      by true i = omega (arith, i, dated-cons y x xs, dated-cons y x (filter p xs))
+      by false i = omega (arith, i, dated-cons y x xs, dated-cons y x (filter (λ x. not (p x)) xs))
+
+  released-held : (xs : List Dated) (k : Core) → held (each (turns.released by_priority system t) xs k).core ≡ held k + times_dated y xs
+  released-held [] k = omega arith
+  released-held (x ∷ xs) k =
+      released-held xs (turns.enters_back by_priority system x.thread None k)
+      ∙ omega (arith, enters_back-held x.thread None k, dated-cons y x xs)
+
+  releases-held : (k : Core) → held (turns.releases by_priority system t k).core ≤ held k
+  releases-held k =
+      omega (
+        arith,
+        released-held (filter (turns.is_due by_priority system t) k.releases) (record k { releases = filter (λ x. not (turns.is_due by_priority system t x)) k.releases }),
+        due-held (turns.is_due by_priority system t) k.releases,
+      )
+
+  preempts_by-held : (o : Option Chosen) (best : Option Queued) (k : Core) → k.running ≡ o → held (turns.preempts_by by_priority system t o best k).core ≤ held k
+  preempts_by-held (Some chosen) (Some best) k e =
+      by_test (nat_lt (turns.part_of system chosen.thread).priority best.priority) k
+      (turns.stops_to_front by_priority system t chosen.thread why.Preempt chosen.using (turns.charged system chosen.thread chosen.using k)) (silent k)
+      (stops_to_front-held chosen.thread chosen.using chosen.using why.Preempt (turns.charged system chosen.thread chosen.using k) e)
+      (omega arith)
+  preempts_by-held (Some chosen) None k e = omega arith
+  preempts_by-held None best k e = omega arith
+
+  -- the chosen thread leaves the ready queue
+  chooses_of-held : (o : Option Chosen) (ready : List Queued) (k : Core) → k.running ≡ o → k.ready ≡ ready → held (turns.chooses_of by_priority o (first_of ready) k).core ≤ held k
+  chooses_of-held (Some chosen) ready k e f = omega arith
+  chooses_of-held None [] k e f = omega arith
+  chooses_of-held None (best ∷ others) k e f = rw f (omega (arith, queued-cons y best others))
+
+-- the end of the tick
+module _ (system : System) (c t y : ℕ) where
+  waits_as-got : (x note word : ℕ) (k : Core) → held system t y (turns.waits_as system t x note (Got word) k).core ≤ held system t y k
+  waits_as-got x note word k =
+      let given = turns.given system t x (with_note note (after_wait (Got word) (turns.queued system x) (note_of k note)) k) in
+      omega (arith, moves-held system t y x (turns.move_of system t x given) given, set-waiting y k.notes note (after_wait (Got word) (turns.queued system x) (note_of k note)))
+
+  waits_as-blocks : (x note : ℕ) (k : Core) → held system t y (turns.waits_as system t x note Blocks k).core ≤ held system t y k + one y x
+  waits_as-blocks x note k =
+      omega (arith, set-waiting y k.notes note (after_wait Blocks (turns.queued system x) (note_of k note)), queued-push y (note_of k note).waiters (turns.queued system x))
+
+  signals-held : (x note badge : ℕ) (k : Core) → held system t y (turns.signals by_priority system c t x note badge k).core ≤ held system t y k
+  signals-held x note badge k =
+      by_test system t y ((note_part system note).core == c) k (turns.posts by_priority system t note badge k)
+      (record { core = k; rows = []; mails = turns.mail_to by_priority system c t note badge ∷ [] })
+      (posts-held system t y note badge k) (omega arith)
+
+  signals-running : (x note badge : ℕ) (k : Core) → (turns.signals by_priority system c t x note badge k).core.running ≡ k.running
+  signals-running x note badge k = by ((note_part system note).core == c)
+    where
+      by : (b : Bool) → (cond b (turns.posts by_priority system t note badge k) (record { core = k; rows = []; mails = turns.mail_to by_priority system c t note badge ∷ [] })).core.running ≡ k.running
+      by true = posts_as-running system t y note (posted badge (note_of k note)) k
+      by false = refl
+
+  -- a stop of the running thread
+  stops-held : (x using : ℕ) (cause : Why) (standing : Standing) (k : Core) → k.running ≡ Some (record { thread = x; using = using }) →
+      held system t y (turns.stops by_priority system t x cause using standing k).core + one y x ≡ held system t y k
+  stops-held x using cause standing k e = off-held system t y (turns.charged system x using k) x using e
+
+  spent-held : (x using : ℕ) (k : Core) → k.running ≡ Some (record { thread = x; using = using }) → held system t y (turns.may_stop by_priority system c t x using why.Spent k).core ≤ held system t y k
+  spent-held x using k e =
+      by_test system t y (using == head_amount (turns.its_context system x k)) k (turns.stops_to_back by_priority system t x why.Spent using k) (silent k)
+      (stops_to_back-held system t y x using using why.Spent k e) (omega arith)
+
+  may_stop-held : (x using : ℕ) (cause : Why) (k : Core) → k.running ≡ Some (record { thread = x; using = using }) → held system t y (turns.may_stop by_priority system c t x using cause k).core ≤ held system t y k
+  may_stop-held x using why.Done k e = omega (arith, stops-held x using why.Done Done k e)
+  may_stop-held x using why.Wait k e = omega (arith, stops-held x using why.Wait Blocked k e)
+  may_stop-held x using why.Yield k e = stops_to_back-held system t y x using (head_amount (turns.its_context system x k)) why.Yield k e
+  may_stop-held x using why.Spent k e = spent-held x using k e
+  may_stop-held x using why.Preempt k e = spent-held x using k e
+  may_stop-held x using why.Order k e = spent-held x using k e
+
+  -- the item takes effect and at most one stop follows: a thread that joins the waiters stops
+  then_stops : (x using : ℕ) (cause : Why) (k : Core) (effect : Turn) → k.running ≡ Some (record { thread = x; using = using }) → effect.core.running ≡ k.running → held system t y effect.core ≤ held system t y k →
+      held system t y (effect followed_by turns.may_stop by_priority system c t x using cause).core ≤ held system t y k
+  then_stops x using cause k effect e f l = omega (arith, l, may_stop-held x using cause effect.core (f ∙ e))
+
+  finishes-wait : (x using note : ℕ) (w : Waited) (k : Core) → k.running ≡ Some (record { thread = x; using = using }) →
+      held system t y (turns.waits_as system t x note w k followed_by turns.may_stop by_priority system c t x using (turns.after_waited w)).core ≤ held system t y k
+  finishes-wait x using note (Got word) k e =
+      then_stops x using why.Spent k (turns.waits_as system t x note (Got word) k) e
+      (moves-running system t y x (turns.move_of system t x given) given) (waits_as-got x note word k)
+    where
+      given : Core
+      given = turns.given system t x (with_note note (after_wait (Got word) (turns.queued system x) (note_of k note)) k)
+  finishes-wait x using note Blocks k e =
+      omega (arith, waits_as-blocks x note k, stops-held x using why.Wait Blocked (turns.waits_as system t x note Blocks k).core e)
+
+  moves_on-held : (x : ℕ) (k : Core) → held system t y (turns.moves_on system t x k).core ≤ held system t y k
+  moves_on-held x k = omega (arith, moves-held system t y x (turns.move_of system t x k) k)
+
+  finishes-held : (x using : ℕ) (item : Option Item) (k : Core) → k.running ≡ Some (record { thread = x; using = using }) →
+      held system t y (turns.finishes by_priority system c t x using item k).core ≤ held system t y k
+  finishes-held x using (Some (Signal note badge)) k e =
+      let sent = turns.signals by_priority system c t x note badge k in
+      then_stops x using (turns.stop_after by_priority system c t x (Some (Signal note badge)) k) k (turns.takes_effect by_priority system c t x (Some (Signal note badge)) k) e
+      (moves-running system t y x (turns.move_of system t x sent.core) sent.core ∙ signals-running x note badge k)
+      (omega (arith, moves_on-held x sent.core, signals-held x note badge k))
+  finishes-held x using (Some (Wait note)) k e = finishes-wait x using note (waited (note_of k note)) k e
+  finishes-held x using (Some (Compute ticks)) k e =
+      then_stops x using (turns.stop_after by_priority system c t x (Some (Compute ticks)) k) k (turns.moves_on system t x k) e (moves-running system t y x (turns.move_of system t x k) k) (moves_on-held x k)
+  finishes-held x using (Some Yield) k e =
+      then_stops x using (turns.stop_after by_priority system c t x (Some Yield) k) k (turns.moves_on system t x k) e (moves-running system t y x (turns.move_of system t x k) k) (moves_on-held x k)
+  finishes-held x using None k e = then_stops x using why.Spent k (silent k) e refl (omega arith)
+
+  after_count-held : (x using : ℕ) (k : Core) → k.running ≡ Some (record { thread = x; using = using }) → held system t y (turns.after_count by_priority system c t x using k).core ≤ held system t y k
+  after_count-held x using k e =
+      by_test system t y ((thread_of k x).place.left == 0) k (turns.finishes by_priority system c t x using (turns.item_of system t x k) k) (turns.may_stop by_priority system c t x using why.Spent k)
+      (finishes-held x using (turns.item_of system t x k) k e) (spent-held x using k e)
+
+  tick_of-held : (o : Option Chosen) (k : Core) → k.running ≡ o → held system t y (turns.tick_of by_priority system c t o k).core ≤ held system t y k
+  tick_of-held None k e = omega arith
+  tick_of-held (Some chosen) k e =
+      omega (arith, after_count-held chosen.thread (chosen.using + 1) (turns.counts chosen k) refl, counted)
+    where
+      counted : held system t y (turns.counts chosen k) ≡ held system t y k
+      counted = rw e refl
+
+  -- a whole turn
+  pub turn-held : (mails : List Mail) (k : Core) → held system t y (turns.turn_with by_priority system c t mails k).core ≤ held system t y k
+  turn-held mails k = chain _ _ _ _ _ _ _
+      (tick_of-held k.running k refl)
+      (each-held system t y (turns.arrives by_priority system t) (arrives-held system t y) mails first.core)
+      (each-held system t y (turns.obeys by_priority system t) (obeys-held system t y) (filter (is_for_now system c t) system.orders) second.core)
+      (releases-held system t y third.core)
+      (preempts_by-held system t y fourth.core.running (first_of fourth.core.ready) fourth.core refl)
+      (chooses_of-held system t y fifth.core.running fifth.core.ready fifth.core refl refl)
+    where
+      first : Turn
+      first = turns.tick by_priority system c t k
+
+      second : Turn
+      second = each (turns.arrives by_priority system t) mails first.core
+
+      third : Turn
+      third = each (turns.obeys by_priority system t) (filter (is_for_now system c t) system.orders) second.core
+
+      fourth : Turn
+      fourth = turns.releases by_priority system t third.core
+
+      fifth : Turn
+      fifth = turns.preempts by_priority system t fourth.core
+
+      chain : (a b d e f g h : ℕ) → b ≤ a → d ≤ b → e ≤ d → f ≤ e → g ≤ f → h ≤ g → h ≤ a
+      chain a b d e f g h p q r s u v = omega arith
+
+-- at first a thread has a place where it starts
+opening-dated : (system : System) (c y number : ℕ) (threads : List ThreadPart) → times_dated y (opening_releases system c number threads) ≤ cond (nat_lt y number) 0 1
+opening-dated system c y number [] = omega arith
+opening-dated system c y number (part ∷ parts) = by (core_of system part == c) (opening-dated system c y (number + 1) parts)
+  where
+    next : (n number y : ℕ) → n ≤ cond (nat_lt y (number + 1)) 0 1 → n ≤ cond (nat_lt y number) 0 1
+    next n number y l = grind (arith, nat_tests)
+
+    with_one : (n number y : ℕ) → n ≤ cond (nat_lt y (number + 1)) 0 1 → cond (number == y) 1 0 + n ≤ cond (nat_lt y number) 0 1
+    with_one n number y l = grind (arith, nat_tests)
+
+    by : (b : Bool) → times_dated y (opening_releases system c (number + 1) parts) ≤ cond (nat_lt y (number + 1)) 0 1 →
+        times_dated y (cond b (record { thread = number; date = part.start } ∷ opening_releases system c (number + 1) parts) (opening_releases system c (number + 1) parts)) ≤ cond (nat_lt y number) 0 1
+    by true i = rw (dated-cons y (record { thread = number; date = part.start }) (opening_releases system c (number + 1) parts)) (with_one _ number y i)
+    by false i = next _ number y i
+
+quiet-waiting : {A : Type 0} (y : ℕ) (xs : List A) → times_waiting y (map (λ _. quiet_note) xs) ≡ 0
+quiet-waiting y [] = refl
+quiet-waiting y (x ∷ xs) = omega (arith, sum_by-cons (λ (m : Note). times_queued y m.waiters) quiet_note (map (λ _. quiet_note) xs), quiet-waiting y xs)
+
+opening-held : (system : System) (c y : ℕ) → places y (opening_core system c) ≤ 1
+opening-held system c y = omega (arith, opening-dated system c y 0 system.threads, quiet-waiting y system.notes, at_most y)
+  where
+    at_most : (y : ℕ) → cond (nat_lt y 0) 0 1 ≤ 1
+    at_most y = grind (arith, nat_tests)
+
+pub one-place : (system : System) → TakesTime system → ThreadsHaveOnePlace system
+one-place system takes_time c zero y known =
+    rw (get_or-map-range_with_len (opening_core system) 0 system.cores c c (opening_core system c) known (omega arith)) (opening-held system c y)
+one-place system takes_time c (suc t) y known =
+    rw (core_at-world system takes_time t c known)
+    (not_more _ _ (turn-held system c t y (filter (clocks.arrives_at system t c) (clocks.world system t).mails) (clocks.core_at system (clocks.world system t) c)) (one-place system takes_time c t y known))
+  where
+    not_more : (a b : ℕ) → a ≤ b → b ≤ 1 → a ≤ 1
+    not_more a b p q = omega arith

@@ -1,0 +1,5 @@
+use Rattle.mcs_laws.proofs.Places.{one-place}
+use Rattle.mcs_laws.proofs.laws.threads_have_one_place.Goals as goal
+
+pub returns : goal.returns
+returns c = one-place

@@ -1,0 +1,55 @@
+-- What some files answer, by the definitions alone.
+use Rattle.std.proofs.Common.{◌≡◌, [], ◌∷◌, codes, Ok, Err, refl}
+use Rattle.mcs_control.specs.declared.config.ControlFault.TheVariants as refused
+use Rattle.mcs_script.specs.declared.item.Item.TheVariants as items
+use Rattle.mcs_script.specs.declared.fault.ItemFault.TheVariants as bad
+use Rattle.mcs_load.specs.declared.fault.FaultKind.TheVariants as kind
+use Rattle.mcs_load.specs.declared.spot.Key.TheVariants as key
+use Rattle.mcs_load.specs.declared.spot.Section.TheVariants as section
+use Rattle.mcs_load.specs.Checks.{answer}
+use Rattle.mcs_load.specs.Walk.{file}
+use Rattle.mcs_load.proofs.OnLiterals.{load_on_literals}
+
+empty_file : answer (file (codes "")) ≡ Err (record { kind = kind.MissingKey; spot = record { section = section.Top; row = 0; key = key.Version; item = 0 } })
+unfolding load_on_literals
+empty_file = refl
+
+cut_file : answer (file (codes "version = ")) ≡ Err (record { kind = kind.NotToml; spot = record { section = section.File; row = 0; key = key.Whole; item = 0 } })
+unfolding load_on_literals
+cut_file = refl
+
+-- the first of three faults in the walk's order, not in the file's
+first_fault_wins : answer (file (codes "cores = 0\nversion = 1.0\ndelay = 0\n")) ≡ Err (record { kind = kind.WrongKind; spot = record { section = section.Top; row = 0; key = key.Version; item = 0 } })
+unfolding load_on_literals
+first_fault_wins = refl
+
+budget_zero : answer (file (codes "version = 1\ncores = 1\ndelay = 1\n[[context]]\nname = \"a\"\ncore = 0\nbudget = 0\nperiod = 5\n"))
+    ≡ Err (record { kind = kind.Control refused.ZeroBudget; spot = record { section = section.Context; row = 1; key = key.Budget; item = 0 } })
+unfolding load_on_literals
+budget_zero = refl
+
+-- a wait on another core's notification
+wait_elsewhere : answer (file (codes "version = 1\ncores = 2\ndelay = 1\n[[context]]\nname = \"a\"\ncore = 0\nbudget = 2\nperiod = 5\n[[note]]\nname = \"n\"\ncore = 1\n[[thread]]\nname = \"A\"\ncontext = \"a\"\npriority = 5\nscript = [\"yield\", \"wait n\", \"yield\"]\n"))
+    ≡ Err (record { kind = kind.OtherCore; spot = record { section = section.Thread; row = 1; key = key.Script; item = 2 } })
+unfolding load_on_literals
+wait_elsewhere = refl
+
+bad_number : answer (file (codes "version = 1\ncores = 1\ndelay = 1\n[[context]]\nname = \"a\"\ncore = 0\nbudget = 2\nperiod = 5\n[[thread]]\nname = \"A\"\ncontext = \"a\"\npriority = 5\nscript = [\"compute 05\"]\n"))
+    ≡ Err (record { kind = kind.BadItem bad.BadNumber; spot = record { section = section.Thread; row = 1; key = key.Script; item = 1 } })
+unfolding load_on_literals
+bad_number = refl
+
+-- a thread that computes for 5 ticks of a budget of 2 in 5, and an order for its context
+system_of_a_file : answer (file (codes "version = 1\ncores = 1\ndelay = 1\n\n[[context]]\nname = \"a\"\ncore = 0\nbudget = 2\nperiod = 5\n\n[[thread]]\nname = \"A\"\ncontext = \"a\"\npriority = 5\nrounds = 1\nscript = [\"compute 5\"]\n\n[[order]]\nat = 7\ncore = 0\ncontext = \"a\"\nbudget = 3\nperiod = 6\nextra_refills = 1\n"))
+    ≡ Ok (record {
+      cores = 1;
+      delay = 1;
+      call = 1;
+      min_budget = 1;
+      contexts = record { name = codes "a"; core = 0; config = record { budget = 2; period = 5; extra = 0 } } ∷ [];
+      notes = [];
+      threads = record { name = codes "A"; context = 0; priority = 5; start = 0; rounds = 1; deadline = 0; script = items.Compute 5 ∷ [] } ∷ [];
+      orders = record { moment = 7; context = 0; config = record { budget = 3; period = 6; extra = 1 } } ∷ [];
+    })
+unfolding load_on_literals
+system_of_a_file = refl

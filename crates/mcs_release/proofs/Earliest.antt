@@ -1,0 +1,131 @@
+-- The entry on top of the heap is the earliest.
+use Rattle.std.proofs.Common.{◌≡◌, ℕ, zero, suc, ◌+◌, ◌<◌, ◌≤◌, ◌==◌, Bool, true, false, cond, ◌&&◌, List, [], ◌∷◌, length, get_or, Option, Some, None, refl, sym, ap, ap₂, ◌∙◌, arith}
+use Rattle.std.specs.Prelude.{nat_lt, sum_by, filter, IfSome}
+use Rattle.std.specs.List.{AllByRecursion}
+use Rattle.std.specs.Ordering.{nat_cmp, is_lt, ordering_then}
+use Rattle.std.specs.declared.cmp.Reverse.{Reverse}
+use Rattle.std.specs.BinaryHeap.{lt_by_cmp}
+use Rattle.std.proofs.lemmas.Bool.{and_parts, eq-eqb, eqb-true, lt-ltb, le-ltb}
+use Rattle.std.proofs.lemmas.Bool.Decides.{nat_tests}
+use Rattle.std.proofs.lemmas.List.Sums.{sum_by-cons, get_or-le-sum_by}
+use Rattle.mcs_release.specs.declared.dated.Dated.{Dated}
+use Rattle.mcs_release.specs.declared.releases.Due.{Due}
+use Rattle.mcs_release.specs.Places.{entered, due_at, dues_from, due_cmp, one_if}
+use Rattle.mcs_release.specs.Release.{dated, earlier, earliest}
+
+-- how many stand before this one in the heap's order
+abbrev pub before : Reverse Due → Reverse Due → ℕ
+before m y = one_if (lt_by_cmp due_cmp m y)
+
+-- where none does, each has a date no less, and a greater one where it entered earlier
+not_before-numbers : (a b n p u v : ℕ) → one_if (is_lt (ordering_then (nat_cmp a b) (ordering_then (nat_cmp n p) (nat_cmp u v)))) ≡ 0 → (b ≤ a) × (n < p → b < a)
+not_before-numbers a b n p u v h = (grind (arith, nat_tests), λ k. grind (arith, nat_tests))
+
+not_before : (m : Reverse Due) (n : ℕ) (x : Dated) → before m (due_at n x) ≡ 0 → (m.0.date ≤ x.date) × (n < m.0.place → m.0.date < x.date)
+not_before m n x h = not_before-numbers x.date m.0.date n m.0.place x.thread m.0.thread h
+
+pub before-top : (m : Reverse Due) (xs : List (Reverse Due)) → AllByRecursion (λ y. lt_by_cmp due_cmp m y ≡ false) xs → sum_by (before m) xs ≡ 0
+before-top m [] all = refl
+before-top m (x ∷ xs) all = omega (arith, sum_by-cons (before m) x xs, ap one_if all.0, before-top m xs all.1)
+
+earlier-first : (x : Dated) (r : Option Dated) → IfSome r (λ y. x.date ≤ y.date) → earlier x r ≡ x
+earlier-first x None h = refl
+earlier-first x (Some y) h = rw (le-ltb y.date x.date h) refl
+
+module _ (m : Reverse Due) (p : Dated → Bool) where
+  least : (places : List (Option Dated)) (n : ℕ) → sum_by (before m) (dues_from n places) ≡ 0 → IfSome (earliest (filter p (entered places))) (λ y. m.0.date ≤ y.date)
+  least [] n none = tt
+  least (None ∷ places) n none = least places (suc n) none
+  least (Some x ∷ places) n none =
+      let both = sum_by-cons (before m) (due_at n x) (dues_from (suc n) places) in
+      by (p x) (filter p (entered places)) (least places (suc n) (omega arith)) (not_before m n x (omega arith)).0
+    where
+      chosen : (b : Bool) (y : Dated) → m.0.date ≤ x.date → m.0.date ≤ y.date → m.0.date ≤ (cond b y x).date
+      chosen true y h k = k
+      chosen false y h k = h
+
+      go : (r : Option Dated) → IfSome r (λ y. m.0.date ≤ y.date) → m.0.date ≤ x.date → IfSome (Some (earlier x r)) (λ y. m.0.date ≤ y.date)
+      go None k h = h
+      go (Some y) k h = chosen (nat_lt y.date x.date) y h k
+
+      by : (b : Bool) (xs : List Dated) → IfSome (earliest xs) (λ y. m.0.date ≤ y.date) → m.0.date ≤ x.date → IfSome (earliest (cond b (x ∷ xs) xs)) (λ y. m.0.date ≤ y.date)
+      by false xs k h = k
+      by true xs k h = go (earliest xs) k h
+
+  -- the first of those that pass is the one on top, if it does
+  pub earliest-top : (places : List (Option Dated)) (n k : ℕ) (x : Dated) → get_or places k None ≡ Some x → m.0.place ≡ n + k → m.0.date ≡ x.date → p x ≡ true →
+      sum_by (before m) (dues_from n places) ≡ 0 → earliest (filter p (entered places)) ≡ Some x
+  earliest-top [] n k x e place date passes none = cc
+  earliest-top (None ∷ places) n zero x e place date passes none = cc
+  earliest-top (Some y ∷ places) n zero x e place date passes none =
+      let it : y ≡ x = cc in
+      let both = sum_by-cons (before m) (due_at n y) (dues_from (suc n) places) in
+      rw (it, passes) (
+      ap (λ (z : Dated). Some z) (earlier-first x (earliest (filter p (entered places))) (rw date at (least places (suc n) (omega arith))))
+      )
+  earliest-top (None ∷ places) n (suc k) x e place date passes none = earliest-top places (suc n) k x e (omega arith) date passes none
+  earliest-top (Some y ∷ places) n (suc k) x e place date passes none =
+      let both = sum_by-cons (before m) (due_at n y) (dues_from (suc n) places) in
+      let later : x.date < y.date = omega (arith, (not_before m n y (omega arith)).1 (omega arith)) in
+      by (p y) (filter p (entered places)) (earliest-top places (suc n) k x e (omega arith) date passes (omega arith)) later
+    where
+      by : (b : Bool) (xs : List Dated) → earliest xs ≡ Some x → x.date < y.date → earliest (cond b (y ∷ xs) xs) ≡ Some x
+      by false xs k h = k
+      by true xs k h = rw (k, lt-ltb x.date y.date h) refl
+
+  -- with a date on top that does not pass, none does
+  pub none-top : ((x : Dated) → m.0.date ≤ x.date → p x ≡ false) → (places : List (Option Dated)) (n : ℕ) → sum_by (before m) (dues_from n places) ≡ 0 →
+      filter p (entered places) ≡ []
+  none-top fails [] n none = refl
+  none-top fails (None ∷ places) n none = none-top fails places (suc n) none
+  none-top fails (Some x ∷ places) n none =
+      let both = sum_by-cons (before m) (due_at n x) (dues_from (suc n) places) in
+      rw (fails x (not_before m n x (omega arith)).0) (none-top fails places (suc n) (omega arith))
+
+-- whether it is this one
+abbrev same_due : Reverse Due → Reverse Due → Bool
+same_due m y = (y.0.place == m.0.place) && ((y.0.date == m.0.date) && (y.0.thread == m.0.thread))
+
+same_due-itself : (m : Reverse Due) → same_due m m ≡ true
+same_due-itself m = rw (eq-eqb m.0.place m.0.place refl, eq-eqb m.0.date m.0.date refl, eq-eqb m.0.thread m.0.thread refl) refl
+
+counted-top : (m : Reverse Due) (heap : List (Reverse Due)) → 0 < length heap → m ≡ get_or heap 0 m → 1 ≤ sum_by (λ y. one_if (same_due m y)) heap
+counted-top m heap some top =
+    omega (
+      arith,
+      get_or-le-sum_by (λ y. one_if (same_due m y)) heap 0 m some,
+      ap (λ (y : Reverse Due). one_if (same_due m y)) top,
+      ap one_if (same_due-itself m),
+    )
+
+counted-place : (m : Reverse Due) (places : List (Option Dated)) (n : ℕ) → 1 ≤ sum_by (λ y. one_if (same_due m y)) (dues_from n places) →
+    (k : ℕ) × (m.0.place ≡ n + k) × (get_or places k None ≡ Some (dated m.0.thread m.0.date))
+counted-place m [] n h = absurd (omega arith)
+counted-place m (None ∷ places) n h =
+    let found = counted-place m places (suc n) h in
+    (suc found.0, omega (arith, found.1), found.2)
+counted-place m (Some x ∷ places) n h =
+    by (same_due m (due_at n x)) refl (counted-place m places (suc n)) (rw (sum_by-cons (λ y. one_if (same_due m y)) (due_at n x) (dues_from (suc n) places)) at h)
+  where
+    by : (b : Bool) → same_due m (due_at n x) ≡ b →
+        (1 ≤ sum_by (λ y. one_if (same_due m y)) (dues_from (suc n) places) → (k : ℕ) × (m.0.place ≡ suc n + k) × (get_or places k None ≡ Some (dated m.0.thread m.0.date))) →
+        1 ≤ one_if b + sum_by (λ y. one_if (same_due m y)) (dues_from (suc n) places) →
+        (k : ℕ) × (m.0.place ≡ n + k) × (get_or (Some x ∷ places) k None ≡ Some (dated m.0.thread m.0.date))
+    by true e rest h =
+        let place = eqb-true n m.0.place (and_parts _ _ e).0 in
+        let others = and_parts _ _ (and_parts (n == m.0.place) _ e).1 in
+        let date = eqb-true x.date m.0.date others.0 in
+        let thread = eqb-true x.thread m.0.thread others.1 in
+        let it : x ≡ dated m.0.thread m.0.date = ap₂ dated thread date in
+        (zero, omega arith, ap (λ (y : Dated). Some y) it)
+    by false e rest h =
+        let found = rest (omega arith) in
+        (suc found.0, omega (arith, found.1), found.2)
+
+-- the one on top stands in its place
+pub place-top : (m : Reverse Due) (heap : List (Reverse Due)) (places : List (Option Dated)) → 0 < length heap → m ≡ get_or heap 0 m →
+    ((f : Reverse Due → ℕ) → sum_by f heap ≡ sum_by f (dues_from 0 places)) → get_or places m.0.place None ≡ Some (dated m.0.thread m.0.date)
+place-top m heap places some top same =
+    let found = counted-place m places 0 (omega (arith, counted-top m heap some top, same (λ y. one_if (same_due m y)))) in
+    let at : found.0 ≡ m.0.place = omega (arith, found.1) in
+    ap (λ (k : ℕ). get_or places k None) (sym at) ∙ found.2

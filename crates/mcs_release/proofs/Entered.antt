@@ -1,0 +1,91 @@
+-- The entries of places: one is put in, taken out, or moved to the front.
+use Rattle.std.proofs.Common.{◌≡◌, ℕ, zero, suc, ◌<◌, ◌≤◌, List, [], ◌∷◌, ◌++◌, length, get_or, set, Option, Some, None, refl, ap, arith}
+use Rattle.mcs_release.specs.declared.dated.Dated.{Dated}
+use Rattle.mcs_release.specs.Places.{entered, times}
+use Rattle.mcs_release.specs.Release.{without}
+use Rattle.std.proofs.lemmas.Bool.{ne_eqb, eq-eqb}
+use Rattle.mcs_release.proofs.Times.{times-cons_same}
+
+pub entered-none : (places : List (Option Dated)) → ((i : ℕ) → get_or places i None ≡ None) → entered places ≡ []
+entered-none [] none = refl
+entered-none (place ∷ places) none = by place (none zero) (entered-none places (λ i. none (suc i)))
+  where
+    by : (place : Option Dated) → place ≡ None → entered places ≡ [] → entered (place ∷ places) ≡ []
+    by None e ih = ih
+    by (Some x) e ih = cc
+
+pub empty_from : (places : List (Option Dated)) (i : ℕ) → entered places ≡ [] → get_or places i None ≡ None
+empty_from [] i none = refl
+empty_from (None ∷ places) zero none = refl
+empty_from (None ∷ places) (suc i) none = empty_from places i none
+empty_from (Some x ∷ places) i none = cc
+
+-- an entry behind all others
+pub entered-push : (places : List (Option Dated)) (k : ℕ) (x : Dated) → k < length places → ((i : ℕ) → k ≤ i → get_or places i None ≡ None) →
+    entered (set places k (Some x)) ≡ entered places ++ x ∷ []
+entered-push [] k x h behind = absurd (omega arith)
+entered-push (place ∷ places) zero x h behind =
+    let none : entered (place ∷ places) ≡ [] = entered-none (place ∷ places) (λ i. behind i (omega arith)) in
+    let rest : entered places ≡ [] = entered-none places (λ i. behind (suc i) (omega arith)) in
+    rw (none, rest) refl
+entered-push (place ∷ places) (suc k) x h behind =
+    by place (entered-push places k x (omega arith) (λ i above. behind (suc i) (omega arith)))
+  where
+    by : (place : Option Dated) → entered (set places k (Some x)) ≡ entered places ++ x ∷ [] →
+        entered (place ∷ set places k (Some x)) ≡ entered (place ∷ places) ++ x ∷ []
+    by None ih = ih
+    by (Some y) ih = ap (λ (xs : List Dated). y ∷ xs) ih
+
+-- a thread stands where it stands
+pub times-stands : (places : List (Option Dated)) (k : ℕ) (x : Dated) → get_or places k None ≡ Some x → 1 ≤ times x.thread (entered places)
+times-stands [] k x e = cc
+times-stands (None ∷ places) zero x e = cc
+times-stands (Some y ∷ places) zero x e =
+    let same : y ≡ x = cc in
+    rw same (omega (arith, times-cons_same x (entered places)))
+times-stands (None ∷ places) (suc k) x e = times-stands places k x e
+times-stands (Some y ∷ places) (suc k) x e = omega (arith, times-stands places k x e)
+
+-- an entry leaves
+pub times-left : (places : List (Option Dated)) (k x : ℕ) → times x (entered (set places k None)) ≤ times x (entered places)
+times-left [] k x = omega arith
+times-left (None ∷ places) zero x = omega arith
+times-left (Some y ∷ places) zero x = omega arith
+times-left (None ∷ places) (suc k) x = times-left places k x
+times-left (Some y ∷ places) (suc k) x = omega (arith, times-left places k x)
+
+pub entered-left : (places : List (Option Dated)) (k : ℕ) (x : Dated) → get_or places k None ≡ Some x → times x.thread (entered places) ≤ 1 →
+    without x.thread (entered places) ≡ entered (set places k None)
+entered-left [] k x e once = cc
+entered-left (None ∷ places) zero x e once = cc
+entered-left (Some y ∷ places) zero x e once =
+    let same : y ≡ x = cc in
+    rw (same, eq-eqb x.thread x.thread refl) refl
+entered-left (None ∷ places) (suc k) x e once = entered-left places k x e once
+entered-left (Some y ∷ places) (suc k) x e once =
+    let stands = times-stands places k x e in
+    let ne : y.thread ≡ x.thread → ⊥ = λ same. absurd (omega (arith, stands, rw (eq-eqb y.thread x.thread same) at once)) in
+    rw (ne_eqb y.thread x.thread ne) (ap (λ (xs : List Dated). y ∷ xs) (entered-left places k x e (omega arith)))
+
+-- an entry that has no other before it goes to the front
+first-moved : (places : List (Option Dated)) (i : ℕ) (x : Dated) → get_or places i None ≡ Some x → ((j : ℕ) → j < i → get_or places j None ≡ None) →
+    x ∷ entered (set places i None) ≡ entered places
+first-moved [] i x e gap = cc
+first-moved (None ∷ places) zero x e gap = cc
+first-moved (Some y ∷ places) zero x e gap =
+    let same : y ≡ x = cc in
+    rw same refl
+first-moved (None ∷ places) (suc i) x e gap = first-moved places i x e (λ j h. gap (suc j) (omega arith))
+first-moved (Some y ∷ places) (suc i) x e gap = let no : Some y ≡ None = gap zero (omega arith) in cc
+
+-- it moves over places that are empty
+pub entered-moved : (places : List (Option Dated)) (i end : ℕ) (x : Dated) → get_or places i None ≡ Some x → end ≤ i →
+    ((j : ℕ) → end ≤ j → j < i → get_or places j None ≡ None) → entered (set (set places i None) end (Some x)) ≡ entered places
+entered-moved [] i end x e h gap = cc
+entered-moved (place ∷ places) zero zero x e h gap = rw e refl
+entered-moved (place ∷ places) zero (suc end) x e h gap = absurd (omega arith)
+entered-moved (None ∷ places) (suc i) zero x e h gap = first-moved places i x e (λ j below. gap (suc j) (omega arith) (omega arith))
+entered-moved (Some y ∷ places) (suc i) zero x e h gap = let no : Some y ≡ None = gap zero (omega arith) (omega arith) in cc
+entered-moved (None ∷ places) (suc i) (suc end) x e h gap = entered-moved places i end x e (omega arith) (λ j from below. gap (suc j) (omega arith) (omega arith))
+entered-moved (Some y ∷ places) (suc i) (suc end) x e h gap =
+    ap (λ (xs : List Dated). y ∷ xs) (entered-moved places i end x e (omega arith) (λ j from below. gap (suc j) (omega arith) (omega arith)))

@@ -1,0 +1,91 @@
+-- Threads of one date leave in the order in which they entered.
+use Rattle.std.proofs.Common.{◌≡◌, ℕ, zero, suc, ◌<◌, Bool, true, false, cond, not, List, [], ◌∷◌, length, drop, get_or, Option, Some, None, refl, sym, ap, ◌∙◌, arith}
+use Rattle.std.specs.Prelude.{nat_lt, filter, slice_get, All, IfSome}
+use Rattle.std.proofs.lemmas.Bool.{le-ltb, ne_eqb, eq-eqb}
+use Rattle.std.proofs.lemmas.List.Elements.{All-head, All-tail}
+use Rattle.mcs_release.specs.declared.dated.Dated.{Dated}
+use Rattle.mcs_release.specs.Release.{earlier, earliest, is_due, without, when_left, first_due, without_first_due, AreDistinct, LeaveInOrder}
+
+-- of entries with one date the first is the earliest
+earliest-date : (date : ℕ) (xs : List Dated) → All (λ x. x.date ≡ date) xs → IfSome (earliest xs) (λ x. x.date ≡ date)
+earliest-date date [] all = tt
+earliest-date date (x ∷ xs) all =
+    by (earliest xs) (All-head (λ (x : Dated). x.date ≡ date) x xs all) (earliest-date date xs (All-tail (λ (x : Dated). x.date ≡ date) x xs all))
+  where
+    chosen : (b : Bool) (y : Dated) → x.date ≡ date → y.date ≡ date → (cond b y x).date ≡ date
+    chosen true y h k = k
+    chosen false y h k = h
+
+    by : (r : Option Dated) → x.date ≡ date → IfSome r (λ y. y.date ≡ date) → (earlier x r).date ≡ date
+    by None h k = h
+    by (Some y) h k = chosen (nat_lt y.date x.date) y h k
+
+earliest-first : (date : ℕ) (xs : List Dated) → All (λ x. x.date ≡ date) xs → earliest xs ≡ slice_get xs 0
+earliest-first date [] all = refl
+earliest-first date (x ∷ xs) all =
+    by (earliest xs) (All-head (λ (x : Dated). x.date ≡ date) x xs all) (earliest-date date xs (All-tail (λ (x : Dated). x.date ≡ date) x xs all))
+  where
+    by : (r : Option Dated) → x.date ≡ date → IfSome r (λ y. y.date ≡ date) → Some (earlier x r) ≡ Some x
+    by None h k = refl
+    by (Some y) h k = rw (le-ltb y.date x.date (omega arith)) refl
+
+-- the first that is due stands in the queue
+first-stands : (t : ℕ) (queue : List Dated) (x : Dated) → slice_get (filter (is_due t) queue) 0 ≡ Some x → (k : ℕ) × (k < length queue) × (get_or queue k x ≡ x)
+first-stands t [] x e = cc
+first-stands t (y ∷ queue) x e = by (is_due t y) e (first-stands t queue x)
+  where
+    by : (b : Bool) → slice_get (cond b (y ∷ filter (is_due t) queue) (filter (is_due t) queue)) 0 ≡ Some x →
+        (slice_get (filter (is_due t) queue) 0 ≡ Some x → (k : ℕ) × (k < length queue) × (get_or queue k x ≡ x)) →
+        (k : ℕ) × (k < length (y ∷ queue)) × (get_or (y ∷ queue) k x ≡ x)
+    by true e rest = let same : y ≡ x = cc in (zero, omega arith, same)
+    by false e rest = let found = rest e in (suc found.0, omega (arith, found.1), found.2)
+
+AreDistinct-tail : (y : Dated) (queue : List Dated) → AreDistinct (y ∷ queue) → AreDistinct queue
+AreDistinct-tail y queue distinct i j d before below = distinct (suc i) (suc j) d (omega arith) (omega arith)
+
+-- the first that is due leaves
+filters-left : (t : ℕ) (queue : List Dated) (x : Dated) → AreDistinct queue → slice_get (filter (is_due t) queue) 0 ≡ Some x →
+    (filter (is_due t) (without x.thread queue) ≡ drop 1 (filter (is_due t) queue))
+    × (filter (λ y. not (is_due t y)) (without x.thread queue) ≡ filter (λ y. not (is_due t y)) queue)
+filters-left t [] x distinct e = cc
+filters-left t (y ∷ queue) x distinct e =
+    by (is_due t y) refl e (filters-left t queue x (AreDistinct-tail y queue distinct)) (first-stands t queue x)
+  where
+    by : (b : Bool) → is_due t y ≡ b → slice_get (cond b (y ∷ filter (is_due t) queue) (filter (is_due t) queue)) 0 ≡ Some x →
+        (slice_get (filter (is_due t) queue) 0 ≡ Some x →
+        (filter (is_due t) (without x.thread queue) ≡ drop 1 (filter (is_due t) queue))
+        × (filter (λ y. not (is_due t y)) (without x.thread queue) ≡ filter (λ y. not (is_due t y)) queue)) →
+        (slice_get (filter (is_due t) queue) 0 ≡ Some x → (k : ℕ) × (k < length queue) × (get_or queue k x ≡ x)) →
+        (filter (is_due t) (without x.thread (y ∷ queue)) ≡ drop 1 (cond b (y ∷ filter (is_due t) queue) (filter (is_due t) queue)))
+        × (filter (λ y. not (is_due t y)) (without x.thread (y ∷ queue)) ≡ cond (not b) (y ∷ filter (λ y. not (is_due t y)) queue) (filter (λ y. not (is_due t y)) queue))
+    by true test e rest stands =
+        let same : y ≡ x = cc in
+        rw (eq-eqb y.thread x.thread (ap (λ (z : Dated). z.thread) same)) (refl, refl)
+    by false test e rest stands =
+        let found = stands e in
+        let apart = distinct zero (suc found.0) x (omega arith) (omega (arith, found.1)) in
+        let ne : y.thread ≡ x.thread → ⊥ = λ same. apart (same ∙ ap (λ (z : Dated). z.thread) (sym found.2)) in
+        rw (ne_eqb y.thread x.thread ne, test) ((rest e).0, ap (λ (xs : List Dated). y ∷ xs) (rest e).1)
+
+nil_from_get : (xs : List Dated) → slice_get xs 0 ≡ None → xs ≡ []
+nil_from_get [] e = refl
+nil_from_get (x ∷ xs) e = cc
+
+pub leave_in_order : LeaveInOrder
+leave_in_order t date queue distinct all = by (slice_get (filter (is_due t) queue) 0) refl
+  where
+    first : first_due t queue ≡ slice_get (filter (is_due t) queue) 0
+    first = earliest-first date (filter (is_due t) queue) all
+
+    by : (r : Option Dated) → slice_get (filter (is_due t) queue) 0 ≡ r →
+        (first_due t queue ≡ slice_get (filter (is_due t) queue) 0)
+        × (filter (is_due t) (without_first_due t queue) ≡ drop 1 (filter (is_due t) queue))
+        × (filter (λ x. not (is_due t x)) (without_first_due t queue) ≡ filter (λ x. not (is_due t x)) queue)
+    by None e =
+        let left : without_first_due t queue ≡ queue = ap (λ (r : Option Dated). when_left r queue) (first ∙ e) in
+        let none : filter (is_due t) queue ≡ [] = nil_from_get (filter (is_due t) queue) e in
+        (first, ap (filter (is_due t)) left ∙ none ∙ sym (ap (drop 1) none), ap (filter (λ x. not (is_due t x))) left)
+    by (Some x) e =
+        let left : without_first_due t queue ≡ without x.thread queue = ap (λ (r : Option Dated). when_left r queue) (first ∙ e) in
+        let both = filters-left t queue x distinct e in
+        (first, ap (filter (is_due t)) left ∙ both.0, ap (filter (λ x. not (is_due t x))) left ∙ both.1)

@@ -1,0 +1,8 @@
+use Rattle.std.proofs.Common.{arith, sym}
+use Rattle.std.proofs.lemmas.Bool.{eqb-true}
+use Rattle.mcs_release.proofs.Kept.{IsPlaced-empty}
+use Rattle.mcs_release.proofs.releases.place_behind.Goals as goal
+
+pub returns-then-is_empty-clause-placed : goal.returns-then-is_empty-clause-placed
+returns-then-is_empty-clause-placed c =
+    IsPlaced-empty _ _ _ c.requires.placed (omega (arith, eqb-true _ 0 (sym c.if-is_empty.ensures), c.args.heap.now.data.ok.0))

@@ -1,0 +1,202 @@
+ghost use Rattle.std.specs.Prelude.{◌≡◌, ℕ, ◌<◌, ◌≤◌, ◌++◌, ◌∷◌, false, [], length, slice_set, IfOk, IsPermutation};
+ghost use Rattle.std.specs.BinaryHeap.{heap_items, heap_len, heap_capacity, KeepsHeap};
+ghost use Rattle.mcs_release.specs.Places.{due_at, due_cmp, entered, IsPlaced};
+ghost use Rattle.mcs_release.specs.Release.{dated, is_held, next_date, first_due, without_first_due, thread_of, AreDistinct, AreBelow};
+
+use crate::Dated;
+use mcs_ticks::{NoMemory, ThreadId, Tick};
+use std::alloc::Global;
+use std::cmp::Reverse;
+use std::collections::BinaryHeap;
+use std::marker::Model;
+
+/// A thread that is held, by its date and then by its place, which is later the later it entered.
+#[derive(Clone, Copy, Debug, PartialEq, Eq, PartialOrd, Ord)]
+struct Due {
+    date: Tick,
+    place: usize,
+    thread: ThreadId,
+}
+
+/// The threads of one core that wait for a date, each with its date. Contracts see them in the order in which they entered, and
+/// `room`, the number of threads that there is room for.
+#[derive(Debug, Drop)]
+pub struct Releases {
+    // a place for each thread that entered, in their order; empty again when the thread has left
+    places: Vec<Option<Dated>>,
+    // the place of the next thread that enters, behind all that are held
+    end: usize,
+    // the threads that are held, the least date on top
+    heap: BinaryHeap<Reverse<Due>>,
+    room: usize,
+}
+
+impl Model for Releases {
+    ghost use Rattle.mcs_release.specs.Release.{ReleaseQueue};
+
+    ghost Value = { ReleaseQueue };
+
+    ghost use Rattle.std.specs.BinaryHeap.{heap_items, heap_capacity};
+    ghost use Rattle.mcs_release.specs.Places.{entered, IsKept};
+
+    ghost view = { λ a. record { queue = entered a.places.items; room = a.room } };
+
+    ghost invariant = { λ a. IsKept a.places.items a.end (heap_items a.heap) a.room (heap_capacity a.heap) };
+}
+
+impl Releases {
+    /// No thread, with room for the threads 0 to `threads` less one. NoMemory where there was no memory for them; no later call
+    /// takes any.
+    pub fn new(alloc: Global, threads: usize) -> Result<Self, NoMemory>
+        ensures { IfOk result (λ releases. releases ≡ record { queue = []; room = threads }) }
+    {
+        let heap = BinaryHeap::with_capacity(alloc, threads)?;
+        Ok(Releases {
+            places: vec![in alloc; None; 2 * threads]?,
+            end: 0,
+            heap,
+            room: threads,
+        })
+    }
+
+    /// The least date of the threads that are held, or None where none is.
+    pub fn next(&self) -> Option<Tick>
+        ensures { result ≡ next_date self.now.queue }
+    {
+        let first = self.heap.peek()?.0;
+        Some(first.date)
+    }
+
+    /// Takes the thread of least date, of those with date at most `t`, and of several with that date the one that entered first.
+    pub fn pop_due(&mut self, t: Tick) -> Option<ThreadId>
+        ensures first { result ≡ thread_of (first_due t self.old.queue) }
+        ensures rest { self.new ≡ record self.old { queue = without_first_due t self.old.queue } }
+    {
+        let first = self.heap.peek()?.0;
+        if first.date > t {
+            return None;
+        }
+        self.heap.pop();
+        self.places[first.place] = None;
+        Some(first.thread)
+    }
+
+    /// Enters `x` with the date `at`. The thread is below the number that there is room for, and is not held.
+    pub fn enter(&mut self, x: ThreadId, at: Tick)
+        requires below { x < self.old.room }
+        requires free { is_held x self.old.queue ≡ false }
+        ensures { self.new ≡ record self.old { queue = self.old.queue ++ dated x at ∷ [] } }
+    {
+        let place = place_behind(&mut self.places, &mut self.heap, self.end);
+        put(
+            &mut self.places,
+            &mut self.heap,
+            place,
+            Dated {
+                thread: x,
+                date: at,
+            },
+        );
+        self.end = place + 1;
+    }
+}
+
+/// Puts the entry into a place and onto the heap.
+fn put(
+    places: &mut [Option<Dated>],
+    heap: &mut BinaryHeap<Reverse<Due>>,
+    place: usize,
+    entry: Dated,
+)
+    requires within { place < length places.old }
+    requires room { heap_len heap.old < heap_capacity heap.old }
+    ensures places { places.new ≡ slice_set places.old place (Some entry) }
+    ensures heap { IsPermutation (due_at place entry ∷ heap_items heap.old) (heap_items heap.new) }
+    ensures order { KeepsHeap due_cmp (heap_items heap.old) (heap_items heap.new) }
+    ensures capacity { heap_capacity heap.old ≤ heap_capacity heap.new }
+{
+    let due = Due {
+        date: entry.date,
+        place,
+        thread: entry.thread,
+    };
+    places[place] = Some(entry);
+    let pushed = heap.push(Reverse(due)).is_ok();
+    prove!(pushed);
+}
+
+/// Moves all entries to the front in their order, and answers how many there are.
+fn close_up(places: &mut [Option<Dated>], heap: &mut BinaryHeap<Reverse<Due>>) -> usize
+    requires { length (entered places.old) ≤ heap_capacity heap.old }
+    ensures entered { entered places.new ≡ entered places.old }
+    ensures count { result ≡ length (entered places.old) }
+    ensures placed { IsPlaced places.new result (heap_items heap.new) }
+    ensures capacity { heap_capacity heap.old ≤ heap_capacity heap.new }
+{
+    heap.clear();
+    let mut end = 0;
+    for i in 0..places.len() {
+        if let Some(entry) = places[i] {
+            places[i] = None;
+            put(places, heap, end, entry);
+            end += 1;
+        }
+    }
+    end
+}
+
+/// An empty place behind all entries: the first one where there is no entry, and where the last place was taken, the entries
+/// move to the front. That comes once in as many entrances as there are threads, at most.
+fn place_behind(
+    places: &mut [Option<Dated>],
+    heap: &mut BinaryHeap<Reverse<Due>>,
+    end: usize,
+) -> usize
+    requires placed { IsPlaced places.old end (heap_items heap.old) }
+    requires room { length (entered places.old) ≤ heap_capacity heap.old }
+    requires some { length (entered places.old) < length places.old }
+    ensures within { result < length places.new }
+    ensures entered { entered places.new ≡ entered places.old }
+    ensures placed { IsPlaced places.new result (heap_items heap.new) }
+    ensures capacity { heap_capacity heap.old ≤ heap_capacity heap.new }
+{
+    if heap.is_empty() {
+        0
+    } else if end < places.len() {
+        end
+    } else {
+        close_up(places, heap)
+    }
+}
+
+/// A fact of every release queue: no thread is held twice, and each has a number that there is room for.
+pub fn held_once(releases: &Releases)
+    ensures distinct { AreDistinct releases.now.queue }
+    ensures below { AreBelow releases.now.room releases.now.queue }
+{
+    let _ = &releases.room;
+}
+
+#[cfg(test)]
+impl Releases {
+    /// Whether `x` is held, by a look at every place.
+    pub(crate) fn holds(&self, x: ThreadId) -> bool
+        ensures { result ≡ is_held x self.now.queue }
+    {
+        holds_in(&self.places, x)
+    }
+}
+
+#[cfg(test)]
+fn holds_in(places: &[Option<Dated>], x: ThreadId) -> bool
+    ensures { result ≡ is_held x (entered places.now) }
+{
+    for place in places {
+        if let Some(entry) = place {
+            if entry.thread == x {
+                return true;
+            }
+        }
+    }
+    false
+}

@@ -1,0 +1,222 @@
+-- In a schedule each run of a thread is stopped before the next one.
+use Rattle.std.proofs.Common.{◌≡◌, ◌≢◌, ℕ, zero, suc, ◌+◌, ◌<◌, ◌≤◌, Bool, true, false, cond, ◌==◌, ◌⊎◌, inl, inr, List, [], ◌∷◌, ◌++◌, length, map, get_or, Option, Some, None, refl, sym, ap, subst, ◌∙◌, arith}
+use Rattle.std.specs.Prelude.{filter, flat_map}
+use Rattle.std.specs.List.{range_with_len}
+use Rattle.std.proofs.lemmas.Bool.{cases_lt}
+use Rattle.std.proofs.lemmas.Bool.Decides.{nat_tests}
+use Rattle.std.proofs.lemmas.List.{get_or_past, map-append}
+use Rattle.std.proofs.lemmas.List.FromFn.{get_or-map-range_with_len}
+use Rattle.std.proofs.lemmas.List.Sums.{sum_by-cons}
+use Rattle.mcs_ticks.specs.declared.row.Row.{Row}
+use Rattle.mcs_ticks.specs.declared.row.What.{What}
+use Rattle.mcs_notify.specs.Note.{Note, quiet_note}
+use Rattle.mcs_release.specs.declared.dated.Dated.{Dated}
+use Rattle.mcs_core.specs.declared.standing.Chosen.{Chosen}
+use Rattle.mcs_core.specs.declared.part.ThreadPart.{ThreadPart}
+use Rattle.mcs_core.specs.System.{System, TakesTime, no_thread, no_context, thread_part, context_part, core_of}
+use Rattle.mcs_core.specs.Core.{Core, opening_core, opening_releases}
+use Rattle.mcs_core.specs.Clock as clocks
+use Rattle.mcs_core.specs.WellFormed.{IsWellFormed}
+use Rattle.mcs_core.proofs.Clock.{core_at-world, rows-clock}
+use Rattle.mcs_laws.specs.Places.{times_running, times_queued, times_dated, times_waiting, places}
+use Rattle.mcs_laws.proofs.Places.{turn-held}
+use Rattle.mcs_report.specs.Reports.{runs, stops}
+use Rattle.mcs_report.specs.Agree.{StopsFirst, RunsApart}
+use Rattle.mcs_report.specs.Schedules.{SchedulesRunApart, SchedulesAreReported}
+use Rattle.mcs_report.proofs.Agree.{agree}
+use Rattle.mcs_report.proofs.Walks.{Walks, ArePlain, is_open, after_row, walks-append, walks-plain, turn-turns}
+
+abbrev whats : List Row → List What
+whats rows = map (λ r. r.what) rows
+
+not_again : (run before : Bool) → before ≡ true → (run ≡ true → before ≡ false) → run ≡ false
+not_again true before e h = absurd (let g = h refl in cc)
+not_again false before e h = refl
+
+still : (run stop before : Bool) → before ≡ true → stop ≡ false → cond run true (cond stop false before) ≡ true
+still true stop before e f = refl
+still false stop before e f = rw (f, e) refl
+
+-- rows through which a thread walks keep its runs apart
+apart-walks : (x : ℕ) (rows : List Row) (before last : Bool) → Walks x before (whats rows) last → RunsApart x rows × (before ≡ true → StopsFirst x rows)
+apart-walks x [] before last walks = (tt, λ e. tt)
+apart-walks x (r ∷ rows) before last walks =
+    let rest = apart-walks x rows (after_row x r.what before) last walks.1 in
+    let began : runs x r.what ≡ true → after_row x r.what before ≡ true = λ e. ap (λ b. cond b true (cond (stops x r.what) false before)) e in (
+      (λ e. rest.1 (began e), rest.0),
+      λ e. (not_again (runs x r.what) before e walks.0, λ f. rest.1 (still (runs x r.what) (stops x r.what) before e f)),
+    )
+
+abbrev one_if : Bool → ℕ
+one_if b = cond b 1 0
+
+-- a thread that has no place on a core does not run there
+shut : (x : ℕ) (running : Option Chosen) → times_running x running ≡ 0 → is_open x running ≡ false
+shut x None e = refl
+shut x (Some chosen) e = by (chosen.thread == x) e
+  where
+    by : (b : Bool) → one_if b ≡ 0 → b ≡ false
+    by true e = absurd (omega arith)
+    by false e = refl
+
+absent : (x : ℕ) (k : Core) → places x k ≡ 0 → is_open x k.running ≡ false
+absent x k e = shut x k.running (omega arith)
+
+-- at first a thread has no place on a core that is not its own
+no_date : (system : System) (c x n : ℕ) (threads : List ThreadPart)
+    → ((i : ℕ) → i < length threads → core_of system (get_or threads i no_thread) ≡ c → n + i ≢ x) → times_dated x (opening_releases system c n threads) ≡ 0
+no_date system c x n [] h = refl
+no_date system c x n (part ∷ parts) h = by (core_of system part == c) refl (no_date system c x (n + 1) parts (λ i l e q. h (suc i) (omega arith) e (omega arith)))
+  where
+    others : List Dated
+    others = opening_releases system c (n + 1) parts
+
+    equal : (a b : ℕ) → (a == b) ≡ true → a ≡ b
+    equal a b e = grind (arith, nat_tests)
+
+    another : (a b : ℕ) → a ≢ b → one_if (a == b) ≡ 0
+    another a b h = grind (arith, nat_tests)
+
+    by : (b : Bool) → (core_of system part == c) ≡ b → times_dated x others ≡ 0 →
+        times_dated x (cond b (record { thread = n; date = part.start } ∷ others) others) ≡ 0
+    by true e none =
+        omega (
+          arith,
+          none,
+          sum_by-cons (λ (dated : Dated). cond (dated.thread == x) 1 0) (record { thread = n; date = part.start }) others,
+          another n x (λ q. h 0 (omega arith) (equal (core_of system part) c e) (omega arith)),
+        )
+    by false e none = none
+
+none_waits : {A : Type 0} (x : ℕ) (things : List A) → times_waiting x (map (λ _. quiet_note) things) ≡ 0
+none_waits x [] = refl
+none_waits x (thing ∷ things) =
+    omega (arith, sum_by-cons (λ (note : Note). times_queued x note.waiters) quiet_note (map (λ _. quiet_note) things), none_waits x things)
+
+own_core : System → ℕ → ℕ
+own_core system x = core_of system (thread_part system x)
+
+no_place : (system : System) (c x : ℕ) → c ≢ own_core system x → places x (opening_core system c) ≡ 0
+unfolding own_core
+no_place system c x away =
+    omega (arith, no_date system c x 0 system.threads (λ i l e q. away (elsewhere i (omega arith) e)), none_waits x system.notes)
+  where
+    elsewhere : (i : ℕ) → i ≡ x → core_of system (get_or system.threads i no_thread) ≡ c → c ≡ core_of system (thread_part system x)
+    elsewhere i q e = sym e ∙ ap (λ k. core_of system (get_or system.threads k no_thread)) q
+
+module _ (system : System) (takes_time : TakesTime system) (x : ℕ) where
+  core : ℕ → ℕ → Core
+  core t c = clocks.core_at system (clocks.world system t) c
+
+  away : (t c : ℕ) → c < system.cores → c ≢ own_core system x → places x (clocks.core_at system (clocks.world system t) c) ≡ 0
+  away zero c known other =
+      rw (get_or-map-range_with_len (opening_core system) 0 system.cores c c (opening_core system c) known (omega arith)) (no_place system c x other)
+  away (suc t) c known other =
+      rw (core_at-world system takes_time t c known)
+      (still_none _ _ (turn-held system c t x (filter (clocks.arrives_at system t c) (clocks.world system t).mails) (clocks.core_at system (clocks.world system t) c)) (away t c known other))
+    where
+      still_none : (a b : ℕ) → a ≤ b → b ≡ 0 → a ≡ 0
+      still_none a b p q = omega arith
+
+  going : ℕ → ℕ → Bool
+  going t c = is_open x (clocks.core_at system (clocks.world system t) c).running
+
+  -- the turn of core c at t
+  turn-walks : (t c : ℕ) → c < system.cores → Walks x (going t c) (clocks.turn_of system c t).rows (going (suc t) c)
+  unfolding going
+  turn-walks t c known =
+      rw (core_at-world system takes_time t c known)
+      (turn-turns system c t x (filter (clocks.arrives_at system t c) (clocks.world system t).mails) (clocks.core_at system (clocks.world system t) c)).walks
+
+  turn-plain : (t c : ℕ) → c < system.cores → c ≢ own_core system x → ArePlain x (clocks.turn_of system c t).rows
+  turn-plain t c known other =
+      let turn = turn-turns system c t x (filter (clocks.arrives_at system t c) (clocks.world system t).mails) (clocks.core_at system (clocks.world system t) c) in
+      let after = absent x (clocks.core_at system (clocks.world system (suc t)) c) (away (suc t) c known other) in
+      turn.plain
+      (absent x (clocks.core_at system (clocks.world system t) c) (away t c known other))
+      (rw (core_at-world system takes_time t c known) at after)
+
+  same_whats : (t c : ℕ) (ws : List What) → whats (map (λ what. record { moment = t; core = c; what = what }) ws) ≡ ws
+  same_whats t c [] = refl
+  same_whats t c (w ∷ ws) = ap (λ us. w ∷ us) (same_whats t c ws)
+
+  whats-rows : (t c : ℕ) (rest : List Row) → whats (clocks.rows_of system c t ++ rest) ≡ (clocks.turn_of system c t).rows ++ whats rest
+  whats-rows t c rest =
+      map-append (λ (r : Row). r.what) (clocks.rows_of system c t) rest
+      ∙ ap (λ ws. ws ++ whats rest) (same_whats t c (clocks.turn_of system c t).rows)
+
+  -- the rows of the cores from a on, n of them
+  rows_from : ℕ → ℕ → ℕ → List Row
+  rows_from t a n = flat_map (λ c. clocks.rows_of system c t) (range_with_len a n)
+
+  -- past the thread's own core
+  walks-past : (t n a : ℕ) → own_core system x < a → a + n ≤ system.cores → (b : Bool) → Walks x b (whats (rows_from t a n)) b
+  unfolding rows_from
+  walks-past t zero a past within b = refl
+  walks-past t (suc n) a past within b =
+      let P : List What → Type 0 = λ ws. Walks x b ws b in
+      subst P (sym (whats-rows t a (flat_map (λ c. clocks.rows_of system c t) (range_with_len (a + 1) n))))
+      (walks-append x (clocks.turn_of system a t).rows (whats (flat_map (λ c. clocks.rows_of system c t) (range_with_len (a + 1) n))) b b b
+      (walks-plain x (clocks.turn_of system a t).rows b (turn-plain t a (omega arith) (λ e. omega arith)))
+      (walks-past t n (a + 1) (omega arith) (omega arith) b))
+
+  -- and from before it
+  walks-from : (t n a : ℕ) → a ≤ own_core system x → own_core system x < a + n → a + n ≤ system.cores
+      → Walks x (going t (own_core system x)) (whats (rows_from t a n)) (going (suc t) (own_core system x))
+  unfolding rows_from
+  walks-from t zero a before after within = absurd (omega arith)
+  walks-from t (suc n) a before after within =
+      let P : List What → Type 0 = λ ws. Walks x (going t (own_core system x)) ws (going (suc t) (own_core system x)) in
+      subst P (sym (whats-rows t a (flat_map (λ c. clocks.rows_of system c t) (range_with_len (a + 1) n))))
+      (by (cases_lt a (own_core system x)) (λ less. walks-from t n (a + 1) (omega arith) (omega arith) (omega arith)))
+    where
+      others : List What
+      others = whats (flat_map (λ c. clocks.rows_of system c t) (range_with_len (a + 1) n))
+
+      here : a ≡ own_core system x → Walks x (going t (own_core system x)) (clocks.turn_of system a t).rows (going (suc t) (own_core system x))
+      here e =
+          let P : ℕ → Type 0 = λ c. Walks x (going t c) (clocks.turn_of system a t).rows (going (suc t) c) in
+          subst P e (turn-walks t a (omega arith))
+
+      by : (a < own_core system x) ⊎ (own_core system x ≤ a)
+          → (a < own_core system x → Walks x (going t (own_core system x)) others (going (suc t) (own_core system x)))
+          → Walks x (going t (own_core system x)) ((clocks.turn_of system a t).rows ++ others) (going (suc t) (own_core system x))
+      by (inl less) rest =
+          walks-append x (clocks.turn_of system a t).rows others (going t (own_core system x)) (going t (own_core system x)) (going (suc t) (own_core system x))
+          (walks-plain x (clocks.turn_of system a t).rows (going t (own_core system x)) (turn-plain t a (omega arith) (λ e. omega arith)))
+          (rest less)
+      by (inr at) rest =
+          walks-append x (clocks.turn_of system a t).rows others (going t (own_core system x)) (going (suc t) (own_core system x)) (going (suc t) (own_core system x))
+          (here (omega arith))
+          (walks-past t n (a + 1) (omega arith) (omega arith) (going (suc t) (own_core system x)))
+
+  walks-clock : own_core system x < system.cores → (t : ℕ) → Walks x false (whats (clocks.clock system t).rows) (going t (own_core system x))
+  unfolding going rows_from
+  walks-clock known zero =
+      rw (get_or-map-range_with_len (opening_core system) 0 system.cores (own_core system x) (own_core system x) (opening_core system (own_core system x)) known (omega arith)) refl
+  walks-clock known (suc t) =
+      let P : List What → Type 0 = λ ws. Walks x false ws (going (suc t) (own_core system x)) in
+      subst P (sym (ap whats (rows-clock system takes_time t) ∙ map-append (λ (r : Row). r.what) (clocks.clock system t).rows (rows_from t 0 system.cores)))
+      (walks-append x (whats (clocks.clock system t).rows) (whats (rows_from t 0 system.cores)) false (going t (own_core system x)) (going (suc t) (own_core system x))
+      (walks-clock known t)
+      (walks-from t system.cores 0 (omega arith) (omega arith) (omega arith)))
+
+-- each thread has a core that there is
+core_of_context : (system : System) → IsWellFormed system → (context : ℕ) → (context_part system context).core < system.cores
+core_of_context system well context = by (cases_lt context (length system.contexts))
+  where
+    by : (context < length system.contexts) ⊎ (length system.contexts ≤ context) → (context_part system context).core < system.cores
+    by (inl within) = (well.contexts context no_context within).core
+    by (inr past) = rw (get_or_past system.contexts context no_context past) (omega (arith, well.limits.cores.0))
+
+own_core_known : (system : System) → IsWellFormed system → (x : ℕ) → own_core system x < system.cores
+unfolding own_core
+own_core_known system well x = core_of_context system well (thread_part system x).context
+
+pub apart : SchedulesRunApart
+apart system well horizon x =
+    (apart-walks x (clocks.schedule system horizon) false _
+    (walks-clock system (λ maker home. well.limits.delay.0) x (own_core_known system well x) (suc horizon))).0
+
+pub reported : SchedulesAreReported
+reported system well horizon = agree system horizon (clocks.schedule system horizon) (apart system well horizon)

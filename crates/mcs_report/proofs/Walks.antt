@@ -1,0 +1,342 @@
+-- On each core no thread runs before the one that runs has stopped.
+use Rattle.std.proofs.Common.{◌≡◌, ℕ, ◌+◌, Bool, true, false, not, cond, ◌==◌, List, [], ◌∷◌, ◌++◌, Option, Some, None, refl, sym, ap, subst, ◌∙◌}
+use Rattle.std.specs.Prelude.{filter, nat_lt}
+use Rattle.mcs_ticks.specs.Queue.{by_priority, first_of}
+use Rattle.mcs_ticks.specs.declared.queue.Queued.{Queued}
+use Rattle.mcs_ticks.specs.declared.row.What.{What}
+use Rattle.mcs_ticks.specs.declared.row.What.TheVariants as row
+use Rattle.mcs_ticks.specs.declared.row.Why.{Why}
+use Rattle.mcs_ticks.specs.declared.row.Why.TheVariants as why
+use Rattle.mcs_control.specs.declared.config.Order.{Order}
+use Rattle.mcs_control.specs.Context.{head_amount}
+use Rattle.mcs_notify.specs.Note.{posted, after_post, waited, after_wait}
+use Rattle.mcs_notify.specs.declared.posted.Posted.{Posted}
+use Rattle.mcs_notify.specs.declared.posted.Posted.TheVariants.{Woke, Held}
+use Rattle.mcs_notify.specs.declared.posted.Waited.{Waited}
+use Rattle.mcs_notify.specs.declared.posted.Waited.TheVariants.{Got, Blocks}
+use Rattle.mcs_script.specs.declared.item.Item.{Item}
+use Rattle.mcs_script.specs.declared.item.Item.TheVariants.{Compute, Signal, Wait, Yield}
+use Rattle.mcs_script.specs.declared.moved.Moved.{Moved}
+use Rattle.mcs_script.specs.declared.moved.Moved.TheVariants.{Next, RoundEnds, AllDone}
+use Rattle.mcs_release.specs.declared.dated.Dated.{Dated}
+use Rattle.mcs_mail.specs.declared.mail.Mail.{Mail}
+use Rattle.mcs_core.specs.declared.standing.Chosen.{Chosen}
+use Rattle.mcs_core.specs.declared.standing.Standing.TheVariants.{Blocked, Done}
+use Rattle.mcs_core.specs.System.{System, note_part}
+use Rattle.mcs_core.specs.Core.{Core, note_of, thread_of, with_note, off}
+use Rattle.mcs_core.specs.Turn as turns
+use Rattle.mcs_core.specs.Turn.{Turn, each, silent, says, ◌followed_by◌, is_for_now}
+use Rattle.mcs_report.specs.Reports.{runs, stops}
+
+module _ (x : ℕ) where
+  -- whether the thread runs after this row
+  abbrev pub after_row : What → Bool → Bool
+  after_row what going = cond (runs x what) true (cond (stops x what) false going)
+
+  -- from whether the thread runs before the rows to whether it runs after them: it begins to run only where it does not run
+  abbrev pub Walks : Bool → List What → Bool → Type 0
+  Walks before [] last = before ≡ last
+  Walks before (what ∷ rows) last = (runs x what ≡ true → before ≡ false) × Walks (after_row what before) rows last
+
+  -- no row is of a run or a stop of the thread
+  abbrev pub ArePlain : List What → Type 0
+  ArePlain [] = Unit {0}
+  ArePlain (what ∷ rows) = (runs x what ≡ false) × (stops x what ≡ false) × ArePlain rows
+
+  pub walks-append : (rows more : List What) (a b c : Bool) → Walks a rows b → Walks b more c → Walks a (rows ++ more) c
+  walks-append [] more a b c first second = let P : Bool → Type 0 = λ d. Walks d more c in subst P (sym first) second
+  walks-append (what ∷ rows) more a b c first second = (first.0, walks-append rows more (after_row what a) b c first.1 second)
+
+  plain-append : (rows more : List What) → ArePlain rows → ArePlain more → ArePlain (rows ++ more)
+  plain-append [] more first second = second
+  plain-append (what ∷ rows) more first second = (first.0, first.1, plain-append rows more first.2 second)
+
+  plain_row : (what : What) (going : Bool) → runs x what ≡ false → stops x what ≡ false → after_row what going ≡ going
+  plain_row what going e f = rw (e, f) refl
+
+  pub walks-plain : (rows : List What) (going : Bool) → ArePlain rows → Walks going rows going
+  walks-plain [] going plain = refl
+  walks-plain (what ∷ rows) going plain =
+      let P : Bool → Type 0 = λ b. Walks b rows going in
+      (λ e. absurd (let h = plain.0 in cc), subst P (sym (plain_row what going plain.0 plain.1)) (walks-plain rows going plain.2))
+
+  -- whether the thread is the one that runs
+  abbrev pub is_open : Option Chosen → Bool
+  is_open None = false
+  is_open (Some chosen) = chosen.thread == x
+
+  -- a part of a turn without a run or a stop
+  pub record Plain (k : Core) (turn : Turn) : Type 0 where
+    pub running : turn.core.running ≡ k.running
+    pub rows : ArePlain turn.rows
+
+  -- a part that may stop the running thread
+  pub record Quits (k : Core) (turn : Turn) : Type 0 where
+    pub walks : Walks (is_open k.running) turn.rows (is_open turn.core.running)
+    pub plain : is_open k.running ≡ false → (is_open turn.core.running ≡ false) × ArePlain turn.rows
+
+  plain-then : (k : Core) (first : Turn) (part : Core → Turn) → Plain k first → Plain first.core (part first.core) → Plain k (first followed_by part)
+  plain-then k first part p q = record { running = q.running ∙ p.running; rows = plain-append first.rows (part first.core).rows p.rows q.rows }
+
+  plain-quits : (k : Core) (turn : Turn) → Plain k turn → Quits k turn
+  plain-quits k turn p =
+      let same : is_open turn.core.running ≡ is_open k.running = ap is_open p.running in
+      let P : Bool → Type 0 = λ b. Walks (is_open k.running) turn.rows b in
+      record { walks = subst P (sym same) (walks-plain turn.rows (is_open k.running) p.rows); plain = λ e. (same ∙ e, p.rows) }
+
+  quits-then : (k : Core) (first : Turn) (part : Core → Turn) → Quits k first → Quits first.core (part first.core) → Quits k (first followed_by part)
+  quits-then k first part p q =
+      record {
+        walks = walks-append first.rows (part first.core).rows (is_open k.running) (is_open first.core.running) (is_open (part first.core).core.running) p.walks q.walks;
+        plain = λ e. let f = p.plain e in let g = q.plain f.0 in (g.0, plain-append first.rows (part first.core).rows f.1 g.1);
+      }
+
+  quits-each : {A : Type 0} (part : A → Core → Turn) → ((item : A) (k : Core) → Quits k (part item k)) → (items : List A) (k : Core) → Quits k (each part items k)
+  quits-each part h [] k = plain-quits k (silent k) record { running = refl; rows = tt }
+  quits-each part h (item ∷ items) k =
+      quits-then k (part item k) (each part items) (h item k) (quits-each part h items (part item k).core)
+
+  by_test : (P : Turn → Type 0) (b : Bool) (u v : Turn) → P u → P v → P (cond b u v)
+  by_test P true u v p q = p
+  by_test P false u v p q = q
+
+  -- the running thread stops
+  stop_row : (y k : ℕ) (cause : Why) (date : Option ℕ) (running : Option Chosen) (using : ℕ) → running ≡ Some (record { thread = y; using = using })
+      → (after_row (row.Stop y cause k date) (is_open running) ≡ false) × (is_open running ≡ false → stops x (row.Stop y cause k date) ≡ false)
+  stop_row y k cause date running using e =
+      (ap (λ o. cond (y == x) false (is_open o)) e ∙ by (y == x), λ f. sym (ap is_open e) ∙ f)
+    where
+      by : (b : Bool) → cond b false b ≡ false
+      by true = refl
+      by false = refl
+
+  quits-stop : (y k using : ℕ) (cause : Why) (date : Option ℕ) (from : Core) (turn : Turn) → from.running ≡ Some (record { thread = y; using = using })
+      → turn.rows ≡ row.Stop y cause k date ∷ [] → turn.core.running ≡ None → Quits from turn
+  quits-stop y k using cause date from turn e rows gone =
+      let s = stop_row y k cause date from.running using e in
+      let shut : is_open turn.core.running ≡ false = ap is_open gone in
+      let P : List What → Type 0 = λ ws. Walks (is_open from.running) ws (is_open turn.core.running) in
+      let Q : List What → Type 0 = ArePlain in
+      record {
+        walks = subst P (sym rows) (λ f. cc, s.0 ∙ sym shut);
+        plain = λ f. (shut, subst Q (sym rows) (refl, s.1 f, tt));
+      }
+
+-- the parts of a turn
+module _ (system : System) (t x : ℕ) where
+  enters_back-running : (y : ℕ) (date : Option ℕ) (k : Core) → (turns.enters_back by_priority system y date k).running ≡ k.running
+  enters_back-running y None k = refl
+  enters_back-running y (Some date) k = refl
+
+  enters_front-running : (y : ℕ) (date : Option ℕ) (k : Core) → (turns.enters_front by_priority system y date k).running ≡ k.running
+  enters_front-running y None k = refl
+  enters_front-running y (Some date) k = refl
+
+  moves-plain : (y : ℕ) (move : Moved) (k : Core) → Plain x k (turns.moves system t y move k)
+  moves-plain y Next k = record { running = refl; rows = tt }
+  moves-plain y RoundEnds k = record { running = refl; rows = (refl, refl, tt) }
+  moves-plain y AllDone k = record { running = refl; rows = (refl, refl, tt) }
+
+  wakes-plain : (y : ℕ) (k : Core) → Plain x k (turns.wakes by_priority system t y k)
+  wakes-plain y k =
+      let woken = turns.given system t y (turns.unblocked by_priority system t y k) in
+      let first = turns.moves_on system t y woken in
+      let p = moves-plain y (turns.move_of system t y woken) woken in
+      plain-then x k first (λ core. silent (turns.enters_back by_priority system y (turns.date_of system t y core) core))
+      record { running = p.running; rows = p.rows }
+      record { running = enters_back-running y (turns.date_of system t y first.core) first.core; rows = tt }
+
+  posts_as-plain : (note : ℕ) (post : Posted) (k : Core) → Plain x k (turns.posts_as by_priority system t note post k)
+  posts_as-plain note (Woke y word) k =
+      let noted = with_note note (after_post (Woke y word) (note_of k note)) k in
+      let p = wakes-plain y noted in
+      record { running = p.running; rows = plain-append x (row.Wake y note word ∷ []) (turns.wakes by_priority system t y noted).rows (refl, refl, tt) p.rows }
+  posts_as-plain note (Held word) k = record { running = refl; rows = (refl, refl, tt) }
+
+  posts-plain : (note badge : ℕ) (k : Core) → Plain x k (turns.posts by_priority system t note badge k)
+  posts-plain note badge k = posts_as-plain note (posted badge (note_of k note)) k
+
+  arrives-quits : (mail : Mail) (k : Core) → Quits x k (turns.arrives by_priority system t mail k)
+  arrives-quits mail k =
+      let p = posts-plain mail.note mail.badge k in
+      plain-quits x k (turns.arrives by_priority system t mail k)
+      record { running = p.running; rows = plain-append x (row.Arrive mail.note mail.badge mail.maker ∷ []) (turns.posts by_priority system t mail.note mail.badge k).rows (refl, refl, tt) p.rows }
+
+  silent-quits : (k after : Core) → after.running ≡ k.running → Quits x k (silent after)
+  silent-quits k after e = plain-quits x k (silent after) record { running = e; rows = tt }
+
+  stops_to_front-quits : (y using k : ℕ) (cause : Why) (from core : Core) → from.running ≡ Some (record { thread = y; using = using })
+      → Quits x from (turns.stops_to_front by_priority system t y cause k core)
+  stops_to_front-quits y using k cause from core e =
+      quits-stop x y k using cause (turns.date_of system t y core) from (turns.stops_to_front by_priority system t y cause k core) e refl
+      (enters_front-running y (turns.date_of system t y core) (off core))
+
+  orders_running-quits : (order : Order) (o : Option Chosen) (k : Core) → k.running ≡ o → Quits x k (turns.orders_running by_priority system t order o k)
+  orders_running-quits order None k e = silent-quits k (turns.applied by_priority system t order k) refl
+  orders_running-quits order (Some chosen) k e =
+      let core = turns.applied by_priority system t order (turns.charged system chosen.thread chosen.using k) in
+      by_test x (λ turn. Quits x k turn) ((turns.part_of system chosen.thread).context == order.context)
+      (turns.stops_to_front by_priority system t chosen.thread why.Order chosen.using core)
+      (silent (turns.applied by_priority system t order k))
+      (stops_to_front-quits chosen.thread chosen.using chosen.using why.Order k core e)
+      (silent-quits k (turns.applied by_priority system t order k) refl)
+
+  says-quits : (what : What) (k : Core) → runs x what ≡ false → stops x what ≡ false → Quits x k (says what k)
+  says-quits what k e f = plain-quits x k (says what k) record { running = refl; rows = (e, f, tt) }
+
+  obeys-quits : (order : Order) (k : Core) → Quits x k (turns.obeys by_priority system t order k)
+  obeys-quits order k =
+      quits-then x k (says (row.Order order.context) k) (λ core. turns.orders_running by_priority system t order core.running core)
+      (says-quits (row.Order order.context) k refl refl)
+      (orders_running-quits order k.running k refl)
+
+  released-quits : (due : Dated) (k : Core) → Quits x k (turns.released by_priority system t due k)
+  released-quits due k = plain-quits x k (turns.released by_priority system t due k) record { running = refl; rows = (refl, refl, tt) }
+
+  releases-quits : (k : Core) → Quits x k (turns.releases by_priority system t k)
+  releases-quits k =
+      let left = record k { releases = filter (λ dated. not (turns.is_due by_priority system t dated)) k.releases } in
+      let q = quits-each x (turns.released by_priority system t) released-quits (filter (turns.is_due by_priority system t) k.releases) left in
+      record { walks = q.walks; plain = q.plain }
+
+  preempts_by-quits : (o : Option Chosen) (best : Option Queued) (k : Core) → k.running ≡ o → Quits x k (turns.preempts_by by_priority system t o best k)
+  preempts_by-quits (Some chosen) (Some best) k e =
+      let core = turns.charged system chosen.thread chosen.using k in
+      by_test x (λ turn. Quits x k turn) (nat_lt (turns.part_of system chosen.thread).priority best.priority)
+      (turns.stops_to_front by_priority system t chosen.thread why.Preempt chosen.using core)
+      (silent k)
+      (stops_to_front-quits chosen.thread chosen.using chosen.using why.Preempt k core e)
+      (silent-quits k k refl)
+  preempts_by-quits (Some chosen) None k e = silent-quits k k refl
+  preempts_by-quits None best k e = silent-quits k k refl
+
+-- the end of the tick, the choice, and the whole turn
+module _ (system : System) (c t x : ℕ) where
+  stops_to_back-quits : (y using k : ℕ) (cause : Why) (core : Core) → core.running ≡ Some (record { thread = y; using = using })
+      → Quits x core (turns.stops_to_back by_priority system t y cause k core)
+  stops_to_back-quits y using k cause core e =
+      let after = turns.charged system y k core in
+      quits-stop x y k using cause (turns.date_of system t y after) core (turns.stops_to_back by_priority system t y cause k core) e refl
+      (enters_back-running system t x y (turns.date_of system t y after) (off after))
+
+  spent-quits : (y using : ℕ) (k : Core) → k.running ≡ Some (record { thread = y; using = using })
+      → Quits x k (turns.may_stop by_priority system c t y using why.Spent k)
+  spent-quits y using k e =
+      by_test x (λ turn. Quits x k turn) (using == head_amount (turns.its_context system y k))
+      (turns.stops_to_back by_priority system t y why.Spent using k)
+      (silent k)
+      (stops_to_back-quits y using using why.Spent k e)
+      (silent-quits system t x k k refl)
+
+  may_stop-quits : (y using : ℕ) (cause : Why) (k : Core) → k.running ≡ Some (record { thread = y; using = using })
+      → Quits x k (turns.may_stop by_priority system c t y using cause k)
+  may_stop-quits y using why.Done k e = quits-stop x y using using why.Done None k (turns.stops by_priority system t y why.Done using Done k) e refl refl
+  may_stop-quits y using why.Wait k e = quits-stop x y using using why.Wait None k (turns.stops by_priority system t y why.Wait using Blocked k) e refl refl
+  may_stop-quits y using why.Yield k e = stops_to_back-quits y using (head_amount (turns.its_context system y k)) why.Yield k e
+  may_stop-quits y using why.Spent k e = spent-quits y using k e
+  may_stop-quits y using why.Preempt k e = spent-quits y using k e
+  may_stop-quits y using why.Order k e = spent-quits y using k e
+
+  signals-plain : (y note badge : ℕ) (k : Core) → Plain x k (turns.signals by_priority system c t y note badge k)
+  signals-plain y note badge k =
+      let sent : Turn = record { core = k; rows = []; mails = turns.mail_to by_priority system c t note badge ∷ [] } in
+      let p : Plain x k (cond ((note_part system note).core == c) (turns.posts by_priority system t note badge k) sent) =
+      by_test x (λ turn. Plain x k turn) ((note_part system note).core == c) (turns.posts by_priority system t note badge k) sent
+      (posts-plain system t x note badge k)
+      record { running = refl; rows = tt }
+      in
+      plain-then x k (says (row.Signal y note badge) k)
+      (λ core. cond ((note_part system note).core == c) (turns.posts by_priority system t note badge core) (record { core = core; rows = []; mails = turns.mail_to by_priority system c t note badge ∷ [] }))
+      record { running = refl; rows = (refl, refl, tt) }
+      p
+
+  waits_as-plain : (y note : ℕ) (w : Waited) (k : Core) → Plain x k (turns.waits_as system t y note w k)
+  waits_as-plain y note (Got word) k =
+      let given = turns.given system t y (with_note note (after_wait (Got word) (turns.queued system y) (note_of k note)) k) in
+      let p = moves-plain system t x y (turns.move_of system t y given) given in
+      record { running = p.running; rows = plain-append x (row.Got y note word ∷ []) (turns.moves_on system t y given).rows (refl, refl, tt) p.rows }
+  waits_as-plain y note Blocks k = record { running = refl; rows = tt }
+
+  effect-plain : (y : ℕ) (item : Option Item) (k : Core) → Plain x k (turns.takes_effect by_priority system c t y item k)
+  effect-plain y (Some (Signal note badge)) k =
+      let first = turns.signals by_priority system c t y note badge k in
+      plain-then x k first (turns.moves_on system t y) (signals-plain y note badge k) (moves-plain system t x y (turns.move_of system t y first.core) first.core)
+  effect-plain y (Some (Wait note)) k = waits_as-plain y note (waited (note_of k note)) k
+  effect-plain y (Some (Compute ticks)) k = moves-plain system t x y (turns.move_of system t y k) k
+  effect-plain y (Some Yield) k = moves-plain system t x y (turns.move_of system t y k) k
+  effect-plain y None k = record { running = refl; rows = tt }
+
+  finishes-quits : (y using : ℕ) (item : Option Item) (k : Core) → k.running ≡ Some (record { thread = y; using = using })
+      → Quits x k (turns.finishes by_priority system c t y using item k)
+  finishes-quits y using item k e =
+      let effect = turns.takes_effect by_priority system c t y item k in
+      let cause = turns.stop_after by_priority system c t y item k in
+      let p = effect-plain y item k in
+      quits-then x k effect (turns.may_stop by_priority system c t y using cause) (plain-quits x k effect p) (may_stop-quits y using cause effect.core (p.running ∙ e))
+
+  after_count-quits : (y using : ℕ) (k : Core) → k.running ≡ Some (record { thread = y; using = using })
+      → Quits x k (turns.after_count by_priority system c t y using k)
+  after_count-quits y using k e =
+      by_test x (λ turn. Quits x k turn) ((thread_of k y).place.left == 0)
+      (turns.finishes by_priority system c t y using (turns.item_of system t y k) k)
+      (turns.may_stop by_priority system c t y using why.Spent k)
+      (finishes-quits y using (turns.item_of system t y k) k e)
+      (spent-quits y using k e)
+
+  same_runner : (k from : Core) (turn : Turn) → is_open x from.running ≡ is_open x k.running → Quits x from turn → Quits x k turn
+  same_runner k from turn e q =
+      let P : Bool → Type 0 = λ b. Walks x b turn.rows (is_open x turn.core.running) in
+      record { walks = subst P e q.walks; plain = λ f. q.plain (e ∙ f) }
+
+  tick_of-quits : (o : Option Chosen) (k : Core) → k.running ≡ o → Quits x k (turns.tick_of by_priority system c t o k)
+  tick_of-quits None k e = silent-quits system t x k k refl
+  tick_of-quits (Some chosen) k e =
+      same_runner k (turns.counts chosen k) (turns.tick_of by_priority system c t (Some chosen) k)
+      (sym (ap (is_open x) e))
+      (after_count-quits chosen.thread (chosen.using + 1) (turns.counts chosen k) refl)
+
+  -- a turn, or its last part: the thread may begin to run
+  pub record Turns (k : Core) (turn : Turn) : Type 0 where
+    pub walks : Walks x (is_open x k.running) turn.rows (is_open x turn.core.running)
+    pub plain : is_open x k.running ≡ false → is_open x turn.core.running ≡ false → ArePlain x turn.rows
+
+  quits-turns : (k : Core) (turn : Turn) → Quits x k turn → Turns k turn
+  quits-turns k turn q = record { walks = q.walks; plain = λ e f. (q.plain e).1 }
+
+  turns-last : (k : Core) (first : Turn) (part : Core → Turn) → Quits x k first → Turns first.core (part first.core) → Turns k (first followed_by part)
+  turns-last k first part p q =
+      record {
+        walks = walks-append x first.rows (part first.core).rows (is_open x k.running) (is_open x first.core.running) (is_open x (part first.core).core.running) p.walks q.walks;
+        plain = λ e f. let g = p.plain e in plain-append x first.rows (part first.core).rows g.1 (q.plain g.0 f);
+      }
+
+  run_row : (y : ℕ) (before : Bool) → before ≡ false → after_row x (row.Run y) before ≡ (y == x)
+  run_row y before e = by (y == x)
+    where
+      by : (b : Bool) → cond b true before ≡ b
+      by true = refl
+      by false = e
+
+  chooses_of-turns : (o : Option Chosen) (best : Option Queued) (k : Core) → k.running ≡ o → Turns k (turns.chooses_of by_priority o best k)
+  chooses_of-turns (Some chosen) best k e = quits-turns k (silent k) (silent-quits system t x k k refl)
+  chooses_of-turns None None k e = quits-turns k (silent k) (silent-quits system t x k k refl)
+  chooses_of-turns None (Some best) k e =
+      let shut : is_open x k.running ≡ false = ap (is_open x) e in
+      record { walks = (λ f. shut, run_row best.thread (is_open x k.running) shut); plain = λ f g. (g, refl, tt) }
+
+  pub turn-turns : (mails : List Mail) (k : Core) → Turns k (turns.turn_with by_priority system c t mails k)
+  turn-turns mails k =
+      let first = turns.tick by_priority system c t k in
+      let second = first followed_by each (turns.arrives by_priority system t) mails in
+      let third = second followed_by each (turns.obeys by_priority system t) (filter (is_for_now system c t) system.orders) in
+      let fourth = third followed_by turns.releases by_priority system t in
+      let fifth = fourth followed_by turns.preempts by_priority system t in
+      let one = tick_of-quits k.running k refl in
+      let two = quits-then x k first (each (turns.arrives by_priority system t) mails) one (quits-each x (turns.arrives by_priority system t) (arrives-quits system t x) mails first.core) in
+      let three =
+      quits-then x k second (each (turns.obeys by_priority system t) (filter (is_for_now system c t) system.orders)) two
+      (quits-each x (turns.obeys by_priority system t) (obeys-quits system t x) (filter (is_for_now system c t) system.orders) second.core)
+      in
+      let four = quits-then x k third (turns.releases by_priority system t) three (releases-quits system t x third.core) in
+      let five = quits-then x k fourth (turns.preempts by_priority system t) four (preempts_by-quits system t x fourth.core.running (first_of fourth.core.ready) fourth.core refl) in
+      turns-last k fifth (turns.chooses by_priority) five (chooses_of-turns fifth.core.running (first_of fifth.core.ready) fifth.core refl)

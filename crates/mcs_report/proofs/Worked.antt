@@ -1,0 +1,120 @@
+-- Reports that were worked by hand, of the rows and of whole schedules.
+use Rattle.std.specs.Prelude.{◌≡◌, ℕ, List, [], ◌∷◌, Some, None, refl}
+use Rattle.mcs_ticks.specs.declared.row.Row.{Row}
+use Rattle.mcs_ticks.specs.declared.row.What.{What}
+use Rattle.mcs_ticks.specs.declared.row.What.TheVariants as row
+use Rattle.mcs_ticks.specs.declared.row.Why.TheVariants as why
+use Rattle.mcs_script.specs.declared.item.Item.{Item}
+use Rattle.mcs_script.specs.declared.item.Item.TheVariants.{Compute, Signal, Wait, Yield}
+use Rattle.mcs_core.specs.declared.part.ContextPart.{ContextPart}
+use Rattle.mcs_core.specs.declared.part.ThreadPart.{ThreadPart}
+use Rattle.mcs_core.specs.System.{System}
+use Rattle.mcs_core.specs.Clock.{schedule}
+use Rattle.mcs_report.specs.declared.reports.ThreadReport.{ThreadReport}
+use Rattle.mcs_report.specs.declared.reports.Reports.{Reports}
+use Rattle.mcs_report.specs.Reports.{thread_report, reports_of}
+
+abbrev context : ℕ → ℕ → ContextPart
+context budget period = record { name = []; core = 0; config = record { budget = budget; period = period; extra = 0 } }
+
+-- a thread: its context, priority, rounds, deadline and script
+abbrev thread : ℕ → ℕ → ℕ → ℕ → List Item → ThreadPart
+thread context priority rounds deadline script =
+    record { name = []; context = context; priority = priority; start = 0; rounds = rounds; deadline = deadline; script = script }
+
+abbrev one_core : List ContextPart → List ThreadPart → System
+one_core contexts threads =
+    record {
+      cores = 1;
+      delay = 1;
+      call = 1;
+      min_budget = 1;
+      contexts = contexts;
+      notes = record { name = []; core = 0 } ∷ [];
+      threads = threads;
+      orders = [];
+    }
+
+abbrev of_schedule : System → ℕ → Reports
+of_schedule system horizon = reports_of system horizon (schedule system horizon)
+
+-- a report: what it ran, its rounds, responses, late rounds, spent heads and waits
+abbrev report : ℕ → ℕ → ℕ → ℕ → ℕ → ℕ → ℕ → ℕ → ℕ → ThreadReport
+report ran rounds least greatest total late spent throttled longest =
+    record {
+      ran = ran;
+      rounds = rounds;
+      least = least;
+      greatest = greatest;
+      total = total;
+      late = late;
+      spent = spent;
+      throttled = throttled;
+      longest = longest;
+    }
+
+-- budget 2 of 5 for five ticks of work
+abbrev depletes : System
+depletes = one_core (context 2 5 ∷ []) (thread 0 5 1 0 (Compute 5 ∷ []) ∷ [])
+
+depletes_and_refills :
+    of_schedule depletes 10
+    ≡ record { threads = report 4 0 0 0 0 0 2 6 3 ∷ []; cores = record { busy = 4; idle = 6 } ∷ [] }
+depletes_and_refills = refl
+
+-- the run from 5 is open and counts up to the horizon
+open_run_counts :
+    of_schedule depletes 6
+    ≡ record { threads = report 3 0 0 0 0 0 1 3 3 ∷ []; cores = record { busy = 3; idle = 3 } ∷ [] }
+open_run_counts = refl
+
+-- a thread of high priority is woken and preempts the one that signals it
+wake_preempts :
+    of_schedule
+    (one_core
+    (context 10 100 ∷ context 10 100 ∷ context 5 50 ∷ [])
+    (thread 0 5 1 0 (Compute 2 ∷ Signal 0 1 ∷ Compute 4 ∷ [])
+    ∷ thread 1 5 1 0 (Compute 2 ∷ [])
+    ∷ thread 2 9 1 0 (Wait 0 ∷ Compute 1 ∷ [])
+    ∷ []))
+    11
+    ≡ record {
+      threads = report 7 1 9 9 9 0 0 0 0 ∷ report 2 1 11 11 11 0 0 0 0 ∷ report 2 1 1 1 1 0 0 0 0 ∷ [];
+      cores = record { busy = 11; idle = 0 } ∷ [];
+    }
+wake_preempts = refl
+
+-- the responses are 2 and 10, and the deadline is 9
+one_response_late :
+    of_schedule (one_core (context 4 10 ∷ []) (thread 0 5 2 9 (Compute 1 ∷ Yield ∷ []) ∷ [])) 12
+    ≡ record { threads = report 4 2 2 10 12 1 0 0 0 ∷ []; cores = record { busy = 4; idle = 8 } ∷ [] }
+one_response_late = refl
+
+abbrev at : ℕ → What → Row
+at moment what = record { moment = moment; core = 0; what = what }
+
+-- a wait counts up to the horizon alone
+order_stops_the_runner :
+    thread_report
+    10
+    (at 0 (row.Run 0)
+    ∷ at 4 (row.Stop 0 why.Order 4 None)
+    ∷ at 4 (row.Run 0)
+    ∷ at 10 (row.Stop 0 why.Spent 6 (Some 54))
+    ∷ [])
+    0
+    0
+    ≡ report 10 0 0 0 0 0 1 0 0
+order_stops_the_runner = refl
+
+-- a sum stops at the greatest number
+sums_end_at_the_greatest :
+    thread_report 2 (at 1 (row.Round 0 1 9) ∷ at 2 (row.Round 0 2 18446744073709551615) ∷ []) 0 9
+    ≡ report 0 2 9 18446744073709551615 18446744073709551615 1 0 0 0
+sums_end_at_the_greatest = refl
+
+-- cores without threads
+idle_cores :
+    of_schedule (record (one_core [] []) { cores = 2 }) 1
+    ≡ record { threads = []; cores = record { busy = 0; idle = 1 } ∷ record { busy = 0; idle = 1 } ∷ [] }
+idle_cores = refl

@@ -1,0 +1,23 @@
+ghost use Rattle.mcs_report.specs.Agree.{Agree, AgreeButRan};
+ghost use Rattle.mcs_report.specs.Schedules.{SchedulesRunApart, SchedulesAreReported};
+
+/// A law of tallies, for every list of rows in which each run of a thread is stopped before the next one, as in every schedule:
+/// what is finished after adding the rows is the reports of the rows.
+pub fn tallies_give_reports()
+    ensures { Agree }
+{}
+
+/// A law of tallies, for every list of rows: the reports of the threads agree but for the ticks that they ran.
+pub fn tallies_give_reports_but_ran()
+    ensures { AgreeButRan }
+{}
+
+/// A law of the clock: in the schedule of a well-formed system each run of a thread is stopped before its next one.
+pub fn schedules_run_apart()
+    ensures { SchedulesRunApart }
+{}
+
+/// A law of the clock: what is finished after adding the rows of a schedule is the reports of the schedule.
+pub fn schedules_are_reported()
+    ensures { SchedulesAreReported }
+{}

@@ -1,0 +1,198 @@
+ghost use Rattle.std.specs.Prelude.{◌≡◌, ◌≤◌, ◌+◌, [], length, map, fold, vec_capacity, IfOk};
+ghost use Rattle.std.specs.List.{range_with_len};
+ghost use Rattle.mcs_core.specs.System.{core_of};
+ghost use Rattle.mcs_report.specs.Reports.{capped, core_report_of};
+ghost use Rattle.mcs_report.specs.Tally.{opened, told, report_at, ran_by, opened_tally, added, finished};
+
+use crate::account::Account;
+use crate::{CoreReport, Reports, ThreadReport};
+use mcs_core::{System, SystemParts, ThreadPart};
+use mcs_ticks::{CoreId, NoMemory, Row, Sequence, Tick, What};
+use std::alloc::Global;
+use std::marker::Model;
+
+/// What is counted of the rows of a schedule so far: for each thread the sums of its report and its open run. Rows are added one
+/// by one, each in constant time and without memory, since all room is taken when the tally is made. Contracts see the accounts
+/// of the threads, the horizon, the number of cores, and the moment of the last row.
+#[derive(Drop)]
+pub struct Tally {
+    horizon: Tick,
+    cores: usize,
+    last: Tick,
+    accounts: Vec<Account>,
+    // empty, with room for the reports
+    thread_reports: Vec<ThreadReport>,
+    core_reports: Vec<CoreReport>,
+}
+
+impl Model for Tally {
+    ghost use Rattle.std.specs.Prelude.{◌≡◌, ◌≤◌, [], length, vec_capacity};
+    ghost use Rattle.mcs_report.specs.Tally.{Tally};
+
+    ghost Value = { Tally };
+
+    ghost view = { λ a. record { horizon = a.horizon; cores = a.cores; last = a.last; accounts = a.accounts.items } };
+
+    ghost invariant = { λ a. (a.thread_reports.items ≡ []) × (length a.accounts.items ≤ vec_capacity a.thread_reports)
+        × (a.core_reports.items ≡ []) × (a.cores ≤ vec_capacity a.core_reports) };
+}
+
+fn core_of(parts: &SystemParts, thread: &ThreadPart) -> CoreId
+    ensures { result ≡ core_of parts.now thread.now }
+{
+    match parts.contexts.as_slice().get(thread.context.0) {
+        Some(context) => context.core,
+        None => CoreId(0),
+    }
+}
+
+fn opened_accounts(alloc: Global, parts: &SystemParts) -> Result<Vec<Account>, NoMemory>
+    ensures { IfOk result
+        (λ accounts. accounts.items ≡ map (λ thread. opened (core_of parts.now thread) thread.deadline) parts.now.threads) }
+{
+    let accounts = parts
+        .threads
+        .as_slice()
+        .iter()
+        .map(|thread| Account::new(core_of(parts, thread), thread.deadline))
+        .collect(alloc)?;
+    Ok(accounts)
+}
+
+#[tactic(auto, using(std::proofs::lemmas::List::set_past))]
+fn tell(accounts: &mut [Account], horizon: Tick, moment: Tick, what: What)
+    ensures { accounts.new ≡ told horizon moment what accounts.old }
+{
+    match what {
+        What::Run { thread } => {
+            if thread.0 < accounts.len() {
+                accounts[thread.0].begin(moment);
+            }
+        }
+        What::Stop {
+            thread,
+            why,
+            until,
+            ..
+        } => {
+            if thread.0 < accounts.len() {
+                accounts[thread.0].stop(horizon, moment, why, until);
+            }
+        }
+        What::Round {
+            thread,
+            response,
+            ..
+        } => {
+            if thread.0 < accounts.len() {
+                accounts[thread.0].respond(response);
+            }
+        }
+        _ => {}
+    }
+}
+
+fn all_thread_reports(
+    mut reports: Vec<ThreadReport>,
+    accounts: &[Account],
+    horizon: Tick,
+) -> Vec<ThreadReport>
+    requires empty { reports.items ≡ [] }
+    requires room { length accounts.now ≤ vec_capacity reports }
+    ensures { result.items ≡ map (report_at horizon) accounts.now }
+{
+    for account in accounts {
+        let pushed = reports.push(account.report_at(horizon));
+        prove!(pushed.is_ok());
+    }
+    reports
+}
+
+fn busy(accounts: &[Account], horizon: Tick, core: usize) -> u64
+    ensures { result ≡ fold (λ sum ran. capped (sum + ran)) 0 (ran_by horizon accounts.now core) }
+{
+    accounts
+        .iter()
+        .filter(|account| account.core.0 == core)
+        .map(|account| account.report_at(horizon).ran)
+        .fold(0u64, |sum, ran| sum.saturating_add(ran))
+}
+
+#[tactic(auto, using(crate::proofs::Accounts::fold_capped))]
+fn core_report(accounts: &[Account], horizon: Tick, core: usize) -> CoreReport
+    ensures { result ≡ core_report_of horizon (ran_by horizon accounts.now core) }
+{
+    let busy = busy(accounts, horizon, core);
+    CoreReport {
+        busy,
+        idle: horizon.get().saturating_sub(busy),
+    }
+}
+
+fn all_core_reports(
+    mut reports: Vec<CoreReport>,
+    accounts: &[Account],
+    horizon: Tick,
+    cores: usize,
+) -> Vec<CoreReport>
+    requires empty { reports.items ≡ [] }
+    requires room { cores ≤ vec_capacity reports }
+    ensures { result.items ≡ map (λ c. core_report_of horizon (ran_by horizon accounts.now c)) (range_with_len 0 cores) }
+{
+    for core in 0..cores {
+        let pushed = reports.push(core_report(accounts, horizon, core));
+        prove!(pushed.is_ok());
+    }
+    reports
+}
+
+impl Tally {
+    /// The tally before the first row, of a run of the system up to the horizon. `NoMemory` where a growth was refused.
+    pub fn new(alloc: Global, system: &System, horizon: Tick) -> Result<Self, NoMemory>
+        ensures { IfOk result (λ tally. tally ≡ opened_tally system.now horizon) }
+    {
+        let parts = system.parts();
+        Ok(Tally {
+            horizon,
+            cores: parts.cores,
+            last: Tick::ZERO,
+            accounts: opened_accounts(alloc, parts)?,
+            thread_reports: Vec::with_capacity(alloc, parts.threads.len())?,
+            core_reports: Vec::with_capacity(alloc, parts.cores)?,
+        })
+    }
+
+    /// Counts one row more, in constant time and without memory. A row of a thread that the system does not have is not counted.
+    pub fn add(&mut self, row: &Row)
+        ensures { self.new ≡ added self.old row.now }
+    {
+        self.last = row.moment;
+        tell(
+            self.accounts.as_mut_slice(),
+            self.horizon,
+            row.moment,
+            row.what,
+        );
+    }
+
+    /// The reports of the rows that were added, without taking memory: runs that were not stopped end at the horizon.
+    pub fn finish(self) -> Reports
+        ensures { result ≡ finished self }
+    {
+        let Tally {
+            horizon,
+            cores,
+            accounts,
+            thread_reports,
+            core_reports,
+            ..
+        } = self;
+        let accounts = accounts.as_slice();
+        let threads = all_thread_reports(thread_reports, accounts, horizon);
+        let cores = all_core_reports(core_reports, accounts, horizon, cores);
+        Reports {
+            threads: Sequence::new(threads),
+            cores: Sequence::new(cores),
+        }
+    }
+}
