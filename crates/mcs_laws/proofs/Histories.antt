@@ -7,7 +7,8 @@ use Rattle.mcs_ticks.specs.Queue.{by_priority}
 use Rattle.mcs_control.specs.declared.config.Order.{Order}
 use Rattle.mcs_control.specs.Context.{Context, new_context}
 use Rattle.mcs_core.specs.System.{System, TakesTime, context_part, no_context, start_of}
-use Rattle.mcs_core.specs.Core.{Core, context_of, opening_core, opening_contexts, no_server}
+use Rattle.mcs_core.specs.Core.{Core, context_of, opening_core, opening_contexts}
+use Rattle.mcs_core.specs.Contexts.{no_server}
 use Rattle.mcs_core.specs.declared.part.ContextPart.{ContextPart}
 use Rattle.mcs_core.specs.declared.standing.Chosen.{Chosen}
 use Rattle.mcs_core.specs.Clock as clocks
