@@ -1,5 +1,5 @@
 -- Lines of rows and reports, evaluated.
-use Rattle.std.proofs.Common.{◌≡◌, refl, codes, [], ◌∷◌, Some, None}
+use Rattle.std.proofs.Common.{◌≡◌, refl, codes, [], ◌∷◌, Some}
 use Rattle.mcs_script.specs.declared.item.Item.TheVariants.{Compute}
 use Rattle.mcs_ticks.specs.declared.row.What.TheVariants as row
 use Rattle.mcs_ticks.specs.declared.row.Why.TheVariants as why
