@@ -1,7 +1,7 @@
 -- What the command line makes of some words.
-use Rattle.std.proofs.Common.{◌≡◌, refl, true, codes, List, [], ◌∷◌, map, Some}
+use Rattle.std.proofs.Common.{◌≡◌, refl, true, codes, [], ◌∷◌, map, Some}
 use Rattle.std.specs.Borrow.{Bor}
-use Rattle.clap.specs.Words.{App, Text, fault_of, first_of, matches_of, takes}
+use Rattle.clap.specs.Words.{App, fault_of, first_of, matches_of, takes}
 use Rattle.clap.specs.declared.error.kind.ErrorKind.TheVariants as kind
 use Rattle.clap.proofs.OnLiterals.{clap_on_literals}
 use Rattle.mcs_cli.specs.CommandLine.{command_line, number_of, show_words, text_of}

@@ -1,16 +1,16 @@
 -- What a parse that succeeds says of an argument that has a default and takes one value: it has a text that its parser accepts.
-use Rattle.std.proofs.Common.{zero, suc, ◌≡◌, ◌⊎◌, ◌∙◌, ◌++◌, subst, ◌<◌, ◌≤◌, ap, ◌||◌, ℕ, Bool, true, false, List, [], ◌∷◌, length, Option, Some, None, refl, sym, inl, inr, arith}
-use Rattle.std.specs.Prelude.{find, option_map, slice_get}
-use Rattle.std.specs.List.{All, Any, slice_index_or}
+use Rattle.std.proofs.Common.{zero, suc, ◌≡◌, ◌∙◌, ◌++◌, subst, ◌<◌, ◌≤◌, ap, ◌||◌, ℕ, Bool, true, false, List, [], ◌∷◌, length, Some, None, refl, sym, inl, inr, arith}
+use Rattle.std.specs.Prelude.{find, option_map}
+use Rattle.std.specs.List.{All, slice_index_or}
 use Rattle.std.specs.Str.{bytes_eq}
 use Rattle.std.specs.Borrow.{Bor}
 use Rattle.std.proofs.lemmas.List.Elements.{All-get_or, All-nil}
 use Rattle.std.proofs.lemmas.List.{append-nil, append_assoc}
 use Rattle.std.proofs.lemmas.Slice.Eq.{bytes_eq-Decides}
 use Rattle.clap.specs.Texts.{items_of}
-use Rattle.clap.specs.Facts.{args_of, groups_of, IsParsed, Entry, EntryPasses, HasId, HasIn, HasReading, PassesArg, WantsDefault, least_values, parser_of, parser_of_value}
+use Rattle.clap.specs.Facts.{args_of, groups_of, Entry, EntryPasses, HasIn, HasReading, PassesArg, least_values, parser_of, parser_of_value}
 use Rattle.clap.specs.Built.{AddsArg, AddsInTurn, FitsChain, HasDistinctIds, IsAuto, IsParsedFrom, IsPlain, IsPlainArg, KeepsList, SameRules}
-use Rattle.clap.specs.Matches.{matched_of, first_value, one_text, found_of, has_subcommand}
+use Rattle.clap.specs.Matches.{matched_of, first_value, one_text, found_of}
 use Rattle.clap.specs.Values.{Accepts, read_as, reading_of}
 use Rattle.clap.specs.declared.builder.value_parser.Reading.{Reading}
 use Rattle.clap.specs.declared.builder.action.ArgAction.TheVariants.{Count, Set}

@@ -1,20 +1,19 @@
 -- The program's command line, from the arguments that were added in turn.
-use Rattle.std.proofs.Common.{zero, suc, ◌≡◌, ◌∙◌, ◌<◌, subst, ap, ap₂, ℕ, Bool, true, false, List, [], ◌∷◌, length, Option, Some, None, refl, sym, arith, map, codes, drop, ◌&&◌, ◌||◌, ◌++◌}
+use Rattle.std.proofs.Common.{zero, suc, ◌≡◌, ◌∙◌, ◌<◌, subst, ap, ap₂, ℕ, Bool, true, false, List, [], ◌∷◌, length, Some, refl, sym, arith, map, codes, drop}
 use Rattle.std.specs.List.{All, slice_index_or}
 use Rattle.std.specs.Str.{bytes_eq}
 use Rattle.std.specs.Borrow.{Bor}
 use Rattle.clap.specs.Matches.{first_value, one_text}
-use Rattle.clap.specs.Words.{AddsArg, AddsInTurn, App, IsParsedFrom, Rule, Text, app_of, args_of, found_of, groups_of, rows_of, rule_of, with_rule}
+use Rattle.clap.specs.Words.{AddsArg, IsParsedFrom, Rule, Text, app_of, args_of, found_of, groups_of, rows_of, rule_of, with_rule}
 use Rattle.clap.specs.declared.builder.command.Command.TheViews.{out-Command}
 use Rattle.clap.specs.Built.{FitsChain, HasDistinctIds}
 use Rattle.clap.specs.declared.Arg.{Arg}
 use Rattle.clap.specs.declared.ArgMatches.{ArgMatches}
 use Rattle.clap.specs.declared.Command.{Command}
-use Rattle.clap.specs.declared.builder.ValueParser.{ValueParser}
 use Rattle.clap.specs.declared.builder.ValueParser.TheVariants as parser
 use Rattle.clap.proofs.WalkLemmas.{first_value-rows, one_text-rows}
 use Rattle.mcs_cli.specs.CommandLine.{HasNumber, HasOneOrDefault, IsCommandLine, bare_line, command_line, file_rule, horizon_rule, number_rule, show_rule, show_words, workers_rule}
-use Rattle.mcs_cli.proofs.Defaults.{Reads, default_in_chain}
+use Rattle.mcs_cli.proofs.Defaults.{default_in_chain}
 
 abbrev before : Text → List Text → List Text
 before id ids = id ∷ ids

@@ -1,11 +1,9 @@
 -- What is read of a matched value.
-use Rattle.std.proofs.Common.{◌≡◌, ◌∙◌, ◌<◌, ◌≤◌, ap, ℕ, List, [], Option, Some, None, arith, refl, sym, codes}
-use Rattle.std.specs.Prelude.{Result, Ok, Err, unwrap_or, if◌then◌else◌, Bool, true, false, option_map}
-use Rattle.std.specs.Str.{bytes_eq}
+use Rattle.std.proofs.Common.{◌≡◌, ap, ℕ, List, Option, Some, None, refl}
+use Rattle.std.specs.Prelude.{Result, Ok, Err}
 use Rattle.std.specs.Str.Parse.{ParsesUnsigned, digits_value, without_leading_plus}
 use Rattle.clap.specs.Words.{ReadsOne, Row, Text, first_of, IsUnsignedIn}
-use Rattle.mcs_cli.specs.CommandLine.{number_of, text_of, show_named}
-use Rattle.mcs_cli.specs.declared.asked.Show.{Show}
+use Rattle.mcs_cli.specs.CommandLine.{number_of}
 
 -- a text that passed its range reads as its number
 pub number_read : (E : Type 0) (G : List ℕ → Result ℕ E → Type 0) (least most : ℕ) (t : Text) (r : Option ℕ)

@@ -1,7 +1,7 @@
 -- The command line, as clap reads it.
 use Rattle.clap.specs.Facts.{WantsDefault, least_values}
 use Rattle.clap.specs.declared.Arg.{Arg}
-use Rattle.std.specs.Prelude.{◌≤◌, ◌≡◌, ◌^◌, ℕ, Bool, true, List, [], ◌∷◌, map, codes, Option, Some, None, option_map, unwrap_or, if◌then◌else◌, Result, IfOk, IfErr, string_bytes, ⊤}
+use Rattle.std.specs.Prelude.{◌≤◌, ◌≡◌, ◌^◌, ℕ, true, List, [], ◌∷◌, map, codes, Some, None, option_map, unwrap_or, if◌then◌else◌, Result, IfOk, IfErr, string_bytes, ⊤}
 use Rattle.std.specs.Str.{bytes_eq}
 use Rattle.std.specs.Str.Parse.{digits_value, without_leading_plus}
 use Rattle.std.specs.Borrow.{Bor}

@@ -1,2 +1,4 @@
+mod faults;
 mod lines;
+mod runs;
 mod words;

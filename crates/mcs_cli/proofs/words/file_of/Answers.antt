@@ -1,4 +1,4 @@
-use Rattle.std.proofs.Common.{rules, ◌≡◌, ◌∙◌, codes, string_bytes, option_map, Some, sym, ap}
+use Rattle.std.proofs.Common.{◌∙◌, codes, Some, ap}
 use Rattle.clap.specs.Words.{found_of}
 use Rattle.clap.proofs.WalkLemmas.{first_value-rows}
 use Rattle.mcs_cli.proofs.words.file_of.Goals as goal

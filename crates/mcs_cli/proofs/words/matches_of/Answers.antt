@@ -1,8 +1,8 @@
-use Rattle.std.proofs.Common.{rules, ap, ap₂, refl, codes, true, map, List, Option, Some, [], ◌∷◌, ◌≡◌, ◌∙◌, inl, sym, subst}
+use Rattle.std.proofs.Common.{rules, ap, refl, true, map, List, ◌≡◌, ◌∙◌, inl}
 use Rattle.std.specs.Borrow.{Bor}
 use Rattle.std.specs.Prelude.{string_bytes}
 use Rattle.std.proofs.lemmas.Result.{IfErr-weaker, IfOk-weaker}
-use Rattle.clap.specs.Words.{App, Kinds, Text, app_of, is_simple, is_simple_and_free, matches_of, takes, fault_of}
+use Rattle.clap.specs.Words.{Kinds, Text, is_simple, is_simple_and_free, matches_of, takes, fault_of}
 use Rattle.std.specs.Prelude.{Result, Ok, Err}
 use Rattle.std.specs.Result.{IsErrAnd}
 use Rattle.clap.specs.Words.{FailsBy, kind_of}

@@ -1,0 +1,61 @@
+-- What a run reads and writes.
+use Rattle.std.specs.Prelude.{Result, Ok, Err, Option, ◌≡◌, ◌≢◌, ◌≤◌, ◌^◌, ⊤, List, ℕ, ◌++◌, length}
+use Rattle.std.specs.Io.KnownBytes.{Appends, Consumes, IsAtEnd, Keeps}
+use Rattle.mcs_ticks.specs.declared.row.Row.{Row}
+use Rattle.mcs_core.specs.System.{System}
+use Rattle.mcs_core.specs.Clock.{schedule}
+use Rattle.mcs_report.specs.declared.reports.Reports.{Reports as ReportsOf}
+use Rattle.mcs_report.specs.Reports.{reports_of}
+use Rattle.mcs_load.specs.Checks.{answer}
+use Rattle.mcs_load.specs.Walk.{file}
+use Rattle.mcs_load.specs.Memory.{no_memory}
+use Rattle.mcs_load.specs.declared.fault.LoadFault.{LoadFault}
+use Rattle.mcs_cli.specs.Text.{schedule_text, reports_text}
+use Rattle.mcs_cli.specs.declared.asked.Options.{Options}
+use Rattle.mcs_cli.specs.declared.asked.Show.{Show}
+use Rattle.mcs_cli.specs.declared.asked.Show.TheVariants.{Schedule, Reports, Both}
+use Rattle.mcs_cli.specs.declared.fault.RunFault.{RunFault}
+use Rattle.mcs_cli.specs.declared.fault.RunFault.TheVariants as fault
+
+-- what is shown of a schedule and its reports
+abbrev pub shown_text : Show → System → List Row → ReportsOf → List ℕ
+shown_text Schedule system rows reports = schedule_text system rows
+shown_text Reports system rows reports = reports_text system reports
+shown_text Both system rows reports = schedule_text system rows ++ reports_text system reports
+
+-- what is shown of the schedule of the one clock over all cores, and of its reports
+abbrev pub output_of : Show → System → ℕ → List ℕ
+output_of show system horizon =
+    let rows = schedule system horizon in
+    shown_text show system rows (reports_of system horizon rows)
+
+-- the system that a file describes, or the first fault of its text
+abbrev pub loaded : List ℕ → Result System LoadFault
+loaded bytes = answer (file bytes)
+
+-- the bytes that a reader knows before and after the run, those that a writer knows, and what is asked for
+module _ (read_old read_new write_old write_new : Option (List ℕ)) (options : Options) where
+  -- the bytes that were read, which are all there were where the reader tells its bytes
+  abbrev pub IsInput : List ℕ → Type 0
+  IsInput bytes = Consumes read_old read_new bytes × IsAtEnd read_new × (length bytes ≤ 2 ^ 26)
+
+  -- what was written is the output for the bytes that were read, and nothing else
+  abbrev pub IsDone : Type 0
+  IsDone =
+      (bytes : List ℕ) × IsInput bytes × (system : System) × (loaded bytes ≡ Ok system)
+      × Appends write_old write_new (output_of options.show system options.horizon)
+
+  -- the fault is the first of the bytes that were read
+  abbrev pub IsFaultOfInput : LoadFault → Type 0
+  IsFaultOfInput f = (bytes : List ℕ) × IsInput bytes × (loaded bytes ≡ Err f)
+
+  -- before the text is whole nothing is written
+  abbrev pub IsFault : RunFault → Type 0
+  IsFault fault.Read = Keeps write_old write_new
+  IsFault (fault.Load f) = Keeps write_old write_new × (f ≢ no_memory → IsFaultOfInput f)
+  IsFault (fault.Sim f) = Keeps write_old write_new
+  IsFault fault.Write = ⊤
+
+  abbrev pub IsRun : Result (Unit {0}) RunFault → Type 0
+  IsRun (Ok done) = IsDone
+  IsRun (Err f) = IsFault f

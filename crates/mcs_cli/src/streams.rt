@@ -1,0 +1,130 @@
+ghost use Rattle.std.specs.Prelude.{◌≡◌, ◌≤◌, ◌^◌, ◌++◌, ◌⊎◌, length, IfErr, IfOk, OnOk};
+ghost use Rattle.std.specs.Io.KnownBytes.{Consumes, IsAtEnd};
+ghost use Rattle.mcs_load.specs.Memory.{no_memory};
+ghost use Rattle.mcs_cli.specs.Text.{schedule_text};
+ghost use Rattle.mcs_cli.specs.Run.{IsRun, output_of};
+ghost use Rattle.mcs_core.specs.Clock.{schedule};
+ghost use Rattle.mcs_report.specs.Reports.{reports_of};
+
+use crate::{Options, RunFault, Show, put_reports, put_row};
+use mcs_core::System;
+use mcs_load::{LoadFault, load};
+use mcs_report::{Reports, Tally, schedules_are_reported};
+use mcs_team::{SimFault, simulate_alone};
+use mcs_ticks::{Limits, NoMemory, Row, Tick};
+use std::alloc::Global;
+use std::io::{Read, Write};
+use std::sync::Arc;
+
+/// Reads a file to its end, simulates the system that it describes, and writes what the options ask for. The whole text is made before the
+/// first byte is written.
+pub fn run<R: Read, W: Write>(
+    alloc: Global,
+    reader: &mut R,
+    writer: &mut W,
+    options: &Options,
+) -> Result<(), RunFault>
+    ensures { IsRun (R.remaining reader.old) (R.remaining reader.new) (W.contents writer.old) (W.contents writer.new) options.now result }
+{
+    let system = {
+        let bytes = read_text(alloc, reader)?;
+        load(alloc, bytes.as_slice()).map_err(RunFault::Load)?
+    };
+    let text = simulated(alloc, system, options).map_err(RunFault::Sim)?;
+    if writer.write_all(text.as_slice()).is_err() || writer.flush().is_err() {
+        return Err(RunFault::Write);
+    }
+    Ok(())
+}
+
+/// Reads to the end, at most 2^26 bytes.
+fn read_text<R: Read>(alloc: Global, reader: &mut R) -> Result<Vec<u8>, RunFault>
+    ensures bytes { IfOk result (λ text. Consumes (R.remaining reader.old) (R.remaining reader.new) text.items) }
+    ensures end { OnOk result (IsAtEnd (R.remaining reader.new)) }
+    ensures short { IfOk result (λ text. length text.items ≤ 2 ^ 26) }
+    ensures fault { IfErr result (λ f. (f ≡ RunFault.Read) ⊎ (f ≡ RunFault.Load no_memory)) }
+{
+    let mut text = Vec::new(alloc);
+    let mut buffer = [0u8; 4096];
+    for _ in 0..Limits::FILE + 1 {
+        match reader.read(&mut buffer) {
+            Ok(0) => return Ok(text),
+            Ok(n) => {
+                if let Err(refusal) = text.extend_from_slice(&buffer[..n]) {
+                    return Err(RunFault::Load(LoadFault::from(refusal)));
+                }
+                if text.len() > Limits::FILE {
+                    return Err(RunFault::Read);
+                }
+            }
+            Err(_) => return Err(RunFault::Read),
+        }
+    }
+    Err(RunFault::Read)
+}
+
+/// The text of a system's run, as the options ask for it.
+fn simulated(alloc: Global, system: System, options: &Options) -> Result<Vec<u8>, SimFault>
+    ensures { IfOk result (λ text. text.items ≡ output_of options.now.show system options.now.horizon) }
+{
+    let system = Arc::new(alloc, system).map_err(|_| SimFault::NoMemory)?;
+    let shared = Arc::try_clone(&system).map_err(|_| SimFault::NoMemory)?;
+    let whole = simulate_alone(alloc, shared, options.horizon)?;
+    let rows = whole.rows.as_slice();
+    shown(alloc, &system, options.horizon, rows, options.show).map_err(|_| SimFault::NoMemory)
+}
+
+/// The text of a schedule, of its reports, or of both.
+fn shown(
+    alloc: Global,
+    system: &System,
+    horizon: Tick,
+    rows: &[Row],
+    show: Show,
+) -> Result<Vec<u8>, NoMemory>
+    requires { rows.now ≡ schedule system.now horizon }
+    ensures { IfOk result (λ text. text.items ≡ output_of show system.now horizon) }
+{
+    let mut text = Vec::new(alloc);
+    match show {
+        Show::Schedule => put_rows(&mut text, system, rows)?,
+        Show::Reports => {
+            let reports = reported(alloc, system, horizon, rows)?;
+            put_reports(&mut text, system, &reports)?;
+        }
+        Show::Both => {
+            let reports = reported(alloc, system, horizon, rows)?;
+            put_rows(&mut text, system, rows)?;
+            put_reports(&mut text, system, &reports)?;
+        }
+    }
+    Ok(text)
+}
+
+fn put_rows(text: &mut Vec<u8>, system: &System, rows: &[Row]) -> Result<(), NoMemory>
+    ensures { OnOk result (text.new.items ≡ text.old.items ++ schedule_text system.now rows.now) }
+{
+    for row in rows {
+        put_row(text, system, row)?;
+    }
+    Ok(())
+}
+
+/// The reports of a schedule.
+fn reported(
+    alloc: Global,
+    system: &System,
+    horizon: Tick,
+    rows: &[Row],
+) -> Result<Reports, NoMemory>
+    requires { rows.now ≡ schedule system.now horizon }
+    ensures { IfOk result (λ reports. reports ≡ reports_of system.now horizon (schedule system.now horizon)) }
+{
+    let mut tally = Tally::new(alloc, system, horizon)?;
+    for row in rows {
+        tally.add(row);
+    }
+    let _well_formed = system.parts();
+    schedules_are_reported();
+    Ok(tally.finish())
+}

@@ -1,0 +1,61 @@
+//! The program: it reads its words, opens the file or takes standard input, and ends with the status of what happened.
+#![tactic(auto)]
+
+use mcs_cli::{Options, RunFault, WordsFault, options, run};
+use std::fs::File;
+use std::io::ErrorKind;
+use std::process::ExitCode;
+use std::{env, io};
+
+const NO_MEMORY: &str = "mcsim: no memory\n";
+
+const NOT_UTF_8: &str = "error: invalid UTF-8 was detected in one or more arguments\n";
+
+const WRITE_FAILED: &str = "mcsim: write failed\n";
+
+fn main(rt: HostRuntime) -> ExitCode {
+    let words = match words_of(&rt) {
+        Ok(words) => words,
+        Err(fault) if fault.kind() == ErrorKind::OutOfMemory => return fail(&rt, NO_MEMORY, 4),
+        Err(_) => return fail(&rt, NOT_UTF_8, 2),
+    };
+    match options(rt.alloc(), words.as_slice()) {
+        Ok(options) => match run_with(&rt, &options) {
+            Ok(()) => ExitCode::SUCCESS,
+            Err(fault) => {
+                let _ = rt.eprintln(fault);
+                ExitCode::from(fault.status())
+            }
+        },
+        Err(WordsFault::Help(text)) => match rt.print(text.as_str()) {
+            Ok(()) => ExitCode::SUCCESS,
+            Err(_) => fail(&rt, WRITE_FAILED, 3),
+        },
+        Err(WordsFault::Words(text)) => fail(&rt, text.as_str(), 2),
+        Err(WordsFault::NoMemory) => fail(&rt, NO_MEMORY, 4),
+    }
+}
+
+/// The words after the program's name.
+fn words_of(rt: &HostRuntime) -> io::Result<Vec<String>> {
+    let mut words = Vec::new(rt.alloc());
+    for word in env::args(rt)?.skip(1) {
+        words.push(word)?;
+    }
+    Ok(words)
+}
+
+fn run_with(rt: &HostRuntime, options: &Options) -> Result<(), RunFault> {
+    match &options.file {
+        Some(name) => match File::open(rt, name.as_str()) {
+            Ok(mut file) => run(rt.alloc(), &mut file, &mut rt.stdout(), options),
+            Err(_) => Err(RunFault::Read),
+        },
+        None => run(rt.alloc(), &mut rt.stdin(), &mut rt.stdout(), options),
+    }
+}
+
+fn fail(rt: &HostRuntime, text: &str, status: u8) -> ExitCode {
+    let _ = rt.eprint(text);
+    ExitCode::from(status)
+}
