@@ -206,6 +206,63 @@ depletes_and_refills_rows =
 depletes_and_refills : schedule depletes_and_refills_system 1000 ≡ depletes_and_refills_rows
 depletes_and_refills = refl
 
+abbrev pub driver_beside_a_loop_system : System
+driver_beside_a_loop_system = record {
+  cores = 1;
+  delay = 1;
+  call = 1;
+  min_budget = 1;
+  contexts =
+      context (codes "control") 0 4 10 0
+      ∷ context (codes "driver") 0 5 5 0
+      ∷ context (codes "logger") 0 5 5 0
+      ∷ [];
+  notes =
+      note (codes "sample") 0
+      ∷ [];
+  threads =
+      thread (codes "Control") 0 9 0 2 3 ((Wait 0) ∷ (Compute 2) ∷ [])
+      ∷ thread (codes "Driver") 1 5 0 2 0 ((Compute 2) ∷ (Signal 0 1) ∷ [])
+      ∷ thread (codes "Logger") 2 5 0 1 0 ((Compute 6) ∷ [])
+      ∷ [];
+  orders = [];
+}
+
+abbrev pub driver_beside_a_loop_rows : List Row
+driver_beside_a_loop_rows =
+    at 0 0 (row.Release 0)
+    ∷ at 0 0 (row.Release 1)
+    ∷ at 0 0 (row.Release 2)
+    ∷ at 0 0 (row.Run 0)
+    ∷ at 1 0 (row.Stop 0 why.Wait 1 None)
+    ∷ at 1 0 (row.Run 1)
+    ∷ at 4 0 (row.Signal 1 0 1)
+    ∷ at 4 0 (row.Wake 0 0 1)
+    ∷ at 4 0 (row.Round 1 1 4)
+    ∷ at 4 0 (row.Stop 1 why.Preempt 3 None)
+    ∷ at 4 0 (row.Run 0)
+    ∷ at 6 0 (row.Round 0 1 2)
+    ∷ at 7 0 (row.Stop 0 why.Wait 3 None)
+    ∷ at 7 0 (row.Run 1)
+    ∷ at 9 0 (row.Stop 1 why.Spent 2 None)
+    ∷ at 9 0 (row.Run 2)
+    ∷ at 14 0 (row.Stop 2 why.Spent 5 None)
+    ∷ at 14 0 (row.Run 1)
+    ∷ at 15 0 (row.Signal 1 0 1)
+    ∷ at 15 0 (row.Wake 0 0 1)
+    ∷ at 15 0 (row.Round 1 2 11)
+    ∷ at 15 0 (row.Stop 1 why.Done 1 None)
+    ∷ at 15 0 (row.Run 0)
+    ∷ at 17 0 (row.Round 0 2 2)
+    ∷ at 17 0 (row.Stop 0 why.Done 2 None)
+    ∷ at 17 0 (row.Run 2)
+    ∷ at 18 0 (row.Round 2 1 18)
+    ∷ at 18 0 (row.Stop 2 why.Done 1 None)
+    ∷ []
+
+driver_beside_a_loop : schedule driver_beside_a_loop_system 20 ≡ driver_beside_a_loop_rows
+driver_beside_a_loop = refl
+
 abbrev pub idle_cores_system : System
 idle_cores_system = record {
   cores = 2;
@@ -255,6 +312,45 @@ order_stops_the_runner_rows =
 
 order_stops_the_runner : schedule order_stops_the_runner_system 10 ≡ order_stops_the_runner_rows
 order_stops_the_runner = refl
+
+abbrev pub overload_throttles_the_stream_system : System
+overload_throttles_the_stream_system = record {
+  cores = 1;
+  delay = 1;
+  call = 1;
+  min_budget = 1;
+  contexts =
+      context (codes "stream") 0 3 10 0
+      ∷ context (codes "brake") 0 4 10 0
+      ∷ [];
+  notes = [];
+  threads =
+      thread (codes "Stream") 0 9 0 1 0 ((Compute 8) ∷ [])
+      ∷ thread (codes "Brake") 1 5 0 1 8 ((Compute 4) ∷ [])
+      ∷ [];
+  orders = [];
+}
+
+abbrev pub overload_throttles_the_stream_rows : List Row
+overload_throttles_the_stream_rows =
+    at 0 0 (row.Release 0)
+    ∷ at 0 0 (row.Release 1)
+    ∷ at 0 0 (row.Run 0)
+    ∷ at 3 0 (row.Stop 0 why.Spent 3 (Some 10))
+    ∷ at 3 0 (row.Run 1)
+    ∷ at 7 0 (row.Round 1 1 7)
+    ∷ at 7 0 (row.Stop 1 why.Done 4 None)
+    ∷ at 10 0 (row.Release 0)
+    ∷ at 10 0 (row.Run 0)
+    ∷ at 13 0 (row.Stop 0 why.Spent 3 (Some 20))
+    ∷ at 20 0 (row.Release 0)
+    ∷ at 20 0 (row.Run 0)
+    ∷ at 22 0 (row.Round 0 1 22)
+    ∷ at 22 0 (row.Stop 0 why.Done 2 None)
+    ∷ []
+
+overload_throttles_the_stream : schedule overload_throttles_the_stream_system 25 ≡ overload_throttles_the_stream_rows
+overload_throttles_the_stream = refl
 
 abbrev pub ring_of_three_cores_system : System
 ring_of_three_cores_system = record {
@@ -485,6 +581,52 @@ starts_late_rows =
 
 starts_late : schedule starts_late_system 6 ≡ starts_late_rows
 starts_late = refl
+
+abbrev pub two_cores_signal_each_other_system : System
+two_cores_signal_each_other_system = record {
+  cores = 2;
+  delay = 3;
+  call = 1;
+  min_budget = 1;
+  contexts =
+      context (codes "left") 0 5 20 0
+      ∷ context (codes "right") 1 5 20 0
+      ∷ [];
+  notes =
+      note (codes "ping") 1
+      ∷ note (codes "pong") 0
+      ∷ [];
+  threads =
+      thread (codes "Left") 0 5 0 1 0 ((Signal 0 1) ∷ (Wait 1) ∷ (Compute 1) ∷ [])
+      ∷ thread (codes "Right") 1 5 0 1 0 ((Wait 0) ∷ (Compute 1) ∷ (Signal 1 2) ∷ [])
+      ∷ [];
+  orders = [];
+}
+
+abbrev pub two_cores_signal_each_other_rows : List Row
+two_cores_signal_each_other_rows =
+    at 0 0 (row.Release 0)
+    ∷ at 0 0 (row.Run 0)
+    ∷ at 0 1 (row.Release 1)
+    ∷ at 0 1 (row.Run 1)
+    ∷ at 1 0 (row.Signal 0 0 1)
+    ∷ at 1 1 (row.Stop 1 why.Wait 1 None)
+    ∷ at 2 0 (row.Stop 0 why.Wait 2 None)
+    ∷ at 4 1 (row.Arrive 0 1 0)
+    ∷ at 4 1 (row.Wake 1 0 1)
+    ∷ at 4 1 (row.Run 1)
+    ∷ at 6 1 (row.Signal 1 1 2)
+    ∷ at 6 1 (row.Round 1 1 2)
+    ∷ at 6 1 (row.Stop 1 why.Done 2 None)
+    ∷ at 9 0 (row.Arrive 1 2 1)
+    ∷ at 9 0 (row.Wake 0 1 2)
+    ∷ at 9 0 (row.Run 0)
+    ∷ at 10 0 (row.Round 0 1 10)
+    ∷ at 10 0 (row.Stop 0 why.Done 1 None)
+    ∷ []
+
+two_cores_signal_each_other : schedule two_cores_signal_each_other_system 20 ≡ two_cores_signal_each_other_rows
+two_cores_signal_each_other = refl
 
 abbrev pub two_orders_at_one_moment_system : System
 two_orders_at_one_moment_system = record {
