@@ -1,4 +1,5 @@
 ghost use Rattle.std.specs.Prelude.{◌≡◌, ◌≤◌, ◌^◌};
+ghost use Rattle.mcs_cli.specs.Status.{status_of_words};
 ghost use Rattle.mcs_cli.specs.declared.asked.WordsFault.TheVariants.{NoMemory};
 
 use mcs_ticks::Tick;
@@ -42,7 +43,9 @@ pub enum WordsFault {
 
 impl WordsFault {
     /// The exit status of the program: 0 after help, 2 for words that are not understood, 4 for want of memory.
-    pub fn status(&self) -> u8 {
+    pub fn status(&self) -> u8
+        ensures { result ≡ status_of_words self.now }
+    {
         match self {
             WordsFault::Words(_) => 2,
             WordsFault::Help(_) => 0,

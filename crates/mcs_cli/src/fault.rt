@@ -1,3 +1,6 @@
+ghost use Rattle.std.specs.Prelude.{◌≡◌};
+ghost use Rattle.mcs_cli.specs.Status.{status_of_run};
+
 use mcs_load::{FaultKind, LoadFault};
 use mcs_team::SimFault;
 use thiserror::Error;
@@ -21,7 +24,9 @@ pub enum RunFault {
 
 impl RunFault {
     /// The exit status of the program: 1 for a wrong file, 3 for a reader or a writer that failed, 4 for want of memory.
-    pub fn status(&self) -> u8 {
+    pub fn status(&self) -> u8
+        ensures { result ≡ status_of_run self.now }
+    {
         match self {
             RunFault::Load(fault) if fault.kind != FaultKind::NoMemory => 1,
             RunFault::Read | RunFault::Write => 3,
