@@ -200,7 +200,7 @@ fn is_late(ring: &VecDeque<Mail>, mail: &Mail) -> bool
     }
 }
 
-// Moves the late mail to its places in the ring, so that its numbers begin at 0 again. That comes once in 2^64 puts, at most.
+// Moves the late mail to its places in the ring, so that its numbers begin at 0 again: at most once in 2^64 - 1 puts of late mail.
 fn settle(ring: &mut VecDeque<Mail>, late: &mut Late)
     requires order { IsOrdered ring.old.items }
     requires room { deque_len ring.old + length late.old.mails ≤ deque_capacity ring.old }
