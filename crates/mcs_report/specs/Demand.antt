@@ -7,6 +7,7 @@ use Rattle.mcs_laws.specs.Histories.{IsUnordered}
 use Rattle.mcs_laws.specs.Demand.{ticks_run, demand_of}
 use Rattle.mcs_report.specs.Reports.{run_lengths, reports_of}
 use Rattle.mcs_report.specs.Tally.{no_report}
+use Rattle.mcs_report.specs.declared.reports.Reports.{Reports}
 
 -- the runs of a thread in a schedule last as many ticks as there are in which it runs
 abbrev pub RunsAreTicks : Type 0
@@ -24,3 +25,9 @@ abbrev pub DemandIsBounded : Type 0
 DemandIsBounded =
     (system : System) → IsWellFormed system → (horizon thread : ℕ) → thread < length system.threads →
     IsUnordered system (thread_part system thread).context → RunsWithinDemand system horizon thread
+
+-- by these reports each thread whose context no order names ran no more than it may
+abbrev pub AreWithinDemand : System → ℕ → Reports → Type 0
+AreWithinDemand system horizon reports =
+    (thread : ℕ) → thread < length system.threads → IsUnordered system (thread_part system thread).context →
+    (get_or reports.threads thread no_report).ran ≤ demand_of system thread horizon
