@@ -1,5 +1,5 @@
 -- What a run reads and writes.
-use Rattle.std.specs.Prelude.{Result, Ok, Err, Option, ◌≡◌, ◌≢◌, ◌≤◌, ◌^◌, ⊤, List, ℕ, ◌++◌, length}
+use Rattle.std.specs.Prelude.{Result, Ok, Err, Option, ◌≡◌, ◌≢◌, ◌≤◌, ◌^◌, List, ℕ, ◌++◌, length}
 use Rattle.std.specs.Io.KnownBytes.{Appends, Consumes, IsAtEnd, Keeps}
 use Rattle.mcs_ticks.specs.declared.row.Row.{Row}
 use Rattle.mcs_core.specs.System.{System}
@@ -45,16 +45,20 @@ module _ (read_old read_new write_old write_new : Option (List ℕ)) (options : 
       (bytes : List ℕ) × IsInput bytes × (system : System) × (loaded bytes ≡ Ok system)
       × Appends write_old write_new (output_of options.show system options.horizon)
 
+  -- the bytes that were read describe a system
+  abbrev pub IsSystemRead : Type 0
+  IsSystemRead = (bytes : List ℕ) × IsInput bytes × (system : System) × (loaded bytes ≡ Ok system)
+
   -- the fault is the first of the bytes that were read
   abbrev pub IsFaultOfInput : LoadFault → Type 0
   IsFaultOfInput f = (bytes : List ℕ) × IsInput bytes × (loaded bytes ≡ Err f)
 
-  -- before the text is whole nothing is written
+  -- the file is to blame before anything else; before the text is whole nothing is written
   abbrev pub IsFault : RunFault → Type 0
   IsFault fault.Read = Keeps write_old write_new
   IsFault (fault.Load f) = Keeps write_old write_new × (f ≢ no_memory → IsFaultOfInput f)
-  IsFault (fault.Sim f) = Keeps write_old write_new
-  IsFault fault.Write = ⊤
+  IsFault (fault.Sim f) = Keeps write_old write_new × IsSystemRead
+  IsFault fault.Write = IsSystemRead
 
   abbrev pub IsRun : Result (Unit {0}) RunFault → Type 0
   IsRun (Ok done) = IsDone

@@ -2,16 +2,13 @@ ghost use Rattle.std.specs.Prelude.{◌≡◌, ◌≤◌, ◌^◌, ◌++◌, ◌
 ghost use Rattle.std.specs.Io.KnownBytes.{Consumes, IsAtEnd};
 ghost use Rattle.mcs_load.specs.Memory.{no_memory};
 ghost use Rattle.mcs_cli.specs.Text.{schedule_text};
-ghost use Rattle.mcs_cli.specs.Run.{IsRun, output_of};
-ghost use Rattle.mcs_core.specs.Clock.{schedule};
-ghost use Rattle.mcs_report.specs.Reports.{reports_of};
+ghost use Rattle.mcs_cli.specs.Run.{IsRun, output_of, shown_text};
 
 use crate::{Options, RunFault, Show, put_reports, put_row};
 use mcs_core::System;
 use mcs_load::{LoadFault, load};
-use mcs_report::{Reports, Tally, schedules_are_reported};
-use mcs_team::{SimFault, simulate_alone};
-use mcs_ticks::{Limits, NoMemory, Row, Tick};
+use mcs_team::{SimFault, Whole, simulate_alone};
+use mcs_ticks::{Limits, NoMemory, Row};
 use std::alloc::Global;
 use std::io::{Read, Write};
 use std::sync::Arc;
@@ -70,32 +67,20 @@ fn simulated(alloc: Global, system: System, options: &Options) -> Result<Vec<u8>
     let system = Arc::new(alloc, system).map_err(|_| SimFault::NoMemory)?;
     let shared = Arc::try_clone(&system).map_err(|_| SimFault::NoMemory)?;
     let whole = simulate_alone(alloc, shared, options.horizon)?;
-    let rows = whole.rows.as_slice();
-    shown(alloc, &system, options.horizon, rows, options.show).map_err(|_| SimFault::NoMemory)
+    shown(alloc, &system, &whole, options.show).map_err(|_| SimFault::NoMemory)
 }
 
 /// The text of a schedule, of its reports, or of both.
-fn shown(
-    alloc: Global,
-    system: &System,
-    horizon: Tick,
-    rows: &[Row],
-    show: Show,
-) -> Result<Vec<u8>, NoMemory>
-    requires { rows.now ≡ schedule system.now horizon }
-    ensures { IfOk result (λ text. text.items ≡ output_of show system.now horizon) }
+fn shown(alloc: Global, system: &System, whole: &Whole, show: Show) -> Result<Vec<u8>, NoMemory>
+    ensures { IfOk result (λ text. text.items ≡ shown_text show system.now whole.now.rows whole.now.reports) }
 {
     let mut text = Vec::new(alloc);
     match show {
-        Show::Schedule => put_rows(&mut text, system, rows)?,
-        Show::Reports => {
-            let reports = reported(alloc, system, horizon, rows)?;
-            put_reports(&mut text, system, &reports)?;
-        }
+        Show::Schedule => put_rows(&mut text, system, whole.rows.as_slice())?,
+        Show::Reports => put_reports(&mut text, system, &whole.reports)?,
         Show::Both => {
-            let reports = reported(alloc, system, horizon, rows)?;
-            put_rows(&mut text, system, rows)?;
-            put_reports(&mut text, system, &reports)?;
+            put_rows(&mut text, system, whole.rows.as_slice())?;
+            put_reports(&mut text, system, &whole.reports)?;
         }
     }
     Ok(text)
@@ -108,23 +93,4 @@ fn put_rows(text: &mut Vec<u8>, system: &System, rows: &[Row]) -> Result<(), NoM
         put_row(text, system, row)?;
     }
     Ok(())
-}
-
-/// The reports of a schedule.
-fn reported(
-    alloc: Global,
-    system: &System,
-    horizon: Tick,
-    rows: &[Row],
-) -> Result<Reports, NoMemory>
-    requires { rows.now ≡ schedule system.now horizon }
-    ensures { IfOk result (λ reports. reports ≡ reports_of system.now horizon (schedule system.now horizon)) }
-{
-    let mut tally = Tally::new(alloc, system, horizon)?;
-    for row in rows {
-        tally.add(row);
-    }
-    let _well_formed = system.parts();
-    schedules_are_reported();
-    Ok(tally.finish())
 }

@@ -68,7 +68,7 @@ module _ (system : System) (takes_time : TakesTime system) (budgets : told.Gives
       traces.turn-traced by_priority system home t x (by_recursion (λ (order : Order). IsBudget order.config) system.orders budgets.orders)
       (filter (clocks.arrives_at system t home) (clocks.world system t).mails) (before t)
 
-  before-opening : context_of (before 0) x ≡ first
+  pub before-opening : context_of (before 0) x ≡ first
   before-opening =
       ap (λ (k : Core). context_of k x) before-first ∙ opening-at system home 0 system.contexts x on.known refl
       ∙ ap (λ n. new_context (context_part system x).config (start_of system.threads n)) (omega arith)

@@ -46,7 +46,7 @@ with_date-amount date next (r ∷ rs) e l = rw (sym e) (by (date + 1 == r.begins
     by false = refl
 
 -- the head of a date and those after it
-head-more : (date next : ℕ) (dates : List ℕ) → server.head_amount (date ∷ next ∷ dates) ≡ cond (date + 1 == next) (server.head_amount (next ∷ dates) + 1) 1
+pub head-more : (date next : ℕ) (dates : List ℕ) → server.head_amount (date ∷ next ∷ dates) ≡ cond (date + 1 == next) (server.head_amount (next ∷ dates) + 1) 1
 head-more date next dates =
     with_date-amount date next (server.refills_of (next ∷ dates)) (with_date-begins next (server.refills_of dates)) (head-some next dates)
 

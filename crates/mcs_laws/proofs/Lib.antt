@@ -1,4 +1,5 @@
 pub mod Ranges
+mod Worked
 pub mod UnderWay
 pub mod Disciplines
 pub mod Kept
@@ -6,3 +7,8 @@ pub mod Traces
 pub mod Histories
 pub mod Spaced
 pub mod Places
+pub mod OnTime
+pub mod Moments
+pub mod Spends
+pub mod Demand
+pub mod Taken

@@ -35,22 +35,22 @@ use Rattle.mcs_laws.specs.Places.{times_running, times_queued, times_dated, time
 
 -- queues
 module _ (y : ℕ) where
-  abbrev one : ℕ → ℕ
+  abbrev pub one : ℕ → ℕ
   one x = cond (x == y) 1 0
 
-  queued-cons : (x : Queued) (xs : List Queued) → times_queued y (x ∷ xs) ≡ one x.thread + times_queued y xs
+  pub queued-cons : (x : Queued) (xs : List Queued) → times_queued y (x ∷ xs) ≡ one x.thread + times_queued y xs
   queued-cons x xs = sum_by-cons (λ (q : Queued). one q.thread) x xs
 
   queued-push : (xs : List Queued) (x : Queued) → times_queued y (xs ++ x ∷ []) ≡ times_queued y xs + one x.thread
   queued-push xs x = sum_by_push (λ (q : Queued). one q.thread) xs x
 
-  dated-cons : (x : Dated) (xs : List Dated) → times_dated y (x ∷ xs) ≡ one x.thread + times_dated y xs
+  pub dated-cons : (x : Dated) (xs : List Dated) → times_dated y (x ∷ xs) ≡ one x.thread + times_dated y xs
   dated-cons x xs = sum_by-cons (λ (q : Dated). one q.thread) x xs
 
   dated-push : (xs : List Dated) (x : Dated) → times_dated y (xs ++ x ∷ []) ≡ times_dated y xs + one x.thread
   dated-push xs x = sum_by_push (λ (q : Dated). one q.thread) xs x
 
-  back-queued : (x : Queued) (xs : List Queued) → times_queued y (entered_back x xs) ≡ times_queued y xs + one x.thread
+  pub back-queued : (x : Queued) (xs : List Queued) → times_queued y (entered_back x xs) ≡ times_queued y xs + one x.thread
   back-queued x [] = queued-push [] x
   back-queued x (z ∷ zs) = by (nat_lt z.priority x.priority) (back-queued x zs)
     where
@@ -59,7 +59,7 @@ module _ (y : ℕ) where
       by true i = omega (arith, queued-cons x (z ∷ zs))
       by false i = omega (arith, i, queued-cons z (entered_back x zs), queued-cons z zs)
 
-  front-queued : (x : Queued) (xs : List Queued) → times_queued y (entered_front x xs) ≡ times_queued y xs + one x.thread
+  pub front-queued : (x : Queued) (xs : List Queued) → times_queued y (entered_front x xs) ≡ times_queued y xs + one x.thread
   front-queued x [] = queued-push [] x
   front-queued x (z ∷ zs) = by (nat_lt x.priority z.priority) (front-queued x zs)
     where
@@ -89,7 +89,7 @@ among-in z best (x ∷ xs) e = by (nat_lt best.priority x.priority) e (among-in 
     by false e i j = omega (arith, j e, queued-cons z best xs, queued-cons z best (x ∷ xs), queued-cons z x xs)
 
 -- a post that wakes a thread finds it among the waiters
-woke : (x word badge held : ℕ) (ws : List Queued) → posted badge (record { word = held; waiters = ws }) ≡ Woke x word → 1 ≤ times_queued x ws
+pub woke : (x word badge held : ℕ) (ws : List Queued) → posted badge (record { word = held; waiters = ws }) ≡ Woke x word → 1 ≤ times_queued x ws
 woke x word badge held [] e = absurd (no e)
   where
     no : posted badge (record { word = held; waiters = [] }) ≡ Woke x word → ⊥
@@ -112,7 +112,7 @@ set-past (m ∷ notes) (suc i) n l = ap (λ ns. m ∷ ns) (set-past notes i n (o
 
 module _ (y : ℕ) where
   -- a thread that is in the list leaves it once
-  without-queued : (z : ℕ) (xs : List Queued) → 1 ≤ times_queued z xs → times_queued y (without z xs) + one y z ≡ times_queued y xs
+  pub without-queued : (z : ℕ) (xs : List Queued) → 1 ≤ times_queued z xs → times_queued y (without z xs) + one y z ≡ times_queued y xs
   without-queued z [] l = absurd (omega (arith, l))
   without-queued z (x ∷ xs) l = by (x.thread == z) refl (queued-cons z x xs) (without-queued z xs)
     where
@@ -131,7 +131,7 @@ module _ (y : ℕ) where
           omega (arith, i (omega (arith, g, l)), queued-cons y x xs, queued-cons y x (without z xs))
 
   -- a notification with other waiters
-  set-waiting : (notes : List Note) (i : ℕ) (n : Note) →
+  pub set-waiting : (notes : List Note) (i : ℕ) (n : Note) →
       times_waiting y (set notes i n) + times_queued y (get_or notes i quiet_note).waiters ≤ times_waiting y notes + times_queued y n.waiters
   set-waiting notes i n = by (nat_lt i (length notes)) refl
     where
@@ -171,12 +171,12 @@ module _ (system : System) (t y : ℕ) where
   moves-held x RoundEnds k = refl
   moves-held x AllDone k = refl
 
-  moves-running : (x : ℕ) (m : Moved) (k : Core) → (turns.moves system t x m k).core.running ≡ k.running
+  pub moves-running : (x : ℕ) (m : Moved) (k : Core) → (turns.moves system t x m k).core.running ≡ k.running
   moves-running x Next k = refl
   moves-running x RoundEnds k = refl
   moves-running x AllDone k = refl
 
-  enters_back-running : (x : ℕ) (date : Option ℕ) (k : Core) → (turns.enters_back by_priority system x date k).running ≡ k.running
+  pub enters_back-running : (x : ℕ) (date : Option ℕ) (k : Core) → (turns.enters_back by_priority system x date k).running ≡ k.running
   enters_back-running x (Some date) k = refl
   enters_back-running x None k = refl
 
@@ -201,17 +201,17 @@ module _ (system : System) (t y : ℕ) where
       )
   posts_as-held note badge (Held word) k e = omega (arith, set-waiting y k.notes note (after_post (Held word) (note_of k note)))
 
-  posts_as-running : (note : ℕ) (p : Posted) (k : Core) → (turns.posts_as by_priority system t note p k).core.running ≡ k.running
+  pub posts_as-running : (note : ℕ) (p : Posted) (k : Core) → (turns.posts_as by_priority system t note p k).core.running ≡ k.running
   posts_as-running note (Woke x word) k = wakes-running x (with_note note (after_post (Woke x word) (note_of k note)) k)
   posts_as-running note (Held word) k = refl
 
-  posts-held : (note badge : ℕ) (k : Core) → held (turns.posts by_priority system t note badge k).core ≤ held k
+  pub posts-held : (note badge : ℕ) (k : Core) → held (turns.posts by_priority system t note badge k).core ≤ held k
   posts-held note badge k = posts_as-held note badge (posted badge (note_of k note)) k refl
 
-  arrives-held : (mail : Mail) (k : Core) → held (turns.arrives by_priority system t mail k).core ≤ held k
+  pub arrives-held : (mail : Mail) (k : Core) → held (turns.arrives by_priority system t mail k).core ≤ held k
   arrives-held mail k = posts-held mail.note mail.badge k
 
-  each-held : {A : Type 0} (part : A → Core → Turn) → ((x : A) (k : Core) → held (part x k).core ≤ held k) → (xs : List A) (k : Core) → held (each part xs k).core ≤ held k
+  pub each-held : {A : Type 0} (part : A → Core → Turn) → ((x : A) (k : Core) → held (part x k).core ≤ held k) → (xs : List A) (k : Core) → held (each part xs k).core ≤ held k
   each-held part h [] k = omega arith
   each-held part h (x ∷ xs) k = omega (arith, h x k, each-held part h xs (part x k).core)
 
@@ -238,7 +238,7 @@ module _ (system : System) (t y : ℕ) where
       (stops_to_front-held chosen.thread chosen.using chosen.using why.Order (turns.applied by_priority system t order (turns.charged system chosen.thread chosen.using k)) e)
       (omega arith)
 
-  obeys-held : (order : Order) (k : Core) → held (turns.obeys by_priority system t order k).core ≤ held k
+  pub obeys-held : (order : Order) (k : Core) → held (turns.obeys by_priority system t order k).core ≤ held k
   obeys-held order k = orders_running-held order k.running k refl
 
   -- the due threads leave the release queue and enter the ready queue
@@ -257,7 +257,7 @@ module _ (system : System) (t y : ℕ) where
       released-held xs (turns.enters_back by_priority system x.thread None k)
       ∙ omega (arith, enters_back-held x.thread None k, dated-cons y x xs)
 
-  releases-held : (k : Core) → held (turns.releases by_priority system t k).core ≤ held k
+  pub releases-held : (k : Core) → held (turns.releases by_priority system t k).core ≤ held k
   releases-held k =
       omega (
         arith,
@@ -265,7 +265,7 @@ module _ (system : System) (t y : ℕ) where
         due-held (turns.is_due by_priority system t) k.releases,
       )
 
-  preempts_by-held : (o : Option Chosen) (best : Option Queued) (k : Core) → k.running ≡ o → held (turns.preempts_by by_priority system t o best k).core ≤ held k
+  pub preempts_by-held : (o : Option Chosen) (best : Option Queued) (k : Core) → k.running ≡ o → held (turns.preempts_by by_priority system t o best k).core ≤ held k
   preempts_by-held (Some chosen) (Some best) k e =
       by_test (nat_lt (turns.part_of system chosen.thread).priority best.priority) k
       (turns.stops_to_front by_priority system t chosen.thread why.Preempt chosen.using (turns.charged system chosen.thread chosen.using k)) (silent k)
@@ -282,7 +282,7 @@ module _ (system : System) (t y : ℕ) where
 
 -- the end of the tick
 module _ (system : System) (c t y : ℕ) where
-  waits_as-got : (x note word : ℕ) (k : Core) → held system t y (turns.waits_as system t x note (Got word) k).core ≤ held system t y k
+  pub waits_as-got : (x note word : ℕ) (k : Core) → held system t y (turns.waits_as system t x note (Got word) k).core ≤ held system t y k
   waits_as-got x note word k =
       let given = turns.given system t x (with_note note (after_wait (Got word) (turns.queued system x) (note_of k note)) k) in
       omega (arith, moves-held system t y x (turns.move_of system t x given) given, set-waiting y k.notes note (after_wait (Got word) (turns.queued system x) (note_of k note)))
@@ -291,13 +291,13 @@ module _ (system : System) (c t y : ℕ) where
   waits_as-blocks x note k =
       omega (arith, set-waiting y k.notes note (after_wait Blocks (turns.queued system x) (note_of k note)), queued-push y (note_of k note).waiters (turns.queued system x))
 
-  signals-held : (x note badge : ℕ) (k : Core) → held system t y (turns.signals by_priority system c t x note badge k).core ≤ held system t y k
+  pub signals-held : (x note badge : ℕ) (k : Core) → held system t y (turns.signals by_priority system c t x note badge k).core ≤ held system t y k
   signals-held x note badge k =
       by_test system t y ((note_part system note).core == c) k (turns.posts by_priority system t note badge k)
       (record { core = k; rows = []; mails = turns.mail_to by_priority system c t note badge ∷ [] })
       (posts-held system t y note badge k) (omega arith)
 
-  signals-running : (x note badge : ℕ) (k : Core) → (turns.signals by_priority system c t x note badge k).core.running ≡ k.running
+  pub signals-running : (x note badge : ℕ) (k : Core) → (turns.signals by_priority system c t x note badge k).core.running ≡ k.running
   signals-running x note badge k = by ((note_part system note).core == c)
     where
       by : (b : Bool) → (cond b (turns.posts by_priority system t note badge k) (record { core = k; rows = []; mails = turns.mail_to by_priority system c t note badge ∷ [] })).core.running ≡ k.running
@@ -338,7 +338,7 @@ module _ (system : System) (c t y : ℕ) where
   finishes-wait x using note Blocks k e =
       omega (arith, waits_as-blocks x note k, stops-held x using why.Wait Blocked (turns.waits_as system t x note Blocks k).core e)
 
-  moves_on-held : (x : ℕ) (k : Core) → held system t y (turns.moves_on system t x k).core ≤ held system t y k
+  pub moves_on-held : (x : ℕ) (k : Core) → held system t y (turns.moves_on system t x k).core ≤ held system t y k
   moves_on-held x k = omega (arith, moves-held system t y x (turns.move_of system t x k) k)
 
   finishes-held : (x using : ℕ) (item : Option Item) (k : Core) → k.running ≡ Some (record { thread = x; using = using }) →
@@ -360,7 +360,7 @@ module _ (system : System) (c t y : ℕ) where
       by_test system t y ((thread_of k x).place.left == 0) k (turns.finishes by_priority system c t x using (turns.item_of system t x k) k) (turns.may_stop by_priority system c t x using why.Spent k)
       (finishes-held x using (turns.item_of system t x k) k e) (spent-held x using k e)
 
-  tick_of-held : (o : Option Chosen) (k : Core) → k.running ≡ o → held system t y (turns.tick_of by_priority system c t o k).core ≤ held system t y k
+  pub tick_of-held : (o : Option Chosen) (k : Core) → k.running ≡ o → held system t y (turns.tick_of by_priority system c t o k).core ≤ held system t y k
   tick_of-held None k e = omega arith
   tick_of-held (Some chosen) k e =
       omega (arith, after_count-held chosen.thread (chosen.using + 1) (turns.counts chosen k) refl, counted)
@@ -412,7 +412,7 @@ opening-dated system c y number (part ∷ parts) = by (core_of system part == c)
     by true i = rw (dated-cons y (record { thread = number; date = part.start }) (opening_releases system c (number + 1) parts)) (with_one _ number y i)
     by false i = next _ number y i
 
-quiet-waiting : {A : Type 0} (y : ℕ) (xs : List A) → times_waiting y (map (λ _. quiet_note) xs) ≡ 0
+pub quiet-waiting : {A : Type 0} (y : ℕ) (xs : List A) → times_waiting y (map (λ _. quiet_note) xs) ≡ 0
 quiet-waiting y [] = refl
 quiet-waiting y (x ∷ xs) = omega (arith, sum_by-cons (λ (m : Note). times_queued y m.waiters) quiet_note (map (λ _. quiet_note) xs), quiet-waiting y xs)
 

@@ -9,6 +9,8 @@ use Rattle.mcs_refills.specs.Spacing.Step.{Charge, Unblock}
 use Rattle.mcs_refills.proofs.Spaces.{consumed-spaced, kept-new}
 use Rattle.mcs_control.specs.declared.config.Config.{Config}
 use Rattle.mcs_control.specs.declared.config.Order.{Order}
+use Rattle.mcs_control.specs.declared.config.Kind.TheVariants.{Sporadic}
+use Rattle.mcs_control.specs.Control.{kind_of}
 use Rattle.mcs_control.specs.Context.{max_refills_of}
 use Rattle.mcs_control.specs.Context.Budget.{Dates}
 use Rattle.mcs_core.specs.System.{System, context_part, no_context, start_of}
@@ -64,17 +66,17 @@ module _ (system : System) (x : ℕ) (history : told.History system x) where
   abbrev changes : ℕ → List Change
   changes t = told.changes_before system x history t
 
-  changes-next : (t : ℕ) → changes (suc t) ≡ changes t ++ history.changes t
+  pub changes-next : (t : ℕ) → changes (suc t) ≡ changes t ++ history.changes t
   changes-next t = flat_map-moments-more history.changes t
 
-  all-after : (t : ℕ) → told.context_before system x t ≡ changed_by system.min_budget (changes t) (told.opening_context system x)
+  pub all-after : (t : ℕ) → told.context_before system x t ≡ changed_by system.min_budget (changes t) (told.opening_context system x)
   all-after zero = history.opening
   all-after (suc t) =
       history.after t ∙ ap (changed_by system.min_budget (history.changes t)) (all-after t)
       ∙ sym (changed_by-append system.min_budget (changes t) (history.changes t) (told.opening_context system x))
       ∙ ap (λ cs. changed_by system.min_budget cs (told.opening_context system x)) (sym (changes-next t))
 
-  all-sound : (t : ℕ) → AreSound system.min_budget (changes t) (told.opening_context system x)
+  pub all-sound : (t : ℕ) → AreSound system.min_budget (changes t) (told.opening_context system x)
   all-sound zero = tt
   all-sound (suc t) =
       rw (changes-next t)
@@ -88,8 +90,11 @@ module _ (system : System) (x : ℕ) (history : told.History system x) where
       none : (os us : List Order) → os ≡ [] → us ≡ [] → os ++ us ≡ []
       none os us e f = rw (e, f) refl
 
-pub contexts-spaced : (system : System) → told.GivesBudgets system → told.ContextsAreSpaced system
-contexts-spaced system budgets x history on kind unordered t = rw opening (rw steps.same spaced)
+-- the dates that changes without an order take
+pub changes-spaced : (system : System) → told.GivesBudgets system → (x : ℕ) → told.IsOnACore system x → kind_of (context_part system x).config ≡ Sporadic → (changes : List Change) →
+    orders_of changes ≡ [] → AreSound system.min_budget changes (told.opening_context system x) →
+    IsSpaced (context_part system x).config.budget (context_part system x).config.period (taken_by system.min_budget changes (told.opening_context system x))
+changes-spaced system budgets x on kind changes none sound = rw opening (rw steps.same spaced)
   where
     config : Config
     config = (context_part system x).config
@@ -97,25 +102,28 @@ contexts-spaced system budgets x history on kind unordered t = rw opening (rw st
     at : ℕ
     at = start_of system.threads x
 
-    changes_of : List Change
-    changes_of = told.changes_before system x history t
-
     opening : told.opening_context system x ≡ record { config = config; budget = Dates (dates_from at config.budget) }
     opening = rw kind refl
-
-    no_orders : orders_of changes_of ≡ []
-    no_orders =
-        all-orders system x history
-        (λ m. no_orders_at x (is_for_now system (told.home_of system x) m) system.orders (by_recursion (λ (order : Order). order.context ≢ x) system.orders unordered)) t
 
     fits : config.budget ≤ config.period
     fits = (budgets.contexts x no_context on.known).fits
 
-    steps : AreSteps system.min_budget changes_of config (dates_from at config.budget)
-    steps = are_steps system.min_budget changes_of config (dates_from at config.budget) no_orders
-        (carry (AreSound system.min_budget changes_of) (told.opening_context system x) (record { config = config; budget = Dates (dates_from at config.budget) }) opening (all-sound system x history t))
+    steps : AreSteps system.min_budget changes config (dates_from at config.budget)
+    steps = are_steps system.min_budget changes config (dates_from at config.budget) none
+        (carry (AreSound system.min_budget changes) (told.opening_context system x) (record { config = config; budget = Dates (dates_from at config.budget) }) opening sound)
 
-    spaced : IsSpaced config.budget config.period (consumed config.period (max_refills_of config) (steps_of system.min_budget changes_of) (dates_from at config.budget))
+    spaced : IsSpaced config.budget config.period (consumed config.period (max_refills_of config) (steps_of system.min_budget changes) (dates_from at config.budget))
     spaced =
-        consumed-spaced config.budget config.period (max_refills_of config) (steps_of system.min_budget changes_of) (dates_from at config.budget)
+        consumed-spaced config.budget config.period (max_refills_of config) (steps_of system.min_budget changes) (dates_from at config.budget)
         (kept-new config.budget config.period at fits) steps.proper
+
+-- no order comes where the system has none for the context
+pub no-orders : (system : System) (x : ℕ) (history : told.History system x) → told.IsUnordered system x → (t : ℕ) →
+    orders_of (told.changes_before system x history t) ≡ []
+no-orders system x history unordered t =
+    all-orders system x history
+    (λ m. no_orders_at x (is_for_now system (told.home_of system x) m) system.orders (by_recursion (λ (order : Order). order.context ≢ x) system.orders unordered)) t
+
+pub contexts-spaced : (system : System) → told.GivesBudgets system → told.ContextsAreSpaced system
+contexts-spaced system budgets x history on kind unordered t =
+    changes-spaced system budgets x on kind (told.changes_before system x history t) (no-orders system x history unordered t) (all-sound system x history t)

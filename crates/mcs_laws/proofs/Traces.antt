@@ -38,11 +38,11 @@ use Rattle.mcs_laws.specs.Histories.{charge_told, charges_told, is_order_for}
 use Rattle.mcs_laws.proofs.Kept.{head_amount-unblocked, head_amount-some, keeps-changes, changed_by-append, sound-append}
 
 -- whether two numbers are equal
-data Same (a b : ℕ) : Type 0 where
+pub data Same (a b : ℕ) : Type 0 where
   Are : (a == b) ≡ true → a ≡ b → Same a b
   Differ : (a == b) ≡ false → a ≢ b → Same a b
 
-same : (a b : ℕ) → Same a b
+pub same : (a b : ℕ) → Same a b
 same a b = by (a == b) refl
   where
     by : (e : Bool) → (a == b) ≡ e → Same a b
@@ -57,7 +57,7 @@ set-same : (x n : ℕ) (contexts : List (Option Context)) (k : Context) → n �
 set-same x n contexts k e l =
     ap (λ m. unwrap_or (get_or (set contexts m (Some k)) x None) no_server) e ∙ ap (λ o. unwrap_or o no_server) (get_or-set_same contexts x (Some k) None l)
 
-set-other : (x n : ℕ) (contexts : List (Option Context)) (k : Context) → n ≢ x → unwrap_or (get_or (set contexts n (Some k)) x None) no_server ≡ unwrap_or (get_or contexts x None) no_server
+pub set-other : (x n : ℕ) (contexts : List (Option Context)) (k : Context) → n ≢ x → unwrap_or (get_or (set contexts n (Some k)) x None) no_server ≡ unwrap_or (get_or contexts x None) no_server
 set-other x n contexts k e = ap (λ o. unwrap_or o no_server) (get_or-set_other contexts n x (Some k) None (λ f. e (sym f)))
 
 pub orders_of-append : (xs ys : List Change) → orders_of (xs ++ ys) ≡ orders_of xs ++ orders_of ys

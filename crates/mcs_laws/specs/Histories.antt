@@ -99,6 +99,10 @@ module _ (system : System) where
   abbrev pub ContextsHaveHistories : Type 0
   ContextsHaveHistories = (context : ℕ) → IsOnACore context → History context
 
+  -- no order names the context
+  abbrev pub IsUnordered : ℕ → Type 0
+  IsUnordered context = All (λ (order : Order). order.context ≢ context) system.orders
+
   -- of the dates that a sporadic context's charges take, where no order names it, the one a whole budget later is at least a period
   -- later
   abbrev pub IsSpacedBefore : (context : ℕ) → History context → ℕ → Type 0
@@ -109,4 +113,4 @@ module _ (system : System) where
   abbrev pub ContextsAreSpaced : Type 0
   ContextsAreSpaced =
       (context : ℕ) (history : History context) → IsOnACore context → kind_of (context_part system context).config ≡ Sporadic →
-      All (λ (order : Order). order.context ≢ context) system.orders → (t : ℕ) → IsSpacedBefore context history t
+      IsUnordered context → (t : ℕ) → IsSpacedBefore context history t

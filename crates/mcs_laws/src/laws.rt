@@ -3,6 +3,8 @@ ghost use Rattle.mcs_core.specs.WellFormed.{IsWellFormed};
 ghost use Rattle.mcs_laws.specs.Turns.{CoresAreOfTurns, RowsAreOfTurns, SignalsAreOfTurns, ArrivalsAreOfTurns};
 ghost use Rattle.mcs_laws.specs.Disciplines.{DisciplinesAgree};
 ghost use Rattle.mcs_laws.specs.Places.{ThreadsHaveOnePlace};
+ghost use Rattle.mcs_laws.specs.OnTime.{ThreadsAreOnTime};
+ghost use Rattle.mcs_laws.specs.Demand.{ThreadsRunWithinDemand};
 ghost use Rattle.mcs_laws.specs.Histories.{GivesBudgets, ContextsHaveHistories, ContextsHaveTheirBudgets, ContextsAreSpaced};
 
 /// A law of well-formed systems, for the premises of the laws of the clock: each signal takes time, and each configuration that
@@ -58,4 +60,17 @@ pub fn contexts_keep_their_budgets()
 /// is at least a period later.
 pub fn contexts_are_spaced()
     ensures { (system : System) → GivesBudgets system → ContextsAreSpaced system }
+{}
+
+/// A law of the clock: a thread whose context no order names is ready and runs only where the dates of its context have come. Where it is
+/// ready the head has come; where it waits for a date, that is not before the head; and where it runs, each tick since it was chosen began
+/// at its date or later.
+pub fn threads_are_on_time()
+    ensures { (system : System) → IsWellFormed system → ThreadsAreOnTime system }
+{}
+
+/// A law of the clock: up to each horizon a thread whose context no order names runs at most the budget for each period that begins before
+/// the horizon, the first of them at moment 0.
+pub fn threads_run_within_demand()
+    ensures { (system : System) → IsWellFormed system → ThreadsRunWithinDemand system }
 {}

@@ -1,7 +1,10 @@
-ghost use Rattle.std.specs.Prelude.{◌≡◌, ◌≤◌, ◌+◌, [], length, OnOk, OnErr, IfErr, IsOk, insert};
-ghost use Rattle.mcs_mail.specs.Box.{Content, put, due, without_due, first_arrival, IsOrdered};
+ghost use Rattle.std.specs.Prelude.{◌≡◌, ◌<◌, ◌≤◌, ◌+◌, ◌^◌, [], length, drop, slice_get, OnOk, OnErr, IfErr, IsOk, insert};
+ghost use Rattle.std.specs.VecDeque.{deque_len, deque_capacity};
+ghost use Rattle.mcs_mail.specs.Box.{Content, is_before, put, put_all, due, without_due, first_arrival, IsOrdered};
+ghost use Rattle.mcs_mail.specs.Merge.{last_or, late_is_first, IsMerged};
 
 use crate::Mail;
+use crate::late::Late;
 use mcs_ticks::{NoMemory, Tick};
 use std::alloc::Global;
 use std::collections::VecDeque;
@@ -11,7 +14,10 @@ use std::marker::Model;
 /// surely is room.
 #[derive(Debug, Drop)]
 pub struct Mailbox {
-    mails: VecDeque<Mail>,
+    // in order of delivery, with room for the late mail too
+    ring: VecDeque<Mail>,
+    // mail that was put when the ring's last was delivered after it
+    late: Late,
 }
 
 impl Model for Mailbox {
@@ -19,13 +25,14 @@ impl Model for Mailbox {
 
     ghost Value = { Content };
 
-    ghost use Rattle.std.specs.Prelude.{◌-◌};
+    ghost use Rattle.std.specs.Prelude.{◌-◌, ◌+◌, length, min};
     ghost use Rattle.std.specs.VecDeque.{deque_len, deque_capacity};
-    ghost use Rattle.mcs_mail.specs.Box.{IsOrdered};
+    ghost use Rattle.mcs_mail.specs.Box.{put_all};
+    ghost use Rattle.mcs_mail.specs.Merge.{IsMerged};
 
-    ghost view = { λ a. record { mails = a.mails.items; spare = deque_capacity a.mails - deque_len a.mails } };
+    ghost view = { λ a. record { mails = put_all a.late.mails a.ring.items; spare = min (deque_capacity a.ring - (deque_len a.ring + length a.late.mails)) a.late.spare } };
 
-    ghost invariant = { λ a. IsOrdered a.mails.items };
+    ghost invariant = { λ a. IsMerged a.late.mails a.ring.items (deque_capacity a.ring) };
 }
 
 impl Mailbox {
@@ -34,12 +41,14 @@ impl Mailbox {
         ensures { result.mails ≡ [] }
     {
         Mailbox {
-            mails: VecDeque::new(alloc),
+            ring: VecDeque::new(alloc),
+            late: Late::new(alloc),
         }
     }
 
     /// Puts mail behind all that is not delivered after it. Where there is no memory for it the mail is handed back and the mailbox
-    /// is as it was; a put succeeds where `spare` is not 0. Constant time where mail comes in order of its delivery.
+    /// is as it was; a put succeeds where `spare` is not 0. Constant time where mail comes in order of its delivery, else logarithmic
+    /// in how much came out of order.
     pub fn put(&mut self, mail: Mail) -> Result<(), (Mail, NoMemory)>
         ensures ok { OnOk result (self.new.mails ≡ put mail self.old.mails) }
         ensures handed_back { IfErr result (λ back. back.0 ≡ mail) }
@@ -47,10 +56,13 @@ impl Mailbox {
         ensures succeeds { 1 ≤ self.old.spare → IsOk result }
         ensures spare { OnOk result (self.old.spare ≤ self.new.spare + 1) }
     {
-        let place = place_of(&self.mails, &mail);
-        match self.mails.insert(place, mail) {
-            Ok(()) => Ok(()),
-            Err(refused) => Err((refused.value, NoMemory)),
+        match prepare(&mut self.ring, &mut self.late) {
+            Err(refusal) => Err((mail, refusal)),
+            Ok(()) if is_late(&self.ring, &mail) => self.late.put(mail),
+            Ok(()) => {
+                self.ring.push_back_reserved(mail);
+                Ok(())
+            }
         }
     }
 
@@ -61,8 +73,8 @@ impl Mailbox {
         ensures no_less { self.old.spare ≤ self.new.spare }
         ensures enough { n ≤ self.old.spare → IsOk result }
     {
-        self.mails.reserve(n)?;
-        Ok(())
+        make_room(&mut self.ring, self.late.len(), n)?;
+        self.late.reserve(n)
     }
 
     /// Takes the first mail if it arrives at `t` or before.
@@ -72,9 +84,11 @@ impl Mailbox {
         ensures spare { self.old.spare ≤ self.new.spare }
         ensures in_order { IsOrdered self.old.mails }
     {
-        match self.mails.front() {
-            Some(first) if first.arrives <= t => self.mails.pop_front(),
-            _ => None,
+        let first = self.first()?;
+        if first.arrives <= t {
+            self.take_first()
+        } else {
+            None
         }
     }
 
@@ -82,7 +96,8 @@ impl Mailbox {
     pub fn next(&self) -> Option<Tick>
         ensures { result ≡ first_arrival self.now.mails }
     {
-        self.mails.front().map(|first| first.arrives)
+        let first = self.first()?;
+        Some(first.arrives)
     }
 
     /// How many signals are under way.
@@ -90,8 +105,119 @@ impl Mailbox {
         ensures count { result ≡ length self.now.mails }
         ensures in_order { IsOrdered self.now.mails }
     {
-        self.mails.len()
+        self.ring.len() + self.late.len()
     }
+
+    // The first mail.
+    fn first(&self) -> Option<Mail>
+        ensures first { result ≡ slice_get self.now.mails 0 }
+        ensures in_order { IsOrdered self.now.mails }
+    {
+        if late_is_first(&self.ring, &self.late) {
+            self.late.first()
+        } else {
+            self.ring.front().copied()
+        }
+    }
+
+    // Takes the first mail.
+    fn take_first(&mut self) -> Option<Mail>
+        ensures taken { result ≡ slice_get self.old.mails 0 }
+        ensures left { self.new.mails ≡ drop 1 self.old.mails }
+        ensures spare { self.old.spare ≤ self.new.spare }
+    {
+        if late_is_first(&self.ring, &self.late) {
+            self.late.take_first()
+        } else {
+            self.ring.pop_front()
+        }
+    }
+}
+
+#[cfg(test)]
+impl Mailbox {
+    /// An empty mailbox, with `next` as the number of the next late mail.
+    pub(crate) fn numbered_from(alloc: Global, next: usize) -> Self
+        ensures { result.mails ≡ [] }
+    {
+        Mailbox {
+            ring: VecDeque::new(alloc),
+            late: Late::numbered_from(alloc, next),
+        }
+    }
+}
+
+// Whether the first mail is late. Of equal mail that in the ring was put earlier.
+fn late_is_first(ring: &VecDeque<Mail>, late: &Late) -> bool
+    ensures { result ≡ late_is_first late.now.mails ring.now.items }
+{
+    match (late.first(), ring.front()) {
+        (Some(first), Some(front)) => first.is_before(front),
+        _ => false,
+    }
+}
+
+// Makes the two ready for a put: in the ring there is room for one more, and late mail can have a number.
+fn prepare(ring: &mut VecDeque<Mail>, late: &mut Late) -> Result<(), NoMemory>
+    requires { IsMerged late.old.mails ring.old.items (deque_capacity ring.old) }
+    ensures merged { IsMerged late.new.mails ring.new.items (deque_capacity ring.new) }
+    ensures mails { put_all late.new.mails ring.new.items ≡ put_all late.old.mails ring.old.items }
+    ensures count { deque_len ring.new + length late.new.mails ≡ deque_len ring.old + length late.old.mails }
+    ensures room { OnOk result (deque_len ring.new + length late.new.mails + 1 ≤ deque_capacity ring.new) }
+    ensures number { OnOk result (late.new.next + 1 < 2 ^ 64) }
+    ensures capacity { deque_capacity ring.old ≤ deque_capacity ring.new }
+    ensures spare { late.old.spare ≤ late.new.spare }
+    ensures enough { deque_len ring.old + length late.old.mails + 1 ≤ deque_capacity ring.old → IsOk result }
+{
+    make_room(ring, late.len(), 1)?;
+    if late.is_spent() {
+        settle(ring, late);
+    }
+    Ok(())
+}
+
+// Makes room in the ring for so much late mail and for `n` more. It grows by as much late mail again, so that many puts share the cost.
+fn make_room(ring: &mut VecDeque<Mail>, late: usize, n: usize) -> Result<(), NoMemory>
+    requires { deque_len ring.old + late ≤ deque_capacity ring.old }
+    ensures items { ring.new.items ≡ ring.old.items }
+    ensures room { OnOk result (deque_len ring.new + late + n ≤ deque_capacity ring.new) }
+    ensures capacity { deque_capacity ring.old ≤ deque_capacity ring.new }
+    ensures enough { deque_len ring.old + late + n ≤ deque_capacity ring.old → IsOk result }
+{
+    if ring.capacity() - ring.len() - late < n {
+        ring.reserve((2 * late).saturating_add(n))?;
+    }
+    Ok(())
+}
+
+// Whether the ring's last is delivered after the mail.
+fn is_late(ring: &VecDeque<Mail>, mail: &Mail) -> bool
+    ensures { result ≡ is_before mail.now (last_or mail.now ring.now.items) }
+{
+    match ring.back() {
+        Some(last) => mail.is_before(last),
+        None => false,
+    }
+}
+
+// Moves the late mail to its places in the ring, so that its numbers begin at 0 again: at most once in 2^64 - 1 puts of late mail.
+fn settle(ring: &mut VecDeque<Mail>, late: &mut Late)
+    requires order { IsOrdered ring.old.items }
+    requires room { deque_len ring.old + length late.old.mails ≤ deque_capacity ring.old }
+    ensures ring { ring.new.items ≡ put_all late.old.mails ring.old.items }
+    ensures late { late.new.mails ≡ [] }
+    ensures numbers { late.new.next ≡ 0 }
+    ensures capacity { deque_capacity ring.old ≤ deque_capacity ring.new }
+    ensures spare { late.old.spare ≤ late.new.spare }
+{
+    for _ in 0..late.len() {
+        if let Some(mail) = late.take_first() {
+            let place = place_of(ring, &mail);
+            let put = ring.insert(place, mail).is_ok();
+            prove!(put);
+        }
+    }
+    late.restart();
 }
 
 // Where to insert the mail: behind all that is not delivered after it.

@@ -6,3 +6,5 @@ pub mod Agree
 pub mod Walks
 pub mod Schedules
 pub mod Worked
+pub mod Ticks
+pub mod Demand

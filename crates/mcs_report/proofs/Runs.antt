@@ -70,7 +70,7 @@ move h x m (row.Round y number response) a = move_round (eqb y x) m response a
 move h x m (row.Order context) a = stays m a
 
 -- the rest of the open run
-abbrev open_run : ℕ → ℕ → Option ℕ → List Row → ℕ
+abbrev pub open_run : ℕ → ℕ → Option ℕ → List Row → ℕ
 open_run h x None rows = 0
 open_run h x (Some begin) rows = next_stop h x rows - begin
 
@@ -98,21 +98,21 @@ still_open : (x : ℕ) (since : Option ℕ) (r : Row) (rows : List Row) → stop
 still_open x None r rows e was_open = tt
 still_open x (Some begin) r rows e was_open = was_open.1 e
 
-open_run-stop : (h x : ℕ) (since : Option ℕ) (r : Row) (rows : List Row) → stops x r.what ≡ true → open_run h x since (r ∷ rows) ≡ ticks_since r.moment since
+pub open_run-stop : (h x : ℕ) (since : Option ℕ) (r : Row) (rows : List Row) → stops x r.what ≡ true → open_run h x since (r ∷ rows) ≡ ticks_since r.moment since
 open_run-stop h x None r rows e = refl
 open_run-stop h x (Some begin) r rows e = ap (λ t. cond t r.moment (next_stop h x rows) - begin) e
 
-open_run-other : (h x : ℕ) (since : Option ℕ) (r : Row) (rows : List Row) → stops x r.what ≡ false → open_run h x since (r ∷ rows) ≡ open_run h x since rows
+pub open_run-other : (h x : ℕ) (since : Option ℕ) (r : Row) (rows : List Row) → stops x r.what ≡ false → open_run h x since (r ∷ rows) ≡ open_run h x since rows
 open_run-other h x None r rows e = refl
 open_run-other h x (Some begin) r rows e = ap (λ t. cond t r.moment (next_stop h x rows) - begin) e
 
-run_lengths-run : (h x : ℕ) (r : Row) (rows : List Row) → runs x r.what ≡ true
+pub run_lengths-run : (h x : ℕ) (r : Row) (rows : List Row) → runs x r.what ≡ true
     → sum (run_lengths h x (r ∷ rows)) ≡ (next_stop h x rows - r.moment) + sum (run_lengths h x rows)
 run_lengths-run h x r rows e =
     ap (λ t. sum (cond t ((next_stop h x rows - r.moment) ∷ run_lengths h x rows) (run_lengths h x rows))) e
     ∙ sum_by-cons (λ y. y) (next_stop h x rows - r.moment) (run_lengths h x rows)
 
-run_lengths-other : (h x : ℕ) (r : Row) (rows : List Row) → runs x r.what ≡ false → sum (run_lengths h x (r ∷ rows)) ≡ sum (run_lengths h x rows)
+pub run_lengths-other : (h x : ℕ) (r : Row) (rows : List Row) → runs x r.what ≡ false → sum (run_lengths h x (r ∷ rows)) ≡ sum (run_lengths h x rows)
 run_lengths-other h x r rows e =
     ap (λ t. sum (cond t ((next_stop h x rows - r.moment) ∷ run_lengths h x rows) (run_lengths h x rows))) e
 

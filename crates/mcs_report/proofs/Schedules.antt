@@ -26,7 +26,7 @@ use Rattle.mcs_report.specs.Schedules.{SchedulesRunApart, SchedulesAreReported}
 use Rattle.mcs_report.proofs.Agree.{agree}
 use Rattle.mcs_report.proofs.Walks.{Walks, ArePlain, is_open, after_row, walks-append, walks-plain, turn-turns}
 
-abbrev whats : List Row → List What
+abbrev pub whats : List Row → List What
 whats rows = map (λ r. r.what) rows
 
 not_again : (run before : Bool) → before ≡ true → (run ≡ true → before ≡ false) → run ≡ false
@@ -47,7 +47,7 @@ apart-walks x (r ∷ rows) before last walks =
       λ e. (not_again (runs x r.what) before e walks.0, λ f. rest.1 (still (runs x r.what) (stops x r.what) before e f)),
     )
 
-abbrev one_if : Bool → ℕ
+abbrev pub one_if : Bool → ℕ
 one_if b = cond b 1 0
 
 -- a thread that has no place on a core does not run there
@@ -93,7 +93,7 @@ none_waits x [] = refl
 none_waits x (thing ∷ things) =
     omega (arith, sum_by-cons (λ (note : Note). times_queued x note.waiters) quiet_note (map (λ _. quiet_note) things), none_waits x things)
 
-own_core : System → ℕ → ℕ
+unfoldable pub own_core : System → ℕ → ℕ
 own_core system x = core_of system (thread_part system x)
 
 no_place : (system : System) (c x : ℕ) → c ≢ own_core system x → places x (opening_core system c) ≡ 0
@@ -118,7 +118,7 @@ module _ (system : System) (takes_time : TakesTime system) (x : ℕ) where
       still_none : (a b : ℕ) → a ≤ b → b ≡ 0 → a ≡ 0
       still_none a b p q = omega arith
 
-  going : ℕ → ℕ → Bool
+  unfoldable pub going : ℕ → ℕ → Bool
   going t c = is_open x (clocks.core_at system (clocks.world system t) c).running
 
   -- the turn of core c at t
@@ -146,7 +146,7 @@ module _ (system : System) (takes_time : TakesTime system) (x : ℕ) where
       ∙ ap (λ ws. ws ++ whats rest) (same_whats t c (clocks.turn_of system c t).rows)
 
   -- the rows of the cores from a on, n of them
-  rows_from : ℕ → ℕ → ℕ → List Row
+  unfoldable pub rows_from : ℕ → ℕ → ℕ → List Row
   rows_from t a n = flat_map (λ c. clocks.rows_of system c t) (range_with_len a n)
 
   -- past the thread's own core
@@ -161,7 +161,7 @@ module _ (system : System) (takes_time : TakesTime system) (x : ℕ) where
       (walks-past t n (a + 1) (omega arith) (omega arith) b))
 
   -- and from before it
-  walks-from : (t n a : ℕ) → a ≤ own_core system x → own_core system x < a + n → a + n ≤ system.cores
+  pub walks-from : (t n a : ℕ) → a ≤ own_core system x → own_core system x < a + n → a + n ≤ system.cores
       → Walks x (going t (own_core system x)) (whats (rows_from t a n)) (going (suc t) (own_core system x))
   unfolding rows_from
   walks-from t zero a before after within = absurd (omega arith)
@@ -190,7 +190,7 @@ module _ (system : System) (takes_time : TakesTime system) (x : ℕ) where
           (here (omega arith))
           (walks-past t n (a + 1) (omega arith) (omega arith) (going (suc t) (own_core system x)))
 
-  walks-clock : own_core system x < system.cores → (t : ℕ) → Walks x false (whats (clocks.clock system t).rows) (going t (own_core system x))
+  pub walks-clock : own_core system x < system.cores → (t : ℕ) → Walks x false (whats (clocks.clock system t).rows) (going t (own_core system x))
   unfolding going rows_from
   walks-clock known zero =
       rw (get_or-map-range_with_len (opening_core system) 0 system.cores (own_core system x) (own_core system x) (opening_core system (own_core system x)) known (omega arith)) refl
@@ -209,7 +209,7 @@ core_of_context system well context = by (cases_lt context (length system.contex
     by (inl within) = (well.contexts context no_context within).core
     by (inr past) = rw (get_or_past system.contexts context no_context past) (omega (arith, well.limits.cores.0))
 
-own_core_known : (system : System) → IsWellFormed system → (x : ℕ) → own_core system x < system.cores
+pub own_core_known : (system : System) → IsWellFormed system → (x : ℕ) → own_core system x < system.cores
 unfolding own_core
 own_core_known system well x = core_of_context system well (thread_part system x).context
 

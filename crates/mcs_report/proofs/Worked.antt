@@ -1,5 +1,5 @@
 -- Reports that were worked by hand, of the rows and of whole schedules.
-use Rattle.std.specs.Prelude.{◌≡◌, ℕ, List, [], ◌∷◌, Some, None, refl}
+use Rattle.std.specs.Prelude.{◌≡◌, ℕ, List, [], ◌∷◌, Some, None, sum, refl}
 use Rattle.mcs_ticks.specs.declared.row.Row.{Row}
 use Rattle.mcs_ticks.specs.declared.row.What.{What}
 use Rattle.mcs_ticks.specs.declared.row.What.TheVariants as row
@@ -12,7 +12,8 @@ use Rattle.mcs_core.specs.System.{System}
 use Rattle.mcs_core.specs.Clock.{schedule}
 use Rattle.mcs_report.specs.declared.reports.ThreadReport.{ThreadReport}
 use Rattle.mcs_report.specs.declared.reports.Reports.{Reports}
-use Rattle.mcs_report.specs.Reports.{thread_report, reports_of}
+use Rattle.mcs_laws.specs.Demand.{ticks_run, demand_of}
+use Rattle.mcs_report.specs.Reports.{run_lengths, thread_report, reports_of}
 
 abbrev context : ℕ → ℕ → ContextPart
 context budget period = record { name = []; core = 0; config = record { budget = budget; period = period; extra = 0 } }
@@ -118,3 +119,34 @@ idle_cores :
     of_schedule (record (one_core [] []) { cores = 2 }) 1
     ≡ record { threads = []; cores = record { busy = 0; idle = 1 } ∷ record { busy = 0; idle = 1 } ∷ [] }
 idle_cores = refl
+
+-- budget 2 of 5: of ten ticks four are run, which is all that it may
+runs_four_ticks : ticks_run depletes 0 10 ≡ 4
+runs_four_ticks = refl
+
+may_run_four_ticks : demand_of depletes 0 10 ≡ 4
+may_run_four_ticks = refl
+
+-- the second period began at 5
+runs_three_ticks : ticks_run depletes 0 6 ≡ 3
+runs_three_ticks = refl
+
+may_run_four_ticks_by_six : demand_of depletes 0 6 ≡ 4
+may_run_four_ticks_by_six = refl
+
+-- a whole slice for each period is every tick, and more where the last period has not ended
+may_run_always : demand_of (one_core (context 4 4 ∷ []) (thread 0 5 1 0 (Compute 9 ∷ []) ∷ [])) 0 7 ≡ 8
+may_run_always = refl
+
+-- an order to 4 of 10 at once lets the thread run more than 1 in 10: the tick at 0, and those from 7 on
+abbrev raised : System
+raised =
+    record (one_core (context 1 10 ∷ []) (thread 0 5 1 0 (Compute 20 ∷ []) ∷ [])) {
+      orders = record { moment = 0; context = 0; config = record { budget = 4; period = 10; extra = 0 } } ∷ [];
+    }
+
+an_order_lets_it_run_more : sum (run_lengths 10 0 (schedule raised 10)) ≡ 4
+an_order_lets_it_run_more = refl
+
+more_than_by_its_first_budget : demand_of raised 0 10 ≡ 1
+more_than_by_its_first_budget = refl

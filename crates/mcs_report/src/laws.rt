@@ -1,5 +1,6 @@
 ghost use Rattle.mcs_report.specs.Agree.{Agree, AgreeButRan};
 ghost use Rattle.mcs_report.specs.Schedules.{SchedulesRunApart, SchedulesAreReported};
+ghost use Rattle.mcs_report.specs.Demand.{RunsAreTicks, DemandIsBounded};
 
 /// A law of tallies, for every list of rows in which each run of a thread is stopped before the next one, as in every schedule:
 /// what is finished after adding the rows is the reports of the rows.
@@ -20,4 +21,16 @@ pub fn schedules_run_apart()
 /// A law of the clock: what is finished after adding the rows of a schedule is the reports of the schedule.
 pub fn schedules_are_reported()
     ensures { SchedulesAreReported }
+{}
+
+/// A law of the clock: the runs of a thread in the schedule of a well-formed system last as many ticks as there are before the horizon in
+/// which it runs.
+pub fn runs_are_ticks()
+    ensures { RunsAreTicks }
+{}
+
+/// A law of the clock: up to each horizon a thread of a well-formed system, where no order names its context, runs at most its budget for
+/// each period that begins before the horizon, the first of them at moment 0. Its report says no more.
+pub fn demand_is_bounded()
+    ensures { DemandIsBounded }
 {}

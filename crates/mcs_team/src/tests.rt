@@ -1,3 +1,4 @@
 mod orders;
+mod reports;
 mod sketch;
 mod whole;

@@ -59,3 +59,26 @@ fn fail(rt: &HostRuntime, text: &str, status: u8) -> ExitCode {
     let _ = rt.eprint(text);
     ExitCode::from(status)
 }
+
+#[cfg(test)]
+mod tests {
+    use super::run_with;
+    use mcs_cli::{Options, RunFault, Show};
+    use mcs_ticks::Tick;
+    use std::test::Fail;
+
+    // No file has the first name, and the second is that of a folder.
+    #[test]
+    fn files_that_are_not_read(rt: HostRuntime) -> Result<(), Fail> {
+        for name in ["no_folder/no_file.toml", "."] {
+            let options = Options {
+                file: Some(String::from_str(rt.alloc(), name)?),
+                horizon: Tick::ZERO,
+                workers: 1,
+                show: Show::Schedule,
+            };
+            assert_eq!(rt; run_with(&rt, &options), Err(RunFault::Read), "{name}");
+        }
+        Ok(())
+    }
+}

@@ -75,6 +75,68 @@ fn faults_of_a_file_have_a_line_and_a_status(rt: HostRuntime) -> Result<(), Fail
     )
 }
 
+// Each fault of a file, in its words.
+#[test]
+fn each_fault_of_a_file_is_told(rt: HostRuntime) -> Result<(), Fail> {
+    let kinds = [
+        (FaultKind::NotToml, "not TOML"),
+        (FaultKind::UnknownKey, "unknown key"),
+        (FaultKind::MissingKey, "missing key"),
+        (FaultKind::WrongKind, "wrong kind"),
+        (FaultKind::OutOfRange, "out of range"),
+        (FaultKind::TooMany, "too many"),
+        (FaultKind::BadName, "bad name"),
+        (FaultKind::DoubleName, "double name"),
+        (FaultKind::UnknownName, "unknown name"),
+        (
+            FaultKind::BadItem(ItemFault::UnknownWord),
+            "bad item: unknown word",
+        ),
+        (
+            FaultKind::BadItem(ItemFault::MissingPart),
+            "bad item: missing part",
+        ),
+        (
+            FaultKind::BadItem(ItemFault::ExtraPart),
+            "bad item: extra part",
+        ),
+        (
+            FaultKind::BadItem(ItemFault::BadNumber),
+            "bad item: bad number",
+        ),
+        (FaultKind::WaitLast, "wait is last"),
+        (
+            FaultKind::Control(ControlFault::ZeroBudget),
+            "control: zero budget",
+        ),
+        (
+            FaultKind::Control(ControlFault::BudgetTooSmall),
+            "control: budget too small",
+        ),
+        (
+            FaultKind::Control(ControlFault::BudgetOverPeriod),
+            "control: budget over period",
+        ),
+        (
+            FaultKind::Control(ControlFault::PeriodTooLong),
+            "control: period too long",
+        ),
+        (
+            FaultKind::Control(ControlFault::TooManyRefills),
+            "control: too many refills",
+        ),
+        (FaultKind::ContextTaken, "context taken"),
+        (FaultKind::OtherCore, "other core"),
+        (FaultKind::KindChange, "kind change"),
+    ];
+    for (kind, text) in kinds {
+        let fault = at(kind, Section::Order, 4096, Key::Context, 0);
+        let line = format!(in rt.alloc(); "mcsim: {text} at order 4096 context")?;
+        is_told(&rt, rt.alloc(), fault, line.as_str(), 1)?;
+    }
+    Ok(())
+}
+
 fn at(kind: FaultKind, section: Section, row: usize, key: Key, item: usize) -> RunFault {
     RunFault::Load(LoadFault {
         kind,

@@ -91,29 +91,93 @@ thread = [{ name = \"A\", context = \"a\", priority = 5, start = 3, rounds = 1, 
 #[test]
 fn idle_cores(rt: HostRuntime) -> Result<(), Fail> {
     let file = "version = 1\ncores = 2\ndelay = 1\n";
-    let text = written(rt.alloc(), file, &asked(1, Show::Both))?;
-    assert_eq!(rt;
-        text.as_slice(),
-        b"core 0 busy 0 idle 1\ncore 1 busy 0 idle 1\n".as_slice()
-    );
+    let reports = "core 0 busy 0 idle 1\ncore 1 busy 0 idle 1\n";
+    for (show, want) in [
+        (Show::Schedule, ""),
+        (Show::Reports, reports),
+        (Show::Both, reports),
+    ] {
+        let text = written(rt.alloc(), file, &asked(1, show))?;
+        assert_eq!(rt; text.as_slice(), want.as_bytes());
+    }
     Ok(())
 }
 
-#[test]
-fn one_response_late(rt: HostRuntime) -> Result<(), Fail> {
-    let file = "\
+// Systems, the horizon, and what their threads and cores did.
+const REPORTED: [(&str, u64, &str); 4] = [
+    (
+        "\
+version = 1
+cores = 1
+delay = 1
+context = [
+  { name = \"a\", core = 0, budget = 10, period = 100 },
+  { name = \"b\", core = 0, budget = 10, period = 100 },
+  { name = \"c\", core = 0, budget = 5, period = 50 },
+]
+note = [{ name = \"n\", core = 0 }]
+thread = [
+  { name = \"A\", context = \"a\", priority = 5, rounds = 1, script = [\"compute 2\", \"signal n 1\", \"compute 4\"] },
+  { name = \"B\", context = \"b\", priority = 5, rounds = 1, script = [\"compute 2\"] },
+  { name = \"C\", context = \"c\", priority = 9, rounds = 1, script = [\"wait n\", \"compute 1\"] },
+]
+",
+        11,
+        "\
+thread A ran 7 rounds 1 least 9 greatest 9 total 9 late 0 spent 0 throttled 0 longest 0
+thread B ran 2 rounds 1 least 11 greatest 11 total 11 late 0 spent 0 throttled 0 longest 0
+thread C ran 2 rounds 1 least 1 greatest 1 total 1 late 0 spent 0 throttled 0 longest 0
+core 0 busy 11 idle 0
+",
+    ),
+    // the wait after the last stop is cut at the horizon
+    (
+        "\
+version = 1
+cores = 1
+delay = 1
+context = [{ name = \"a\", core = 0, budget = 10, period = 100 }]
+thread = [{ name = \"A\", context = \"a\", priority = 5, rounds = 1, script = [\"compute 20\"] }]
+order = [{ at = 4, core = 0, context = \"a\", budget = 6, period = 50 }]
+",
+        10,
+        "\
+thread A ran 10 rounds 0 least 0 greatest 0 total 0 late 0 spent 1 throttled 0 longest 0
+core 0 busy 10 idle 0
+",
+    ),
+    // the run from 5 is open and counts up to the horizon
+    (
+        SPENT,
+        6,
+        "\
+thread A ran 3 rounds 0 least 0 greatest 0 total 0 late 0 spent 1 throttled 3 longest 3
+core 0 busy 3 idle 3
+",
+    ),
+    // one response of two is late
+    (
+        "\
 version = 1
 cores = 1
 delay = 1
 context = [{ name = \"a\", core = 0, budget = 4, period = 10 }]
 thread = [{ name = \"A\", context = \"a\", priority = 5, rounds = 2, deadline = 9, script = [\"compute 1\", \"yield\"] }]
-";
-    let want = "\
+",
+        12,
+        "\
 thread A ran 4 rounds 2 least 2 greatest 10 total 12 late 1 spent 0 throttled 0 longest 0
 core 0 busy 4 idle 8
-";
-    let text = written(rt.alloc(), file, &asked(12, Show::Reports))?;
-    assert_eq!(rt; text.as_slice(), want.as_bytes());
+",
+    ),
+];
+
+#[test]
+fn reports_of_runs(rt: HostRuntime) -> Result<(), Fail> {
+    for (file, horizon, want) in REPORTED {
+        let text = written(rt.alloc(), file, &asked(horizon, Show::Reports))?;
+        assert_eq!(rt; text.as_slice(), want.as_bytes());
+    }
     Ok(())
 }
 

@@ -63,8 +63,20 @@ impl Sketch {
         Ok(())
     }
 
-    /// A thread of the next context, with its start.
+    /// A thread of the next context, with its start: one round, without a deadline.
     pub fn thread(&mut self, priority: u8, start: u64, items: &[Item]) -> Result<(), Fail> {
+        self.rounds(priority, start, 1, 0, items)
+    }
+
+    /// The same with so many rounds, and a deadline.
+    pub fn rounds(
+        &mut self,
+        priority: u8,
+        start: u64,
+        rounds: u64,
+        deadline: u64,
+        items: &[Item],
+    ) -> Result<(), Fail> {
         let number = self.threads.len();
         let name = name(self.alloc, "t", number)?;
         let items = Vec::from_slice(self.alloc, items)?;
@@ -76,8 +88,8 @@ impl Sketch {
             context: ContextId(number),
             priority,
             start: tick(start)?,
-            rounds: 1,
-            deadline: 0,
+            rounds,
+            deadline,
             script,
         })?;
         Ok(())

@@ -1,0 +1,497 @@
+-- Threads are ready and run where the dates of their contexts have come.
+use Rattle.std.proofs.Common.{◌≡◌, ◌≢◌, ℕ, suc, ◌+◌, ◌<◌, ◌≤◌, Bool, true, false, not, cond, List, [], ◌∷◌, ◌++◌, Option, Some, None, refl, sym, ap, subst, ◌∙◌, arith}
+use Rattle.std.specs.Prelude.{filter, ◌==◌, nat_lt, nat_le}
+use Rattle.std.specs.List.{AllByRecursion}
+use Rattle.std.proofs.lemmas.Bool.Decides.{nat_tests}
+use Rattle.mcs_ticks.specs.Queue.{by_priority, first_of}
+use Rattle.mcs_ticks.specs.declared.queue.Queued.{Queued}
+use Rattle.mcs_ticks.specs.declared.row.Why.{Why}
+use Rattle.mcs_ticks.specs.declared.row.Why.TheVariants as why
+use Rattle.mcs_notify.specs.Note.{posted, after_post, waited, after_wait}
+use Rattle.mcs_notify.specs.declared.posted.Posted.{Posted}
+use Rattle.mcs_notify.specs.declared.posted.Posted.TheVariants.{Woke, Held}
+use Rattle.mcs_notify.specs.declared.posted.Waited.{Waited}
+use Rattle.mcs_notify.specs.declared.posted.Waited.TheVariants.{Got, Blocks}
+use Rattle.mcs_release.specs.declared.dated.Dated.{Dated}
+use Rattle.mcs_control.specs.declared.config.Order.{Order}
+use Rattle.mcs_control.specs.Context.{Context, Budget, context_ready, budget_ready, moment_of, head_moment, head_amount}
+use Rattle.mcs_control.specs.Context.Budget.{Dates, Slice}
+use Rattle.mcs_refills.specs.Server as server
+use Rattle.mcs_script.specs.declared.item.Item.{Item}
+use Rattle.mcs_script.specs.declared.item.Item.TheVariants.{Compute, Signal, Wait, Yield}
+use Rattle.mcs_script.specs.declared.moved.Moved.{Moved}
+use Rattle.mcs_script.specs.declared.moved.Moved.TheVariants.{Next, RoundEnds, AllDone}
+use Rattle.mcs_mail.specs.declared.mail.Mail.{Mail}
+use Rattle.mcs_core.specs.declared.standing.Chosen.{Chosen}
+use Rattle.mcs_core.specs.System.{System, note_part, thread_part}
+use Rattle.mcs_core.specs.Core.{Core, context_of, note_of, thread_of, with_note, off}
+use Rattle.mcs_core.specs.Turn as turns
+use Rattle.mcs_core.specs.Turn.{Turn, each, silent, says, ◌followed_by◌, is_for_now}
+use Rattle.mcs_laws.specs.Places.{times_running, times_queued, times_dated, places}
+use Rattle.mcs_laws.specs.OnTime.{IsOnTime, RunsInTime}
+use Rattle.mcs_laws.proofs.Places as held
+use Rattle.mcs_laws.proofs.Traces.{Same, same, set-other}
+use Rattle.mcs_laws.proofs.Traces.Same.{Are, Differ}
+
+-- a thread counts once at itself
+pub one-same : (a b : ℕ) → a ≡ b → held.one b a ≡ 1
+one-same a b e = grind (arith, nat_tests)
+
+one-is : (a b : ℕ) → 1 ≤ held.one b a → a ≡ b
+one-is a b l = by (a == b) refl l
+  where
+    equal : (a == b) ≡ true → a ≡ b
+    equal e = grind (arith, nat_tests)
+
+    by : (d : Bool) → (a == b) ≡ d → 1 ≤ cond d 1 0 → a ≡ b
+    by true e l = equal e
+    by false e l = absurd (omega (arith, l))
+
+-- a context that is ready has its head come
+ready-come : (t : ℕ) (context : Context) → context_ready t context ≡ true → head_moment context ≤ t
+ready-come t context e = by context.budget e
+  where
+    within : (a b : ℕ) → nat_le a b ≡ true → a ≤ b
+    within a b e = grind (arith, nat_tests)
+
+    by : (budget : Budget) → budget_ready t budget ≡ true → moment_of budget ≤ t
+    by (Dates dates) e = within (server.first_date dates) t e
+    by (Slice left) e = omega arith
+
+module _ (x : ℕ) where
+  -- a thread that is in none of these places
+  none-dated : (m : ℕ) (releases : List Dated) → times_dated x releases ≡ 0 → AllByRecursion (λ (dated : Dated). dated.thread ≡ x → m ≤ dated.date) releases
+  none-dated m [] e = tt
+  none-dated m (dated ∷ others) e =
+      let first : times_dated x (dated ∷ others) ≡ held.one x dated.thread + times_dated x others = held.dated-cons x dated others in
+      (λ own. absurd (omega (arith, one-same dated.thread x own, first, e)), none-dated m others (omega (arith, first, e)))
+
+  pub absent : (m past : ℕ) (o : Option Chosen) (ready : List Queued) (releases : List Dated) →
+      times_running x o ≡ 0 → times_queued x ready ≡ 0 → times_dated x releases ≡ 0 → IsOnTime x m past o ready releases
+  absent m past o ready releases e f g = record { runs = runs o e; ready = λ l. absurd (omega (arith, l, f)); pends = none-dated m releases g }
+    where
+      runs : (o : Option Chosen) → times_running x o ≡ 0 → RunsInTime x m past o
+      runs None e = tt
+      runs (Some chosen) e = λ own. absurd (omega (arith, one-same chosen.thread x own, e))
+
+  also-dated : (m y date : ℕ) (releases : List Dated) → AllByRecursion (λ (dated : Dated). dated.thread ≡ x → m ≤ dated.date) releases → (y ≡ x → m ≤ date) →
+      AllByRecursion (λ (dated : Dated). dated.thread ≡ x → m ≤ dated.date) (releases ++ record { thread = y; date = date } ∷ [])
+  also-dated m y date [] h f = (f, tt)
+  also-dated m y date (dated ∷ others) h f = (h.0, also-dated m y date others h.1 f)
+
+  also-queued : (m past y : ℕ) (before after : List Queued) → times_queued x after ≡ times_queued x before + held.one x y →
+      (1 ≤ times_queued x before → m < past) → (y ≡ x → m < past) → 1 ≤ times_queued x after → m < past
+  also-queued m past y before after e h f l = by (y == x) refl e
+    where
+      equal : (a b : ℕ) → (a == b) ≡ true → a ≡ b
+      equal a b e = grind (arith, nat_tests)
+
+      by : (d : Bool) → (y == x) ≡ d → times_queued x after ≡ times_queued x before + cond d 1 0 → m < past
+      by true d e = f (equal y x d)
+      by false d e = h (omega (arith, l, e))
+
+-- the parts of a turn at t, for thread x
+module _ (system : System) (t x : ℕ) where
+  abbrev pub own_context : ℕ
+  own_context = (thread_part system x).context
+
+  -- the thread has the context
+  abbrev pub Owns : ℕ → Type 0
+  Owns y = (thread_part system y).context ≡ own_context
+
+  abbrev pub head : Core → ℕ
+  head k = head_moment (context_of k own_context)
+
+  -- on time after the moment
+  abbrev pub OnTime : Core → Type 0
+  OnTime k = IsOnTime x (head k) (suc t) k.running k.ready k.releases
+
+  -- no other thread that has the context has a place, and it has one at most
+  abbrev pub IsAlone : Core → Type 0
+  IsAlone k = (y : ℕ) → Owns y → places y k ≤ held.one x y
+
+  -- whoever stops or wakes and has the context is the thread, and it is in no queue
+  pub record IsFree (y : ℕ) (k : Core) : Type 0 where
+    pub same : y ≡ x
+    pub ready : times_queued x k.ready ≡ 0
+    pub releases : times_dated x k.releases ≡ 0
+
+  alone-less : (a b : Core) → ((y : ℕ) → places y b ≤ places y a) → IsAlone a → IsAlone b
+  alone-less a b l h y own = omega (arith, l y, h y own)
+
+  other-moment : (y : ℕ) (k : Core) (context : Context) → (thread_part system y).context ≢ own_context →
+      context_of (turns.with_its_context system y context k) own_context ≡ context_of k own_context
+  other-moment y k context e = set-other own_context (thread_part system y).context k.contexts context e
+
+  moved : (a b past : ℕ) (o : Option Chosen) (ready : List Queued) (releases : List Dated) → a ≡ b → IsOnTime x a past o ready releases → IsOnTime x b past o ready releases
+  moved a b past o ready releases e h = let P : ℕ → Type 0 = λ m. IsOnTime x m past o ready releases in subst P e h
+
+  -- where a thread enters
+  abbrev pub Fits : ℕ → Option ℕ → Type 0
+  Fits m None = m < suc t
+  Fits m (Some date) = m ≤ date
+
+  fits : (y : ℕ) (k : Core) → y ≡ x → Fits (head k) (turns.date_of system t y k)
+  fits y k e = let P : ℕ → Type 0 = λ z. Fits (head k) (turns.date_of system t z k) in subst P (sym e) (by (context_ready t (context_of k own_context)) refl)
+    where
+      by : (b : Bool) → context_ready t (context_of k own_context) ≡ b → Fits (head k) (cond b None (Some (head k)))
+      by true f = omega (arith, ready-come t (context_of k own_context) f)
+      by false f = omega arith
+
+  enters_back-on_time : (y : ℕ) (o : Option ℕ) (k : Core) → (y ≡ x → Fits (head k) o) → OnTime k → OnTime (turns.enters_back by_priority system y o k)
+  enters_back-on_time y (Some date) k f h = record { runs = h.runs; ready = h.ready; pends = also-dated x (head k) y date k.releases h.pends f }
+  enters_back-on_time y None k f h =
+      record {
+        runs = h.runs;
+        ready = also-queued x (head k) (suc t) y k.ready (turns.enters_back by_priority system y None k).ready (held.back-queued x (turns.queued system y) k.ready) h.ready f;
+        pends = h.pends;
+      }
+
+  enters_front-on_time : (y : ℕ) (o : Option ℕ) (k : Core) → (y ≡ x → Fits (head k) o) → OnTime k → OnTime (turns.enters_front by_priority system y o k)
+  enters_front-on_time y (Some date) k f h = record { runs = h.runs; ready = h.ready; pends = also-dated x (head k) y date k.releases h.pends f }
+  enters_front-on_time y None k f h =
+      record {
+        runs = h.runs;
+        ready = also-queued x (head k) (suc t) y k.ready (turns.enters_front by_priority system y None k).ready (held.front-queued x (turns.queued system y) k.ready) h.ready f;
+        pends = h.pends;
+      }
+
+  -- a thread moves on in its script
+  moves-on_time : (y : ℕ) (m : Moved) (k : Core) → OnTime k → OnTime (turns.moves system t y m k).core
+  moves-on_time y Next k h = h
+  moves-on_time y RoundEnds k h = h
+  moves-on_time y AllDone k h = h
+
+  -- a thread wakes
+  wakes-on_time : (y : ℕ) (k : Core) → (Owns y → places x k ≡ 0) → OnTime k → OnTime (turns.wakes by_priority system t y k).core
+  wakes-on_time y k none h = enters_back-on_time y (turns.date_of system t y after) after (fits y after) (moves-on_time y (turns.move_of system t y given) given (by (same (thread_part system y).context own_context)))
+    where
+      unblocked : Core
+      unblocked = turns.unblocked by_priority system t y k
+
+      given : Core
+      given = turns.given system t y (turns.unblocked by_priority system t y k)
+
+      after : Core
+      after = (turns.moves_on system t y given).core
+
+      by : Same (thread_part system y).context own_context → OnTime (turns.unblocked by_priority system t y k)
+      by (Are e own) = absent x _ (suc t) k.running k.ready k.releases (omega (arith, none own)) (omega (arith, none own)) (omega (arith, none own))
+      by (Differ e other) = moved (head k) (head (turns.unblocked by_priority system t y k)) (suc t) k.running k.ready k.releases (ap head_moment (sym (other-moment y k _ other))) h
+
+  -- a post: whom it wakes leaves the waiters
+  woke-leaves : (note badge y word z : ℕ) (k : Core) → posted badge (note_of k note) ≡ Woke y word →
+      places z (with_note note (after_post (Woke y word) (note_of k note)) k) + held.one z y ≤ places z k
+  woke-leaves note badge y word z k e =
+      omega (
+        arith,
+        held.set-waiting z k.notes note (after_post (Woke y word) (note_of k note)),
+        held.without-queued z y (note_of k note).waiters (held.woke y word badge (note_of k note).word (note_of k note).waiters e),
+      )
+
+  woke-none : (note badge y word : ℕ) (k : Core) → posted badge (note_of k note) ≡ Woke y word → IsAlone k → Owns y →
+      places x (with_note note (after_post (Woke y word) (note_of k note)) k) ≡ 0
+  woke-none note badge y word k e alone own =
+      let itself : held.one y y ≡ 1 = one-same y y refl in
+      let is : y ≡ x = one-is y x (omega (arith, alone y own, woke-leaves note badge y word y k e, itself)) in
+      omega (arith, alone x refl, woke-leaves note badge y word x k e, one-same y x is, one-same x x refl)
+
+  posts_as-on_time : (note badge : ℕ) (p : Posted) (k : Core) → posted badge (note_of k note) ≡ p → IsAlone k → OnTime k → OnTime (turns.posts_as by_priority system t note p k).core
+  posts_as-on_time note badge (Woke y word) k e alone h =
+      wakes-on_time y (with_note note (after_post (Woke y word) (note_of k note)) k) (woke-none note badge y word k e alone) h
+  posts_as-on_time note badge (Held word) k e alone h = h
+
+  posts-on_time : (note badge : ℕ) (k : Core) → IsAlone k → OnTime k → OnTime (turns.posts by_priority system t note badge k).core
+  posts-on_time note badge k alone h = posts_as-on_time note badge (posted badge (note_of k note)) k refl alone h
+
+  arrives-on_time : (mail : Mail) (k : Core) → IsAlone k → OnTime k → OnTime (turns.arrives by_priority system t mail k).core
+  arrives-on_time mail k alone h = posts-on_time mail.note mail.badge k alone h
+
+  each-arrives-on_time : (mails : List Mail) (k : Core) → IsAlone k → OnTime k → OnTime (each (turns.arrives by_priority system t) mails k).core
+  each-arrives-on_time [] k alone h = h
+  each-arrives-on_time (mail ∷ mails) k alone h =
+      let after = (turns.arrives by_priority system t mail k).core in
+      each-arrives-on_time mails after (alone-less k after (λ y. held.arrives-held system t y mail k) alone) (arrives-on_time mail k alone h)
+
+  -- the running thread stops
+  runs-alone : (y using : ℕ) (k : Core) → k.running ≡ Some (record { thread = y; using = using }) → IsAlone k → Owns y → IsFree y k
+  runs-alone y using k e alone own =
+      let runs : (z : ℕ) → times_running z k.running ≡ held.one z y = λ z. ap (times_running z) e in
+      let is : y ≡ x = one-is y x (omega (arith, alone y own, runs y, one-same y y refl)) in
+      record {
+        same = is;
+        ready = omega (arith, alone x refl, runs x, one-same y x is, one-same x x refl);
+        releases = omega (arith, alone x refl, runs x, one-same y x is, one-same x x refl);
+      }
+
+  charged-on_time : (y n : ℕ) (k : Core) → (Owns y → IsFree y k) → OnTime k → OnTime (off (turns.charged system y n k))
+  charged-on_time y n k free h = by (same (thread_part system y).context own_context)
+    where
+      by : Same (thread_part system y).context own_context → OnTime (off (turns.charged system y n k))
+      by (Are e own) = let f = free own in absent x (head (turns.charged system y n k)) (suc t) None k.ready k.releases refl f.ready f.releases
+      by (Differ e other) =
+          moved (head k) (head (turns.charged system y n k)) (suc t) None k.ready k.releases (ap head_moment (sym (other-moment y k _ other)))
+          (record { runs = tt; ready = h.ready; pends = h.pends })
+
+  stops_to_back-on_time : (y : ℕ) (cause : Why) (n : ℕ) (k : Core) → (Owns y → IsFree y k) → OnTime k → OnTime (turns.stops_to_back by_priority system t y cause n k).core
+  stops_to_back-on_time y cause n k free h =
+      let after = turns.charged system y n k in
+      enters_back-on_time y (turns.date_of system t y after) (off after) (fits y (off after)) (charged-on_time y n k free h)
+
+  stops_to_front-on_time : (y : ℕ) (cause : Why) (n : ℕ) (k : Core) → OnTime (off k) → OnTime (turns.stops_to_front by_priority system t y cause n k).core
+  stops_to_front-on_time y cause n k h = enters_front-on_time y (turns.date_of system t y k) (off k) (fits y (off k)) h
+
+  -- an order for another context
+  applied-moment : (order : Order) (k : Core) → order.context ≢ own_context → head k ≡ head (turns.applied by_priority system t order k)
+  applied-moment order k e = ap head_moment (sym (set-other own_context order.context k.contexts _ e))
+
+  applied-on_time : (order : Order) (k : Core) → order.context ≢ own_context → OnTime k → OnTime (turns.applied by_priority system t order k)
+  applied-on_time order k e h = moved (head k) (head (turns.applied by_priority system t order k)) (suc t) k.running k.ready k.releases (applied-moment order k e) h
+
+  by_test : (b : Bool) (u v : Turn) → OnTime u.core → OnTime v.core → OnTime (cond b u v).core
+  by_test true u v p q = p
+  by_test false u v p q = q
+
+  orders_running-on_time : (order : Order) (o : Option Chosen) (k : Core) → k.running ≡ o → order.context ≢ own_context → IsAlone k → OnTime k →
+      OnTime (turns.orders_running by_priority system t order o k).core
+  orders_running-on_time order None k e other alone h = applied-on_time order k other h
+  orders_running-on_time order (Some chosen) k e other alone h =
+      let charged = turns.charged system chosen.thread chosen.using k in
+      by_test ((turns.part_of system chosen.thread).context == order.context)
+      (turns.stops_to_front by_priority system t chosen.thread why.Order chosen.using (turns.applied by_priority system t order charged))
+      (silent (turns.applied by_priority system t order k))
+      (stops_to_front-on_time chosen.thread why.Order chosen.using (turns.applied by_priority system t order charged)
+      (applied-on_time order (off charged) other (charged-on_time chosen.thread chosen.using k (runs-alone chosen.thread chosen.using k e alone) h)))
+      (applied-on_time order k other h)
+
+  obeys-on_time : (order : Order) (k : Core) → order.context ≢ own_context → IsAlone k → OnTime k → OnTime (turns.obeys by_priority system t order k).core
+  obeys-on_time order k other alone h = orders_running-on_time order k.running k refl other alone h
+
+  each-obeys-on_time : (orders : List Order) (k : Core) → AllByRecursion (λ (order : Order). order.context ≢ own_context) orders → IsAlone k → OnTime k →
+      OnTime (each (turns.obeys by_priority system t) orders k).core
+  each-obeys-on_time [] k others alone h = h
+  each-obeys-on_time (order ∷ orders) k others alone h =
+      let after = (turns.obeys by_priority system t order k).core in
+      each-obeys-on_time orders after others.1 (alone-less k after (λ y. held.obeys-held system t y order k) alone) (obeys-on_time order k others.0 alone h)
+
+  some-orders : (p : Order → Bool) (orders : List Order) → AllByRecursion (λ (order : Order). order.context ≢ own_context) orders →
+      AllByRecursion (λ (order : Order). order.context ≢ own_context) (filter p orders)
+  some-orders p [] h = tt
+  some-orders p (order ∷ orders) h = by (p order) (some-orders p orders h.1)
+    where
+      by : (b : Bool) → AllByRecursion (λ (order : Order). order.context ≢ own_context) (filter p orders) →
+          AllByRecursion (λ (order : Order). order.context ≢ own_context) (cond b (order ∷ filter p orders) (filter p orders))
+      by true i = (h.0, i)
+      by false i = i
+
+  -- releases
+  abbrev AreNotBefore : ℕ → List Dated → Type 0
+  AreNotBefore m releases = AllByRecursion (λ (dated : Dated). dated.thread ≡ x → m ≤ dated.date) releases
+
+  abbrev HaveCome : ℕ → List Dated → Type 0
+  HaveCome m releases = AllByRecursion (λ (dated : Dated). dated.thread ≡ x → m < suc t) releases
+
+  due-come : (m : ℕ) (releases : List Dated) → AreNotBefore m releases → HaveCome m (filter (turns.is_due by_priority system t) releases)
+  due-come m [] h = tt
+  due-come m (dated ∷ others) h = by (nat_le dated.date t) refl (due-come m others h.1)
+    where
+      within : (a b : ℕ) → nat_le a b ≡ true → a ≤ b
+      within a b e = grind (arith, nat_tests)
+
+      by : (b : Bool) → nat_le dated.date t ≡ b → HaveCome m (filter (turns.is_due by_priority system t) others) →
+          HaveCome m (cond b (dated ∷ filter (turns.is_due by_priority system t) others) (filter (turns.is_due by_priority system t) others))
+      by true e i = (λ own. omega (arith, within dated.date t e, h.0 own), i)
+      by false e i = i
+
+  left-not_before : (p : Dated → Bool) (m : ℕ) (releases : List Dated) → AreNotBefore m releases → AreNotBefore m (filter p releases)
+  left-not_before p m [] h = tt
+  left-not_before p m (dated ∷ others) h = by (p dated) (left-not_before p m others h.1)
+    where
+      by : (b : Bool) → AreNotBefore m (filter p others) → AreNotBefore m (cond b (dated ∷ filter p others) (filter p others))
+      by true i = (h.0, i)
+      by false i = i
+
+  each-released-on_time : (due : List Dated) (k : Core) → HaveCome (head k) due → OnTime k → OnTime (each (turns.released by_priority system t) due k).core
+  each-released-on_time [] k come h = h
+  each-released-on_time (dated ∷ due) k come h =
+      each-released-on_time due (turns.enters_back by_priority system dated.thread None k) come.1 (enters_back-on_time dated.thread None k come.0 h)
+
+  releases-on_time : (k : Core) → OnTime k → OnTime (turns.releases by_priority system t k).core
+  releases-on_time k h =
+      each-released-on_time (filter (turns.is_due by_priority system t) k.releases) (record k { releases = filter (λ dated. not (turns.is_due by_priority system t dated)) k.releases })
+      (due-come (head k) k.releases h.pends)
+      (record { runs = h.runs; ready = h.ready; pends = left-not_before (λ dated. not (turns.is_due by_priority system t dated)) (head k) k.releases h.pends })
+
+  -- the choice
+  preempts_by-on_time : (o : Option Chosen) (best : Option Queued) (k : Core) → k.running ≡ o → IsAlone k → OnTime k → OnTime (turns.preempts_by by_priority system t o best k).core
+  preempts_by-on_time (Some chosen) (Some best) k e alone h =
+      let charged = turns.charged system chosen.thread chosen.using k in
+      by_test (nat_lt (turns.part_of system chosen.thread).priority best.priority)
+      (turns.stops_to_front by_priority system t chosen.thread why.Preempt chosen.using charged)
+      (silent k)
+      (stops_to_front-on_time chosen.thread why.Preempt chosen.using charged (charged-on_time chosen.thread chosen.using k (runs-alone chosen.thread chosen.using k e alone) h))
+      h
+  preempts_by-on_time (Some chosen) None k e alone h = h
+  preempts_by-on_time None best k e alone h = h
+
+  chooses_of-on_time : (o : Option Chosen) (ready : List Queued) (k : Core) → k.ready ≡ ready → OnTime k → OnTime (turns.chooses_of by_priority o (first_of ready) k).core
+  chooses_of-on_time (Some chosen) ready k e h = h
+  chooses_of-on_time None [] k e h = h
+  chooses_of-on_time None (best ∷ others) k e h =
+      let chosen : times_queued x k.ready ≡ held.one x best.thread + times_queued x others = ap (times_queued x) e ∙ held.queued-cons x best others in
+      record {
+        runs = λ own. omega (arith, h.ready (omega (arith, chosen, one-same best.thread x own)));
+        ready = λ l. h.ready (omega (arith, chosen, rest l));
+        pends = h.pends;
+      }
+    where
+      rest : 1 ≤ times_queued x (turns.chooses_of by_priority None (Some best) k).core.ready → 1 ≤ times_queued x others
+      rest l = rw e at l
+
+-- the end of the tick on core c
+module _ (system : System) (c t x : ℕ) where
+  abbrev On : Core → Type 0
+  On k = OnTime system t x k
+
+  abbrev Alone : Core → Type 0
+  Alone k = IsAlone system t x k
+
+  abbrev Free : ℕ → Core → Type 0
+  Free y k = Owns system t x y → IsFree system t x y k
+
+  signals-on_time : (y note badge : ℕ) (k : Core) → Alone k → On k → On (turns.signals by_priority system c t y note badge k).core
+  signals-on_time y note badge k alone h =
+      by_test system t x ((note_part system note).core == c) (turns.posts by_priority system t note badge k)
+      (record { core = k; rows = []; mails = turns.mail_to by_priority system c t note badge ∷ [] })
+      (posts-on_time system t x note badge k alone h) h
+
+  waits_as-on_time : (y note : ℕ) (w : Waited) (k : Core) → On k → On (turns.waits_as system t y note w k).core
+  waits_as-on_time y note (Got word) k h =
+      let given = turns.given system t y (with_note note (after_wait (Got word) (turns.queued system y) (note_of k note)) k) in
+      moves-on_time system t x y (turns.move_of system t y given) given h
+  waits_as-on_time y note Blocks k h = h
+
+  takes_effect-on_time : (y : ℕ) (item : Option Item) (k : Core) → Alone k → On k → On (turns.takes_effect by_priority system c t y item k).core
+  takes_effect-on_time y (Some (Signal note badge)) k alone h =
+      let sent = (turns.signals by_priority system c t y note badge k).core in
+      moves-on_time system t x y (turns.move_of system t y sent) sent (signals-on_time y note badge k alone h)
+  takes_effect-on_time y (Some (Wait note)) k alone h = waits_as-on_time y note (waited (note_of k note)) k h
+  takes_effect-on_time y (Some (Compute ticks)) k alone h = moves-on_time system t x y (turns.move_of system t y k) k h
+  takes_effect-on_time y (Some Yield) k alone h = moves-on_time system t x y (turns.move_of system t y k) k h
+  takes_effect-on_time y None k alone h = h
+
+  -- the thread that runs is in no queue after the effect of its item
+  still-free : (y using : ℕ) (k after : Core) → k.running ≡ Some (record { thread = y; using = using }) → Alone k → after.running ≡ k.running → ((z : ℕ) → places z after ≤ places z k) → Free y after
+  still-free y using k after e alone f l = runs-alone system t x y using after (f ∙ e) (alone-less system t x k after l alone)
+
+  moves_on-free : (y using : ℕ) (k from : Core) → k.running ≡ Some (record { thread = y; using = using }) → Alone k → from.running ≡ k.running → ((z : ℕ) → places z from ≤ places z k) →
+      Free y (turns.moves_on system t y from).core
+  moves_on-free y using k from e alone f l =
+      still-free y using k (turns.moves_on system t y from).core e alone (held.moves-running system t y y (turns.move_of system t y from) from ∙ f)
+      (λ z. omega (arith, held.moves_on-held system c t z y from, l z))
+
+  waits_as-free : (y using note : ℕ) (w : Waited) (k : Core) → k.running ≡ Some (record { thread = y; using = using }) → Alone k → Free y (turns.waits_as system t y note w k).core
+  waits_as-free y using note (Got word) k e alone =
+      let given = turns.given system t y (with_note note (after_wait (Got word) (turns.queued system y) (note_of k note)) k) in
+      still-free y using k (turns.waits_as system t y note (Got word) k).core e alone (held.moves-running system t y y (turns.move_of system t y given) given) (λ z. held.waits_as-got system c t z y note word k)
+  waits_as-free y using note Blocks k e alone = λ own. let f = runs-alone system t x y using k e alone own in record { same = f.same; ready = f.ready; releases = f.releases }
+
+  effect-free : (y using : ℕ) (item : Option Item) (k : Core) → k.running ≡ Some (record { thread = y; using = using }) → Alone k → Free y (turns.takes_effect by_priority system c t y item k).core
+  effect-free y using (Some (Signal note badge)) k e alone =
+      moves_on-free y using k (turns.signals by_priority system c t y note badge k).core e alone (held.signals-running system c t y y note badge k) (λ z. held.signals-held system c t z y note badge k)
+  effect-free y using (Some (Wait note)) k e alone = waits_as-free y using note (waited (note_of k note)) k e alone
+  effect-free y using (Some (Compute ticks)) k e alone = moves_on-free y using k k e alone refl (λ z. omega arith)
+  effect-free y using (Some Yield) k e alone = moves_on-free y using k k e alone refl (λ z. omega arith)
+  effect-free y using None k e alone = runs-alone system t x y using k e alone
+
+  spent-on_time : (y using : ℕ) (k : Core) → Free y k → On k → On (turns.may_stop by_priority system c t y using why.Spent k).core
+  spent-on_time y using k free h =
+      by_test system t x (using == head_amount (turns.its_context system y k)) (turns.stops_to_back by_priority system t y why.Spent using k) (silent k)
+      (stops_to_back-on_time system t x y why.Spent using k free h) h
+
+  may_stop-on_time : (y using : ℕ) (cause : Why) (k : Core) → Free y k → On k → On (turns.may_stop by_priority system c t y using cause k).core
+  may_stop-on_time y using why.Done k free h = charged-on_time system t x y using k free h
+  may_stop-on_time y using why.Wait k free h = charged-on_time system t x y using k free h
+  may_stop-on_time y using why.Yield k free h = stops_to_back-on_time system t x y why.Yield (head_amount (turns.its_context system y k)) k free h
+  may_stop-on_time y using why.Spent k free h = spent-on_time y using k free h
+  may_stop-on_time y using why.Preempt k free h = spent-on_time y using k free h
+  may_stop-on_time y using why.Order k free h = spent-on_time y using k free h
+
+  after_count-on_time : (y using : ℕ) (k : Core) → k.running ≡ Some (record { thread = y; using = using }) → Alone k → On k → On (turns.after_count by_priority system c t y using k).core
+  after_count-on_time y using k e alone h =
+      let item = turns.item_of system t y k in
+      by_test system t x ((thread_of k y).place.left == 0) (turns.finishes by_priority system c t y using item k) (turns.may_stop by_priority system c t y using why.Spent k)
+      (may_stop-on_time y using (turns.stop_after by_priority system c t y item k) (turns.takes_effect by_priority system c t y item k).core (effect-free y using item k e alone) (takes_effect-on_time y item k alone h))
+      (spent-on_time y using k (runs-alone system t x y using k e alone) h)
+
+  -- before the turn the core is on time up to now, and after the end of the tick for one moment more
+  abbrev pub WasOnTime : Core → Type 0
+  WasOnTime k = IsOnTime x (head system t x k) t k.running k.ready k.releases
+
+  tick_of-on_time : (o : Option Chosen) (k : Core) → k.running ≡ o → Alone k → WasOnTime k → On (turns.tick_of by_priority system c t o k).core
+  tick_of-on_time None k e alone h = record { runs = idle k.running e; ready = λ l. omega (arith, h.ready l); pends = h.pends }
+    where
+      idle : (o : Option Chosen) → o ≡ None → RunsInTime x (head system t x k) (suc t) o
+      idle o e = rw e tt
+  tick_of-on_time (Some chosen) k e alone h =
+      after_count-on_time chosen.thread (chosen.using + 1) (turns.counts chosen k) refl counted
+      (record { runs = more; ready = λ l. omega (arith, h.ready l); pends = h.pends })
+    where
+      more : chosen.thread ≡ x → head system t x k + (chosen.using + 1) < suc t
+      more own = omega (arith, before own)
+        where
+          before : chosen.thread ≡ x → head system t x k + chosen.using < t
+          before = rw e at h.runs
+
+      counted : Alone (turns.counts chosen k)
+      counted z own = omega (arith, same z, alone z own)
+        where
+          same : (z : ℕ) → times_running z (Some (record { thread = chosen.thread; using = chosen.using + 1 })) ≡ times_running z k.running
+          same z = rw e refl
+
+  -- a whole turn
+  pub turn-on_time : AllByRecursion (λ (order : Order). order.context ≢ own_context system t x) system.orders → (mails : List Mail) (k : Core) →
+      Alone k → WasOnTime k → On (turns.turn_with by_priority system c t mails k).core
+  turn-on_time others mails k alone h = last
+    where
+      orders : List Order
+      orders = filter (is_for_now system c t) system.orders
+
+      first : Core
+      first = (turns.tick by_priority system c t k).core
+
+      second : Core
+      second = (each (turns.arrives by_priority system t) mails first).core
+
+      third : Core
+      third = (each (turns.obeys by_priority system t) orders second).core
+
+      fourth : Core
+      fourth = (turns.releases by_priority system t third).core
+
+      fifth : Core
+      fifth = (turns.preempts by_priority system t fourth).core
+
+      one : On first × Alone first
+      one = (tick_of-on_time k.running k refl alone h, alone-less system t x k first (λ z. held.tick_of-held system c t z k.running k refl) alone)
+
+      two : On second × Alone second
+      two = (
+        each-arrives-on_time system t x mails first one.1 one.0,
+        alone-less system t x first second (λ z. held.each-held system t z (turns.arrives by_priority system t) (held.arrives-held system t z) mails first) one.1,
+      )
+
+      three : On third × Alone third
+      three = (
+        each-obeys-on_time system t x orders second (some-orders system t x (is_for_now system c t) system.orders others) two.1 two.0,
+        alone-less system t x second third (λ z. held.each-held system t z (turns.obeys by_priority system t) (held.obeys-held system t z) orders second) two.1,
+      )
+
+      four : On fourth × Alone fourth
+      four = (releases-on_time system t x third three.0, alone-less system t x third fourth (λ z. held.releases-held system t z third) three.1)
+
+      five : On fifth
+      five = preempts_by-on_time system t x fourth.running (first_of fourth.ready) fourth refl four.1 four.0
+
+      last : On (turns.turn_with by_priority system c t mails k).core
+      last = chooses_of-on_time system t x fifth.running fifth.ready fifth refl five

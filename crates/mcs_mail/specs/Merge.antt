@@ -1,0 +1,22 @@
+-- Mail in a ring in order of delivery, and late mail beside it, which was put when the ring's last was delivered after it.
+use Rattle.std.specs.Prelude.{◌≡◌, ℕ, ◌+◌, ◌≤◌, Bool, true, false, List, [], ◌∷◌, length}
+use Rattle.mcs_mail.specs.declared.mail.Mail.{Mail}
+use Rattle.mcs_mail.specs.Box.{is_before, IsIn, IsOrdered}
+
+-- the last of these, or this one where there is none
+abbrev pub last_or : Mail → List Mail → Mail
+last_or mail [] = mail
+last_or mail (first ∷ others) = last_or first others
+
+-- both are in order, all late mail is delivered strictly before the ring's last, and the ring has room for it
+pub record IsMerged (late ring : List Mail) (capacity : ℕ) : Type 0 where
+  pub late_ordered : IsOrdered late
+  pub ring_ordered : IsOrdered ring
+  pub before_last : (mail : Mail) → IsIn mail late → is_before mail (last_or mail ring) ≡ true
+  pub room : length ring + length late ≤ capacity
+
+-- whether the first mail is late; of equal mail that in the ring was put earlier
+abbrev pub late_is_first : List Mail → List Mail → Bool
+late_is_first [] ring = false
+late_is_first (first ∷ late) [] = false
+late_is_first (first ∷ late) (front ∷ ring) = is_before first front
