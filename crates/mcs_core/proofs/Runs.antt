@@ -1,5 +1,5 @@
 -- Turns one after another.
-use Rattle.std.proofs.Common.{◌≡◌, ℕ, suc, ◌+◌, ◌<◌, ◌≤◌, Bool, true, false, cond, List, [], ◌∷◌, ◌++◌, refl, sym, ap, subst, ◌∙◌, append_assoc, append-nil, arith}
+use Rattle.std.proofs.Common.{◌≡◌, ℕ, zero, suc, ◌+◌, ◌-◌, length, ◌<◌, ◌≤◌, Bool, true, false, cond, List, [], ◌∷◌, ◌++◌, refl, sym, ap, subst, ◌∙◌, append_assoc, append-nil, arith}
 use Rattle.std.specs.Prelude.{◌==◌, nat_le, not, max, All, Result, Ok, Err, OnOk, is_err, IsTrue, ◌↔◌}
 use Rattle.mcs_ticks.specs.declared.memory.NoMemory.{NoMemory}
 use Rattle.mcs_control.specs.declared.config.Order.{Order}
@@ -7,11 +7,11 @@ use Rattle.std.proofs.lemmas.Bool.Decides.{nat_tests}
 use Rattle.std.proofs.lemmas.List.Elements.{All-cons}
 use Rattle.mcs_ticks.specs.declared.row.Row.{Row}
 use Rattle.mcs_mail.specs.declared.mail.Mail.{Mail}
-use Rattle.mcs_mail.specs.Box.{arriving, staying}
-use Rattle.mcs_core.specs.System.{System}
+use Rattle.mcs_mail.specs.Box.{arriving, staying, is_before, put}
+use Rattle.mcs_core.specs.System.{System, note_part}
 use Rattle.mcs_core.specs.Core.{Core}
 use Rattle.mcs_core.specs.Orders.{to_come}
-use Rattle.mcs_core.specs.State.{State}
+use Rattle.mcs_core.specs.State.{State, IsExpected, made_by, state_after}
 use Rattle.mcs_core.specs.Turn.{turn}
 use Rattle.mcs_core.specs.Run.{Ran, ran, with_turn, stamped}
 
@@ -115,3 +115,42 @@ not_before false n m h e = by (nat_le m n) refl
     by : (p : Bool) → nat_le m n ≡ p → m ≤ n
     by true f = grind (arith, nat_tests)
     by false f = let g : false ≡ true = h.1 (grind (arith, nat_tests)) in cc
+
+-- what holds of each mail of a box holds of each that stays, and of each when one more is put
+kept-staying : (P : Mail → Type 0) (t : ℕ) (mails : List Mail) → All P mails → All P (staying t mails)
+kept-staying P t [] h = h
+kept-staying P t (x ∷ xs) h = by (x.arrives == t) (kept-staying P t xs (λ k d l. h (suc k) d (omega arith)))
+  where
+    by : (b : Bool) → All P (staying t xs) → All P (cond (not b) (x ∷ staying t xs) (staying t xs))
+    by true i = i
+    by false i = All-cons P x (staying t xs) (h 0 x (omega arith)) i
+
+pub all_put : (P : Mail → Type 0) (mail : Mail) (mails : List Mail) → P mail → All P mails → All P (put mail mails)
+all_put P mail [] p h = All-cons P mail [] p h
+all_put P mail (x ∷ xs) p h = by (is_before mail x) (all_put P mail xs p (λ k d l. h (suc k) d (omega arith)))
+  where
+    by : (b : Bool) → All P (put mail xs) → All P (cond b (mail ∷ x ∷ xs) (x ∷ put mail xs))
+    by true i = All-cons P mail (x ∷ xs) p h
+    by false i = All-cons P x (put mail xs) (h 0 x (omega arith)) i
+
+-- the mail that a stretch of turns leaves is mail for the core after it
+module _ (system : System) where
+  kept-ran : (P : Mail → Type 0) (c n t : ℕ) (core : Core) (box : List Mail) → All P box → All P (ran system c n t core box).box
+  kept-ran P c zero t core box h = h
+  kept-ran P c (suc n) t core box h = kept-ran P c n (t + 1) (turn system c t (arriving t box) core).core (staying t box) (kept-staying P t box h)
+
+  later-ran : (c n t : ℕ) (core : Core) (box : List Mail) → All (λ (mail : Mail). t ≤ mail.arrives) box →
+      All (λ (mail : Mail). t + n ≤ mail.arrives) (ran system c n t core box).box
+  later-ran c zero t core box h = λ k d l. (let g = h k d l in omega arith)
+  later-ran c (suc n) t core box h =
+      let g = later-ran c n (t + 1) (turn system c t (arriving t box) core).core (staying t box) (later-staying t box h) in
+      λ k d l. (let e = g k d l in omega arith)
+
+  pub left_expected : (state : State) (to : ℕ) (box : List Mail) → All (IsExpected system state) box →
+      All (IsExpected system (state_after state to (made_by system state to box))) (made_by system state to box).box
+  left_expected state to box h =
+      let n = to - state.clock in
+      let known = kept-ran (λ (mail : Mail). mail.note < length system.notes) state.number n state.clock state.core box (λ k d l. (h k d l).known) in
+      let home = kept-ran (λ (mail : Mail). (note_part system mail.note).core ≡ state.number) state.number n state.clock state.core box (λ k d l. (h k d l).home) in
+      let later = later-ran state.number n state.clock state.core box (λ k d l. (h k d l).arrives) in
+      λ k d l. record { known = known k d l; home = home k d l; arrives = (let e = later k d l in omega arith) }

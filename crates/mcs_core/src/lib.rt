@@ -20,6 +20,8 @@ mod state;
 mod stops;
 mod system;
 mod tell;
+#[cfg(test)]
+mod tests;
 mod tick;
 mod turn;
 mod views;

@@ -1,0 +1,8 @@
+mod arrivals;
+mod contexts;
+mod orders;
+mod plan;
+mod play;
+mod threads;
+mod told;
+mod turns;
