@@ -33,8 +33,8 @@ impl Local {
             left: state.place.left.saturating_sub(1),
         };
         self.set_running(Chosen {
-            thread,
             using: chosen.using + 1,
+            thread,
         });
         self.set_thread(
             thread,
