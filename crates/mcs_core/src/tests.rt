@@ -3,6 +3,7 @@ mod contexts;
 mod orders;
 mod plan;
 mod play;
+mod random;
 mod threads;
 mod told;
 mod turns;
