@@ -102,6 +102,7 @@ fn go_on(
     Ok(())
 }
 
+/// What a core makes that goes to the end in one stretch.
 fn made_at_once(
     alloc: Global,
     system: &System,
@@ -112,12 +113,28 @@ fn made_at_once(
     requires { end ≤ 2 ^ 40 + 1 }
 {
     let mut state = opened(alloc, system, core)?;
-    let mut mailbox = posted(alloc, system, &state, core, planned)?;
+    one_stretch(alloc, system, &mut state, core, planned, end)
+}
+
+fn one_stretch(
+    alloc: Global,
+    system: &System,
+    state: &mut CoreState,
+    core: CoreId,
+    planned: &[PlannedMail],
+    end: Tick,
+) -> Result<Made, Fail>
+    requires fits { Fits system.now state.old }
+    requires number { state.old.number ≡ core }
+    requires in_time { end ≤ 2 ^ 40 + 1 }
+{
+    let mut mailbox = posted(alloc, system, state, core, planned)?;
     let mut made = nothing(alloc);
-    go_on(system, &mut state, &mut mailbox, end, &mut made)?;
+    go_on(system, state, &mut mailbox, end, &mut made)?;
     Ok(made)
 }
 
+/// What a core makes that goes to the end turn by turn.
 fn made_turn_by_turn(
     alloc: Global,
     system: &System,
@@ -128,10 +145,25 @@ fn made_turn_by_turn(
     requires { end ≤ 2 ^ 40 + 1 }
 {
     let mut state = opened(alloc, system, core)?;
-    let mut mailbox = posted(alloc, system, &state, core, planned)?;
+    single_turns(alloc, system, &mut state, core, planned, end)
+}
+
+fn single_turns(
+    alloc: Global,
+    system: &System,
+    state: &mut CoreState,
+    core: CoreId,
+    planned: &[PlannedMail],
+    end: Tick,
+) -> Result<Made, Fail>
+    requires fits { Fits system.now state.old }
+    requires number { state.old.number ≡ core }
+    requires in_time { end ≤ 2 ^ 40 + 1 }
+{
+    let mut mailbox = posted(alloc, system, state, core, planned)?;
     let mut made = nothing(alloc);
     for ticks in 1..end.get() + 1 {
-        go_on(system, &mut state, &mut mailbox, moment(ticks)?, &mut made)?;
+        go_on(system, state, &mut mailbox, moment(ticks)?, &mut made)?;
     }
     Ok(made)
 }
@@ -167,12 +199,23 @@ pub fn makes(
     rows: &str,
 ) -> Result<Made, Fail> {
     let system = plan.system(alloc)?;
+    made_twice(rt, alloc, &system, CoreId(core), planned, horizon, rows)
+}
+
+fn made_twice(
+    rt: &impl Abort,
+    alloc: Global,
+    system: &System,
+    core: CoreId,
+    planned: &[PlannedMail],
+    horizon: u64,
+    rows: &str,
+) -> Result<Made, Fail> {
     let end = moment(horizon.saturating_add(1))?;
-    let core = CoreId(core);
-    let whole = made_at_once(alloc, &system, core, planned, end)?;
-    has_rows(rt, alloc, &system, &whole, rows)?;
-    let made = made_turn_by_turn(alloc, &system, core, planned, end)?;
-    has_rows(rt, alloc, &system, &made, rows)?;
+    let whole = made_at_once(alloc, system, core, planned, end)?;
+    has_rows(rt, alloc, system, &whole, rows)?;
+    let made = made_turn_by_turn(alloc, system, core, planned, end)?;
+    has_rows(rt, alloc, system, &made, rows)?;
     assert!(rt; made.signals.as_slice() == whole.signals.as_slice());
     Ok(made)
 }
@@ -200,15 +243,40 @@ pub fn sees(
     views: &str,
 ) -> Result<(), Fail> {
     let system = plan.system(alloc)?;
+    sees_of(rt, alloc, &system, CoreId(core), last, views)
+}
+
+fn sees_of(
+    rt: &impl Abort,
+    alloc: Global,
+    system: &System,
+    core: CoreId,
+    last: u64,
+    views: &str,
+) -> Result<(), Fail> {
     let end = moment(last.saturating_add(1))?;
-    let mut state = opened(alloc, &system, CoreId(core))?;
+    let mut state = opened(alloc, system, core)?;
+    has_views(rt, alloc, system, &mut state, end, views)
+}
+
+fn has_views(
+    rt: &impl Abort,
+    alloc: Global,
+    system: &System,
+    state: &mut CoreState,
+    end: Tick,
+    views: &str,
+) -> Result<(), Fail>
+    requires fits { Fits system.now state.old }
+    requires in_time { end ≤ 2 ^ 40 + 1 }
+{
     let mut mailbox = Mailbox::new(alloc);
     let mut made = nothing(alloc);
-    go_on(&system, &mut state, &mut mailbox, end, &mut made)?;
+    go_on(system, state, &mut mailbox, end, &mut made)?;
     assert_eq!(rt; state.clock(), end);
     assert!(rt; !state.failed());
-    let shown = state.contexts(alloc, &system)?;
-    let text = seen(alloc, &system, shown.as_slice())?;
+    let shown = state.contexts(alloc, system)?;
+    let text = seen(alloc, system, shown.as_slice())?;
     assert_eq!(rt; text.as_str(), views);
     Ok(())
 }
