@@ -1,5 +1,6 @@
 -- How much schedules and their reports say that a thread ran.
-use Rattle.std.specs.Prelude.{◌≡◌, ℕ, ◌<◌, ◌≤◌, length, get_or, sum}
+use Rattle.std.specs.Prelude.{◌≡◌, ℕ, ◌<◌, ◌≤◌, List, length, get_or, sum}
+use Rattle.mcs_ticks.specs.declared.row.Row.{Row}
 use Rattle.mcs_core.specs.System.{System, thread_part}
 use Rattle.mcs_core.specs.WellFormed.{IsWellFormed}
 use Rattle.mcs_core.specs.Clock.{schedule}
@@ -15,19 +16,21 @@ RunsAreTicks =
     (system : System) → IsWellFormed system → (horizon thread : ℕ) →
     sum (run_lengths horizon thread (schedule system horizon)) ≡ ticks_run system thread horizon
 
--- the thread runs no more than it may, by its runs and by its report
-pub record RunsWithinDemand (system : System) (horizon thread : ℕ) : Type 0 where
-  pub runs : sum (run_lengths horizon thread (schedule system horizon)) ≤ demand_of system thread horizon
-  pub report : (get_or (reports_of system horizon (schedule system horizon)).threads thread no_report).ran ≤ demand_of system thread horizon
+-- by these rows the runs of each thread whose context no order names last no longer than it may run ..
+abbrev pub RunsAreWithinDemand : System → ℕ → List Row → Type 0
+RunsAreWithinDemand system horizon rows =
+    (thread : ℕ) → thread < length system.threads → IsUnordered system (thread_part system thread).context →
+    sum (run_lengths horizon thread rows) ≤ demand_of system thread horizon
 
--- so it is of each thread whose context no order names
-abbrev pub DemandIsBounded : Type 0
-DemandIsBounded =
-    (system : System) → IsWellFormed system → (horizon thread : ℕ) → thread < length system.threads →
-    IsUnordered system (thread_part system thread).context → RunsWithinDemand system horizon thread
-
--- by these reports each thread whose context no order names ran no more than it may
+-- .. and by these reports each such thread ran no more than it may
 abbrev pub AreWithinDemand : System → ℕ → Reports → Type 0
 AreWithinDemand system horizon reports =
     (thread : ℕ) → thread < length system.threads → IsUnordered system (thread_part system thread).context →
     (get_or reports.threads thread no_report).ran ≤ demand_of system thread horizon
+
+-- the schedule of the clock is within demand, and so are its reports
+abbrev pub DemandIsBounded : Type 0
+DemandIsBounded =
+    (system : System) → IsWellFormed system → (horizon : ℕ) →
+    RunsAreWithinDemand system horizon (schedule system horizon)
+    × AreWithinDemand system horizon (reports_of system horizon (schedule system horizon))

@@ -10,7 +10,7 @@ use Rattle.mcs_team.proofs.Takings.{cores-in_order}
 use Rattle.mcs_team.proofs.alone.simulate_alone.Goals as goal
 
 within : (system : System) (horizon : ℕ) (reports : Reports) → DemandIsBounded → IsWellFormed system → reports ≡ reports_of system horizon (schedule system horizon) → AreWithinDemand system horizon reports
-within system horizon reports bounded ok is = subst (AreWithinDemand system horizon) (sym is) (λ thread known free. (bounded system ok horizon thread known free).report)
+within system horizon reports bounded ok is = subst (AreWithinDemand system horizon) (sym is) (bounded system ok horizon).1
 
 pub merge-requires : goal.merge-requires
 merge-requires c = record { in_order = cores-in_order c.run_all.new.cores.system c.run_all.new.cores.horizon c.in_ok-lists.lists.items c.in_ok-lists.ensures }
