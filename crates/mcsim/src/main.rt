@@ -27,12 +27,19 @@ fn main(rt: HostRuntime) -> ExitCode {
                 ExitCode::from(fault.status())
             }
         },
-        Err(WordsFault::Help(text)) => match rt.print(text.as_str()) {
-            Ok(()) => ExitCode::SUCCESS,
-            Err(_) => fail(&rt, WRITE_FAILED, 3),
+        Err(fault) => tell(&rt, &fault),
+    }
+}
+
+/// Says why the words are not carried out: help on standard output, all else on standard error.
+fn tell(rt: &HostRuntime, fault: &WordsFault) -> ExitCode {
+    match fault {
+        WordsFault::Help(text) => match rt.print(text.as_str()) {
+            Ok(()) => ExitCode::from(fault.status()),
+            Err(_) => fail(rt, WRITE_FAILED, 3),
         },
-        Err(WordsFault::Words(text)) => fail(&rt, text.as_str(), 2),
-        Err(WordsFault::NoMemory) => fail(&rt, NO_MEMORY, 4),
+        WordsFault::Words(text) => fail(rt, text.as_str(), fault.status()),
+        WordsFault::NoMemory => fail(rt, NO_MEMORY, fault.status()),
     }
 }
 
