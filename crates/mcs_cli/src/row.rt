@@ -1,12 +1,12 @@
-ghost use Rattle.std.specs.Prelude.{◌≡◌, ◌++◌, ◌∷◌, OnOk, OnErr, decimal};
+ghost use Rattle.std.specs.Prelude.{◌≡◌, ◌++◌, ◌∷◌, [], OnOk, OnErr, decimal};
 ghost use Rattle.std.specs.Io.{StartsWith};
-ghost use Rattle.mcs_cli.specs.Text.{after, row_text, until_words, why_word, words_of};
+ghost use Rattle.mcs_cli.specs.Text.{after, row_text, until_words, why_word, words_of, note_name as note_name_of, thread_name as thread_name_of};
 
 use crate::line::{append_counted, append_named, append_number, append_word};
 use crate::names::{context_name, note_name, thread_name};
 use itoa::Buffer;
 use mcs_core::System;
-use mcs_ticks::{NoMemory, Row, Tick, What, Why};
+use mcs_ticks::{NoMemory, NoteId, Row, ThreadId, Tick, What, Why};
 
 /// Appends the line of a row: `<moment> <core> ` and what happened, with the names that the system has. After a refusal the text is
 /// as it was.
@@ -55,26 +55,21 @@ fn append_what(text: &mut Vec<u8>, system: &System, what: What) -> Result<(), No
             thread,
             note,
             badge,
-        } => {
-            append_named(text, "signal", thread_name(system, thread))?;
-            append_counted(text, note_name(system, note), u64::from(badge))
-        }
+        } => append_noted(text, system, "signal", thread, note, badge),
         What::Arrive { note, badge, maker } => {
             append_named(text, "arrive", note_name(system, note))?;
             append_number(text, u64::from(badge))?;
             append_counted(text, "from", maker.0 as u64)
         }
         What::Wake { thread, note, word } => {
-            append_named(text, "wake", thread_name(system, thread))?;
-            append_counted(text, note_name(system, note), u64::from(word))
+            append_noted(text, system, "wake", thread, note, word)
         }
         What::Hold { note, word } => {
             append_word(text, "hold")?;
             append_counted(text, note_name(system, note), u64::from(word))
         }
         What::Got { thread, note, word } => {
-            append_named(text, "got", thread_name(system, thread))?;
-            append_counted(text, note_name(system, note), u64::from(word))
+            append_noted(text, system, "got", thread, note, word)
         }
         What::Round {
             thread,
@@ -87,6 +82,23 @@ fn append_what(text: &mut Vec<u8>, system: &System, what: What) -> Result<(), No
         }
         What::Order { context } => append_named(text, "order", context_name(system, context)),
     }
+}
+
+/// Appends what a thread did at a notification, and the bits that it set or got.
+fn append_noted(
+    text: &mut Vec<u8>,
+    system: &System,
+    what: &str,
+    thread: ThreadId,
+    note: NoteId,
+    bits: u32,
+) -> Result<(), NoMemory>
+    ensures ok { OnOk result (text.new.items ≡ text.old.items
+        ++ after (what.now ∷ thread_name_of system.now thread ∷ note_name_of system.now note ∷ decimal bits ∷ [])) }
+    ensures kept { StartsWith text.new.items text.old.items }
+{
+    append_named(text, what, thread_name(system, thread))?;
+    append_counted(text, note_name(system, note), u64::from(bits))
 }
 
 /// Appends why a thread stopped, the ticks that are charged, and the date of its release where there is one.
