@@ -3,7 +3,8 @@
 
 usage: core_tests.py MATERIAL OUT.rt
 
-MATERIAL is a folder as theorems.py reads it. Systems of more than one core are passed over. Run `rt fmt` in the crate afterwards.
+MATERIAL is a folder as theorems.py reads it. Systems of more than one core are passed over. Names are written in lower case. Run `rt fmt`
+in the crate afterwards.
 """
 import pathlib
 import sys
@@ -12,7 +13,7 @@ import tomllib
 from theorems import Numbers, horizon_of
 
 HEAD = """//! Written by tools/core_tests.py from {material}: systems of one core, each run to its horizon. The rows are those of the
-//! material, and no program of this repository computed them.
+//! material with names in lower case, and no program of this repository computed them.
 use super::plan::PlannedItem::{{Compute, Signal, Wait, Yield}};
 use super::plan::{{ONE_CORE, Plan, PlannedContext, PlannedNote, PlannedOrder, PlannedThread}};
 use super::play::shows;
@@ -32,17 +33,17 @@ def item(text, numbers):
 
 
 def context(part):
-    return f'PlannedContext("{part["name"]}", {part["core"]}, {part["budget"]}, {part["period"]}, {part.get("extra_refills", 0)})'
+    return f'PlannedContext("{part["name"].lower()}", {part["core"]}, {part["budget"]}, {part["period"]}, {part.get("extra_refills", 0)})'
 
 
 def note(part):
-    return f'PlannedNote("{part["name"]}", {part["core"]})'
+    return f'PlannedNote("{part["name"].lower()}", {part["core"]})'
 
 
 def thread(part, numbers):
     script = ', '.join(item(text, numbers) for text in part['script'])
     return (
-        f'PlannedThread("{part["name"]}", {numbers.contexts[part["context"]]}, {part["priority"]}, {part.get("start", 0)}, '
+        f'PlannedThread("{part["name"].lower()}", {numbers.contexts[part["context"]]}, {part["priority"]}, {part.get("start", 0)}, '
         f'{part.get("rounds", 0)}, &[{script}])'
     )
 
@@ -83,7 +84,7 @@ def main():
         system = tomllib.loads((folder / 'system.toml').read_text())
         if system['cores'] == 1:
             horizon = horizon_of((folder / 'words').read_text().split())
-            rows = [line for line in (folder / 'stdout').read_text().splitlines() if line[:1].isdigit()]
+            rows = [line.lower() for line in (folder / 'stdout').read_text().splitlines() if line[:1].isdigit()]
             tests.append(test(folder.name, system, horizon, rows))
     pathlib.Path(out).write_text(HEAD.format(material=material.rstrip('/')) + ''.join(tests))
 

@@ -1,5 +1,5 @@
 //! Written by tools/core_tests.py from tools/material/random: systems of one core, each run to its horizon. The rows are those of the
-//! material, and no program of this repository computed them.
+//! material with names in lower case, and no program of this repository computed them.
 use super::plan::PlannedItem::{Compute, Signal, Wait, Yield};
 use super::plan::{ONE_CORE, Plan, PlannedContext, PlannedNote, PlannedOrder, PlannedThread};
 use super::play::shows;
@@ -15,9 +15,9 @@ const RANDOM_ONE_01: Plan = Plan {
     ],
     notes: &[PlannedNote("n00", 0)],
     threads: &[
-        PlannedThread("S00", 0, 5, 0, 0, &[Wait(0), Compute(1)]),
+        PlannedThread("s00", 0, 5, 0, 0, &[Wait(0), Compute(1)]),
         PlannedThread(
-            "R00",
+            "r00",
             1,
             2,
             4,
@@ -36,59 +36,59 @@ fn random_one_01(rt: HostRuntime) -> Result<(), Fail> {
         &RANDOM_ONE_01,
         48,
         "\
-0 0 release S00
-0 0 run S00
-1 0 stop S00 wait 1
-4 0 release R00
-4 0 run R00
-7 0 stop R00 spent 3
-7 0 run R00
-8 0 signal R00 n00 6
-8 0 wake S00 n00 6
-8 0 stop R00 preempt 1
-8 0 run S00
-9 0 round S00 1 1
-10 0 stop S00 wait 2
-10 0 run R00
-12 0 stop R00 spent 2
-12 0 run R00
-15 0 stop R00 spent 3
-15 0 run R00
-18 0 stop R00 spent 3
-18 0 run R00
-21 0 stop R00 spent 3
-21 0 run R00
-23 0 signal R00 n00 9
-23 0 wake S00 n00 9
-23 0 round R00 1 19
-23 0 stop R00 preempt 2
-23 0 run S00
-24 0 round S00 2 1
-24 0 stop S00 spent 1 until 70
-24 0 run R00
-25 0 stop R00 spent 1
-25 0 run R00
-28 0 signal R00 n00 6
+0 0 release s00
+0 0 run s00
+1 0 stop s00 wait 1
+4 0 release r00
+4 0 run r00
+7 0 stop r00 spent 3
+7 0 run r00
+8 0 signal r00 n00 6
+8 0 wake s00 n00 6
+8 0 stop r00 preempt 1
+8 0 run s00
+9 0 round s00 1 1
+10 0 stop s00 wait 2
+10 0 run r00
+12 0 stop r00 spent 2
+12 0 run r00
+15 0 stop r00 spent 3
+15 0 run r00
+18 0 stop r00 spent 3
+18 0 run r00
+21 0 stop r00 spent 3
+21 0 run r00
+23 0 signal r00 n00 9
+23 0 wake s00 n00 9
+23 0 round r00 1 19
+23 0 stop r00 preempt 2
+23 0 run s00
+24 0 round s00 2 1
+24 0 stop s00 spent 1 until 70
+24 0 run r00
+25 0 stop r00 spent 1
+25 0 run r00
+28 0 signal r00 n00 6
 28 0 hold n00 6
-28 0 stop R00 spent 3
-28 0 run R00
-31 0 stop R00 spent 3
-31 0 run R00
-34 0 stop R00 spent 3
-34 0 run R00
-37 0 stop R00 spent 3
-37 0 run R00
-40 0 stop R00 spent 3
-40 0 run R00
-41 0 signal R00 n00 9
+28 0 stop r00 spent 3
+28 0 run r00
+31 0 stop r00 spent 3
+31 0 run r00
+34 0 stop r00 spent 3
+34 0 run r00
+37 0 stop r00 spent 3
+37 0 run r00
+40 0 stop r00 spent 3
+40 0 run r00
+41 0 signal r00 n00 9
 41 0 hold n00 15
-41 0 round R00 2 18
-43 0 stop R00 spent 3
-43 0 run R00
-45 0 signal R00 n00 6
+41 0 round r00 2 18
+43 0 stop r00 spent 3
+43 0 run r00
+45 0 signal r00 n00 6
 45 0 hold n00 15
-46 0 stop R00 spent 3
-46 0 run R00
+46 0 stop r00 spent 3
+46 0 run r00
 ",
     )
 }
@@ -105,15 +105,15 @@ const RANDOM_ONE_02: Plan = Plan {
     notes: &[PlannedNote("n00", 0)],
     threads: &[
         PlannedThread(
-            "S00",
+            "s00",
             0,
             5,
             0,
             0,
             &[Wait(0), Compute(3), Compute(2), Wait(0), Compute(1)],
         ),
-        PlannedThread("R00", 1, 7, 5, 0, &[Compute(8), Signal(0, 3)]),
-        PlannedThread("R01", 2, 1, 1, 0, &[Compute(9), Signal(0, 9)]),
+        PlannedThread("r00", 1, 7, 5, 0, &[Compute(8), Signal(0, 3)]),
+        PlannedThread("r01", 2, 1, 1, 0, &[Compute(9), Signal(0, 9)]),
     ],
     ..ONE_CORE
 };
@@ -126,64 +126,64 @@ fn random_one_02(rt: HostRuntime) -> Result<(), Fail> {
         &RANDOM_ONE_02,
         49,
         "\
-0 0 release S00
-0 0 run S00
-1 0 stop S00 wait 1
-1 0 release R01
-1 0 run R01
-4 0 stop R01 spent 3
-4 0 run R01
-5 0 release R00
-5 0 stop R01 preempt 1
-5 0 run R00
-10 0 stop R00 spent 5 until 11
-10 0 run R01
-11 0 release R00
-11 0 stop R01 preempt 1
-11 0 run R00
-15 0 signal R00 n00 3
-15 0 wake S00 n00 3
-15 0 round R00 1 10
-16 0 stop R00 spent 5 until 17
-16 0 run S00
-17 0 release R00
-17 0 stop S00 preempt 1
-17 0 run R00
-22 0 stop R00 spent 5 until 23
-22 0 run S00
-23 0 release R00
-23 0 stop S00 preempt 1
-23 0 run R00
-26 0 signal R00 n00 3
+0 0 release s00
+0 0 run s00
+1 0 stop s00 wait 1
+1 0 release r01
+1 0 run r01
+4 0 stop r01 spent 3
+4 0 run r01
+5 0 release r00
+5 0 stop r01 preempt 1
+5 0 run r00
+10 0 stop r00 spent 5 until 11
+10 0 run r01
+11 0 release r00
+11 0 stop r01 preempt 1
+11 0 run r00
+15 0 signal r00 n00 3
+15 0 wake s00 n00 3
+15 0 round r00 1 10
+16 0 stop r00 spent 5 until 17
+16 0 run s00
+17 0 release r00
+17 0 stop s00 preempt 1
+17 0 run r00
+22 0 stop r00 spent 5 until 23
+22 0 run s00
+23 0 release r00
+23 0 stop s00 preempt 1
+23 0 run r00
+26 0 signal r00 n00 3
 26 0 hold n00 3
-26 0 round R00 2 11
-28 0 stop R00 spent 5 until 29
-28 0 run S00
-29 0 release R00
-29 0 stop S00 preempt 1
-29 0 run R00
-34 0 stop R00 spent 5 until 35
-34 0 run S00
-35 0 release R00
-35 0 stop S00 preempt 1
-35 0 run R00
-37 0 signal R00 n00 3
+26 0 round r00 2 11
+28 0 stop r00 spent 5 until 29
+28 0 run s00
+29 0 release r00
+29 0 stop s00 preempt 1
+29 0 run r00
+34 0 stop r00 spent 5 until 35
+34 0 run s00
+35 0 release r00
+35 0 stop s00 preempt 1
+35 0 run r00
+37 0 signal r00 n00 3
 37 0 hold n00 3
-37 0 round R00 3 11
-40 0 stop R00 spent 5 until 41
-40 0 run S00
-41 0 release R00
-41 0 stop S00 preempt 1
-41 0 run R00
-46 0 stop R00 spent 5 until 47
-46 0 run S00
-47 0 got S00 n00 3
-47 0 release R00
-47 0 stop S00 preempt 1
-47 0 run R00
-48 0 signal R00 n00 3
+37 0 round r00 3 11
+40 0 stop r00 spent 5 until 41
+40 0 run s00
+41 0 release r00
+41 0 stop s00 preempt 1
+41 0 run r00
+46 0 stop r00 spent 5 until 47
+46 0 run s00
+47 0 got s00 n00 3
+47 0 release r00
+47 0 stop s00 preempt 1
+47 0 run r00
+48 0 signal r00 n00 3
 48 0 hold n00 3
-48 0 round R00 4 11
+48 0 round r00 4 11
 ",
     )
 }
@@ -199,16 +199,16 @@ const RANDOM_ONE_03: Plan = Plan {
     ],
     notes: &[PlannedNote("n00", 0), PlannedNote("n01", 0)],
     threads: &[
-        PlannedThread("S00", 0, 6, 0, 0, &[Wait(0), Compute(3)]),
+        PlannedThread("s00", 0, 6, 0, 0, &[Wait(0), Compute(3)]),
         PlannedThread(
-            "S01",
+            "s01",
             1,
             5,
             0,
             0,
             &[Wait(1), Compute(4), Compute(1), Wait(1), Compute(2)],
         ),
-        PlannedThread("R00", 2, 7, 5, 0, &[Compute(6), Signal(1, 5)]),
+        PlannedThread("r00", 2, 7, 5, 0, &[Compute(6), Signal(1, 5)]),
     ],
     ..ONE_CORE
 };
@@ -221,48 +221,48 @@ fn random_one_03(rt: HostRuntime) -> Result<(), Fail> {
         &RANDOM_ONE_03,
         52,
         "\
-0 0 release S00
-0 0 release S01
-0 0 run S00
-1 0 stop S00 wait 1
-1 0 run S01
-2 0 stop S01 wait 1
-5 0 release R00
-5 0 run R00
-12 0 signal R00 n01 5
-12 0 wake S01 n01 5
-12 0 round R00 1 7
-12 0 stop R00 spent 7 until 14
-12 0 run S01
-14 0 release R00
-14 0 stop S01 preempt 2
-14 0 run R00
-21 0 signal R00 n01 5
+0 0 release s00
+0 0 release s01
+0 0 run s00
+1 0 stop s00 wait 1
+1 0 run s01
+2 0 stop s01 wait 1
+5 0 release r00
+5 0 run r00
+12 0 signal r00 n01 5
+12 0 wake s01 n01 5
+12 0 round r00 1 7
+12 0 stop r00 spent 7 until 14
+12 0 run s01
+14 0 release r00
+14 0 stop s01 preempt 2
+14 0 run r00
+21 0 signal r00 n01 5
 21 0 hold n01 5
-21 0 round R00 2 9
-21 0 stop R00 spent 7 until 23
-21 0 run S01
-22 0 stop S01 spent 1 until 79
-23 0 release R00
-23 0 run R00
-30 0 signal R00 n01 5
+21 0 round r00 2 9
+21 0 stop r00 spent 7 until 23
+21 0 run s01
+22 0 stop s01 spent 1 until 79
+23 0 release r00
+23 0 run r00
+30 0 signal r00 n01 5
 30 0 hold n01 5
-30 0 round R00 3 9
-30 0 stop R00 spent 7 until 32
-32 0 release R00
-32 0 run R00
-39 0 signal R00 n01 5
+30 0 round r00 3 9
+30 0 stop r00 spent 7 until 32
+32 0 release r00
+32 0 run r00
+39 0 signal r00 n01 5
 39 0 hold n01 5
-39 0 round R00 4 9
-39 0 stop R00 spent 7 until 41
-41 0 release R00
-41 0 run R00
-48 0 signal R00 n01 5
+39 0 round r00 4 9
+39 0 stop r00 spent 7 until 41
+41 0 release r00
+41 0 run r00
+48 0 signal r00 n01 5
 48 0 hold n01 5
-48 0 round R00 5 9
-48 0 stop R00 spent 7 until 50
-50 0 release R00
-50 0 run R00
+48 0 round r00 5 9
+48 0 stop r00 spent 7 until 50
+50 0 release r00
+50 0 run r00
 ",
     )
 }
@@ -279,10 +279,10 @@ const RANDOM_ONE_04: Plan = Plan {
     ],
     notes: &[PlannedNote("n00", 0), PlannedNote("n01", 0)],
     threads: &[
-        PlannedThread("S00", 0, 6, 0, 0, &[Compute(1)]),
-        PlannedThread("S01", 1, 5, 0, 0, &[Wait(1), Compute(1)]),
+        PlannedThread("s00", 0, 6, 0, 0, &[Compute(1)]),
+        PlannedThread("s01", 1, 5, 0, 0, &[Wait(1), Compute(1)]),
         PlannedThread(
-            "R00",
+            "r00",
             2,
             10,
             2,
@@ -296,7 +296,7 @@ const RANDOM_ONE_04: Plan = Plan {
                 Signal(0, 6),
             ],
         ),
-        PlannedThread("R01", 3, 1, 1, 0, &[Compute(1), Signal(1, 5)]),
+        PlannedThread("r01", 3, 1, 1, 0, &[Compute(1), Signal(1, 5)]),
     ],
     ..ONE_CORE
 };
@@ -309,70 +309,70 @@ fn random_one_04(rt: HostRuntime) -> Result<(), Fail> {
         &RANDOM_ONE_04,
         53,
         "\
-0 0 release S00
-0 0 release S01
-0 0 run S00
-1 0 round S00 1 1
-1 0 release R01
-2 0 round S00 2 1
-2 0 release R00
-2 0 stop S00 preempt 2
-2 0 run R00
-5 0 signal R00 n01 3
+0 0 release s00
+0 0 release s01
+0 0 run s00
+1 0 round s00 1 1
+1 0 release r01
+2 0 round s00 2 1
+2 0 release r00
+2 0 stop s00 preempt 2
+2 0 run r00
+5 0 signal r00 n01 3
 5 0 hold n01 3
-8 0 stop R00 spent 6 until 11
-8 0 run S00
-9 0 round S00 3 7
-10 0 round S00 4 1
-11 0 round S00 5 1
-11 0 release R00
-11 0 stop S00 preempt 3
-11 0 run R00
-17 0 stop R00 spent 6 until 20
-17 0 run S00
-18 0 round S00 6 7
-19 0 round S00 7 1
-20 0 round S00 8 1
-20 0 release R00
-20 0 stop S00 preempt 3 until 55
-20 0 run R00
-23 0 signal R00 n00 3
+8 0 stop r00 spent 6 until 11
+8 0 run s00
+9 0 round s00 3 7
+10 0 round s00 4 1
+11 0 round s00 5 1
+11 0 release r00
+11 0 stop s00 preempt 3
+11 0 run r00
+17 0 stop r00 spent 6 until 20
+17 0 run s00
+18 0 round s00 6 7
+19 0 round s00 7 1
+20 0 round s00 8 1
+20 0 release r00
+20 0 stop s00 preempt 3 until 55
+20 0 run r00
+23 0 signal r00 n00 3
 23 0 hold n00 3
-26 0 stop R00 spent 6 until 29
-26 0 run S01
-27 0 got S01 n01 3
-28 0 round S01 1 1
-29 0 stop S01 wait 3
-29 0 release R00
-29 0 run R00
-32 0 signal R00 n00 6
+26 0 stop r00 spent 6 until 29
+26 0 run s01
+27 0 got s01 n01 3
+28 0 round s01 1 1
+29 0 stop s01 wait 3
+29 0 release r00
+29 0 run r00
+32 0 signal r00 n00 6
 32 0 hold n00 7
-32 0 round R00 1 30
-35 0 signal R00 n01 3
-35 0 wake S01 n01 3
-35 0 stop R00 spent 6 until 38
-35 0 run S01
-36 0 round S01 2 1
-37 0 stop S01 wait 2
-37 0 run R01
-38 0 release R00
-38 0 stop R01 preempt 1
-38 0 run R00
-44 0 stop R00 spent 6 until 47
-44 0 run R01
-45 0 signal R01 n01 5
-45 0 wake S01 n01 5
-45 0 round R01 1 44
-45 0 stop R01 preempt 1
-45 0 run S01
-46 0 round S01 3 1
-47 0 stop S01 wait 2
-47 0 release R00
-47 0 run R00
-53 0 signal R00 n00 3
+32 0 round r00 1 30
+35 0 signal r00 n01 3
+35 0 wake s01 n01 3
+35 0 stop r00 spent 6 until 38
+35 0 run s01
+36 0 round s01 2 1
+37 0 stop s01 wait 2
+37 0 run r01
+38 0 release r00
+38 0 stop r01 preempt 1
+38 0 run r00
+44 0 stop r00 spent 6 until 47
+44 0 run r01
+45 0 signal r01 n01 5
+45 0 wake s01 n01 5
+45 0 round r01 1 44
+45 0 stop r01 preempt 1
+45 0 run s01
+46 0 round s01 3 1
+47 0 stop s01 wait 2
+47 0 release r00
+47 0 run r00
+53 0 signal r00 n00 3
 53 0 hold n00 7
-53 0 stop R00 spent 6 until 56
-53 0 run R01
+53 0 stop r00 spent 6 until 56
+53 0 run r01
 ",
     )
 }
@@ -389,7 +389,7 @@ const RANDOM_ONE_05: Plan = Plan {
     notes: &[PlannedNote("n", 0)],
     threads: &[
         PlannedThread(
-            "H",
+            "h",
             1,
             5,
             0,
@@ -404,8 +404,8 @@ const RANDOM_ONE_05: Plan = Plan {
                 Yield,
             ],
         ),
-        PlannedThread("W", 0, 1, 0, 0, &[Wait(0), Compute(3), Wait(0), Compute(1)]),
-        PlannedThread("X", 2, 6, 4, 0, &[Compute(4), Signal(0, 1), Yield]),
+        PlannedThread("w", 0, 1, 0, 0, &[Wait(0), Compute(3), Wait(0), Compute(1)]),
+        PlannedThread("x", 2, 6, 4, 0, &[Compute(4), Signal(0, 1), Yield]),
     ],
     orders: &[
         PlannedOrder(89, 0, 13, 21, 2),
@@ -425,83 +425,83 @@ fn random_one_05(rt: HostRuntime) -> Result<(), Fail> {
         &RANDOM_ONE_05,
         55,
         "\
-0 0 release H
-0 0 release W
-0 0 run H
-1 0 signal H n 9
+0 0 release h
+0 0 release w
+0 0 run h
+1 0 signal h n 9
 1 0 hold n 9
-4 0 release X
-4 0 stop H preempt 4
-4 0 run X
-7 0 stop X spent 3 until 9
-7 0 run H
-9 0 release X
-9 0 stop H preempt 2
-9 0 run X
-11 0 signal X n 1
+4 0 release x
+4 0 stop h preempt 4
+4 0 run x
+7 0 stop x spent 3 until 9
+7 0 run h
+9 0 release x
+9 0 stop h preempt 2
+9 0 run x
+11 0 signal x n 1
 11 0 hold n 9
-12 0 round X 1 8
-12 0 stop X yield 3 until 14
-12 0 run H
-14 0 signal H n 5
+12 0 round x 1 8
+12 0 stop x yield 3 until 14
+12 0 run h
+14 0 signal h n 5
 14 0 hold n 13
-14 0 release X
-14 0 stop H preempt 2
-14 0 run X
-17 0 stop X spent 3 until 19
-17 0 run H
-19 0 release X
-19 0 stop H preempt 2
-19 0 run X
-21 0 signal X n 1
+14 0 release x
+14 0 stop h preempt 2
+14 0 run x
+17 0 stop x spent 3 until 19
+17 0 run h
+19 0 release x
+19 0 stop h preempt 2
+19 0 run x
+21 0 signal x n 1
 21 0 hold n 13
-22 0 round X 2 10
-22 0 stop X yield 3 until 24
-22 0 run H
-24 0 release X
-24 0 stop H preempt 2
-24 0 run X
-27 0 stop X spent 3 until 29
-27 0 run H
-29 0 release X
-29 0 stop H preempt 2
-29 0 run X
-31 0 signal X n 1
+22 0 round x 2 10
+22 0 stop x yield 3 until 24
+22 0 run h
+24 0 release x
+24 0 stop h preempt 2
+24 0 run x
+27 0 stop x spent 3 until 29
+27 0 run h
+29 0 release x
+29 0 stop h preempt 2
+29 0 run x
+31 0 signal x n 1
 31 0 hold n 13
-32 0 round X 3 10
-32 0 stop X yield 3 until 34
-32 0 run H
-34 0 release X
-34 0 stop H preempt 2
-34 0 run X
-37 0 stop X spent 3 until 39
-37 0 run H
-39 0 signal H n 1
+32 0 round x 3 10
+32 0 stop x yield 3 until 34
+32 0 run h
+34 0 release x
+34 0 stop h preempt 2
+34 0 run x
+37 0 stop x spent 3 until 39
+37 0 run h
+39 0 signal h n 1
 39 0 hold n 13
-39 0 release X
-39 0 stop H preempt 2
-39 0 run X
-41 0 signal X n 1
+39 0 release x
+39 0 stop h preempt 2
+39 0 run x
+41 0 signal x n 1
 41 0 hold n 13
-42 0 round X 4 10
-42 0 stop X yield 3 until 44
-42 0 run H
-44 0 release X
-44 0 stop H preempt 2
-44 0 run X
-47 0 stop X spent 3 until 49
-47 0 run H
-49 0 release X
-49 0 stop H preempt 2
-49 0 run X
-51 0 signal X n 1
+42 0 round x 4 10
+42 0 stop x yield 3 until 44
+42 0 run h
+44 0 release x
+44 0 stop h preempt 2
+44 0 run x
+47 0 stop x spent 3 until 49
+47 0 run h
+49 0 release x
+49 0 stop h preempt 2
+49 0 run x
+51 0 signal x n 1
 51 0 hold n 13
-52 0 round X 5 10
-52 0 stop X yield 3 until 54
-52 0 run H
-54 0 release X
-54 0 stop H preempt 2
-54 0 run X
+52 0 round x 5 10
+52 0 stop x yield 3 until 54
+52 0 run h
+54 0 release x
+54 0 stop h preempt 2
+54 0 run x
 ",
     )
 }
@@ -518,9 +518,9 @@ const RANDOM_ONE_06: Plan = Plan {
     ],
     notes: &[PlannedNote("a", 0)],
     threads: &[
-        PlannedThread("A", 0, 2, 0, 0, &[Wait(0), Compute(2), Compute(3)]),
+        PlannedThread("a", 0, 2, 0, 0, &[Wait(0), Compute(2), Compute(3)]),
         PlannedThread(
-            "T3",
+            "t3",
             3,
             255,
             2,
@@ -528,7 +528,7 @@ const RANDOM_ONE_06: Plan = Plan {
             &[Wait(0), Compute(1), Signal(0, 5), Compute(3)],
         ),
         PlannedThread(
-            "T2",
+            "t2",
             2,
             2,
             16,
@@ -555,22 +555,22 @@ fn random_one_06(rt: HostRuntime) -> Result<(), Fail> {
         &RANDOM_ONE_06,
         56,
         "\
-0 0 release A
-0 0 run A
+0 0 release a
+0 0 run a
 1 0 order d
-2 0 release T3
-2 0 stop A preempt 2
-2 0 run T3
+2 0 release t3
+2 0 stop a preempt 2
+2 0 run t3
 4 0 order a
-5 0 stop T3 wait 3
-5 0 run A
-6 0 stop A wait 1
-16 0 release T2
-16 0 run T2
-18 0 stop T2 spent 2 until 19
-19 0 release T2
-19 0 run T2
-20 0 stop T2 wait 1
+5 0 stop t3 wait 3
+5 0 run a
+6 0 stop a wait 1
+16 0 release t2
+16 0 run t2
+18 0 stop t2 spent 2 until 19
+19 0 release t2
+19 0 run t2
+20 0 stop t2 wait 1
 ",
     )
 }
@@ -591,10 +591,10 @@ const RANDOM_ONE_07: Plan = Plan {
         PlannedNote("c", 0),
     ],
     threads: &[
-        PlannedThread("T2", 2, 0, 1, 2, &[Wait(2), Yield]),
-        PlannedThread("T1", 1, 2, 1, 2, &[Compute(1), Compute(2)]),
+        PlannedThread("t2", 2, 0, 1, 2, &[Wait(2), Yield]),
+        PlannedThread("t1", 1, 2, 1, 2, &[Compute(1), Compute(2)]),
         PlannedThread(
-            "T0",
+            "t0",
             0,
             1,
             0,
@@ -611,7 +611,7 @@ const RANDOM_ONE_07: Plan = Plan {
             ],
         ),
         PlannedThread(
-            "T3",
+            "t3",
             3,
             84,
             2,
@@ -631,47 +631,47 @@ fn random_one_07(rt: HostRuntime) -> Result<(), Fail> {
         &RANDOM_ONE_07,
         59,
         "\
-0 0 release T0
-0 0 run T0
-1 0 stop T0 wait 1
-1 0 release T2
-1 0 release T1
-1 0 run T1
-2 0 release T3
-2 0 stop T1 preempt 1
-2 0 run T3
+0 0 release t0
+0 0 run t0
+1 0 stop t0 wait 1
+1 0 release t2
+1 0 release t1
+1 0 run t1
+2 0 release t3
+2 0 stop t1 preempt 1
+2 0 run t3
 7 0 order d
-12 0 signal T3 a 5
-12 0 wake T0 a 5
-13 0 signal T3 b 2
+12 0 signal t3 a 5
+12 0 wake t0 a 5
+13 0 signal t3 b 2
 13 0 hold b 2
-13 0 round T3 1 11
-14 0 stop T3 spent 12 until 42
-14 0 run T1
-16 0 round T1 1 15
-19 0 round T1 2 3
-19 0 stop T1 done 5
+13 0 round t3 1 11
+14 0 stop t3 spent 12 until 42
+14 0 run t1
+16 0 round t1 1 15
+19 0 round t1 2 3
+19 0 stop t1 done 5
 19 0 order a
-19 0 run T0
-20 0 signal T0 b 7
+19 0 run t0
+20 0 signal t0 b 7
 20 0 hold b 7
-25 0 stop T0 wait 6
-25 0 run T2
-26 0 stop T2 wait 1
-42 0 release T3
-42 0 run T3
-47 0 stop T3 spent 5 until 48
-48 0 release T3
-48 0 run T3
-52 0 signal T3 a 5
+25 0 stop t0 wait 6
+25 0 run t2
+26 0 stop t2 wait 1
+42 0 release t3
+42 0 run t3
+47 0 stop t3 spent 5 until 48
+48 0 release t3
+48 0 run t3
+52 0 signal t3 a 5
 52 0 hold a 5
-53 0 signal T3 b 2
+53 0 signal t3 b 2
 53 0 hold b 7
-53 0 round T3 2 40
-53 0 stop T3 spent 5 until 54
-54 0 release T3
-54 0 run T3
-59 0 stop T3 spent 5 until 60
+53 0 round t3 2 40
+53 0 stop t3 spent 5 until 54
+54 0 release t3
+54 0 run t3
+59 0 stop t3 spent 5 until 60
 ",
     )
 }
@@ -688,15 +688,15 @@ const RANDOM_ONE_08: Plan = Plan {
     notes: &[PlannedNote("n", 0)],
     threads: &[
         PlannedThread(
-            "H",
+            "h",
             1,
             5,
             0,
             0,
             &[Signal(0, 6), Compute(4), Signal(0, 6), Compute(9), Yield],
         ),
-        PlannedThread("W", 0, 4, 0, 0, &[Wait(0), Compute(2), Wait(0), Compute(2)]),
-        PlannedThread("X", 2, 6, 4, 0, &[Compute(3), Signal(0, 1), Yield]),
+        PlannedThread("w", 0, 4, 0, 0, &[Wait(0), Compute(2), Wait(0), Compute(2)]),
+        PlannedThread("x", 2, 6, 4, 0, &[Compute(3), Signal(0, 1), Yield]),
     ],
     orders: &[PlannedOrder(44, 0, 7, 32, 0)],
     ..ONE_CORE
@@ -710,56 +710,56 @@ fn random_one_08(rt: HostRuntime) -> Result<(), Fail> {
         &RANDOM_ONE_08,
         60,
         "\
-0 0 release H
-0 0 release W
-0 0 run H
-1 0 signal H n 6
+0 0 release h
+0 0 release w
+0 0 run h
+1 0 signal h n 6
 1 0 hold n 6
-4 0 release X
-4 0 stop H preempt 4
-4 0 run X
-8 0 signal X n 1
+4 0 release x
+4 0 stop h preempt 4
+4 0 run x
+8 0 signal x n 1
 8 0 hold n 7
-8 0 stop X spent 4 until 14
-8 0 run H
-10 0 signal H n 6
+8 0 stop x spent 4 until 14
+8 0 run h
+10 0 signal h n 6
 10 0 hold n 7
-14 0 release X
-14 0 stop H preempt 6
-14 0 run X
-15 0 round X 1 11
-15 0 stop X yield 4 until 24
-15 0 run H
-21 0 round H 1 21
-21 0 stop H yield 50 until 70
-21 0 run W
-22 0 got W n 7
-24 0 release X
-24 0 stop W preempt 3
-24 0 run X
-28 0 signal X n 1
+14 0 release x
+14 0 stop h preempt 6
+14 0 run x
+15 0 round x 1 11
+15 0 stop x yield 4 until 24
+15 0 run h
+21 0 round h 1 21
+21 0 stop h yield 50 until 70
+21 0 run w
+22 0 got w n 7
+24 0 release x
+24 0 stop w preempt 3
+24 0 run x
+28 0 signal x n 1
 28 0 hold n 1
-28 0 stop X spent 4 until 34
-28 0 run W
-29 0 got W n 1
-31 0 round W 1 9
-32 0 stop W wait 4
-34 0 release X
-34 0 run X
-35 0 round X 2 20
-35 0 stop X yield 4 until 44
+28 0 stop x spent 4 until 34
+28 0 run w
+29 0 got w n 1
+31 0 round w 1 9
+32 0 stop w wait 4
+34 0 release x
+34 0 run x
+35 0 round x 2 20
+35 0 stop x yield 4 until 44
 44 0 order w
-44 0 release X
-44 0 run X
-48 0 signal X n 1
-48 0 wake W n 1
-48 0 stop X spent 4 until 54
-48 0 run W
-51 0 stop W wait 3
-54 0 release X
-54 0 run X
-55 0 round X 3 20
-55 0 stop X yield 4 until 64
+44 0 release x
+44 0 run x
+48 0 signal x n 1
+48 0 wake w n 1
+48 0 stop x spent 4 until 54
+48 0 run w
+51 0 stop w wait 3
+54 0 release x
+54 0 run x
+55 0 round x 3 20
+55 0 stop x yield 4 until 64
 ",
     )
 }
@@ -776,16 +776,16 @@ const RANDOM_ONE_09: Plan = Plan {
     notes: &[PlannedNote("a", 0)],
     threads: &[
         PlannedThread(
-            "A",
+            "a",
             0,
             1,
             5,
             1,
             &[Signal(0, 1093719817), Compute(5), Signal(0, 3535178076)],
         ),
-        PlannedThread("B", 1, 3, 2, 3, &[Yield]),
+        PlannedThread("b", 1, 3, 2, 3, &[Yield]),
         PlannedThread(
-            "C",
+            "c",
             2,
             1,
             4,
@@ -813,54 +813,54 @@ fn random_one_09(rt: HostRuntime) -> Result<(), Fail> {
         61,
         "\
 1 0 order b
-2 0 release B
-2 0 run B
-3 0 round B 1 1
-3 0 stop B yield 3
-3 0 run B
-4 0 round B 2 1
-4 0 stop B yield 3
-4 0 release C
-4 0 run B
-5 0 round B 3 1
-5 0 stop B done 1
-5 0 release A
-5 0 run C
-6 0 stop C yield 4
-6 0 run A
-7 0 signal A a 1093719817
+2 0 release b
+2 0 run b
+3 0 round b 1 1
+3 0 stop b yield 3
+3 0 run b
+4 0 round b 2 1
+4 0 stop b yield 3
+4 0 release c
+4 0 run b
+5 0 round b 3 1
+5 0 stop b done 1
+5 0 release a
+5 0 run c
+6 0 stop c yield 4
+6 0 run a
+7 0 signal a a 1093719817
 7 0 hold a 1093719817
-9 0 stop A spent 3
-9 0 run C
-10 0 got C a 1093719817
-11 0 signal C a 1
+9 0 stop a spent 3
+9 0 run c
+10 0 got c a 1093719817
+11 0 signal c a 1
 11 0 hold a 1
-12 0 stop C yield 4
-12 0 run A
-15 0 stop A spent 3
-15 0 run C
+12 0 stop c yield 4
+12 0 run a
+15 0 stop a spent 3
+15 0 run c
 16 0 order b
-16 0 stop C order 1
-16 0 run C
-17 0 signal C a 5
+16 0 stop c order 1
+16 0 run c
+17 0 signal c a 5
 17 0 hold a 5
-17 0 round C 1 13
-18 0 stop C yield 3
-18 0 run A
-19 0 signal A a 3535178076
+17 0 round c 1 13
+18 0 stop c yield 3
+18 0 run a
+19 0 signal a a 3535178076
 19 0 hold a 3535178077
-19 0 round A 1 14
-19 0 stop A done 1
-19 0 run C
-20 0 got C a 3535178077
-21 0 signal C a 1
+19 0 round a 1 14
+19 0 stop a done 1
+19 0 run c
+20 0 got c a 3535178077
+21 0 signal c a 1
 21 0 hold a 1
-22 0 stop C yield 3
-22 0 run C
-24 0 signal C a 5
+22 0 stop c yield 3
+22 0 run c
+24 0 signal c a 5
 24 0 hold a 5
-24 0 round C 2 7
-24 0 stop C done 2
+24 0 round c 2 7
+24 0 stop c done 2
 ",
     )
 }
@@ -877,7 +877,7 @@ const RANDOM_ONE_10: Plan = Plan {
     notes: &[PlannedNote("n", 0)],
     threads: &[
         PlannedThread(
-            "H",
+            "h",
             1,
             5,
             0,
@@ -894,8 +894,8 @@ const RANDOM_ONE_10: Plan = Plan {
                 Yield,
             ],
         ),
-        PlannedThread("W", 0, 9, 0, 0, &[Wait(0), Compute(3), Wait(0), Compute(2)]),
-        PlannedThread("X", 2, 6, 8, 0, &[Compute(1), Signal(0, 1), Yield]),
+        PlannedThread("w", 0, 9, 0, 0, &[Wait(0), Compute(3), Wait(0), Compute(2)]),
+        PlannedThread("x", 2, 6, 8, 0, &[Compute(1), Signal(0, 1), Yield]),
     ],
     orders: &[
         PlannedOrder(8, 0, 11, 26, 0),
@@ -916,105 +916,105 @@ fn random_one_10(rt: HostRuntime) -> Result<(), Fail> {
         &RANDOM_ONE_10,
         62,
         "\
-0 0 release H
-0 0 release W
-0 0 run W
-1 0 stop W wait 1
-1 0 run H
-2 0 signal H n 3
-2 0 wake W n 3
-2 0 stop H preempt 1
-2 0 run W
+0 0 release h
+0 0 release w
+0 0 run w
+1 0 stop w wait 1
+1 0 run h
+2 0 signal h n 3
+2 0 wake w n 3
+2 0 stop h preempt 1
+2 0 run w
 3 0 order w
-3 0 stop W order 1
-3 0 run W
-6 0 stop W wait 3
-6 0 run H
+3 0 stop w order 1
+3 0 run w
+6 0 stop w wait 3
+6 0 run h
 8 0 order w
-8 0 release X
-8 0 stop H preempt 2
-8 0 run X
-10 0 signal X n 1
-10 0 wake W n 1
-11 0 round X 1 3
-11 0 stop X yield 4 until 16
-11 0 run H
-14 0 signal H n 7
+8 0 release x
+8 0 stop h preempt 2
+8 0 run x
+10 0 signal x n 1
+10 0 wake w n 1
+11 0 round x 1 3
+11 0 stop x yield 4 until 16
+11 0 run h
+14 0 signal h n 7
 14 0 hold n 7
-16 0 release X
-16 0 stop H preempt 5
-16 0 run X
-18 0 signal X n 1
+16 0 release x
+16 0 stop h preempt 5
+16 0 run x
+18 0 signal x n 1
 18 0 hold n 7
-19 0 round X 2 8
-19 0 stop X yield 4 until 24
+19 0 round x 2 8
+19 0 stop x yield 4 until 24
 19 0 order w
-19 0 run H
-20 0 signal H n 6
+19 0 run h
+20 0 signal h n 6
 20 0 hold n 7
-24 0 release X
-24 0 stop H preempt 5
-24 0 run X
-26 0 signal X n 1
+24 0 release x
+24 0 stop h preempt 5
+24 0 run x
+26 0 signal x n 1
 26 0 hold n 7
-26 0 release W
-26 0 stop X preempt 2
-26 0 run W
-28 0 round W 1 26
-28 0 stop W spent 2 until 35
-28 0 run X
-29 0 round X 3 10
-29 0 stop X yield 2 until 32
-29 0 run H
+26 0 release w
+26 0 stop x preempt 2
+26 0 run w
+28 0 round w 1 26
+28 0 stop w spent 2 until 35
+28 0 run x
+29 0 round x 3 10
+29 0 stop x yield 2 until 32
+29 0 run h
 30 0 order w
-32 0 release X
-32 0 stop H preempt 3
-32 0 run X
-34 0 signal X n 1
+32 0 release x
+32 0 stop h preempt 3
+32 0 run x
+34 0 signal x n 1
 34 0 hold n 7
-35 0 round X 4 6
-35 0 stop X yield 4 until 40
-35 0 release W
-35 0 run W
-36 0 got W n 7
-37 0 stop W spent 2 until 43
-37 0 run H
-39 0 signal H n 2
+35 0 round x 4 6
+35 0 stop x yield 4 until 40
+35 0 release w
+35 0 run w
+36 0 got w n 7
+37 0 stop w spent 2 until 43
+37 0 run h
+39 0 signal h n 2
 39 0 hold n 2
-40 0 release X
-40 0 stop H preempt 3
-40 0 run X
-42 0 signal X n 1
+40 0 release x
+40 0 stop h preempt 3
+40 0 run x
+42 0 signal x n 1
 42 0 hold n 3
-43 0 round X 5 8
-43 0 stop X yield 4 until 48
-43 0 release W
-43 0 run W
+43 0 round x 5 8
+43 0 stop x yield 4 until 48
+43 0 release w
+43 0 run w
 45 0 order w
-45 0 stop W order 2
-45 0 run W
-46 0 got W n 3
-48 0 round W 2 12
-48 0 release X
-49 0 stop W wait 4
-49 0 run X
-51 0 signal X n 1
-51 0 wake W n 1
-52 0 round X 6 9
-52 0 stop X yield 4 until 56
-52 0 run H
-56 0 release X
-56 0 stop H preempt 4
-56 0 run X
+45 0 stop w order 2
+45 0 run w
+46 0 got w n 3
+48 0 round w 2 12
+48 0 release x
+49 0 stop w wait 4
+49 0 run x
+51 0 signal x n 1
+51 0 wake w n 1
+52 0 round x 6 9
+52 0 stop x yield 4 until 56
+52 0 run h
+56 0 release x
+56 0 stop h preempt 4
+56 0 run x
 57 0 order w
-58 0 signal X n 1
+58 0 signal x n 1
 58 0 hold n 1
-59 0 round X 7 7
-59 0 stop X yield 4 until 64
-59 0 run H
-61 0 release W
-61 0 stop H preempt 2
-61 0 run W
+59 0 round x 7 7
+59 0 stop x yield 4 until 64
+59 0 run h
+61 0 release w
+61 0 stop h preempt 2
+61 0 run w
 ",
     )
 }
@@ -1029,8 +1029,8 @@ const RANDOM_ONE_11: Plan = Plan {
     ],
     notes: &[PlannedNote("a", 0)],
     threads: &[
-        PlannedThread("T1", 1, 2, 2, 1, &[Yield, Yield]),
-        PlannedThread("T0", 0, 2, 5, 1, &[Compute(7)]),
+        PlannedThread("t1", 1, 2, 2, 1, &[Yield, Yield]),
+        PlannedThread("t0", 0, 2, 5, 1, &[Compute(7)]),
     ],
     orders: &[PlannedOrder(0, 1, 9, 28, 0), PlannedOrder(1, 1, 6, 29, 0)],
     ..ONE_CORE
@@ -1046,23 +1046,23 @@ fn random_one_11(rt: HostRuntime) -> Result<(), Fail> {
         "\
 0 0 order a
 1 0 order a
-2 0 release T1
-2 0 run T1
-3 0 stop T1 yield 6 until 31
-5 0 release T0
-5 0 run T0
-8 0 stop T0 spent 3 until 15
-15 0 release T0
-15 0 run T0
-18 0 stop T0 spent 3 until 25
-25 0 release T0
-25 0 run T0
-26 0 round T0 1 21
-26 0 stop T0 done 1
-31 0 release T1
-31 0 run T1
-32 0 round T1 1 30
-32 0 stop T1 done 1
+2 0 release t1
+2 0 run t1
+3 0 stop t1 yield 6 until 31
+5 0 release t0
+5 0 run t0
+8 0 stop t0 spent 3 until 15
+15 0 release t0
+15 0 run t0
+18 0 stop t0 spent 3 until 25
+25 0 release t0
+25 0 run t0
+26 0 round t0 1 21
+26 0 stop t0 done 1
+31 0 release t1
+31 0 run t1
+32 0 round t1 1 30
+32 0 stop t1 done 1
 ",
     )
 }
@@ -1078,10 +1078,10 @@ const RANDOM_ONE_12: Plan = Plan {
     ],
     notes: &[PlannedNote("n00", 0)],
     threads: &[
-        PlannedThread("S00", 0, 5, 0, 0, &[Wait(0), Compute(4)]),
-        PlannedThread("R00", 1, 10, 1, 0, &[Compute(11), Signal(0, 5)]),
+        PlannedThread("s00", 0, 5, 0, 0, &[Wait(0), Compute(4)]),
+        PlannedThread("r00", 1, 10, 1, 0, &[Compute(11), Signal(0, 5)]),
         PlannedThread(
-            "R01",
+            "r01",
             2,
             10,
             5,
@@ -1107,53 +1107,53 @@ fn random_one_12(rt: HostRuntime) -> Result<(), Fail> {
         &RANDOM_ONE_12,
         66,
         "\
-0 0 release S00
-0 0 run S00
-1 0 stop S00 wait 1
-1 0 release R00
-1 0 run R00
-5 0 release R01
-8 0 stop R00 spent 7 until 12
-8 0 run R01
-12 0 signal R01 n00 2
-12 0 wake S00 n00 2
-12 0 release R00
-14 0 signal R01 n00 3
+0 0 release s00
+0 0 run s00
+1 0 stop s00 wait 1
+1 0 release r00
+1 0 run r00
+5 0 release r01
+8 0 stop r00 spent 7 until 12
+8 0 run r01
+12 0 signal r01 n00 2
+12 0 wake s00 n00 2
+12 0 release r00
+14 0 signal r01 n00 3
 14 0 hold n00 3
-16 0 stop R01 spent 8
-16 0 run R00
-21 0 signal R00 n00 5
+16 0 stop r01 spent 8
+16 0 run r00
+21 0 signal r00 n00 5
 21 0 hold n00 7
-21 0 round R00 1 20
-23 0 stop R00 spent 7
-23 0 run R01
-27 0 signal R01 n00 9
+21 0 round r00 1 20
+23 0 stop r00 spent 7
+23 0 run r01
+27 0 signal r01 n00 9
 27 0 hold n00 15
-27 0 round R01 1 22
-31 0 signal R01 n00 2
+27 0 round r01 1 22
+31 0 signal r01 n00 2
 31 0 hold n00 15
-31 0 stop R01 spent 8
-31 0 run R00
-38 0 stop R00 spent 7
-38 0 run R01
-40 0 signal R01 n00 3
+31 0 stop r01 spent 8
+31 0 run r00
+38 0 stop r00 spent 7
+38 0 run r01
+40 0 signal r01 n00 3
 40 0 hold n00 15
-46 0 signal R01 n00 9
+46 0 signal r01 n00 9
 46 0 hold n00 15
-46 0 round R01 2 19
-46 0 stop R01 spent 8
-46 0 run R00
-49 0 signal R00 n00 5
+46 0 round r01 2 19
+46 0 stop r01 spent 8
+46 0 run r00
+49 0 signal r00 n00 5
 49 0 hold n00 15
-49 0 round R00 2 28
-53 0 stop R00 spent 7
-53 0 run R01
-57 0 signal R01 n00 2
+49 0 round r00 2 28
+53 0 stop r00 spent 7
+53 0 run r01
+57 0 signal r01 n00 2
 57 0 hold n00 15
-59 0 signal R01 n00 3
+59 0 signal r01 n00 3
 59 0 hold n00 15
-61 0 stop R01 spent 8
-61 0 run R00
+61 0 stop r01 spent 8
+61 0 run r00
 ",
     )
 }
@@ -1169,9 +1169,9 @@ const RANDOM_ONE_13: Plan = Plan {
     ],
     notes: &[PlannedNote("a", 0), PlannedNote("b", 0)],
     threads: &[
-        PlannedThread("A", 0, 0, 5, 3, &[Yield]),
-        PlannedThread("T1", 1, 0, 0, 1, &[Wait(1), Signal(1, 1)]),
-        PlannedThread("C", 2, 2, 0, 0, &[Yield]),
+        PlannedThread("a", 0, 0, 5, 3, &[Yield]),
+        PlannedThread("t1", 1, 0, 0, 1, &[Wait(1), Signal(1, 1)]),
+        PlannedThread("c", 2, 2, 0, 0, &[Yield]),
     ],
     ..ONE_CORE
 };
@@ -1184,41 +1184,41 @@ fn random_one_13(rt: HostRuntime) -> Result<(), Fail> {
         &RANDOM_ONE_13,
         68,
         "\
-0 0 release T1
-0 0 release C
-0 0 run C
-3 0 round C 1 3
-3 0 stop C yield 7 until 14
-3 0 run T1
-5 0 release A
-6 0 stop T1 wait 3
-6 0 run A
-9 0 round A 1 4
-9 0 stop A yield 7 until 14
-14 0 release C
-14 0 release A
-14 0 run C
-17 0 round C 2 14
-17 0 stop C yield 7 until 28
-17 0 run A
-20 0 round A 2 11
-20 0 stop A yield 7 until 23
-23 0 release A
-23 0 run A
-26 0 round A 3 6
-26 0 stop A done 3
-28 0 release C
-28 0 run C
-31 0 round C 3 14
-31 0 stop C yield 7 until 42
-42 0 release C
-42 0 run C
-45 0 round C 4 14
-45 0 stop C yield 7 until 56
-56 0 release C
-56 0 run C
-59 0 round C 5 14
-59 0 stop C yield 7 until 70
+0 0 release t1
+0 0 release c
+0 0 run c
+3 0 round c 1 3
+3 0 stop c yield 7 until 14
+3 0 run t1
+5 0 release a
+6 0 stop t1 wait 3
+6 0 run a
+9 0 round a 1 4
+9 0 stop a yield 7 until 14
+14 0 release c
+14 0 release a
+14 0 run c
+17 0 round c 2 14
+17 0 stop c yield 7 until 28
+17 0 run a
+20 0 round a 2 11
+20 0 stop a yield 7 until 23
+23 0 release a
+23 0 run a
+26 0 round a 3 6
+26 0 stop a done 3
+28 0 release c
+28 0 run c
+31 0 round c 3 14
+31 0 stop c yield 7 until 42
+42 0 release c
+42 0 run c
+45 0 round c 4 14
+45 0 stop c yield 7 until 56
+56 0 release c
+56 0 run c
+59 0 round c 5 14
+59 0 stop c yield 7 until 70
 ",
     )
 }
@@ -1235,16 +1235,16 @@ const RANDOM_ONE_14: Plan = Plan {
     notes: &[PlannedNote("n00", 0), PlannedNote("n01", 0)],
     threads: &[
         PlannedThread(
-            "S00",
+            "s00",
             0,
             7,
             0,
             0,
             &[Wait(0), Compute(4), Compute(3), Wait(0), Compute(1)],
         ),
-        PlannedThread("S01", 1, 5, 0, 0, &[Wait(1), Compute(2)]),
+        PlannedThread("s01", 1, 5, 0, 0, &[Wait(1), Compute(2)]),
         PlannedThread(
-            "R00",
+            "r00",
             2,
             7,
             0,
@@ -1270,78 +1270,78 @@ fn random_one_14(rt: HostRuntime) -> Result<(), Fail> {
         &RANDOM_ONE_14,
         71,
         "\
-0 0 release S00
-0 0 release S01
-0 0 release R00
-0 0 run S00
-1 0 stop S00 wait 1
-1 0 run R00
-4 0 stop R00 spent 3
-4 0 run R00
-5 0 signal R00 n01 8
+0 0 release s00
+0 0 release s01
+0 0 release r00
+0 0 run s00
+1 0 stop s00 wait 1
+1 0 run r00
+4 0 stop r00 spent 3
+4 0 run r00
+5 0 signal r00 n01 8
 5 0 hold n01 8
-7 0 stop R00 spent 3
-7 0 run R00
-10 0 stop R00 spent 3
-10 0 run R00
-13 0 stop R00 spent 3
-13 0 run R00
-15 0 signal R00 n00 7
-15 0 wake S00 n00 7
-16 0 stop R00 spent 3
-16 0 run S00
-24 0 stop S00 wait 8
-24 0 run R00
-27 0 stop R00 spent 3
-27 0 run R00
-28 0 signal R00 n01 8
+7 0 stop r00 spent 3
+7 0 run r00
+10 0 stop r00 spent 3
+10 0 run r00
+13 0 stop r00 spent 3
+13 0 run r00
+15 0 signal r00 n00 7
+15 0 wake s00 n00 7
+16 0 stop r00 spent 3
+16 0 run s00
+24 0 stop s00 wait 8
+24 0 run r00
+27 0 stop r00 spent 3
+27 0 run r00
+28 0 signal r00 n01 8
 28 0 hold n01 8
-28 0 round R00 1 28
-30 0 stop R00 spent 3
-30 0 run R00
-32 0 signal R00 n01 8
+28 0 round r00 1 28
+30 0 stop r00 spent 3
+30 0 run r00
+32 0 signal r00 n01 8
 32 0 hold n01 8
-33 0 stop R00 spent 3
-33 0 run R00
-36 0 stop R00 spent 3
-36 0 run R00
-39 0 stop R00 spent 3
-39 0 run R00
-42 0 signal R00 n00 7
-42 0 wake S00 n00 7
-42 0 stop R00 spent 3
-42 0 run S00
-43 0 round S00 1 28
-44 0 stop S00 wait 2
-44 0 run R00
-47 0 stop R00 spent 3
-47 0 run R00
-49 0 signal R00 n01 8
+33 0 stop r00 spent 3
+33 0 run r00
+36 0 stop r00 spent 3
+36 0 run r00
+39 0 stop r00 spent 3
+39 0 run r00
+42 0 signal r00 n00 7
+42 0 wake s00 n00 7
+42 0 stop r00 spent 3
+42 0 run s00
+43 0 round s00 1 28
+44 0 stop s00 wait 2
+44 0 run r00
+47 0 stop r00 spent 3
+47 0 run r00
+49 0 signal r00 n01 8
 49 0 hold n01 8
-49 0 round R00 2 21
-50 0 stop R00 spent 3
-50 0 run R00
-53 0 signal R00 n01 8
+49 0 round r00 2 21
+50 0 stop r00 spent 3
+50 0 run r00
+53 0 signal r00 n01 8
 53 0 hold n01 8
-53 0 stop R00 spent 3
-53 0 run R00
-56 0 stop R00 spent 3
-56 0 run R00
-59 0 stop R00 spent 3
-59 0 run R00
-62 0 stop R00 spent 3
-62 0 run R00
-63 0 signal R00 n00 7
-63 0 wake S00 n00 7
-65 0 stop R00 spent 3
-65 0 run S00
-67 0 stop S00 spent 2 until 94
-67 0 run R00
-70 0 signal R00 n01 8
+53 0 stop r00 spent 3
+53 0 run r00
+56 0 stop r00 spent 3
+56 0 run r00
+59 0 stop r00 spent 3
+59 0 run r00
+62 0 stop r00 spent 3
+62 0 run r00
+63 0 signal r00 n00 7
+63 0 wake s00 n00 7
+65 0 stop r00 spent 3
+65 0 run s00
+67 0 stop s00 spent 2 until 94
+67 0 run r00
+70 0 signal r00 n01 8
 70 0 hold n01 8
-70 0 round R00 3 21
-70 0 stop R00 spent 3
-70 0 run R00
+70 0 round r00 3 21
+70 0 stop r00 spent 3
+70 0 run r00
 ",
     )
 }
@@ -1359,17 +1359,17 @@ const RANDOM_ONE_15: Plan = Plan {
     notes: &[PlannedNote("a", 0)],
     threads: &[
         PlannedThread(
-            "T1",
+            "t1",
             1,
             1,
             2,
             3,
             &[Wait(0), Wait(0), Signal(0, 1), Compute(3)],
         ),
-        PlannedThread("T2", 2, 3, 0, 1, &[Wait(0), Compute(3)]),
-        PlannedThread("T0", 0, 2, 1, 2, &[Yield]),
+        PlannedThread("t2", 2, 3, 0, 1, &[Wait(0), Compute(3)]),
+        PlannedThread("t0", 0, 2, 1, 2, &[Yield]),
         PlannedThread(
-            "T3",
+            "t3",
             3,
             0,
             2,
@@ -1397,23 +1397,23 @@ fn random_one_15(rt: HostRuntime) -> Result<(), Fail> {
         &RANDOM_ONE_15,
         72,
         "\
-0 0 release T2
-0 0 run T2
-1 0 stop T2 wait 1
-1 0 release T0
-1 0 run T0
-2 0 round T0 1 1
-2 0 stop T0 yield 6 until 15
-2 0 release T1
-2 0 release T3
-2 0 run T1
-3 0 stop T1 wait 1
-3 0 run T3
-4 0 stop T3 wait 1
-15 0 release T0
-15 0 run T0
-16 0 round T0 2 14
-16 0 stop T0 done 1
+0 0 release t2
+0 0 run t2
+1 0 stop t2 wait 1
+1 0 release t0
+1 0 run t0
+2 0 round t0 1 1
+2 0 stop t0 yield 6 until 15
+2 0 release t1
+2 0 release t3
+2 0 run t1
+3 0 stop t1 wait 1
+3 0 run t3
+4 0 stop t3 wait 1
+15 0 release t0
+15 0 run t0
+16 0 round t0 2 14
+16 0 stop t0 done 1
 ",
     )
 }
@@ -1430,10 +1430,10 @@ const RANDOM_ONE_16: Plan = Plan {
     ],
     notes: &[PlannedNote("a", 0), PlannedNote("b", 0)],
     threads: &[
-        PlannedThread("A", 0, 3, 0, 0, &[Yield]),
-        PlannedThread("D", 3, 31, 0, 1, &[Signal(0, 7)]),
-        PlannedThread("C", 2, 1, 17, 3, &[Compute(8)]),
-        PlannedThread("B", 1, 3, 5, 0, &[Yield]),
+        PlannedThread("a", 0, 3, 0, 0, &[Yield]),
+        PlannedThread("d", 3, 31, 0, 1, &[Signal(0, 7)]),
+        PlannedThread("c", 2, 1, 17, 3, &[Compute(8)]),
+        PlannedThread("b", 1, 3, 5, 0, &[Yield]),
     ],
     orders: &[PlannedOrder(7, 3, 3, 5, 0)],
     ..ONE_CORE
@@ -1447,68 +1447,68 @@ fn random_one_16(rt: HostRuntime) -> Result<(), Fail> {
         &RANDOM_ONE_16,
         74,
         "\
-0 0 release A
-0 0 release D
-0 0 run D
-3 0 signal D a 7
+0 0 release a
+0 0 release d
+0 0 run d
+3 0 signal d a 7
 3 0 hold a 7
-3 0 round D 1 3
-3 0 stop D done 3
-3 0 run A
-5 0 release B
-6 0 round A 1 6
-6 0 stop A yield 8 until 51
-6 0 run B
+3 0 round d 1 3
+3 0 stop d done 3
+3 0 run a
+5 0 release b
+6 0 round a 1 6
+6 0 stop a yield 8 until 51
+6 0 run b
 7 0 order d
-9 0 round B 1 4
-9 0 stop B yield 4 until 64
-17 0 release C
-17 0 run C
-19 0 stop C spent 2 until 21
-21 0 release C
-21 0 run C
-23 0 stop C spent 2 until 25
-25 0 release C
-25 0 run C
-27 0 stop C spent 2 until 29
-29 0 release C
-29 0 run C
-31 0 round C 1 14
-31 0 stop C spent 2 until 33
-33 0 release C
-33 0 run C
-35 0 stop C spent 2 until 37
-37 0 release C
-37 0 run C
-39 0 stop C spent 2 until 41
-41 0 release C
-41 0 run C
-43 0 stop C spent 2 until 45
-45 0 release C
-45 0 run C
-47 0 round C 2 16
-47 0 stop C spent 2 until 49
-49 0 release C
-49 0 run C
-51 0 stop C spent 2 until 53
-51 0 release A
-51 0 run A
-53 0 release C
-54 0 round A 2 48
-54 0 stop A yield 8 until 102
-54 0 run C
-56 0 stop C spent 2 until 57
-57 0 release C
-57 0 run C
-59 0 stop C spent 2 until 61
-61 0 release C
-61 0 run C
-63 0 round C 3 16
-63 0 stop C done 2
-64 0 release B
-64 0 run B
-67 0 round B 2 58
-67 0 stop B yield 4 until 123
+9 0 round b 1 4
+9 0 stop b yield 4 until 64
+17 0 release c
+17 0 run c
+19 0 stop c spent 2 until 21
+21 0 release c
+21 0 run c
+23 0 stop c spent 2 until 25
+25 0 release c
+25 0 run c
+27 0 stop c spent 2 until 29
+29 0 release c
+29 0 run c
+31 0 round c 1 14
+31 0 stop c spent 2 until 33
+33 0 release c
+33 0 run c
+35 0 stop c spent 2 until 37
+37 0 release c
+37 0 run c
+39 0 stop c spent 2 until 41
+41 0 release c
+41 0 run c
+43 0 stop c spent 2 until 45
+45 0 release c
+45 0 run c
+47 0 round c 2 16
+47 0 stop c spent 2 until 49
+49 0 release c
+49 0 run c
+51 0 stop c spent 2 until 53
+51 0 release a
+51 0 run a
+53 0 release c
+54 0 round a 2 48
+54 0 stop a yield 8 until 102
+54 0 run c
+56 0 stop c spent 2 until 57
+57 0 release c
+57 0 run c
+59 0 stop c spent 2 until 61
+61 0 release c
+61 0 run c
+63 0 round c 3 16
+63 0 stop c done 2
+64 0 release b
+64 0 run b
+67 0 round b 2 58
+67 0 stop b yield 4 until 123
 ",
     )
 }
@@ -1524,9 +1524,9 @@ const RANDOM_ONE_17: Plan = Plan {
     ],
     notes: &[PlannedNote("n00", 0)],
     threads: &[
-        PlannedThread("S00", 0, 5, 0, 0, &[Wait(0), Compute(4)]),
+        PlannedThread("s00", 0, 5, 0, 0, &[Wait(0), Compute(4)]),
         PlannedThread(
-            "R00",
+            "r00",
             1,
             1,
             5,
@@ -1540,7 +1540,7 @@ const RANDOM_ONE_17: Plan = Plan {
                 Signal(0, 4),
             ],
         ),
-        PlannedThread("R01", 2, 1, 4, 0, &[Compute(5), Signal(0, 8)]),
+        PlannedThread("r01", 2, 1, 4, 0, &[Compute(5), Signal(0, 8)]),
     ],
     ..ONE_CORE
 };
@@ -1553,80 +1553,80 @@ fn random_one_17(rt: HostRuntime) -> Result<(), Fail> {
         &RANDOM_ONE_17,
         75,
         "\
-0 0 release S00
-0 0 run S00
-1 0 stop S00 wait 1
-4 0 release R01
-4 0 run R01
-5 0 release R00
-10 0 signal R01 n00 8
-10 0 wake S00 n00 8
-10 0 round R01 1 6
-10 0 stop R01 preempt 6
-10 0 run S00
-14 0 round S00 1 4
-15 0 stop S00 wait 5
-15 0 run R01
-16 0 stop R01 spent 1
-16 0 run R00
-19 0 stop R00 spent 3
-19 0 run R01
-24 0 signal R01 n00 8
-24 0 wake S00 n00 8
-24 0 round R01 2 14
-24 0 stop R01 preempt 5
-24 0 run S00
-25 0 stop S00 spent 1 until 52
-25 0 run R01
-27 0 stop R01 spent 2
-27 0 run R00
-30 0 stop R00 spent 3
-30 0 run R01
-34 0 signal R01 n00 8
+0 0 release s00
+0 0 run s00
+1 0 stop s00 wait 1
+4 0 release r01
+4 0 run r01
+5 0 release r00
+10 0 signal r01 n00 8
+10 0 wake s00 n00 8
+10 0 round r01 1 6
+10 0 stop r01 preempt 6
+10 0 run s00
+14 0 round s00 1 4
+15 0 stop s00 wait 5
+15 0 run r01
+16 0 stop r01 spent 1
+16 0 run r00
+19 0 stop r00 spent 3
+19 0 run r01
+24 0 signal r01 n00 8
+24 0 wake s00 n00 8
+24 0 round r01 2 14
+24 0 stop r01 preempt 5
+24 0 run s00
+25 0 stop s00 spent 1 until 52
+25 0 run r01
+27 0 stop r01 spent 2
+27 0 run r00
+30 0 stop r00 spent 3
+30 0 run r01
+34 0 signal r01 n00 8
 34 0 hold n00 8
-34 0 round R01 3 10
-37 0 stop R01 spent 7
-37 0 run R00
-38 0 signal R00 n00 6
+34 0 round r01 3 10
+37 0 stop r01 spent 7
+37 0 run r00
+38 0 signal r00 n00 6
 38 0 hold n00 14
-40 0 stop R00 spent 3
-40 0 run R01
-43 0 signal R01 n00 8
+40 0 stop r00 spent 3
+40 0 run r01
+43 0 signal r01 n00 8
 43 0 hold n00 14
-43 0 round R01 4 9
-47 0 stop R01 spent 7
-47 0 run R00
-50 0 stop R00 spent 3
-50 0 run R01
-52 0 signal R01 n00 8
+43 0 round r01 4 9
+47 0 stop r01 spent 7
+47 0 run r00
+50 0 stop r00 spent 3
+50 0 run r01
+52 0 signal r01 n00 8
 52 0 hold n00 14
-52 0 round R01 5 9
-52 0 release S00
-52 0 stop R01 preempt 2
-52 0 run S00
-53 0 stop S00 spent 1 until 62
-53 0 run R01
-58 0 stop R01 spent 5
-58 0 run R00
-60 0 signal R00 n00 2
+52 0 round r01 5 9
+52 0 release s00
+52 0 stop r01 preempt 2
+52 0 run s00
+53 0 stop s00 spent 1 until 62
+53 0 run r01
+58 0 stop r01 spent 5
+58 0 run r00
+60 0 signal r00 n00 2
 60 0 hold n00 14
-61 0 stop R00 spent 3
-61 0 run R01
-62 0 signal R01 n00 8
+61 0 stop r00 spent 3
+61 0 run r01
+62 0 signal r01 n00 8
 62 0 hold n00 14
-62 0 round R01 6 10
-62 0 release S00
-62 0 stop R01 preempt 1
-62 0 run S00
-64 0 round S00 2 40
-65 0 got S00 n00 14
-67 0 stop S00 spent 5 until 76
-67 0 run R01
-73 0 signal R01 n00 8
+62 0 round r01 6 10
+62 0 release s00
+62 0 stop r01 preempt 1
+62 0 run s00
+64 0 round s00 2 40
+65 0 got s00 n00 14
+67 0 stop s00 spent 5 until 76
+67 0 run r01
+73 0 signal r01 n00 8
 73 0 hold n00 8
-73 0 round R01 7 11
-73 0 stop R01 spent 6
-73 0 run R00
+73 0 round r01 7 11
+73 0 stop r01 spent 6
+73 0 run r00
 ",
     )
 }
@@ -1642,9 +1642,9 @@ const RANDOM_ONE_18: Plan = Plan {
     ],
     notes: &[PlannedNote("n00", 0)],
     threads: &[
-        PlannedThread("S00", 0, 7, 0, 0, &[Wait(0), Compute(1)]),
+        PlannedThread("s00", 0, 7, 0, 0, &[Wait(0), Compute(1)]),
         PlannedThread(
-            "R00",
+            "r00",
             1,
             2,
             1,
@@ -1652,7 +1652,7 @@ const RANDOM_ONE_18: Plan = Plan {
             &[Compute(4), Signal(0, 1), Compute(12), Signal(0, 5)],
         ),
         PlannedThread(
-            "R01",
+            "r01",
             2,
             10,
             2,
@@ -1671,96 +1671,96 @@ fn random_one_18(rt: HostRuntime) -> Result<(), Fail> {
         &RANDOM_ONE_18,
         78,
         "\
-0 0 release S00
-0 0 run S00
-1 0 stop S00 wait 1
-1 0 release R00
-1 0 run R00
-2 0 release R01
-2 0 stop R00 preempt 1
-2 0 run R01
-5 0 stop R01 spent 3
-5 0 run R01
-8 0 stop R01 spent 3
-8 0 run R01
-10 0 signal R01 n00 4
-10 0 wake S00 n00 4
-11 0 stop R01 spent 3
-11 0 run R01
-13 0 signal R01 n00 6
+0 0 release s00
+0 0 run s00
+1 0 stop s00 wait 1
+1 0 release r00
+1 0 run r00
+2 0 release r01
+2 0 stop r00 preempt 1
+2 0 run r01
+5 0 stop r01 spent 3
+5 0 run r01
+8 0 stop r01 spent 3
+8 0 run r01
+10 0 signal r01 n00 4
+10 0 wake s00 n00 4
+11 0 stop r01 spent 3
+11 0 run r01
+13 0 signal r01 n00 6
 13 0 hold n00 6
-13 0 round R01 1 11
-14 0 stop R01 spent 3
-14 0 run R01
-17 0 stop R01 spent 3
-17 0 run R01
-20 0 stop R01 spent 3
-20 0 run R01
-21 0 signal R01 n00 4
+13 0 round r01 1 11
+14 0 stop r01 spent 3
+14 0 run r01
+17 0 stop r01 spent 3
+17 0 run r01
+20 0 stop r01 spent 3
+20 0 run r01
+21 0 signal r01 n00 4
 21 0 hold n00 6
-23 0 stop R01 spent 3
-23 0 run R01
-24 0 signal R01 n00 6
+23 0 stop r01 spent 3
+23 0 run r01
+24 0 signal r01 n00 6
 24 0 hold n00 6
-24 0 round R01 2 11
-26 0 stop R01 spent 3
-26 0 run R01
-29 0 stop R01 spent 3
-29 0 run R01
-32 0 signal R01 n00 4
+24 0 round r01 2 11
+26 0 stop r01 spent 3
+26 0 run r01
+29 0 stop r01 spent 3
+29 0 run r01
+32 0 signal r01 n00 4
 32 0 hold n00 6
-32 0 stop R01 spent 3
-32 0 run R01
-35 0 signal R01 n00 6
+32 0 stop r01 spent 3
+32 0 run r01
+35 0 signal r01 n00 6
 35 0 hold n00 6
-35 0 round R01 3 11
-35 0 stop R01 spent 3
-35 0 run R01
-38 0 stop R01 spent 3
-38 0 run R01
-41 0 stop R01 spent 3
-41 0 run R01
-43 0 signal R01 n00 4
+35 0 round r01 3 11
+35 0 stop r01 spent 3
+35 0 run r01
+38 0 stop r01 spent 3
+38 0 run r01
+41 0 stop r01 spent 3
+41 0 run r01
+43 0 signal r01 n00 4
 43 0 hold n00 6
-44 0 stop R01 spent 3
-44 0 run R01
-46 0 signal R01 n00 6
+44 0 stop r01 spent 3
+44 0 run r01
+46 0 signal r01 n00 6
 46 0 hold n00 6
-46 0 round R01 4 11
-47 0 stop R01 spent 3
-47 0 run R01
-50 0 stop R01 spent 3
-50 0 run R01
-53 0 stop R01 spent 3
-53 0 run R01
-54 0 signal R01 n00 4
+46 0 round r01 4 11
+47 0 stop r01 spent 3
+47 0 run r01
+50 0 stop r01 spent 3
+50 0 run r01
+53 0 stop r01 spent 3
+53 0 run r01
+54 0 signal r01 n00 4
 54 0 hold n00 6
-56 0 stop R01 spent 3
-56 0 run R01
-57 0 signal R01 n00 6
+56 0 stop r01 spent 3
+56 0 run r01
+57 0 signal r01 n00 6
 57 0 hold n00 6
-57 0 round R01 5 11
-59 0 stop R01 spent 3
-59 0 run R01
-62 0 stop R01 spent 3
-62 0 run R01
-65 0 signal R01 n00 4
+57 0 round r01 5 11
+59 0 stop r01 spent 3
+59 0 run r01
+62 0 stop r01 spent 3
+62 0 run r01
+65 0 signal r01 n00 4
 65 0 hold n00 6
-65 0 stop R01 spent 3
-65 0 run R01
-68 0 signal R01 n00 6
+65 0 stop r01 spent 3
+65 0 run r01
+68 0 signal r01 n00 6
 68 0 hold n00 6
-68 0 round R01 6 11
-68 0 stop R01 spent 3
-68 0 run R01
-71 0 stop R01 spent 3
-71 0 run R01
-74 0 stop R01 spent 3
-74 0 run R01
-76 0 signal R01 n00 4
+68 0 round r01 6 11
+68 0 stop r01 spent 3
+68 0 run r01
+71 0 stop r01 spent 3
+71 0 run r01
+74 0 stop r01 spent 3
+74 0 run r01
+76 0 signal r01 n00 4
 76 0 hold n00 6
-77 0 stop R01 spent 3
-77 0 run R01
+77 0 stop r01 spent 3
+77 0 run r01
 ",
     )
 }
@@ -1774,8 +1774,8 @@ const RANDOM_ONE_19: Plan = Plan {
         PlannedContext("b", 0, 1, 10, 0),
     ],
     threads: &[
-        PlannedThread("T1", 1, 2, 28, 0, &[Yield, Compute(4), Yield]),
-        PlannedThread("T0", 0, 1, 0, 3, &[Yield]),
+        PlannedThread("t1", 1, 2, 28, 0, &[Yield, Compute(4), Yield]),
+        PlannedThread("t0", 0, 1, 0, 3, &[Yield]),
     ],
     ..ONE_CORE
 };
@@ -1788,22 +1788,22 @@ fn random_one_19(rt: HostRuntime) -> Result<(), Fail> {
         &RANDOM_ONE_19,
         40,
         "\
-0 0 release T0
-0 0 run T0
-3 0 round T0 1 3
-3 0 stop T0 yield 8 until 26
-26 0 release T0
-26 0 run T0
-28 0 release T1
-28 0 stop T0 preempt 2
-28 0 run T1
-29 0 stop T1 spent 1 until 38
-29 0 run T0
-30 0 round T0 2 27
-30 0 stop T0 yield 6 until 52
-38 0 release T1
-38 0 run T1
-39 0 stop T1 spent 1 until 48
+0 0 release t0
+0 0 run t0
+3 0 round t0 1 3
+3 0 stop t0 yield 8 until 26
+26 0 release t0
+26 0 run t0
+28 0 release t1
+28 0 stop t0 preempt 2
+28 0 run t1
+29 0 stop t1 spent 1 until 38
+29 0 run t0
+30 0 round t0 2 27
+30 0 stop t0 yield 6 until 52
+38 0 release t1
+38 0 run t1
+39 0 stop t1 spent 1 until 48
 ",
     )
 }
@@ -1820,9 +1820,9 @@ const RANDOM_ONE_20: Plan = Plan {
     ],
     notes: &[PlannedNote("a", 0)],
     threads: &[
-        PlannedThread("B", 1, 2, 0, 3, &[Compute(2), Compute(8)]),
+        PlannedThread("b", 1, 2, 0, 3, &[Compute(2), Compute(8)]),
         PlannedThread(
-            "T2",
+            "t2",
             2,
             2,
             0,
@@ -1836,7 +1836,7 @@ const RANDOM_ONE_20: Plan = Plan {
                 Compute(2),
             ],
         ),
-        PlannedThread("D", 3, 255, 1, 6, &[Compute(5), Yield]),
+        PlannedThread("d", 3, 255, 1, 6, &[Compute(5), Yield]),
     ],
     orders: &[
         PlannedOrder(118, 0, 9, 19, 0),
@@ -1853,34 +1853,34 @@ fn random_one_20(rt: HostRuntime) -> Result<(), Fail> {
         &RANDOM_ONE_20,
         41,
         "\
-0 0 release B
-0 0 release T2
-0 0 run B
-1 0 release D
-1 0 stop B preempt 1
-1 0 run D
-8 0 round D 1 7
-8 0 stop D yield 8 until 11
-8 0 run B
-11 0 release D
-11 0 stop B preempt 3
-11 0 run D
-18 0 round D 2 10
-18 0 stop D yield 8 until 21
-18 0 run B
-21 0 release D
-21 0 stop B preempt 3 until 42
-21 0 run D
-28 0 round D 3 10
-28 0 stop D yield 8 until 31
-28 0 run T2
-30 0 stop T2 wait 2
-31 0 release D
-31 0 run D
-38 0 round D 4 10
-38 0 stop D yield 8 until 41
-41 0 release D
-41 0 run D
+0 0 release b
+0 0 release t2
+0 0 run b
+1 0 release d
+1 0 stop b preempt 1
+1 0 run d
+8 0 round d 1 7
+8 0 stop d yield 8 until 11
+8 0 run b
+11 0 release d
+11 0 stop b preempt 3
+11 0 run d
+18 0 round d 2 10
+18 0 stop d yield 8 until 21
+18 0 run b
+21 0 release d
+21 0 stop b preempt 3 until 42
+21 0 run d
+28 0 round d 3 10
+28 0 stop d yield 8 until 31
+28 0 run t2
+30 0 stop t2 wait 2
+31 0 release d
+31 0 run d
+38 0 round d 4 10
+38 0 stop d yield 8 until 41
+41 0 release d
+41 0 run d
 ",
     )
 }
@@ -1896,10 +1896,10 @@ const RANDOM_ONE_21: Plan = Plan {
     ],
     notes: &[PlannedNote("a", 0), PlannedNote("b", 0)],
     threads: &[
-        PlannedThread("T2", 2, 2, 21, 6, &[Compute(2), Yield]),
-        PlannedThread("T1", 1, 14, 0, 3, &[Compute(5), Compute(3), Compute(4)]),
+        PlannedThread("t2", 2, 2, 21, 6, &[Compute(2), Yield]),
+        PlannedThread("t1", 1, 14, 0, 3, &[Compute(5), Compute(3), Compute(4)]),
         PlannedThread(
-            "A",
+            "a",
             0,
             0,
             0,
@@ -1919,34 +1919,34 @@ fn random_one_21(rt: HostRuntime) -> Result<(), Fail> {
         &RANDOM_ONE_21,
         42,
         "\
-0 0 release T1
-0 0 release A
-0 0 run T1
+0 0 release t1
+0 0 release a
+0 0 run t1
 2 0 order c
-5 0 stop T1 spent 5
-5 0 run T1
-10 0 stop T1 spent 5
-10 0 run T1
-12 0 round T1 1 12
-15 0 stop T1 spent 5
-15 0 run T1
-20 0 stop T1 spent 5
-20 0 run T1
-21 0 release T2
-24 0 round T1 2 12
-25 0 stop T1 spent 5
-25 0 run T1
-30 0 stop T1 spent 5
-30 0 run T1
-35 0 stop T1 spent 5
-35 0 run T1
-36 0 round T1 3 12
-36 0 stop T1 done 1
-36 0 run T2
-39 0 round T2 1 18
-39 0 stop T2 yield 10 until 83
-39 0 run A
-41 0 signal A a 643562955
+5 0 stop t1 spent 5
+5 0 run t1
+10 0 stop t1 spent 5
+10 0 run t1
+12 0 round t1 1 12
+15 0 stop t1 spent 5
+15 0 run t1
+20 0 stop t1 spent 5
+20 0 run t1
+21 0 release t2
+24 0 round t1 2 12
+25 0 stop t1 spent 5
+25 0 run t1
+30 0 stop t1 spent 5
+30 0 run t1
+35 0 stop t1 spent 5
+35 0 run t1
+36 0 round t1 3 12
+36 0 stop t1 done 1
+36 0 run t2
+39 0 round t2 1 18
+39 0 stop t2 yield 10 until 83
+39 0 run a
+41 0 signal a a 643562955
 41 0 hold a 643562955
 ",
     )
@@ -1968,7 +1968,7 @@ const RANDOM_ONE_22: Plan = Plan {
     ],
     threads: &[
         PlannedThread(
-            "T0",
+            "t0",
             0,
             255,
             5,
@@ -1976,7 +1976,7 @@ const RANDOM_ONE_22: Plan = Plan {
             &[Compute(1), Wait(1), Compute(8), Signal(1, 3528643588)],
         ),
         PlannedThread(
-            "B",
+            "b",
             1,
             0,
             5,
@@ -1990,7 +1990,7 @@ const RANDOM_ONE_22: Plan = Plan {
                 Signal(1, 195527531),
             ],
         ),
-        PlannedThread("T2", 2, 3, 5, 1, &[Compute(5), Yield]),
+        PlannedThread("t2", 2, 3, 5, 1, &[Compute(5), Yield]),
     ],
     ..ONE_CORE
 };
@@ -2003,18 +2003,18 @@ fn random_one_22(rt: HostRuntime) -> Result<(), Fail> {
         &RANDOM_ONE_22,
         43,
         "\
-5 0 release T0
-5 0 release B
-5 0 release T2
-5 0 run T0
-7 0 stop T0 wait 2
-7 0 run T2
-8 0 stop T2 spent 1 until 39
-8 0 run B
-9 0 stop B wait 1
-39 0 release T2
-39 0 run T2
-40 0 stop T2 spent 1 until 73
+5 0 release t0
+5 0 release b
+5 0 release t2
+5 0 run t0
+7 0 stop t0 wait 2
+7 0 run t2
+8 0 stop t2 spent 1 until 39
+8 0 run b
+9 0 stop b wait 1
+39 0 release t2
+39 0 run t2
+40 0 stop t2 spent 1 until 73
 ",
     )
 }
@@ -2031,17 +2031,17 @@ const RANDOM_ONE_23: Plan = Plan {
     ],
     notes: &[PlannedNote("n00", 0), PlannedNote("n01", 0)],
     threads: &[
-        PlannedThread("S00", 0, 5, 0, 0, &[Wait(0), Compute(1)]),
-        PlannedThread("S01", 1, 6, 0, 0, &[Wait(1), Compute(3)]),
+        PlannedThread("s00", 0, 5, 0, 0, &[Wait(0), Compute(1)]),
+        PlannedThread("s01", 1, 6, 0, 0, &[Wait(1), Compute(3)]),
         PlannedThread(
-            "R00",
+            "r00",
             2,
             10,
             0,
             0,
             &[Compute(5), Signal(0, 1), Compute(11), Signal(0, 4)],
         ),
-        PlannedThread("R01", 3, 10, 0, 0, &[Compute(9), Signal(1, 4)]),
+        PlannedThread("r01", 3, 10, 0, 0, &[Compute(9), Signal(1, 4)]),
     ],
     ..ONE_CORE
 };
@@ -2054,38 +2054,38 @@ fn random_one_23(rt: HostRuntime) -> Result<(), Fail> {
         &RANDOM_ONE_23,
         46,
         "\
-0 0 release S00
-0 0 release S01
-0 0 release R00
-0 0 release R01
-0 0 run R00
-6 0 signal R00 n00 1
+0 0 release s00
+0 0 release s01
+0 0 release r00
+0 0 release r01
+0 0 run r00
+6 0 signal r00 n00 1
 6 0 hold n00 1
-8 0 stop R00 spent 8 until 11
-8 0 run R01
-11 0 stop R01 spent 3
-11 0 release R00
-11 0 run R01
-14 0 stop R01 spent 3
-14 0 run R00
-22 0 stop R00 spent 8
-22 0 run R01
-25 0 stop R01 spent 3
-25 0 run R00
-27 0 signal R00 n00 4
+8 0 stop r00 spent 8 until 11
+8 0 run r01
+11 0 stop r01 spent 3
+11 0 release r00
+11 0 run r01
+14 0 stop r01 spent 3
+14 0 run r00
+22 0 stop r00 spent 8
+22 0 run r01
+25 0 stop r01 spent 3
+25 0 run r00
+27 0 signal r00 n00 4
 27 0 hold n00 5
-27 0 round R00 1 27
-33 0 signal R00 n00 1
+27 0 round r00 1 27
+33 0 signal r00 n00 1
 33 0 hold n00 5
-33 0 stop R00 spent 8
-33 0 run R01
-34 0 signal R01 n01 4
+33 0 stop r00 spent 8
+33 0 run r01
+34 0 signal r01 n01 4
 34 0 hold n01 4
-34 0 round R01 1 34
-36 0 stop R01 spent 3
-36 0 run R00
-44 0 stop R00 spent 8
-44 0 run R01
+34 0 round r01 1 34
+36 0 stop r01 spent 3
+36 0 run r00
+44 0 stop r00 spent 8
+44 0 run r01
 ",
     )
 }
@@ -2104,9 +2104,9 @@ const RANDOM_ONE_24: Plan = Plan {
         PlannedNote("c", 0),
     ],
     threads: &[
-        PlannedThread("A", 0, 1, 5, 0, &[Compute(1), Compute(2)]),
+        PlannedThread("a", 0, 1, 5, 0, &[Compute(1), Compute(2)]),
         PlannedThread(
-            "T1",
+            "t1",
             1,
             255,
             0,
@@ -2133,21 +2133,21 @@ fn random_one_24(rt: HostRuntime) -> Result<(), Fail> {
         &RANDOM_ONE_24,
         49,
         "\
-0 0 release T1
-0 0 run T1
-5 0 stop T1 spent 5 until 15
-5 0 release A
-5 0 run A
-8 0 round A 1 3
-10 0 stop A spent 5 until 67
-15 0 release T1
-15 0 run T1
-20 0 stop T1 spent 5 until 30
-30 0 release T1
-30 0 run T1
-35 0 stop T1 spent 5 until 45
-45 0 release T1
-45 0 run T1
+0 0 release t1
+0 0 run t1
+5 0 stop t1 spent 5 until 15
+5 0 release a
+5 0 run a
+8 0 round a 1 3
+10 0 stop a spent 5 until 67
+15 0 release t1
+15 0 run t1
+20 0 stop t1 spent 5 until 30
+30 0 release t1
+30 0 run t1
+35 0 stop t1 spent 5 until 45
+45 0 release t1
+45 0 run t1
 ",
     )
 }
@@ -2162,10 +2162,10 @@ const RANDOM_ONE_25: Plan = Plan {
         PlannedContext("a", 0, 2, 18, 3),
     ],
     threads: &[
-        PlannedThread("T0", 0, 2, 2, 0, &[Compute(1), Yield]),
-        PlannedThread("C", 2, 1, 2, 3, &[Yield]),
+        PlannedThread("t0", 0, 2, 2, 0, &[Compute(1), Yield]),
+        PlannedThread("c", 2, 1, 2, 3, &[Yield]),
         PlannedThread(
-            "B",
+            "b",
             1,
             2,
             0,
@@ -2184,70 +2184,70 @@ fn random_one_25(rt: HostRuntime) -> Result<(), Fail> {
         &RANDOM_ONE_25,
         52,
         "\
-0 0 release B
-0 0 run B
-2 0 release T0
-2 0 release C
-3 0 stop B yield 3 until 23
-3 0 run T0
-5 0 stop T0 spent 2
-5 0 run T0
-7 0 round T0 1 5
-7 0 stop T0 yield 2
-7 0 run T0
-9 0 stop T0 spent 2
-9 0 run T0
-11 0 round T0 2 4
-11 0 stop T0 yield 2
-11 0 run T0
-13 0 stop T0 spent 2
-13 0 run T0
-15 0 round T0 3 4
-15 0 stop T0 yield 2
-15 0 run T0
-17 0 stop T0 spent 2
-17 0 run T0
-19 0 round T0 4 4
-19 0 stop T0 yield 2
-19 0 run T0
-21 0 stop T0 spent 2
-21 0 run T0
-23 0 round T0 5 4
-23 0 stop T0 yield 2
-23 0 release B
-23 0 run T0
-25 0 stop T0 spent 2
-25 0 run B
-28 0 stop B spent 3 until 46
-28 0 run T0
-30 0 round T0 6 7
-30 0 stop T0 yield 2
-30 0 run T0
-32 0 stop T0 spent 2
-32 0 run T0
-34 0 round T0 7 4
-34 0 stop T0 yield 2
-34 0 run T0
-36 0 stop T0 spent 2
-36 0 run T0
-38 0 round T0 8 4
-38 0 stop T0 yield 2
-38 0 run T0
-40 0 stop T0 spent 2
-40 0 run T0
-42 0 round T0 9 4
-42 0 stop T0 yield 2
-42 0 run T0
-44 0 stop T0 spent 2
-44 0 run T0
-46 0 round T0 10 4
-46 0 stop T0 yield 2
-46 0 release B
-46 0 run T0
-48 0 stop T0 spent 2
-48 0 run B
-51 0 stop B spent 3 until 69
-51 0 run T0
+0 0 release b
+0 0 run b
+2 0 release t0
+2 0 release c
+3 0 stop b yield 3 until 23
+3 0 run t0
+5 0 stop t0 spent 2
+5 0 run t0
+7 0 round t0 1 5
+7 0 stop t0 yield 2
+7 0 run t0
+9 0 stop t0 spent 2
+9 0 run t0
+11 0 round t0 2 4
+11 0 stop t0 yield 2
+11 0 run t0
+13 0 stop t0 spent 2
+13 0 run t0
+15 0 round t0 3 4
+15 0 stop t0 yield 2
+15 0 run t0
+17 0 stop t0 spent 2
+17 0 run t0
+19 0 round t0 4 4
+19 0 stop t0 yield 2
+19 0 run t0
+21 0 stop t0 spent 2
+21 0 run t0
+23 0 round t0 5 4
+23 0 stop t0 yield 2
+23 0 release b
+23 0 run t0
+25 0 stop t0 spent 2
+25 0 run b
+28 0 stop b spent 3 until 46
+28 0 run t0
+30 0 round t0 6 7
+30 0 stop t0 yield 2
+30 0 run t0
+32 0 stop t0 spent 2
+32 0 run t0
+34 0 round t0 7 4
+34 0 stop t0 yield 2
+34 0 run t0
+36 0 stop t0 spent 2
+36 0 run t0
+38 0 round t0 8 4
+38 0 stop t0 yield 2
+38 0 run t0
+40 0 stop t0 spent 2
+40 0 run t0
+42 0 round t0 9 4
+42 0 stop t0 yield 2
+42 0 run t0
+44 0 stop t0 spent 2
+44 0 run t0
+46 0 round t0 10 4
+46 0 stop t0 yield 2
+46 0 release b
+46 0 run t0
+48 0 stop t0 spent 2
+48 0 run b
+51 0 stop b spent 3 until 69
+51 0 run t0
 ",
     )
 }
@@ -2263,10 +2263,10 @@ const RANDOM_ONE_26: Plan = Plan {
     ],
     notes: &[PlannedNote("n00", 0)],
     threads: &[
-        PlannedThread("S00", 0, 9, 0, 0, &[Wait(0), Compute(1)]),
-        PlannedThread("R00", 1, 7, 0, 0, &[Compute(6), Signal(0, 4)]),
+        PlannedThread("s00", 0, 9, 0, 0, &[Wait(0), Compute(1)]),
+        PlannedThread("r00", 1, 7, 0, 0, &[Compute(6), Signal(0, 4)]),
         PlannedThread(
-            "R01",
+            "r01",
             2,
             1,
             0,
@@ -2286,73 +2286,73 @@ fn random_one_26(rt: HostRuntime) -> Result<(), Fail> {
         &RANDOM_ONE_26,
         53,
         "\
-0 0 release S00
-0 0 release R00
-0 0 release R01
-0 0 run S00
-1 0 stop S00 wait 1
-1 0 run R00
-6 0 stop R00 spent 5 until 8
-6 0 run R01
-8 0 release R00
-8 0 stop R01 preempt 2
-8 0 run R00
-10 0 signal R00 n00 4
-10 0 wake S00 n00 4
-10 0 round R00 1 10
-10 0 stop R00 preempt 2
-10 0 run S00
-11 0 round S00 1 1
-12 0 stop S00 wait 2
-12 0 run R00
-15 0 stop R00 spent 3 until 16
-15 0 run R01
-16 0 release R00
-16 0 stop R01 preempt 1
-16 0 run R00
-20 0 signal R00 n00 4
-20 0 wake S00 n00 4
-20 0 round R00 2 10
-20 0 stop R00 preempt 4
-20 0 run S00
-21 0 round S00 2 1
-21 0 stop S00 spent 1 until 89
-21 0 run R00
-22 0 stop R00 spent 1 until 24
-22 0 run R01
-24 0 stop R01 spent 2
-24 0 release R00
-24 0 run R00
-29 0 stop R00 spent 5 until 32
-29 0 run R01
-32 0 signal R01 n00 2
+0 0 release s00
+0 0 release r00
+0 0 release r01
+0 0 run s00
+1 0 stop s00 wait 1
+1 0 run r00
+6 0 stop r00 spent 5 until 8
+6 0 run r01
+8 0 release r00
+8 0 stop r01 preempt 2
+8 0 run r00
+10 0 signal r00 n00 4
+10 0 wake s00 n00 4
+10 0 round r00 1 10
+10 0 stop r00 preempt 2
+10 0 run s00
+11 0 round s00 1 1
+12 0 stop s00 wait 2
+12 0 run r00
+15 0 stop r00 spent 3 until 16
+15 0 run r01
+16 0 release r00
+16 0 stop r01 preempt 1
+16 0 run r00
+20 0 signal r00 n00 4
+20 0 wake s00 n00 4
+20 0 round r00 2 10
+20 0 stop r00 preempt 4
+20 0 run s00
+21 0 round s00 2 1
+21 0 stop s00 spent 1 until 89
+21 0 run r00
+22 0 stop r00 spent 1 until 24
+22 0 run r01
+24 0 stop r01 spent 2
+24 0 release r00
+24 0 run r00
+29 0 stop r00 spent 5 until 32
+29 0 run r01
+32 0 signal r01 n00 2
 32 0 hold n00 2
-32 0 release R00
-32 0 stop R01 preempt 3
-32 0 run R00
-33 0 signal R00 n00 4
+32 0 release r00
+32 0 stop r01 preempt 3
+32 0 run r00
+33 0 signal r00 n00 4
 33 0 hold n00 6
-33 0 round R00 3 13
-37 0 stop R00 spent 5 until 40
-37 0 run R01
-39 0 stop R01 spent 2
-39 0 run R01
-40 0 release R00
-40 0 stop R01 preempt 1
-40 0 run R00
-43 0 signal R00 n00 4
+33 0 round r00 3 13
+37 0 stop r00 spent 5 until 40
+37 0 run r01
+39 0 stop r01 spent 2
+39 0 run r01
+40 0 release r00
+40 0 stop r01 preempt 1
+40 0 run r00
+43 0 signal r00 n00 4
 43 0 hold n00 6
-43 0 round R00 4 10
-45 0 stop R00 spent 5 until 48
-45 0 run R01
-48 0 release R00
-48 0 stop R01 preempt 3
-48 0 run R00
-53 0 signal R00 n00 4
+43 0 round r00 4 10
+45 0 stop r00 spent 5 until 48
+45 0 run r01
+48 0 release r00
+48 0 stop r01 preempt 3
+48 0 run r00
+53 0 signal r00 n00 4
 53 0 hold n00 6
-53 0 round R00 5 10
-53 0 stop R00 spent 5 until 56
-53 0 run R01
+53 0 round r00 5 10
+53 0 stop r00 spent 5 until 56
+53 0 run r01
 ",
     )
 }
@@ -2368,7 +2368,7 @@ const RANDOM_ONE_27: Plan = Plan {
     notes: &[PlannedNote("n", 0)],
     threads: &[
         PlannedThread(
-            "H",
+            "h",
             1,
             5,
             3,
@@ -2383,7 +2383,7 @@ const RANDOM_ONE_27: Plan = Plan {
                 Yield,
             ],
         ),
-        PlannedThread("W", 0, 9, 0, 0, &[Wait(0), Compute(3), Wait(0), Compute(2)]),
+        PlannedThread("w", 0, 9, 0, 0, &[Wait(0), Compute(3), Wait(0), Compute(2)]),
     ],
     orders: &[
         PlannedOrder(25, 0, 7, 19, 0),
@@ -2401,35 +2401,35 @@ fn random_one_27(rt: HostRuntime) -> Result<(), Fail> {
         &RANDOM_ONE_27,
         58,
         "\
-0 0 release W
-0 0 run W
-1 0 stop W wait 1
+0 0 release w
+0 0 run w
+1 0 stop w wait 1
 2 0 order w
-3 0 release H
-3 0 run H
-4 0 signal H n 7
-4 0 wake W n 7
-4 0 stop H preempt 1
-4 0 run W
-8 0 stop W wait 4
-8 0 run H
-15 0 signal H n 8
-15 0 wake W n 8
-20 0 release W
-20 0 stop H preempt 12
-20 0 run W
-22 0 round W 1 18
-23 0 stop W wait 3
-23 0 run H
-25 0 signal H n 1
-25 0 wake W n 1
+3 0 release h
+3 0 run h
+4 0 signal h n 7
+4 0 wake w n 7
+4 0 stop h preempt 1
+4 0 run w
+8 0 stop w wait 4
+8 0 run h
+15 0 signal h n 8
+15 0 wake w n 8
+20 0 release w
+20 0 stop h preempt 12
+20 0 run w
+22 0 round w 1 18
+23 0 stop w wait 3
+23 0 run h
+25 0 signal h n 1
+25 0 wake w n 1
 25 0 order w
-25 0 stop H preempt 2
-25 0 run W
-29 0 stop W wait 4
-29 0 run H
-32 0 round H 1 29
-32 0 stop H yield 45 until 73
+25 0 stop h preempt 2
+25 0 run w
+29 0 stop w wait 4
+29 0 run h
+32 0 round h 1 29
+32 0 stop h yield 45 until 73
 37 0 order w
 ",
     )
@@ -2447,10 +2447,10 @@ const RANDOM_ONE_28: Plan = Plan {
     ],
     notes: &[PlannedNote("n00", 0), PlannedNote("n01", 0)],
     threads: &[
-        PlannedThread("S00", 0, 5, 0, 0, &[Compute(3)]),
-        PlannedThread("S01", 1, 9, 0, 0, &[Wait(1), Compute(1)]),
+        PlannedThread("s00", 0, 5, 0, 0, &[Compute(3)]),
+        PlannedThread("s01", 1, 9, 0, 0, &[Wait(1), Compute(1)]),
         PlannedThread(
-            "R00",
+            "r00",
             2,
             10,
             4,
@@ -2458,7 +2458,7 @@ const RANDOM_ONE_28: Plan = Plan {
             &[Compute(5), Signal(1, 5), Compute(7), Signal(0, 7)],
         ),
         PlannedThread(
-            "R01",
+            "r01",
             3,
             1,
             0,
@@ -2484,75 +2484,75 @@ fn random_one_28(rt: HostRuntime) -> Result<(), Fail> {
         60,
         "\
 0 0 order s01
-0 0 release S00
-0 0 release S01
-0 0 release R01
-0 0 run S01
-1 0 stop S01 wait 1
-1 0 run S00
-4 0 round S00 1 4
-4 0 release R00
-4 0 stop S00 preempt 3
-4 0 run R00
-7 0 stop R00 spent 3
-7 0 run R00
-10 0 signal R00 n01 5
-10 0 wake S01 n01 5
-10 0 stop R00 spent 3
-10 0 run R00
-13 0 stop R00 spent 3
-13 0 run R00
-16 0 stop R00 spent 3
-16 0 run R00
-18 0 signal R00 n00 7
+0 0 release s00
+0 0 release s01
+0 0 release r01
+0 0 run s01
+1 0 stop s01 wait 1
+1 0 run s00
+4 0 round s00 1 4
+4 0 release r00
+4 0 stop s00 preempt 3
+4 0 run r00
+7 0 stop r00 spent 3
+7 0 run r00
+10 0 signal r00 n01 5
+10 0 wake s01 n01 5
+10 0 stop r00 spent 3
+10 0 run r00
+13 0 stop r00 spent 3
+13 0 run r00
+16 0 stop r00 spent 3
+16 0 run r00
+18 0 signal r00 n00 7
 18 0 hold n00 7
-18 0 round R00 1 14
-19 0 stop R00 spent 3
-19 0 run R00
-22 0 stop R00 spent 3
-22 0 run R00
-24 0 signal R00 n01 5
+18 0 round r00 1 14
+19 0 stop r00 spent 3
+19 0 run r00
+22 0 stop r00 spent 3
+22 0 run r00
+24 0 signal r00 n01 5
 24 0 hold n01 5
 24 0 order s00
-25 0 stop R00 spent 3
+25 0 stop r00 spent 3
 25 0 order r01
-25 0 run R00
-28 0 stop R00 spent 3
-28 0 run R00
+25 0 run r00
+28 0 stop r00 spent 3
+28 0 run r00
 30 0 order s01
-31 0 stop R00 spent 3
-31 0 run R00
-32 0 signal R00 n00 7
+31 0 stop r00 spent 3
+31 0 run r00
+32 0 signal r00 n00 7
 32 0 hold n00 7
-32 0 round R00 2 14
-34 0 stop R00 spent 3
-34 0 run R00
-37 0 stop R00 spent 3
-37 0 run R00
-38 0 signal R00 n01 5
+32 0 round r00 2 14
+34 0 stop r00 spent 3
+34 0 run r00
+37 0 stop r00 spent 3
+37 0 run r00
+38 0 signal r00 n01 5
 38 0 hold n01 5
-40 0 stop R00 spent 3
-40 0 run R00
-43 0 stop R00 spent 3
-43 0 run R00
-46 0 signal R00 n00 7
+40 0 stop r00 spent 3
+40 0 run r00
+43 0 stop r00 spent 3
+43 0 run r00
+46 0 signal r00 n00 7
 46 0 hold n00 7
-46 0 round R00 3 14
-46 0 stop R00 spent 3
-46 0 run R00
-49 0 stop R00 spent 3
-49 0 run R00
-52 0 signal R00 n01 5
+46 0 round r00 3 14
+46 0 stop r00 spent 3
+46 0 run r00
+49 0 stop r00 spent 3
+49 0 run r00
+52 0 signal r00 n01 5
 52 0 hold n01 5
-52 0 stop R00 spent 3
-52 0 run R00
-55 0 stop R00 spent 3
-55 0 run R00
-58 0 stop R00 spent 3
-58 0 run R00
-60 0 signal R00 n00 7
+52 0 stop r00 spent 3
+52 0 run r00
+55 0 stop r00 spent 3
+55 0 run r00
+58 0 stop r00 spent 3
+58 0 run r00
+60 0 signal r00 n00 7
 60 0 hold n00 7
-60 0 round R00 4 14
+60 0 round r00 4 14
 ",
     )
 }
@@ -2568,9 +2568,9 @@ const RANDOM_ONE_29: Plan = Plan {
     ],
     notes: &[PlannedNote("a", 0), PlannedNote("b", 0)],
     threads: &[
-        PlannedThread("T0", 0, 255, 2, 0, &[Compute(5), Yield]),
-        PlannedThread("C", 2, 255, 0, 9, &[Wait(0), Signal(1, 2138514147)]),
-        PlannedThread("B", 1, 3, 0, 0, &[Yield, Compute(2)]),
+        PlannedThread("t0", 0, 255, 2, 0, &[Compute(5), Yield]),
+        PlannedThread("c", 2, 255, 0, 9, &[Wait(0), Signal(1, 2138514147)]),
+        PlannedThread("b", 1, 3, 0, 0, &[Yield, Compute(2)]),
     ],
     orders: &[PlannedOrder(0, 0, 6, 9, 0), PlannedOrder(0, 1, 3, 9, 0)],
     ..ONE_CORE
@@ -2586,62 +2586,62 @@ fn random_one_29(rt: HostRuntime) -> Result<(), Fail> {
         "\
 0 0 order a
 0 0 order c
-0 0 release C
-0 0 release B
-0 0 run C
-1 0 stop C wait 1
-1 0 run B
-2 0 stop B yield 3 until 9
-2 0 release T0
-2 0 run T0
-5 0 stop T0 spent 3 until 8
-8 0 release T0
-8 0 run T0
-9 0 release B
-11 0 round T0 1 9
-11 0 stop T0 yield 6 until 17
-11 0 run B
-13 0 round B 1 13
-14 0 stop B yield 3 until 18
-17 0 release T0
-17 0 run T0
-18 0 release B
-23 0 round T0 2 12
-23 0 stop T0 yield 6 until 26
-23 0 run B
-25 0 round B 2 12
-26 0 stop B yield 3 until 27
-26 0 release T0
-26 0 run T0
-27 0 release B
-32 0 round T0 3 9
-32 0 stop T0 yield 6 until 35
-32 0 run B
-34 0 round B 3 9
-35 0 stop B yield 3 until 36
-35 0 release T0
-35 0 run T0
-36 0 release B
-41 0 round T0 4 9
-41 0 stop T0 yield 6 until 44
-41 0 run B
-43 0 round B 4 9
-44 0 stop B yield 3 until 45
-44 0 release T0
-44 0 run T0
-45 0 release B
-50 0 round T0 5 9
-50 0 stop T0 yield 6 until 53
-50 0 run B
-52 0 round B 5 9
-53 0 stop B yield 3 until 54
-53 0 release T0
-53 0 run T0
-54 0 release B
-59 0 round T0 6 9
-59 0 stop T0 yield 6 until 62
-59 0 run B
-61 0 round B 6 9
+0 0 release c
+0 0 release b
+0 0 run c
+1 0 stop c wait 1
+1 0 run b
+2 0 stop b yield 3 until 9
+2 0 release t0
+2 0 run t0
+5 0 stop t0 spent 3 until 8
+8 0 release t0
+8 0 run t0
+9 0 release b
+11 0 round t0 1 9
+11 0 stop t0 yield 6 until 17
+11 0 run b
+13 0 round b 1 13
+14 0 stop b yield 3 until 18
+17 0 release t0
+17 0 run t0
+18 0 release b
+23 0 round t0 2 12
+23 0 stop t0 yield 6 until 26
+23 0 run b
+25 0 round b 2 12
+26 0 stop b yield 3 until 27
+26 0 release t0
+26 0 run t0
+27 0 release b
+32 0 round t0 3 9
+32 0 stop t0 yield 6 until 35
+32 0 run b
+34 0 round b 3 9
+35 0 stop b yield 3 until 36
+35 0 release t0
+35 0 run t0
+36 0 release b
+41 0 round t0 4 9
+41 0 stop t0 yield 6 until 44
+41 0 run b
+43 0 round b 4 9
+44 0 stop b yield 3 until 45
+44 0 release t0
+44 0 run t0
+45 0 release b
+50 0 round t0 5 9
+50 0 stop t0 yield 6 until 53
+50 0 run b
+52 0 round b 5 9
+53 0 stop b yield 3 until 54
+53 0 release t0
+53 0 run t0
+54 0 release b
+59 0 round t0 6 9
+59 0 stop t0 yield 6 until 62
+59 0 run b
+61 0 round b 6 9
 ",
     )
 }
@@ -2659,11 +2659,11 @@ const RANDOM_ONE_30: Plan = Plan {
     ],
     notes: &[PlannedNote("a", 0)],
     threads: &[
-        PlannedThread("T2", 2, 1, 0, 1, &[Wait(0), Compute(13)]),
-        PlannedThread("T0", 0, 234, 0, 1, &[Signal(0, 4), Yield]),
-        PlannedThread("B", 1, 255, 5, 0, &[Signal(0, 1)]),
+        PlannedThread("t2", 2, 1, 0, 1, &[Wait(0), Compute(13)]),
+        PlannedThread("t0", 0, 234, 0, 1, &[Signal(0, 4), Yield]),
+        PlannedThread("b", 1, 255, 5, 0, &[Signal(0, 1)]),
         PlannedThread(
-            "T3",
+            "t3",
             3,
             157,
             5,
@@ -2678,7 +2678,7 @@ const RANDOM_ONE_30: Plan = Plan {
             ],
         ),
         PlannedThread(
-            "E",
+            "e",
             4,
             3,
             0,
@@ -2704,96 +2704,96 @@ fn random_one_30(rt: HostRuntime) -> Result<(), Fail> {
         &RANDOM_ONE_30,
         62,
         "\
-0 0 release T2
-0 0 release T0
-0 0 release E
-0 0 run T0
-3 0 signal T0 a 4
+0 0 release t2
+0 0 release t0
+0 0 release e
+0 0 run t0
+3 0 signal t0 a 4
 3 0 hold a 4
-5 0 release B
-5 0 release T3
-5 0 stop T0 preempt 5 until 6
-5 0 run B
-6 0 release T0
-8 0 signal B a 1
+5 0 release b
+5 0 release t3
+5 0 stop t0 preempt 5 until 6
+5 0 run b
+6 0 release t0
+8 0 signal b a 1
 8 0 hold a 5
-8 0 round B 1 3
-11 0 signal B a 1
+8 0 round b 1 3
+11 0 signal b a 1
 11 0 hold a 5
-11 0 round B 2 3
-14 0 signal B a 1
+11 0 round b 2 3
+14 0 signal b a 1
 14 0 hold a 5
-14 0 round B 3 3
-14 0 stop B spent 9 until 16
-14 0 run T0
-15 0 round T0 1 15
-15 0 stop T0 done 1
-15 0 run T3
-16 0 release B
-16 0 stop T3 preempt 1
-16 0 run B
-19 0 signal B a 1
+14 0 round b 3 3
+14 0 stop b spent 9 until 16
+14 0 run t0
+15 0 round t0 1 15
+15 0 stop t0 done 1
+15 0 run t3
+16 0 release b
+16 0 stop t3 preempt 1
+16 0 run b
+19 0 signal b a 1
 19 0 hold a 5
-19 0 round B 4 5
-22 0 signal B a 1
+19 0 round b 4 5
+22 0 signal b a 1
 22 0 hold a 5
-22 0 round B 5 3
-25 0 signal B a 1
+22 0 round b 5 3
+25 0 signal b a 1
 25 0 hold a 5
-25 0 round B 6 3
-25 0 stop B spent 9 until 27
-25 0 run T3
-27 0 signal T3 a 7
+25 0 round b 6 3
+25 0 stop b spent 9 until 27
+25 0 run t3
+27 0 signal t3 a 7
 27 0 hold a 7
-27 0 release B
-27 0 stop T3 preempt 2
-27 0 run B
-30 0 signal B a 1
+27 0 release b
+27 0 stop t3 preempt 2
+27 0 run b
+30 0 signal b a 1
 30 0 hold a 7
-30 0 round B 7 5
-33 0 signal B a 1
+30 0 round b 7 5
+33 0 signal b a 1
 33 0 hold a 7
-33 0 round B 8 3
-36 0 signal B a 1
+33 0 round b 8 3
+36 0 signal b a 1
 36 0 hold a 7
-36 0 round B 9 3
-36 0 stop B spent 9 until 38
-36 0 run T3
-38 0 release B
-38 0 stop T3 preempt 2
-38 0 run B
-41 0 signal B a 1
+36 0 round b 9 3
+36 0 stop b spent 9 until 38
+36 0 run t3
+38 0 release b
+38 0 stop t3 preempt 2
+38 0 run b
+41 0 signal b a 1
 41 0 hold a 7
-41 0 round B 10 5
-44 0 signal B a 1
+41 0 round b 10 5
+44 0 signal b a 1
 44 0 hold a 7
-44 0 round B 11 3
-47 0 signal B a 1
+44 0 round b 11 3
+47 0 signal b a 1
 47 0 hold a 7
-47 0 round B 12 3
-47 0 stop B spent 9 until 49
-47 0 run T3
-48 0 signal T3 a 4
+47 0 round b 12 3
+47 0 stop b spent 9 until 49
+47 0 run t3
+48 0 signal t3 a 4
 48 0 hold a 7
-48 0 stop T3 spent 1
-48 0 run T3
-49 0 release B
-49 0 stop T3 preempt 1
-49 0 run B
-52 0 signal B a 1
+48 0 stop t3 spent 1
+48 0 run t3
+49 0 release b
+49 0 stop t3 preempt 1
+49 0 run b
+52 0 signal b a 1
 52 0 hold a 7
-52 0 round B 13 5
-55 0 signal B a 1
+52 0 round b 13 5
+55 0 signal b a 1
 55 0 hold a 7
-55 0 round B 14 3
-58 0 signal B a 1
+55 0 round b 14 3
+58 0 signal b a 1
 58 0 hold a 7
-58 0 round B 15 3
-58 0 stop B spent 9 until 60
-58 0 run T3
-60 0 release B
-60 0 stop T3 preempt 2
-60 0 run B
+58 0 round b 15 3
+58 0 stop b spent 9 until 60
+58 0 run t3
+60 0 release b
+60 0 stop t3 preempt 2
+60 0 run b
 ",
     )
 }
