@@ -10,6 +10,7 @@ pub mod Items
 pub mod Orders
 pub mod State
 pub mod Quiet
+pub mod Names
 pub mod WellFormed
 pub mod Equality
 pub mod EqualityLaws

@@ -1,6 +1,5 @@
 -- Which systems are well formed.
-use Rattle.std.specs.Prelude.{◌≡◌, ℕ, ◌<◌, ◌≤◌, ◌^◌, ◌≢◌, Bool, ◌||◌, ◌&&◌, ◌==◌, nat_le, List, length, All, AllPairs, IsOk, IsTrue}
-use Rattle.std.specs.List.{list_all}
+use Rattle.std.specs.Prelude.{◌≡◌, ℕ, ◌<◌, ◌≤◌, ◌^◌, ◌≢◌, List, length, All, AllPairs, IsOk, IsTrue}
 use Rattle.mcs_control.specs.declared.config.Order.{Order}
 use Rattle.mcs_control.specs.Control.{checked, kind_of}
 use Rattle.mcs_script.specs.declared.item.Item.{Item}
@@ -9,16 +8,8 @@ use Rattle.mcs_script.specs.Script.{IsScript}
 use Rattle.mcs_core.specs.declared.part.ContextPart.{ContextPart}
 use Rattle.mcs_core.specs.declared.part.NotePart.{NotePart}
 use Rattle.mcs_core.specs.declared.part.ThreadPart.{ThreadPart}
+use Rattle.mcs_core.specs.Names.{is_name}
 use Rattle.mcs_core.specs.System.{System, context_part, note_part, core_of}
-
--- A-Z a-z 0-9 _ -
-abbrev pub is_name_byte : ℕ → Bool
-is_name_byte b =
-    (nat_le 65 b && nat_le b 90) || (nat_le 97 b && nat_le b 122) || (nat_le 48 b && nat_le b 57) || (b == 95) || (b == 45)
-
--- 1 to 32 of these
-abbrev pub is_name : List ℕ → Bool
-is_name bytes = nat_le 1 (length bytes) && nat_le (length bytes) 32 && list_all is_name_byte bytes
 
 -- all things of one kind: at most 4,096, each with a name, no two with one name
 pub record AreNamed {A : Type 0} (name : A → List ℕ) (things : List A) : Type 0 where

@@ -1,12 +1,11 @@
 ghost use Rattle.std.specs.Prelude.{◌≡◌, ◌↔◌, ◌≢◌, ℕ, ◌<◌, ◌≤◌, ◌^◌, List, length, All, AllPairs, Any, IsTrue, IsSome, IfSome};
-ghost use Rattle.std.specs.List.{list_all};
-ghost use Rattle.mcs_control.specs.Control.{kind_of};
 ghost use Rattle.mcs_script.specs.Script.{IsScript};
 ghost use Rattle.mcs_core.specs.System.{context_part};
-ghost use Rattle.mcs_core.specs.WellFormed.{is_name_byte, is_name, AreNamed, AreLimits, IsContext, IsNote, IsItem, IsThread, IsOrder, IsWellFormed};
+ghost use Rattle.mcs_core.specs.Names.{is_name};
+ghost use Rattle.mcs_core.specs.WellFormed.{AreNamed, AreLimits, IsContext, IsNote, IsItem, IsThread, IsOrder, IsWellFormed};
 
 use crate::{ContextPart, Name, NotePart, SystemParts, ThreadPart};
-use mcs_control::{Config, Kind, Order};
+use mcs_control::{Config, Order};
 use mcs_script::{Item, Script};
 use mcs_ticks::{ContextId, CoreId, Limits, NoteId};
 
@@ -42,32 +41,12 @@ impl Named for ThreadPart {
     }
 }
 
-fn is_name_byte(byte: u8) -> bool
-    ensures { result ≡ is_name_byte byte }
-{
-    matches!(byte, b'A'..=b'Z' | b'a'..=b'z' | b'0'..=b'9' | b'_' | b'-')
-}
-
-fn are_name_bytes(bytes: &[u8]) -> bool
-    ensures { result ≡ list_all is_name_byte bytes.now }
-{
-    bytes.iter().all(|byte| is_name_byte(*byte))
-}
-
-impl Name {
-    /// Whether it is 1 to 32 characters of `A-Z a-z 0-9 _ -`.
-    fn is_name(&self) -> bool
-        ensures { result ≡ is_name self.now }
-    {
-        let bytes = self.as_str().as_bytes();
-        1 <= bytes.len() && bytes.len() <= Limits::NAME && are_name_bytes(bytes)
-    }
-}
-
 fn have_names<T: Named>(things: &[T]) -> bool
     ensures { IsTrue result ↔ All (λ thing. IsTrue (is_name (T.name thing))) things.now }
 {
-    things.iter().all(|thing| thing.name().is_name())
+    things
+        .iter()
+        .all(|thing| Name::accepts(thing.name().as_str()))
 }
 
 fn shares_name<T: Named>(thing: &T, earlier: &[T]) -> bool
@@ -121,16 +100,6 @@ fn has_numbers(thread: &ThreadPart) -> bool
         && thread.start.get() <= Limits::START
         && thread.rounds <= Limits::ROUNDS
         && thread.deadline <= Limits::DEADLINE
-}
-
-fn kind_of(config: Config) -> Kind
-    ensures { result ≡ kind_of config }
-{
-    if config.budget == config.period {
-        Kind::RoundRobin
-    } else {
-        Kind::Sporadic
-    }
 }
 
 impl SystemParts {
@@ -261,7 +230,7 @@ impl SystemParts {
             Some((_, config)) => {
                 order.moment.get() <= Limits::ORDER_MOMENT
                     && order.config.check(self.min_budget).is_ok()
-                    && kind_of(order.config) == kind_of(config)
+                    && order.config.kind() == config.kind()
             }
             None => false,
         }

@@ -2,13 +2,13 @@ ghost use Rattle.std.specs.Prelude.{◌≡◌};
 ghost use Rattle.toml.specs.View.{table_view};
 ghost use Rattle.mcs_load.specs.Checks.{Tells};
 ghost use Rattle.mcs_load.specs.Walk.{config, accepts, accepted_config, key_of};
-ghost use Rattle.mcs_control.specs.Control.{checked, kind_of};
+ghost use Rattle.mcs_control.specs.Control.{checked};
 
 use crate::at::At;
 use crate::fault::{FaultKind, LoadFault};
 use crate::spot::Key;
 use crate::words::{number_with_default, whole_number};
-use mcs_control::{Config, ControlFault, Kind};
+use mcs_control::{Config, ControlFault};
 use toml::Table;
 
 /// The greatest integer of a file.
@@ -59,15 +59,4 @@ pub(crate) fn accepted_config(at: At, min_budget: u64, row: &Table) -> Result<Co
     let config = config(at, row)?;
     accept(at, min_budget, config)?;
     Ok(config)
-}
-
-/// Round robin where the budget is the period.
-pub(crate) fn kind_of(config: Config) -> Kind
-    ensures { result ≡ kind_of config }
-{
-    if config.budget == config.period {
-        Kind::RoundRobin
-    } else {
-        Kind::Sporadic
-    }
 }

@@ -1,19 +1,17 @@
-ghost use Rattle.std.specs.Prelude.{◌≡◌, ◌^◌, ◌<◌, ◌≤◌, ℕ, IfOk, List, suc, length, map, [], ◌∷◌, ◌++◌};
+ghost use Rattle.std.specs.Prelude.{◌≡◌, ◌<◌, ◌≤◌, IfOk, List, suc, length, map, [], ◌∷◌, ◌++◌};
 ghost use Rattle.toml.specs.View.{table_view, view, items_view};
 ghost use Rattle.mcs_load.specs.declared.spot.Section.TheVariants as section;
 ghost use Rattle.mcs_load.specs.Words.{row, each};
 ghost use Rattle.mcs_load.specs.Checks.{Gives, Tells};
 ghost use Rattle.mcs_load.specs.Walk.{context, contexts, known, known_context, part_at};
-ghost use Rattle.mcs_control.specs.Control.{kind_of};
 ghost use Rattle.mcs_core.specs.declared.part.ContextPart.{ContextPart};
 
 use crate::at::At;
-use crate::config::{accepted_config, kind_of};
+use crate::config::accepted_config;
 use crate::fault::{FaultKind, LoadFault};
 use crate::names::Names;
 use crate::spot::{Key, Section};
 use crate::words::{new_name, only_keys, row_table, rows, text, whole_number};
-use mcs_control::Kind;
 use mcs_core::{ContextPart, Name};
 use mcs_ticks::CoreId;
 use std::alloc::Global;
@@ -141,12 +139,4 @@ pub(crate) fn core_of_part(contexts: &[ContextPart], context: usize) -> CoreId
     ensures { result ≡ (part_at contexts.now context).core }
 {
     contexts[context].core
-}
-
-/// The kind of a context.
-pub(crate) fn kind_of_part(contexts: &[ContextPart], context: usize) -> Kind
-    requires { context < length contexts.now }
-    ensures { result ≡ kind_of (part_at contexts.now context).config }
-{
-    kind_of(contexts[context].config)
 }

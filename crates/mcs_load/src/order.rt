@@ -1,4 +1,4 @@
-ghost use Rattle.std.specs.Prelude.{◌≡◌, ◌≤◌, ◌<◌, ℕ, IfOk, List, suc, length, map, []};
+ghost use Rattle.std.specs.Prelude.{◌≡◌, ◌≤◌, ◌<◌, IfOk, List, suc, length, map, []};
 ghost use Rattle.toml.specs.View.{table_view, view, items_view};
 ghost use Rattle.mcs_control.specs.Control.{kind_of};
 ghost use Rattle.mcs_control.specs.declared.config.Order.{Order};
@@ -8,8 +8,8 @@ ghost use Rattle.mcs_load.specs.Words.{row, each};
 ghost use Rattle.mcs_load.specs.Walk.{part_at, ordered_context, keeps_kind, order, orders};
 
 use crate::at::At;
-use crate::config::{accepted_config, kind_of};
-use crate::context::{core_of_part, kind_of_part, known_context};
+use crate::config::accepted_config;
+use crate::context::{core_of_part, known_context};
 use crate::fault::{FaultKind, LoadFault};
 use crate::names::Names;
 use crate::numbers::moment;
@@ -63,7 +63,7 @@ fn keep_kind(
     requires { context < length contexts.now }
     ensures { Tells (λ x. x) result (keeps_kind at (kind_of (part_at contexts.now context).config) (kind_of config)) }
 {
-    if kind_of_part(contexts, context) == kind_of(config) {
+    if contexts[context].config.kind() == config.kind() {
         Ok(())
     } else {
         Err(at.fault(Key::Period, FaultKind::KindChange))

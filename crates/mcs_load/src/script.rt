@@ -1,4 +1,4 @@
-ghost use Rattle.std.specs.Prelude.{◌≡◌, ◌+◌, ◌<◌, ◌≤◌, ◌^◌, ℕ, IfOk, List, suc, length, map, [], ◌∷◌, ◌++◌};
+ghost use Rattle.std.specs.Prelude.{◌≡◌, ◌+◌, ◌<◌, ◌≤◌, IfOk, length, map, []};
 ghost use Rattle.toml.specs.View.{view, table_view, items_view};
 ghost use Rattle.mcs_script.specs.Raw.{raw_view, read_as};
 ghost use Rattle.mcs_load.specs.Checks.{Gives, Tells};

@@ -1,4 +1,4 @@
-ghost use Rattle.std.specs.Prelude.{◌≡◌, ◌≤◌, ◌<◌, ℕ, IfOk, List, suc, length, map, [], ◌∷◌, ◌++◌};
+ghost use Rattle.std.specs.Prelude.{◌≡◌, ◌<◌, IfOk, List, suc, length, map, [], ◌∷◌, ◌++◌};
 ghost use Rattle.toml.specs.View.{table_view, view, items_view};
 ghost use Rattle.mcs_core.specs.declared.part.ThreadPart.{ThreadPart};
 ghost use Rattle.mcs_load.specs.declared.spot.Section.TheVariants as section;

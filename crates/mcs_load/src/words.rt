@@ -1,8 +1,6 @@
-ghost use Rattle.std.specs.Prelude.{◌≡◌, ◌^◌, ◌<◌, ◌≤◌, ℕ, option_map, IsTrue, length, map, Option, IfOk, [], ◌∷◌, ◌++◌};
-ghost use Rattle.std.specs.List.{list_all};
+ghost use Rattle.std.specs.Prelude.{◌≡◌, ◌<◌, ◌≤◌, option_map, Option, IfOk, [], ◌∷◌, ◌++◌};
 ghost use Rattle.toml.specs.Data.{get_member};
 ghost use Rattle.toml.specs.View.{view, table_view, items_view};
-ghost use Rattle.mcs_core.specs.WellFormed.{is_name, is_name_byte};
 ghost use Rattle.mcs_load.specs.Keys.{key_name};
 ghost use Rattle.mcs_load.specs.Checks.{Gives, Tells};
 ghost use Rattle.mcs_load.specs.Words.{has_only, is_listed, only_keys, number, whole_number, number_with_default, text, row_table, new_name, rows};
@@ -12,6 +10,7 @@ use crate::fault::{FaultKind, LoadFault};
 use crate::key::name_of;
 use crate::names::Names;
 use crate::spot::{Key, Section};
+use mcs_core::Name;
 use mcs_ticks::Limits;
 use toml::{Table, Value};
 
@@ -136,24 +135,6 @@ pub(crate) fn only_keys(at: At, keys: &[Key], table: &Table) -> Result<(), LoadF
     }
 }
 
-fn is_name_byte(b: u8) -> bool
-    ensures { result ≡ is_name_byte b }
-{
-    matches!(b, b'A'..=b'Z' | b'a'..=b'z' | b'0'..=b'9' | b'_' | b'-')
-}
-
-fn are_name_bytes(bytes: &[u8]) -> bool
-    ensures { result ≡ list_all is_name_byte bytes.now }
-{
-    bytes.iter().all(|b| is_name_byte(*b))
-}
-
-fn is_name(text: &str) -> bool
-    ensures { result ≡ is_name text.now }
-{
-    1 <= text.len() && text.len() <= Limits::NAME && are_name_bytes(text.as_bytes())
-}
-
 #[tactic(auto, using(crate::proofs::Steps::both, crate::proofs::Steps::or_else_none, crate::proofs::Steps::or_else_some), unfolding(crate::specs::Words::new_name))]
 pub(crate) fn new_name<'a>(
     at: At,
@@ -164,7 +145,7 @@ pub(crate) fn new_name<'a>(
     ensures kept { IfOk result (λ s. earlier.new ≡ earlier.old ++ s.now ∷ []) }
 {
     let name = text(at, Key::Name, table)?;
-    if !is_name(name) {
+    if !Name::accepts(name) {
         return Err(at.fault(Key::Name, FaultKind::BadName));
     }
     if !earlier.insert(name)? {
