@@ -5,6 +5,7 @@ pub mod Distinct
 pub mod Effects
 pub mod Enters
 pub mod Kept
+pub mod Known
 pub mod Loops
 pub mod Mails
 pub mod Opening

@@ -1,6 +1,7 @@
--- The signals of a turn: they come from the end of the tick alone, are made now, and arrive after the delay.
+-- The signals of a turn: they come from the end of the tick alone, are made now, arrive after the delay, and are items of scripts.
 use Rattle.std.proofs.Common.{◌≡◌, ℕ, ◌+◌, Bool, true, false, cond, List, [], ◌∷◌, ◌++◌, Option, Some, None, refl, ◌∙◌, append-nil, arith, ◌≢◌}
 use Rattle.std.specs.Prelude.{filter, ◌==◌, nat_lt}
+use Rattle.std.specs.List.{slice_get}
 use Rattle.std.proofs.lemmas.Bool.Decides.{nat_tests}
 use Rattle.mcs_ticks.specs.Queue.{Discipline}
 use Rattle.mcs_ticks.specs.declared.queue.Queued.{Queued}
@@ -18,11 +19,17 @@ use Rattle.mcs_script.specs.declared.item.Item.TheVariants.{Compute, Signal, Wai
 use Rattle.mcs_script.specs.declared.moved.Moved.{Moved}
 use Rattle.mcs_script.specs.declared.moved.Moved.TheVariants.{Next, RoundEnds, AllDone}
 use Rattle.mcs_mail.specs.declared.mail.Mail.{Mail}
-use Rattle.mcs_core.specs.System.{System, note_part, delay_between}
+use Rattle.mcs_core.specs.System.{System, note_part, thread_part, delay_between}
 use Rattle.mcs_core.specs.Core.{Core, note_of, thread_of}
 use Rattle.mcs_core.specs.declared.standing.Chosen.{Chosen}
 use Rattle.mcs_core.specs.Turn as turns
 use Rattle.mcs_core.specs.Turn.{Turn, each, silent, says, ◌followed_by◌}
+
+-- a signal that is an item of a thread's script
+pub record IsSaid (system : System) (note badge : ℕ) : Type 0 where
+  pub thread : ℕ
+  pub place : ℕ
+  pub item : slice_get (thread_part system thread).script place ≡ Some (Signal note badge)
 
 -- a signal made by core c at t, which arrives after the delay
 pub record IsMadeNow (system : System) (c t : ℕ) (mail : Mail) : Type 0 where
@@ -30,6 +37,7 @@ pub record IsMadeNow (system : System) (c t : ℕ) (mail : Mail) : Type 0 where
   pub made : mail.made ≡ t
   pub maker : mail.maker ≡ c
   pub away : (note_part system mail.note).core ≢ c
+  pub said : IsSaid system mail.note mail.badge
 
 each-none : {A : Type 0} (part : A → Core → Turn) → ((x : A) (core : Core) → (part x core).mails ≡ []) → (xs : List A) (core : Core) → (each part xs core).mails ≡ []
 each-none part h [] core = refl
@@ -66,7 +74,7 @@ module _ (queue : Discipline) (system : System) (c t : ℕ) where
   obeys-none order core = orders_running-none order core.running core
 
   releases-none : (core : Core) → (turns.releases queue system t core).mails ≡ []
-  releases-none core = each-none (turns.released queue system t) (λ due core. refl) (filter (turns.is_due queue system t) core.releases) _
+  releases-none core = each-none (turns.released queue system) (λ due core. refl) (filter (turns.is_due t) core.releases) _
 
   preempts_by-none : (o : Option Chosen) (best : Option Queued) (core : Core) → (turns.preempts_by queue system t o best core).mails ≡ []
   preempts_by-none (Some chosen) (Some best) core = cond-none (nat_lt (turns.part_of system chosen.thread).priority best.priority) _ _ refl refl
@@ -106,31 +114,32 @@ module _ (queue : Discipline) (system : System) (c t : ℕ) where
   IsOutgoing-cond true x y p q = p
   IsOutgoing-cond false x y p q = q
 
-  signals-out : (x note badge : ℕ) (core : Core) → IsOutgoing (turns.signals queue system c t x note badge core).mails
-  signals-out x note badge core = by ((note_part system note).core == c) refl
+  signals-out : (x note badge : ℕ) (core : Core) → IsSaid system note badge → IsOutgoing (turns.signals queue system c t x note badge core).mails
+  signals-out x note badge core said = by ((note_part system note).core == c) refl
     where
       differs : (a b : ℕ) → (a == b) ≡ false → a ≢ b
       differs a b e = grind (arith, nat_tests)
 
-      by : (b : Bool) → ((note_part system note).core == c) ≡ b → IsOutgoing (cond b (turns.posts queue system t note badge core) (record { core = core; rows = []; mails = turns.mail_to queue system c t note badge ∷ [] })).mails
+      by : (b : Bool) → ((note_part system note).core == c) ≡ b → IsOutgoing (cond b (turns.posts queue system t note badge core) (record { core = core; rows = []; mails = turns.mail_to system c t note badge ∷ [] })).mails
       by true e = IsOutgoing-none _ (posts-none note badge core)
-      by false e = record { arrives = refl; made = refl; maker = refl; away = differs (note_part system note).core c e }
+      by false e = record { arrives = refl; made = refl; maker = refl; away = differs (note_part system note).core c e; said = said }
 
   moves_on-none : (x : ℕ) (core : Core) → (turns.moves_on system t x core).mails ≡ []
-  moves_on-none x core = moves-none x (turns.move_of system t x core) core
+  moves_on-none x core = moves-none x (turns.move_of system x core) core
 
   waits_as-none : (x note : ℕ) (w : Waited) (core : Core) → (turns.waits_as system t x note w core).mails ≡ []
   waits_as-none x note (Got word) core = moves_on-none x _
   waits_as-none x note Blocks core = refl
 
-  takes_effect-out : (x : ℕ) (item : Option Item) (core : Core) → IsOutgoing (turns.takes_effect queue system c t x item core).mails
-  takes_effect-out x (Some (Signal note badge)) core = IsOutgoing-append (turns.signals queue system c t x note badge core).mails _ (signals-out x note badge core) (moves_on-none x _)
-  takes_effect-out x (Some (Wait note)) core = IsOutgoing-none _ (waits_as-none x note (waited (note_of core note)) core)
-  takes_effect-out x (Some (Compute ticks)) core = IsOutgoing-none _ (moves_on-none x core)
-  takes_effect-out x (Some Yield) core = IsOutgoing-none _ (moves_on-none x core)
-  takes_effect-out x None core = tt
+  takes_effect-out : (x i : ℕ) (item : Option Item) (core : Core) → slice_get (thread_part system x).script i ≡ item → IsOutgoing (turns.takes_effect queue system c t x item core).mails
+  takes_effect-out x i (Some (Signal note badge)) core e =
+      IsOutgoing-append (turns.signals queue system c t x note badge core).mails _ (signals-out x note badge core (record { thread = x; place = i; item = e })) (moves_on-none x _)
+  takes_effect-out x i (Some (Wait note)) core e = IsOutgoing-none _ (waits_as-none x note (waited (note_of core note)) core)
+  takes_effect-out x i (Some (Compute ticks)) core e = IsOutgoing-none _ (moves_on-none x core)
+  takes_effect-out x i (Some Yield) core e = IsOutgoing-none _ (moves_on-none x core)
+  takes_effect-out x i None core e = tt
 
-  pub may_stop-none : (x using : ℕ) (cause : Why) (core : Core) → (turns.may_stop queue system c t x using cause core).mails ≡ []
+  pub may_stop-none : (x using : ℕ) (cause : Why) (core : Core) → (turns.may_stop queue system t x using cause core).mails ≡ []
   may_stop-none x using why.Done core = refl
   may_stop-none x using why.Wait core = refl
   may_stop-none x using why.Yield core = refl
@@ -138,13 +147,13 @@ module _ (queue : Discipline) (system : System) (c t : ℕ) where
   may_stop-none x using why.Preempt core = cond-none (using == head_amount (turns.its_context system x core)) _ _ refl refl
   may_stop-none x using why.Order core = cond-none (using == head_amount (turns.its_context system x core)) _ _ refl refl
 
-  finishes-out : (x using : ℕ) (item : Option Item) (core : Core) → IsOutgoing (turns.finishes queue system c t x using item core).mails
-  finishes-out x using item core =
-      IsOutgoing-append (turns.takes_effect queue system c t x item core).mails _ (takes_effect-out x item core) (may_stop-none x using (turns.stop_after queue system c t x item core) _)
+  finishes-out : (x i using : ℕ) (item : Option Item) (core : Core) → slice_get (thread_part system x).script i ≡ item → IsOutgoing (turns.finishes queue system c t x using item core).mails
+  finishes-out x i using item core e =
+      IsOutgoing-append (turns.takes_effect queue system c t x item core).mails _ (takes_effect-out x i item core e) (may_stop-none x using (turns.stop_after system x item core) _)
 
   after_count-out : (x using : ℕ) (core : Core) → IsOutgoing (turns.after_count queue system c t x using core).mails
   after_count-out x using core =
-      IsOutgoing-cond ((thread_of core x).place.left == 0) _ _ (finishes-out x using (turns.item_of system t x core) core) (IsOutgoing-none _ (may_stop-none x using why.Spent core))
+      IsOutgoing-cond ((thread_of core x).place.left == 0) _ _ (finishes-out x (thread_of core x).place.item using (turns.item_of system x core) core refl) (IsOutgoing-none _ (may_stop-none x using why.Spent core))
 
   tick_of-out : (o : Option Chosen) (core : Core) → IsOutgoing (turns.tick_of queue system c t o core).mails
   tick_of-out None core = tt

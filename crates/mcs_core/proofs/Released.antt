@@ -34,7 +34,7 @@ pub record IsReleased (system : System) (c t x : ℕ) (core : Core) : Type 0 whe
   pub fewer : length (without x core.releases) < length core.releases
   pub free : IsFree system x (record core { releases = without x core.releases })
   pub sound : IsSound system c t PastTick None (enters_back by_priority system x None (record core { releases = without x core.releases }))
-  pub step : releases by_priority system t core ≡ (released by_priority system t due (record core { releases = without x core.releases }) followed_by releases by_priority system t)
+  pub step : releases by_priority system t core ≡ (released by_priority system due (record core { releases = without x core.releases }) followed_by releases by_priority system t)
 
 module _ (system : System) (c : ℕ) (one_each : IsOneEach system) (t : ℕ) (soon : t ≤ 2 ^ 40) where
   none_at : (x : ℕ) (f : Standing → ℕ) (s : Standing) → f Done ≡ 0 → f (cond (x == x) Done s) ≡ 0

@@ -72,7 +72,7 @@ module _ (system : System) (number from : ℕ) (each : IsOneEach system) where
   -- a stop for good or until a signal
   pub stops-sound : (phase : Phase) (t x k : ℕ) (cause : Why) (s : Standing) (core : Core) → IsSound system number from phase (Some (record { thread = x; standing = s })) (off core) →
       IsPlaced system x core → may_run s ≡ false → times_pending s ≡ 0 → is_here s ≡ true → 1 ≤ k →
-      IsSound system number from phase None (stops by_priority system t x cause k s core).core
+      IsSound system number from phase None (stops system x cause k s core).core
   stops-sound phase t x k cause s core h p still away here some =
       arrived system number from phase x s (record (thread_of core x) { standing = s }) (off (charged system x k core)) (charged-sound phase x k s core h p still away some)
       (rw h.threads p.known) refl (λ e. p.item) tt
@@ -122,7 +122,7 @@ module _ (system : System) (number from : ℕ) (each : IsOneEach system) where
 
   -- a thread moves on, or is given its word
   pub moves-sound : (phase : Phase) (t x : ℕ) (core : Core) → IsSound system number from phase None core → IsPlaced system x core → IsSound system number from phase None (moves_on system t x core).core
-  moves-sound phase t x core h p = by (move_of system t x core) (place-within system.call (thread_part system x).rounds (thread_part system x).script (thread_of core x).place p.item)
+  moves-sound phase t x core h p = by (move_of system x core) (place-within system.call (thread_part system x).rounds (thread_part system x).script (thread_of core x).place p.item)
     where
       by : (m : Moved) → (place_after system.call (thread_part system x).script m (thread_of core x).place).item < length (thread_part system x).script →
           IsSound system number from phase None (moves system t x m core).core
@@ -130,7 +130,7 @@ module _ (system : System) (number from : ℕ) (each : IsOneEach system) where
       by RoundEnds i = replaced phase x _ core h (rw h.threads p.known) refl (λ e. i)
       by AllDone i = h
 
-  pub given-sound : (phase : Phase) (t x : ℕ) (core : Core) → IsSound system number from phase None core → IsPlaced system x core → IsSound system number from phase None (given system t x core)
+  pub given-sound : (phase : Phase) (t x : ℕ) (core : Core) → IsSound system number from phase None core → IsPlaced system x core → IsSound system number from phase None (given t x core)
   given-sound phase t x core h p = replaced phase x _ core h (rw h.threads p.known) refl (λ e. p.item)
 
   -- another word at a notification with the same waiters

@@ -41,7 +41,7 @@ module _ (system : System) (number from : ℕ) (each : IsOneEach system) where
   enters_back-running x None core = refl
 
   pub moves-running : (t x : ℕ) (core : Core) → (moves_on system t x core).core.running ≡ core.running
-  moves-running t x core = by (move_of system t x core)
+  moves-running t x core = by (move_of system x core)
     where
       by : (m : Moved) → (moves system t x m core).core.running ≡ core.running
       by Next = refl
@@ -50,8 +50,8 @@ module _ (system : System) (number from : ℕ) (each : IsOneEach system) where
 
   wakes-running : (t x : ℕ) (core : Core) → (wakes by_priority system t x core).core.running ≡ core.running
   wakes-running t x core =
-      enters_back-running x (date_of system t x (moves_on system t x (given system t x (unblocked by_priority system t x core))).core) (moves_on system t x (given system t x (unblocked by_priority system t x core))).core
-      ∙ moves-running t x (given system t x (unblocked by_priority system t x core))
+      enters_back-running x (date_of system t x (moves_on system t x (given t x (unblocked system t x core))).core) (moves_on system t x (given t x (unblocked system t x core))).core
+      ∙ moves-running t x (given t x (unblocked system t x core))
 
   pub posts-running : (t note badge : ℕ) (core : Core) → (posts by_priority system t note badge core).core.running ≡ core.running
   posts-running t note badge core = by (posted badge (note_of core note))
@@ -130,20 +130,20 @@ module _ (system : System) (number from : ℕ) (each : IsOneEach system) where
       IsSound system number from InTick None (signals by_priority system c t x note badge core).core
   signals-sound c t note badge x core l f k h = by ((note_part system note).core == c)
     where
-      by : (b : Bool) → IsSound system number from InTick None (cond b (posts by_priority system t note badge core) (record { core = core; rows = []; mails = mail_to by_priority system c t note badge ∷ [] })).core
+      by : (b : Bool) → IsSound system number from InTick None (cond b (posts by_priority system t note badge core) (record { core = core; rows = []; mails = mail_to system c t note badge ∷ [] })).core
       by true = posts-sound system number from each InTick t note badge core l f k h
       by false = h
 
   pub signals-running : (c t note badge x : ℕ) (core : Core) → (signals by_priority system c t x note badge core).core.running ≡ core.running
   signals-running c t note badge x core = by ((note_part system note).core == c)
     where
-      by : (b : Bool) → (cond b (posts by_priority system t note badge core) (record { core = core; rows = []; mails = mail_to by_priority system c t note badge ∷ [] })).core.running ≡ core.running
+      by : (b : Bool) → (cond b (posts by_priority system t note badge core) (record { core = core; rows = []; mails = mail_to system c t note badge ∷ [] })).core.running ≡ core.running
       by true = posts-running t note badge core
       by false = refl
 
   -- at most one stop, of a thread that did not block
   pub may_stop-sound : (c t : ℕ) (chosen : Chosen) (cause : Why) (core : Core) → t ≤ 2 ^ 40 → from ≤ t + 1 → IsSound system number from InTick None core → core.running ≡ Some chosen → (cause ≡ why.Wait → ⊥) →
-      IsSound system number from PastTick None (may_stop by_priority system c t chosen.thread chosen.using cause core).core
+      IsSound system number from PastTick None (may_stop by_priority system t chosen.thread chosen.using cause core).core
   may_stop-sound c t chosen cause core l f h e n = by cause n
     where
       r : IsRunning system InTick chosen core
@@ -183,7 +183,7 @@ module _ (system : System) (number from : ℕ) (each : IsOneEach system) where
       spent true f = back chosen.using why.Spent r.used
       spent false f = stays f
 
-      by : (cause : Why) → (cause ≡ why.Wait → ⊥) → IsSound system number from PastTick None (may_stop by_priority system c t chosen.thread chosen.using cause core).core
+      by : (cause : Why) → (cause ≡ why.Wait → ⊥) → IsSound system number from PastTick None (may_stop by_priority system t chosen.thread chosen.using cause core).core
       by why.Done n = stops-sound system number from each PastTick t chosen.thread chosen.using why.Done Done core gone p refl refl refl r.used
       by why.Wait n = absurd (n refl)
       by why.Yield n = back (head_amount (its_context system chosen.thread core)) why.Yield (runner-head InTick chosen core h e)
@@ -193,7 +193,7 @@ module _ (system : System) (number from : ℕ) (each : IsOneEach system) where
 
   -- the stop of a thread that blocked
   pub blocked-sound : (c t note : ℕ) (chosen : Chosen) (core : Core) → IsSound system number from InTick None core → core.running ≡ Some chosen → note < length core.notes →
-      IsSound system number from PastTick None (may_stop by_priority system c t chosen.thread chosen.using why.Wait (waits_as system t chosen.thread note Blocks core).core).core
+      IsSound system number from PastTick None (may_stop by_priority system t chosen.thread chosen.using why.Wait (waits_as system t chosen.thread note Blocks core).core).core
   blocked-sound c t note chosen core h e l =
       let r = runner InTick chosen core h e in
       let p = runner-placed InTick chosen core h e in
@@ -214,16 +214,16 @@ module _ (system : System) (number from : ℕ) (each : IsOneEach system) where
       let first = signals-sound c t note badge chosen.thread core l f (rw h.notes k) h in
       let runs = signals-running c t note badge chosen.thread core ∙ e in
       let second = moves-sound system number from each InTick t chosen.thread _ first (runner-placed InTick chosen _ first runs) in
-      may_stop-sound c t chosen _ _ l f second (moves-running t chosen.thread _ ∙ runs) (moved-never (move_of system t chosen.thread core) why.Spent (λ f. cc))
+      may_stop-sound c t chosen _ _ l f second (moves-running t chosen.thread _ ∙ runs) (moved-never (move_of system chosen.thread core) why.Spent (λ f. cc))
   finishes-sound c t chosen (Some (Wait note)) core l f k h e = by (waited (note_of core note))
     where
-      by : (w : Waited) → IsSound system number from PastTick None (may_stop by_priority system c t chosen.thread chosen.using (after_waited w) (waits_as system t chosen.thread note w core).core).core
+      by : (w : Waited) → IsSound system number from PastTick None (may_stop by_priority system t chosen.thread chosen.using (after_waited w) (waits_as system t chosen.thread note w core).core).core
       by (Got word) = may_stop-sound c t chosen why.Spent _ l f (got-sound InTick t note word chosen core h e (rw h.notes k)) (moves-running t chosen.thread _ ∙ e) (λ f. cc)
       by Blocks = blocked-sound c t note chosen core h e (rw h.notes k)
   finishes-sound c t chosen (Some (Compute ticks)) core l f k h e =
-      may_stop-sound c t chosen _ _ l f (moves-sound system number from each InTick t chosen.thread core h (runner-placed InTick chosen core h e)) (moves-running t chosen.thread core ∙ e) (moved-never (move_of system t chosen.thread core) why.Spent (λ f. cc))
+      may_stop-sound c t chosen _ _ l f (moves-sound system number from each InTick t chosen.thread core h (runner-placed InTick chosen core h e)) (moves-running t chosen.thread core ∙ e) (moved-never (move_of system chosen.thread core) why.Spent (λ f. cc))
   finishes-sound c t chosen (Some Yield) core l f k h e =
-      may_stop-sound c t chosen _ _ l f (moves-sound system number from each InTick t chosen.thread core h (runner-placed InTick chosen core h e)) (moves-running t chosen.thread core ∙ e) (moved-never (move_of system t chosen.thread core) why.Yield (λ f. cc))
+      may_stop-sound c t chosen _ _ l f (moves-sound system number from each InTick t chosen.thread core h (runner-placed InTick chosen core h e)) (moves-running t chosen.thread core ∙ e) (moved-never (move_of system chosen.thread core) why.Yield (λ f. cc))
   finishes-sound c t chosen None core l f k h e = may_stop-sound c t chosen why.Spent core l f h e (λ f. cc)
 
   -- the notifications of all items are the system's
@@ -254,8 +254,8 @@ module _ (system : System) (number from : ℕ) (each : IsOneEach system) where
       counted : (chosen : Chosen) → IsSound system number from InTick None (counts chosen core) → IsSound system number from PastTick None (after_count by_priority system c t chosen.thread (chosen.using + 1) (counts chosen core)).core
       counted chosen i = ends ((thread_of (counts chosen core) chosen.thread).place.left == 0)
         where
-          ends : (b : Bool) → IsSound system number from PastTick None (cond b (finishes by_priority system c t chosen.thread (chosen.using + 1) (item_of system t chosen.thread (counts chosen core)) (counts chosen core)) (may_stop by_priority system c t chosen.thread (chosen.using + 1) why.Spent (counts chosen core))).core
-          ends true = finishes-sound c t (record { thread = chosen.thread; using = chosen.using + 1 }) (item_of system t chosen.thread (counts chosen core)) (counts chosen core) l f (noted chosen.thread (thread_of (counts chosen core) chosen.thread).place.item) i refl
+          ends : (b : Bool) → IsSound system number from PastTick None (cond b (finishes by_priority system c t chosen.thread (chosen.using + 1) (item_of system chosen.thread (counts chosen core)) (counts chosen core)) (may_stop by_priority system t chosen.thread (chosen.using + 1) why.Spent (counts chosen core))).core
+          ends true = finishes-sound c t (record { thread = chosen.thread; using = chosen.using + 1 }) (item_of system chosen.thread (counts chosen core)) (counts chosen core) l f (noted chosen.thread (thread_of (counts chosen core) chosen.thread).place.item) i refl
           ends false = may_stop-sound c t (record { thread = chosen.thread; using = chosen.using + 1 }) why.Spent (counts chosen core) l f i refl (λ f. cc)
 
       by : (o : Option Chosen) → core.running ≡ o → IsSound system number from PastTick None (tick_of by_priority system c t o core).core

@@ -45,8 +45,8 @@ module _ (system : System) (number from : ℕ) (one_each : IsOneEach system) whe
 
   -- an order for a context of the core
   applied-sound : (t : ℕ) (loose : Option Loose) (order : Order) (core : Core) → t ≤ 2 ^ 40 → from ≤ t + 1 → IsProperOrder system order → has_context order.context core ≡ true →
-      IsSound system number from PastTick loose core → RunsRight system PastTick core.running (applied by_priority system t order core) →
-      IsSound system number from PastTick loose (applied by_priority system t order core)
+      IsSound system number from PastTick loose core → RunsRight system PastTick core.running (applied t order core) →
+      IsSound system number from PastTick loose (applied t order core)
   applied-sound t loose order core l f o has h runs =
       let b = h.budgets order.context has in
       let a = accepted-is system.min_budget order.config o.accepted in
@@ -83,19 +83,19 @@ module _ (system : System) (number from : ℕ) (one_each : IsOneEach system) whe
   obeys-sound t order core l f o has h = by core.running refl
     where
       stopped : (chosen : Chosen) → core.running ≡ Some chosen → has_context order.context (off (charged system chosen.thread chosen.using core)) ≡ true →
-          IsSound system number from PastTick None (enters_front by_priority system chosen.thread (date_of system t chosen.thread (applied by_priority system t order (charged system chosen.thread chosen.using core))) (off (applied by_priority system t order (charged system chosen.thread chosen.using core))))
+          IsSound system number from PastTick None (enters_front by_priority system chosen.thread (date_of system t chosen.thread (applied t order (charged system chosen.thread chosen.using core))) (off (applied t order (charged system chosen.thread chosen.using core))))
       stopped chosen e has_after =
           let gone = gone-sound chosen core h e in
           let after = applied-sound t (Some (record { thread = chosen.thread; standing = Done })) order (off (charged system chosen.thread chosen.using core)) l f o has_after gone tt in
-          front-sound system number from one_each PastTick t chosen.thread (applied by_priority system t order (charged system chosen.thread chosen.using core)) l f after
-          (placed-on chosen.thread (applied by_priority system t order (charged system chosen.thread chosen.using core)) (placed-from chosen.thread _ after))
+          front-sound system number from one_each PastTick t chosen.thread (applied t order (charged system chosen.thread chosen.using core)) l f after
+          (placed-on chosen.thread (applied t order (charged system chosen.thread chosen.using core)) (placed-from chosen.thread _ after))
 
       by : (r : Option Chosen) → core.running ≡ r → IsSound system number from PastTick None (orders_running by_priority system t order r core).core
-      by None e = applied-sound t None order core l f o has h (let P : Option Chosen → Type 0 = λ r. RunsRight system PastTick r (applied by_priority system t order core) in subst P (sym e) tt)
+      by None e = applied-sound t None order core l f o has h (let P : Option Chosen → Type 0 = λ r. RunsRight system PastTick r (applied t order core) in subst P (sym e) tt)
       by (Some chosen) e = cases ((thread_part system chosen.thread).context == order.context) refl
         where
           cases : (b : Bool) → ((thread_part system chosen.thread).context == order.context) ≡ b →
-              IsSound system number from PastTick None (cond b (stops_to_front by_priority system t chosen.thread why.Order chosen.using (applied by_priority system t order (charged system chosen.thread chosen.using core))) (record { core = applied by_priority system t order core; rows = []; mails = [] })).core
+              IsSound system number from PastTick None (cond b (stops_to_front by_priority system t chosen.thread why.Order chosen.using (applied t order (charged system chosen.thread chosen.using core))) (record { core = applied t order core; rows = []; mails = [] })).core
           cases true f' =
               let g : (thread_part system chosen.thread).context ≡ order.context = grind (arith, nat_tests) in
               stopped chosen e (let P : ℕ → Type 0 = λ k. has_context k (off (charged system chosen.thread chosen.using core)) ≡ true in subst P g (placed-from chosen.thread _ (gone-sound chosen core h e)).has)
@@ -184,7 +184,7 @@ module _ (system : System) (number from : ℕ) (one_each : IsOneEach system) whe
 
   -- a thread that is due is released
   pub released-sound : (t : ℕ) (due : Dated) (core : Core) → due.date ≤ 2 ^ 40 → 1 ≤ times_dated due.thread core.releases → (due.date ≤ 2 ^ 40 → IsEarly system due.thread core) →
-      IsSound system number from PastTick None core → IsSound system number from PastTick None (released by_priority system t due (core_without due.thread core)).core
+      IsSound system number from PastTick None core → IsSound system number from PastTick None (released by_priority system due (core_without due.thread core)).core
   released-sound t due core l some early h =
       let left = leaves-sound due.thread core some h in
       let p = placed-from due.thread (core_without due.thread core) left in
@@ -199,10 +199,10 @@ module _ (system : System) (number from : ℕ) (one_each : IsOneEach system) whe
 -- the threads that are due at t leave in the order in which they entered
 module _ (system : System) (t : ℕ) where
   abbrev pub still : Dated → Bool
-  still dated = not (is_due by_priority system t dated)
+  still dated = not (is_due t dated)
 
   abbrev pub all_due : List Dated → List Dated
-  all_due ds = filter (is_due by_priority system t) ds
+  all_due ds = filter (is_due t) ds
 
   one_more : (d x : Dated) (xs : List Dated) → 1 ≤ times_dated d.thread xs → times_dated d.thread (x ∷ xs) ≤ 1 → (x.thread == d.thread) ≡ false
   one_more d x xs some few = by (x.thread == d.thread) few
@@ -213,7 +213,7 @@ module _ (system : System) (t : ℕ) where
 
   pub stands-due : (ds : List Dated) (d : Dated) (rest : List Dated) → all_due ds ≡ d ∷ rest → 1 ≤ times_dated d.thread ds
   stands-due [] d rest e = cc
-  stands-due (x ∷ xs) d rest e = by (is_due by_priority system t x) e (stands-due xs d rest)
+  stands-due (x ∷ xs) d rest e = by (is_due t x) e (stands-due xs d rest)
     where
       by : (b : Bool) → cond b (x ∷ all_due xs) (all_due xs) ≡ d ∷ rest → (all_due xs ≡ d ∷ rest → 1 ≤ times_dated d.thread xs) → 1 ≤ times_dated d.thread (x ∷ xs)
       by true f i = let g : x ≡ d = cc in let P : Dated → Type 0 = λ y. 1 ≤ times_dated y.thread (x ∷ xs) in subst P g (own x.thread (times_dated x.thread xs))
@@ -225,9 +225,9 @@ module _ (system : System) (t : ℕ) where
   pub split-due : (ds : List Dated) (d : Dated) (rest : List Dated) → all_due ds ≡ d ∷ rest → times_dated d.thread ds ≤ 1 →
       (all_due (without d.thread ds) ≡ rest) × (filter still (without d.thread ds) ≡ filter still ds)
   split-due [] d rest e few = cc
-  split-due (x ∷ xs) d rest e few = by (is_due by_priority system t x) refl e (split-due xs d rest) (stands-due xs d rest)
+  split-due (x ∷ xs) d rest e few = by (is_due t x) refl e (split-due xs d rest) (stands-due xs d rest)
     where
-      by : (b : Bool) → is_due by_priority system t x ≡ b → cond b (x ∷ all_due xs) (all_due xs) ≡ d ∷ rest →
+      by : (b : Bool) → is_due t x ≡ b → cond b (x ∷ all_due xs) (all_due xs) ≡ d ∷ rest →
           (all_due xs ≡ d ∷ rest → times_dated d.thread xs ≤ 1 → (all_due (without d.thread xs) ≡ rest) × (filter still (without d.thread xs) ≡ filter still xs)) →
           (all_due xs ≡ d ∷ rest → 1 ≤ times_dated d.thread xs) →
           (all_due (without d.thread (x ∷ xs)) ≡ rest) × (filter still (without d.thread (x ∷ xs)) ≡ filter still (x ∷ xs))
@@ -254,9 +254,9 @@ module _ (system : System) (t : ℕ) where
     where
       dues-at : (ds : List Dated) → AllByRecursion (λ dated. t ≤ dated.date) ds → AllByRecursion (λ dated. dated.date ≡ t) (all_due ds)
       dues-at [] h = tt
-      dues-at (x ∷ xs) h = at (is_due by_priority system t x) refl (dues-at xs h.1)
+      dues-at (x ∷ xs) h = at (is_due t x) refl (dues-at xs h.1)
         where
-          at : (b : Bool) → is_due by_priority system t x ≡ b → AllByRecursion (λ dated. dated.date ≡ t) (all_due xs) → AllByRecursion (λ dated. dated.date ≡ t) (cond b (x ∷ all_due xs) (all_due xs))
+          at : (b : Bool) → is_due t x ≡ b → AllByRecursion (λ dated. dated.date ≡ t) (all_due xs) → AllByRecursion (λ dated. dated.date ≡ t) (cond b (x ∷ all_due xs) (all_due xs))
           at true e i = (same x.date (h.0) e, i)
             where
               same : (a : ℕ) → t ≤ a → nat_le a t ≡ true → a ≡ t
@@ -288,7 +288,7 @@ module _ (system : System) (t : ℕ) where
 
   -- the releases, one after another
   pub releases-step : (d : Dated) (rest : List Dated) (core : Core) → all_due core.releases ≡ d ∷ rest → times_dated d.thread core.releases ≤ 1 →
-      releases by_priority system t core ≡ (released by_priority system t d (record core { releases = without d.thread core.releases }) followed_by releases by_priority system t)
+      releases by_priority system t core ≡ (released by_priority system d (record core { releases = without d.thread core.releases }) followed_by releases by_priority system t)
   releases-step d rest core e few =
       let s = split-due core.releases d rest e few in
       rw (e, s.0, s.1) refl
@@ -298,7 +298,7 @@ module _ (system : System) (t : ℕ) where
     where
       all-still : (ds : List Dated) → all_due ds ≡ [] → filter still ds ≡ ds
       all-still [] e = refl
-      all-still (x ∷ xs) e = by (is_due by_priority system t x) e (all-still xs)
+      all-still (x ∷ xs) e = by (is_due t x) e (all-still xs)
         where
           by : (b : Bool) → cond b (x ∷ all_due xs) (all_due xs) ≡ [] → (all_due xs ≡ [] → filter still xs ≡ xs) → cond (not b) (x ∷ filter still xs) (filter still xs) ≡ x ∷ xs
           by true f i = cc
@@ -317,9 +317,9 @@ module _ (system : System) (number : ℕ) (one_each : IsOneEach system) (t : ℕ
   -- the date of a thread that is due is this moment, and its head is early
   due-early : (ds : List Dated) (core : Core) (d : Dated) (rest : List Dated) → all_due system t ds ≡ d ∷ rest → AreEarly system core ds → (d.date ≤ 2 ^ 40) × (d.date ≤ 2 ^ 40 → IsEarly system d.thread core)
   due-early [] core d rest e h = cc
-  due-early (x ∷ xs) core d rest e h = by (is_due by_priority system t x) refl e (due-early xs core d rest)
+  due-early (x ∷ xs) core d rest e h = by (is_due t x) refl e (due-early xs core d rest)
     where
-      by : (b : Bool) → is_due by_priority system t x ≡ b → cond b (x ∷ all_due system t xs) (all_due system t xs) ≡ d ∷ rest →
+      by : (b : Bool) → is_due t x ≡ b → cond b (x ∷ all_due system t xs) (all_due system t xs) ≡ d ∷ rest →
           (all_due system t xs ≡ d ∷ rest → AreEarly system core xs → (d.date ≤ 2 ^ 40) × (d.date ≤ 2 ^ 40 → IsEarly system d.thread core)) →
           (d.date ≤ 2 ^ 40) × (d.date ≤ 2 ^ 40 → IsEarly system d.thread core)
       by true f g i =
@@ -343,7 +343,7 @@ module _ (system : System) (number : ℕ) (one_each : IsOneEach system) (t : ℕ
       few Elsewhere = omega arith
 
   pub release-sound : (core : Core) (d : Dated) (rest : List Dated) → all_due system t core.releases ≡ d ∷ rest → IsSound system number t PastTick None core →
-      IsSound system number t PastTick None (released by_priority system t d (record core { releases = without d.thread core.releases })).core
+      IsSound system number t PastTick None (released by_priority system d (record core { releases = without d.thread core.releases })).core
   release-sound core d rest e h =
       let early = due-early core.releases core d rest e h.dates in
       released-sound system number t one_each t d core early.0 (stands-due system t core.releases d rest e) early.1 h
@@ -368,9 +368,9 @@ module _ (system : System) (number : ℕ) (one_each : IsOneEach system) (t : ℕ
     where
       none-due : (ds : List Dated) → all_due system t ds ≡ [] → AllByRecursion (λ dated. t + 1 ≤ dated.date) ds
       none-due [] e = tt
-      none-due (x ∷ xs) e = by (is_due by_priority system t x) refl e (none-due xs)
+      none-due (x ∷ xs) e = by (is_due t x) refl e (none-due xs)
         where
-          by : (b : Bool) → is_due by_priority system t x ≡ b → cond b (x ∷ all_due system t xs) (all_due system t xs) ≡ [] →
+          by : (b : Bool) → is_due t x ≡ b → cond b (x ∷ all_due system t xs) (all_due system t xs) ≡ [] →
               (all_due system t xs ≡ [] → AllByRecursion (λ dated. t + 1 ≤ dated.date) xs) → AllByRecursion (λ dated. t + 1 ≤ dated.date) (x ∷ xs)
           by true f g i = cc
           by false f g i = (yet x.date f, i g)
@@ -385,7 +385,7 @@ module _ (system : System) (number : ℕ) (one_each : IsOneEach system) (t : ℕ
       let few = at_most_once d.thread core h in
       let s = split-due system t core.releases d rest e few in
       rw (releases-step system t d rest core e few)
-      (releases-sound rest (released by_priority system t d (record core { releases = without d.thread core.releases })).core s.0 (release-sound core d rest e h))
+      (releases-sound rest (released by_priority system d (record core { releases = without d.thread core.releases })).core s.0 (release-sound core d rest e h))
 
   -- a running thread gives way
   pub preempts-sound : (core : Core) → IsSound system number (t + 1) PastTick None core → IsSound system number (t + 1) PastTick None (preempts by_priority system t core).core

@@ -80,7 +80,7 @@ module _ (system : System) (number from : ℕ) (each : IsOneEach system) where
   away_from : (phase : Phase) (x : ℕ) (core : Core) → (thread_of core x).standing ≡ Blocked → RunsRight system phase core.running core → (state : Thread) → RunsRight system phase core.running (with_thread x state core)
   away_from phase x core e h state = runs-other system number from phase x state core core.running (λ f. cc) h
 
-  pub unblocked-woken : (phase : Phase) (t x : ℕ) (core : Core) → t ≤ 2 ^ 40 → IsWoken system number from phase x core → IsWoken system number from phase x (unblocked by_priority system t x core)
+  pub unblocked-woken : (phase : Phase) (t x : ℕ) (core : Core) → t ≤ 2 ^ 40 → IsWoken system number from phase x core → IsWoken system number from phase x (unblocked system t x core)
   unblocked-woken phase t x core l w =
       let h = w.sound in
       let p = w.placed in
@@ -126,11 +126,11 @@ module _ (system : System) (number from : ℕ) (each : IsOneEach system) where
         placed = record { known = p.known; item = rw same item; bound = p.bound; has = p.has };
       }
 
-  pub given-woken : (phase : Phase) (t x : ℕ) (core : Core) → IsWoken system number from phase x core → IsWoken system number from phase x (given system t x core)
+  pub given-woken : (phase : Phase) (t x : ℕ) (core : Core) → IsWoken system number from phase x core → IsWoken system number from phase x (given t x core)
   given-woken phase t x core w = changed phase x _ core w refl w.placed.item
 
   pub moves-woken : (phase : Phase) (t x : ℕ) (core : Core) → IsWoken system number from phase x core → IsWoken system number from phase x (moves_on system t x core).core
-  moves-woken phase t x core w = by (move_of system t x core) (place-within system.call (thread_part system x).rounds (thread_part system x).script (thread_of core x).place w.placed.item)
+  moves-woken phase t x core w = by (move_of system x core) (place-within system.call (thread_part system x).rounds (thread_part system x).script (thread_of core x).place w.placed.item)
     where
       by : (m : Moved) → (place_after system.call (thread_part system x).script m (thread_of core x).place).item < length (thread_part system x).script →
           IsWoken system number from phase x (moves system t x m core).core

@@ -92,13 +92,13 @@ module _ (queue : Discipline) (system : System) where
       let core = stands thread Ready core in
       record core { ready = queue.front (queued system thread) core.ready }
 
+-- a stop for good, or until a signal
+abbrev pub stops : System → ℕ → Why → ℕ → Standing → Core → Turn
+stops system thread why k standing core =
+    record { core = stands thread standing (off (charged system thread k core)); rows = row.Stop thread why k None ∷ []; mails = [] }
+
 -- stops at moment t
 module _ (queue : Discipline) (system : System) (t : ℕ) where
-  -- for good or until a signal
-  abbrev pub stops : ℕ → Why → ℕ → Standing → Core → Turn
-  stops thread why k standing core =
-      record { core = stands thread standing (off (charged system thread k core)); rows = row.Stop thread why k None ∷ []; mails = [] }
-
   -- to the back of the ready queue
   abbrev pub stops_to_back : ℕ → Why → ℕ → Core → Turn
   stops_to_back thread why k core =
@@ -118,14 +118,32 @@ module _ (queue : Discipline) (system : System) (t : ℕ) where
         mails = [];
       }
 
--- how a thread goes through its script, at moment t
-module _ (system : System) (t : ℕ) where
+  -- at most one stop, for this cause, of the thread that has used so many ticks
+  abbrev pub may_stop : ℕ → ℕ → Why → Core → Turn
+  may_stop thread using why.Done core = stops system thread why.Done using Done core
+  may_stop thread using why.Wait core = stops system thread why.Wait using Blocked core
+  may_stop thread using why.Yield core = stops_to_back thread why.Yield (head_amount (its_context system thread core)) core
+  may_stop thread using other core =
+      if using == head_amount (its_context system thread core)
+      then stops_to_back thread why.Spent using core
+      else silent core
+
+-- where a thread is in its script
+module _ (system : System) where
   abbrev pub item_of : ℕ → Core → Option Item
   item_of thread core = slice_get (part_of system thread).script (thread_of core thread).place.item
 
   abbrev pub move_of : ℕ → Core → Moved
   move_of thread core = move_after (part_of system thread).script (part_of system thread).rounds (thread_of core thread).place
 
+-- the wait of the thread gives its word at moment t: where it is the first item, the round begins
+abbrev pub given : ℕ → ℕ → Core → Core
+given t thread core =
+    let state = thread_of core thread in
+    with_thread thread (record state { since = if state.place.item == 0 then t else state.since }) core
+
+-- how a thread goes through its script, at moment t
+module _ (system : System) (t : ℕ) where
   -- the thread has the place after this move, and its round began at this moment
   abbrev pub placed : ℕ → Moved → ℕ → Core → Core
   placed thread move since core =
@@ -143,30 +161,25 @@ module _ (system : System) (t : ℕ) where
   moves thread AllDone core = says (round_row thread core) core
 
   abbrev pub moves_on : ℕ → Core → Turn
-  moves_on thread core = moves thread (move_of thread core) core
-
-  -- the wait of the thread gives its word: where it is the first item, the round begins
-  abbrev pub given : ℕ → Core → Core
-  given thread core =
-      let state = thread_of core thread in
-      with_thread thread (record state { since = if state.place.item == 0 then t else state.since }) core
+  moves_on thread core = moves thread (move_of system thread core) core
 
   abbrev pub waits_as : ℕ → ℕ → Waited → Core → Turn
   waits_as thread note (Got word) core =
-      says (row.Got thread note word) (given thread (with_note note (after_wait (Got word) (queued system thread) (note_of core note)) core))
+      says (row.Got thread note word) (given t thread (with_note note (after_wait (Got word) (queued system thread) (note_of core note)) core))
       followed_by moves_on thread
   waits_as thread note Blocks core =
       silent (with_note note (after_wait Blocks (queued system thread) (note_of core note)) core)
 
+-- the context of the thread is unblocked at moment t
+abbrev pub unblocked : System → ℕ → ℕ → Core → Core
+unblocked system t thread core = with_its_context system thread (context_unblocked t (its_context system thread core)) core
+
 -- posts at moment t
 module _ (queue : Discipline) (system : System) (t : ℕ) where
-  abbrev pub unblocked : ℕ → Core → Core
-  unblocked thread core = with_its_context system thread (context_unblocked t (its_context system thread core)) core
-
   -- a woken thread: its context is unblocked
   abbrev pub wakes : ℕ → Core → Turn
   wakes thread core =
-      moves_on system t thread (given system t thread (unblocked thread core))
+      moves_on system t thread (given t thread (unblocked system t thread core))
       followed_by λ core. silent (enters_back queue system thread (date_of system t thread core) core)
 
   abbrev pub posts_as : ℕ → Posted → Core → Turn
@@ -189,6 +202,13 @@ abbrev pub after_waited : Waited → Why
 after_waited Blocks = why.Wait
 after_waited (Got word) = why.Spent
 
+abbrev pub stop_after : System → ℕ → Option Item → Core → Why
+stop_after system thread (Some Yield) core = after_move (move_of system thread core) why.Yield
+stop_after system thread (Some (Wait note)) core = after_waited (waited (note_of core note))
+stop_after system thread (Some (Compute ticks)) core = after_move (move_of system thread core) why.Spent
+stop_after system thread (Some (Signal note badge)) core = after_move (move_of system thread core) why.Spent
+stop_after system thread None core = why.Spent
+
 -- one more tick was used, and the item's rest is one less
 abbrev pub counts : Chosen → Core → Core
 counts chosen core =
@@ -196,11 +216,13 @@ counts chosen core =
     with_thread chosen.thread (record state { place = record (state.place) { left = state.place.left - 1 } })
     (record core { running = Some (record { thread = chosen.thread; using = chosen.using + 1 }) })
 
+-- the mail that a signal of core c at moment t is
+abbrev pub mail_to : System → ℕ → ℕ → ℕ → ℕ → Mail
+mail_to system c t note badge =
+    record { arrives = t + delay_between system c (note_part system note).core; made = t; maker = c; note = note; badge = badge }
+
 -- part 1: the end of the tick, on core c at moment t
 module _ (queue : Discipline) (system : System) (c t : ℕ) where
-  abbrev pub mail_to : ℕ → ℕ → Mail
-  mail_to note badge = record { arrives = t + delay_between system c (note_part system note).core; made = t; maker = c; note = note; badge = badge }
-
   -- a signal: a post at home, and mail for another core
   abbrev pub signals : ℕ → ℕ → ℕ → Core → Turn
   signals thread note badge core =
@@ -208,7 +230,7 @@ module _ (queue : Discipline) (system : System) (c t : ℕ) where
       followed_by λ core.
       if (note_part system note).core == c
       then posts queue system t note badge core
-      else record { core = core; rows = []; mails = mail_to note badge ∷ [] }
+      else record { core = core; rows = []; mails = mail_to system c t note badge ∷ [] }
 
   -- the thread's item takes effect, and the thread moves on unless it blocks
   abbrev pub takes_effect : ℕ → Option Item → Core → Turn
@@ -218,33 +240,17 @@ module _ (queue : Discipline) (system : System) (c t : ℕ) where
   takes_effect thread (Some Yield) core = moves_on system t thread core
   takes_effect thread None core = silent core
 
-  abbrev pub stop_after : ℕ → Option Item → Core → Why
-  stop_after thread (Some Yield) core = after_move (move_of system t thread core) why.Yield
-  stop_after thread (Some (Wait note)) core = after_waited (waited (note_of core note))
-  stop_after thread (Some (Compute ticks)) core = after_move (move_of system t thread core) why.Spent
-  stop_after thread (Some (Signal note badge)) core = after_move (move_of system t thread core) why.Spent
-  stop_after thread None core = why.Spent
-
-  -- at most one stop, for this cause
-  abbrev pub may_stop : ℕ → ℕ → Why → Core → Turn
-  may_stop thread using why.Done core = stops queue system t thread why.Done using Done core
-  may_stop thread using why.Wait core = stops queue system t thread why.Wait using Blocked core
-  may_stop thread using why.Yield core = stops_to_back queue system t thread why.Yield (head_amount (its_context system thread core)) core
-  may_stop thread using other core =
-      if using == head_amount (its_context system thread core)
-      then stops_to_back queue system t thread why.Spent using core
-      else silent core
-
   -- the item is finished: it takes effect, and at most one stop follows
   abbrev pub finishes : ℕ → ℕ → Option Item → Core → Turn
-  finishes thread using item core = takes_effect thread item core followed_by may_stop thread using (stop_after thread item core)
+  finishes thread using item core =
+      takes_effect thread item core followed_by may_stop queue system t thread using (stop_after system thread item core)
 
   -- after the count: where nothing of the item is left it is finished, and else only a spent head stops the thread
   abbrev pub after_count : ℕ → ℕ → Core → Turn
   after_count thread using core =
       if (thread_of core thread).place.left == 0
-      then finishes thread using (item_of system t thread core) core
-      else may_stop thread using why.Spent core
+      then finishes thread using (item_of system thread core) core
+      else may_stop queue system t thread using why.Spent core
 
   abbrev pub tick_of : Option Chosen → Core → Turn
   tick_of None core = silent core
@@ -253,6 +259,17 @@ module _ (queue : Discipline) (system : System) (c t : ℕ) where
   abbrev pub tick : Core → Turn
   tick core = tick_of core.running core
 
+-- an order changes its context at moment t
+abbrev pub applied : ℕ → Order → Core → Core
+applied t order core = with_context order.context (context_ordered t order.config (context_of core order.context)) core
+
+-- a thread whose date has come is ready
+abbrev pub released : Discipline → System → Dated → Core → Turn
+released queue system due core = says (row.Release due.thread) (enters_back queue system due.thread None core)
+
+abbrev pub is_due : ℕ → Dated → Bool
+is_due t dated = nat_le dated.date t
+
 -- parts 2 to 5
 module _ (queue : Discipline) (system : System) (t : ℕ) where
   -- part 2: an arrival
@@ -260,29 +277,21 @@ module _ (queue : Discipline) (system : System) (t : ℕ) where
   arrives mail core = says (row.Arrive mail.note mail.badge mail.maker) core followed_by posts queue system t mail.note mail.badge
 
   -- part 3: an order
-  abbrev pub applied : Order → Core → Core
-  applied order core = with_context order.context (context_ordered t order.config (context_of core order.context)) core
-
   abbrev pub orders_running : Order → Option Chosen → Core → Turn
-  orders_running order None core = silent (applied order core)
+  orders_running order None core = silent (applied t order core)
   orders_running order (Some chosen) core =
       if (part_of system chosen.thread).context == order.context
-      then stops_to_front queue system t chosen.thread why.Order chosen.using (applied order (charged system chosen.thread chosen.using core))
-      else silent (applied order core)
+      then stops_to_front queue system t chosen.thread why.Order chosen.using (applied t order (charged system chosen.thread chosen.using core))
+      else silent (applied t order core)
 
   abbrev pub obeys : Order → Core → Turn
   obeys order core = says (row.Order order.context) core followed_by orders_running order core.running
 
   -- part 4: releases
-  abbrev pub released : Dated → Core → Turn
-  released due core = says (row.Release due.thread) (enters_back queue system due.thread None core)
-
-  abbrev pub is_due : Dated → Bool
-  is_due dated = nat_le dated.date t
-
   abbrev pub releases : Core → Turn
   releases core =
-      each released (filter is_due core.releases) (record core { releases = filter (λ dated. not (is_due dated)) core.releases })
+      each (released queue system) (filter (is_due t) core.releases)
+      (record core { releases = filter (λ dated. not (is_due t dated)) core.releases })
 
   -- part 5: the choice; a running thread first gives way to one of greater priority ..
   abbrev pub preempts_by : Option Chosen → Option Queued → Core → Turn

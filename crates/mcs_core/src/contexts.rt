@@ -1,4 +1,4 @@
-ghost use Rattle.std.specs.Prelude.{◌≡◌, ℕ, ◌^◌, ◌<◌, ◌≤◌, true, length, get_or, set, Some, None, option_map, IfOk};
+ghost use Rattle.std.specs.Prelude.{◌≡◌, ◌^◌, ◌<◌, ◌≤◌, true, length, get_or, set, Some, None, option_map, IfOk};
 ghost use Rattle.mcs_control.specs.Context.{head_amount, head_moment, context_charged, context_unblocked, context_ordered, context_ready, view_of};
 ghost use Rattle.mcs_control.specs.Control.{IsConfig, kind_of};
 ghost use Rattle.mcs_core.specs.Contexts.{is_own, held, seen_contexts, HaveRoom};

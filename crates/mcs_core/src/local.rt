@@ -1,6 +1,6 @@
-ghost use Rattle.std.specs.Prelude.{◌≡◌, ℕ, ◌^◌, ◌<◌, ◌≤◌, true, length, get_or, Some, None, option_map, IfOk};
+ghost use Rattle.std.specs.Prelude.{◌≡◌, ◌^◌, ◌<◌, ◌≤◌, true, length, get_or, Some, None, option_map, IfOk};
 ghost use Rattle.mcs_ticks.specs.Queue.{by_priority};
-ghost use Rattle.mcs_control.specs.Context.{head_amount, head_moment, context_unblocked, context_ordered, view_of};
+ghost use Rattle.mcs_control.specs.Context.{head_amount, head_moment, context_unblocked, view_of};
 ghost use Rattle.mcs_control.specs.Control.{IsConfig, kind_of};
 ghost use Rattle.mcs_notify.specs.Note.{posted, after_post, waited, after_wait};
 ghost use Rattle.mcs_ready.specs.Ready.{priority_of, thread_of as thread_of_queued};
@@ -8,12 +8,12 @@ ghost use Rattle.mcs_release.specs.Release.{first_due, without_first_due, thread
 ghost use Rattle.mcs_core.specs.System.{thread_part};
 ghost use Rattle.mcs_core.specs.Local.{IsRoomy};
 ghost use Rattle.mcs_core.specs.Core.{thread_of, context_of, note_of, with_thread, with_context, with_note, stands, pends, off};
-ghost use Rattle.mcs_core.specs.Turn.{its_context, charged, queued, date_of, enters_back, enters_front};
+ghost use Rattle.mcs_core.specs.Turn.{its_context, applied, charged, queued, date_of, enters_back, enters_front};
 ghost use Rattle.mcs_core.specs.Sound.{times_queued, times_dated, times_waiting, has_context};
 
 use crate::contexts::Contexts;
-use crate::{Chosen, Standing, SystemParts, Thread, ThreadPart};
-use mcs_control::{Config, ContextView};
+use crate::{Chosen, Standing, SystemParts, Thread};
+use mcs_control::{ContextView, Order};
 use mcs_notify::{Notes, Posted, Waited};
 use mcs_ready::Ready;
 use mcs_release::Releases;
@@ -175,15 +175,15 @@ impl Local {
         self.contexts.wake(context, t);
     }
 
-    /// A context is ordered to have this configuration.
-    pub(crate) fn order_context(&mut self, context: ContextId, t: Tick, config: Config)
-        requires own { has_context context self.old ≡ true }
+    /// An order changes its context.
+    pub(crate) fn apply(&mut self, t: Tick, order: Order)
+        requires own { has_context order.context self.old ≡ true }
         requires soon { t ≤ 2 ^ 40 }
-        requires checked { IsConfig config }
-        requires same_kind { kind_of config ≡ kind_of (context_of self.old context).config }
-        ensures { self.new ≡ with_context context (context_ordered t config (context_of self.old context)) self.old }
+        requires checked { IsConfig order.config }
+        requires same_kind { kind_of order.config ≡ kind_of (context_of self.old order.context).config }
+        ensures { self.new ≡ applied t order self.old }
     {
-        self.contexts.order(context, t, config);
+        self.contexts.order(order.context, t, order.config);
     }
 
     /// A badge is posted on a notification: whom it wakes leaves the waiters.

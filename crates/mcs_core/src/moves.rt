@@ -1,4 +1,4 @@
-ghost use Rattle.std.specs.Prelude.{◌≡◌, ◌++◌, ◌<◌, OnOk, IfOk, length};
+ghost use Rattle.std.specs.Prelude.{◌≡◌, ◌++◌, ◌<◌, OnOk, length};
 ghost use Rattle.mcs_core.specs.Run.{stamped};
 ghost use Rattle.mcs_core.specs.Turn.{item_of, move_of, moves_on, given};
 ghost use Rattle.mcs_core.specs.Sound.{IsPlaced};
@@ -11,22 +11,20 @@ use mcs_ticks::{CoreId, NoMemory, Row, ThreadId, Tick, What};
 
 impl Local {
     /// The item at which the thread is.
-    pub(crate) fn item_of(&self, system: &SystemParts, t: Tick, x: ThreadId) -> Option<Item>
+    pub(crate) fn item_of(&self, system: &SystemParts, x: ThreadId) -> Option<Item>
         requires known { x < length self.now.threads }
         requires part { x < length system.now.threads }
-        ensures { result ≡ item_of system.now t x self.now }
+        ensures { result ≡ item_of system.now x self.now }
     {
-        let _moment = t;
         system.thread_at(x).script.get(self.thread(x).place.item)
     }
 
     /// What follows the item at which the thread is.
-    pub(crate) fn move_of(&self, system: &SystemParts, t: Tick, x: ThreadId) -> Moved
+    pub(crate) fn move_of(&self, system: &SystemParts, x: ThreadId) -> Moved
         requires known { x < length self.now.threads }
         requires placed { IsPlaced system.now x self.now }
-        ensures { result ≡ move_of system.now t x self.now }
+        ensures { result ≡ move_of system.now x self.now }
     {
-        let _moment = t;
         let part = system.thread_at(x);
         let mut place = self.thread(x).place;
         place.advance(&part.script, system.call, part.rounds)
@@ -76,11 +74,10 @@ impl Local {
     }
 
     /// The thread's wait gives its word: where it is the first item, the round begins.
-    pub(crate) fn give(&mut self, system: &SystemParts, t: Tick, x: ThreadId)
+    pub(crate) fn give(&mut self, t: Tick, x: ThreadId)
         requires { x < length self.old.threads }
-        ensures { self.new ≡ given system.now t x self.old }
+        ensures { self.new ≡ given t x self.old }
     {
-        let _system = system;
         let state = self.thread(x);
         let since = if state.place.item == 0 {
             t

@@ -1,13 +1,11 @@
-ghost use Rattle.std.specs.Prelude.{◌≡◌, ◌+◌, ◌^◌, ◌≤◌, ◌++◌, true, OnOk, Some, None};
+ghost use Rattle.std.specs.Prelude.{◌≡◌, ◌+◌, ◌^◌, ◌≤◌, ◌++◌, OnOk, Some, None};
 ghost use Rattle.mcs_ticks.specs.Queue.{by_priority};
 ghost use Rattle.mcs_ticks.specs.declared.row.Why.TheVariants.{Order as OrderWhy};
-ghost use Rattle.mcs_control.specs.Control.{kind_of};
-ghost use Rattle.mcs_core.specs.Core.{context_of};
 ghost use Rattle.mcs_core.specs.Run.{stamped};
 ghost use Rattle.mcs_core.specs.System.{thread_part};
 ghost use Rattle.mcs_core.specs.Turn.{each, applied, charged, obeys, stops_to_front};
 ghost use Rattle.mcs_core.specs.Orders.{IsPlanned, ArePlanned, AreByMoment, due_now, to_come};
-ghost use Rattle.mcs_core.specs.Sound.{IsSound, has_context};
+ghost use Rattle.mcs_core.specs.Sound.{IsSound};
 ghost use Rattle.mcs_core.specs.Sound.Phase.{PastTick};
 ghost use Rattle.mcs_core.specs.WellFormed.{IsWellFormed};
 
@@ -19,19 +17,6 @@ use mcs_control::Order;
 use mcs_ticks::{CoreId, NoMemory, Row, Tick, What, Why};
 
 impl Local {
-    /// The order changes its context.
-    fn apply(&mut self, system: &SystemParts, c: CoreId, t: Tick, order: Order)
-        requires well_formed { IsWellFormed system.now }
-        requires planned { IsPlanned system.now c order }
-        requires has { has_context order.context self.old ≡ true }
-        requires same_kind { kind_of order.config ≡ kind_of (context_of self.old order.context).config }
-        requires soon { t ≤ 2 ^ 40 }
-        ensures { self.new ≡ applied by_priority system.now t order self.old }
-    {
-        let _core = (system.cores, c);
-        self.order_context(order.context, t, order.config);
-    }
-
     /// An order for the context of the thread that runs: the thread is charged, and stops.
     fn obey_running(
         &mut self,
@@ -48,13 +33,13 @@ impl Local {
         requires its { (thread_part system.now chosen.thread).context ≡ order.context }
         requires planned { IsPlanned system.now c order }
         requires soon { t ≤ 2 ^ 40 }
-        ensures core { OnOk result (self.new ≡ (stops_to_front by_priority system.now t chosen.thread OrderWhy chosen.using (applied by_priority system.now t order (charged system.now chosen.thread chosen.using self.old))).core) }
-        ensures rows { OnOk result (rows.new.items ≡ rows.old.items ++ stamped c t (stops_to_front by_priority system.now t chosen.thread OrderWhy chosen.using (applied by_priority system.now t order (charged system.now chosen.thread chosen.using self.old))).rows) }
+        ensures core { OnOk result (self.new ≡ (stops_to_front by_priority system.now t chosen.thread OrderWhy chosen.using (applied t order (charged system.now chosen.thread chosen.using self.old))).core) }
+        ensures rows { OnOk result (rows.new.items ≡ rows.old.items ++ stamped c t (stops_to_front by_priority system.now t chosen.thread OrderWhy chosen.using (applied t order (charged system.now chosen.thread chosen.using self.old))).rows) }
     {
         let x = chosen.thread;
         let used = chosen.using;
         self.charge(system, x, used);
-        self.apply(system, c, t, order);
+        self.apply(t, order);
         self.stop_to_front(system, c, t, x, Why::Order, used, rows)
     }
 
@@ -81,7 +66,7 @@ impl Local {
                 return self.obey_running(system, c, t, order, chosen, rows);
             }
         }
-        self.apply(system, c, t, order);
+        self.apply(t, order);
         Ok(())
     }
 

@@ -1,7 +1,6 @@
 ghost use Rattle.std.specs.Prelude.{◌≡◌, ◌^◌, ◌≤◌, ◌++◌, ◌<◌, OnOk, length};
 ghost use Rattle.mcs_ticks.specs.Queue.{by_priority};
 ghost use Rattle.mcs_core.specs.Run.{stamped};
-ghost use Rattle.mcs_core.specs.Core.{note_of};
 ghost use Rattle.mcs_core.specs.Turn.{unblocked, wakes, posts};
 ghost use Rattle.mcs_core.specs.Sound.{IsFree, WakesFree};
 
@@ -16,7 +15,7 @@ impl Local {
     pub(crate) fn unblock(&mut self, system: &SystemParts, t: Tick, x: ThreadId)
         requires free { IsFree system.now x self.old }
         requires soon { t ≤ 2 ^ 40 }
-        ensures core { self.new ≡ unblocked by_priority system.now t x self.old }
+        ensures core { self.new ≡ unblocked system.now t x self.old }
         ensures free { IsFree system.now x self.new }
     {
         self.wake_context(system.thread_at(x).context, t);
@@ -37,7 +36,7 @@ impl Local {
         ensures rows { OnOk result (rows.new.items ≡ rows.old.items ++ stamped c t (wakes by_priority system.now t x self.old).rows) }
     {
         self.unblock(system, t, x);
-        self.give(system, t, x);
+        self.give(t, x);
         self.move_on(system, c, t, x, rows)?;
         let until = self.date_of(system, t, x);
         self.enter_back(system, x, until);

@@ -1,4 +1,4 @@
-ghost use Rattle.std.specs.Prelude.{◌≡◌, ◌++◌, ◌<◌, OnOk, length};
+ghost use Rattle.std.specs.Prelude.{◌≡◌, ◌++◌, ◌<◌, OnOk};
 ghost use Rattle.mcs_ticks.specs.Queue.{by_priority};
 ghost use Rattle.mcs_ticks.specs.declared.row.What.TheVariants.{Stop};
 ghost use Rattle.mcs_core.specs.Run.{stamped};
@@ -51,8 +51,8 @@ impl Local {
         rows: &mut Vec<Row>,
     ) -> Result<(), NoMemory>
         requires { CanStop system.now x ticks self.old }
-        ensures core { OnOk result (self.new ≡ (stops by_priority system.now t x why ticks standing self.old).core) }
-        ensures rows { OnOk result (rows.new.items ≡ rows.old.items ++ stamped c t (stops by_priority system.now t x why ticks standing self.old).rows) }
+        ensures core { OnOk result (self.new ≡ (stops system.now x why ticks standing self.old).core) }
+        ensures rows { OnOk result (rows.new.items ≡ rows.old.items ++ stamped c t (stops system.now x why ticks standing self.old).rows) }
     {
         self.charge(system, x, ticks);
         self.leave();
@@ -112,8 +112,8 @@ impl Local {
         rows: &mut Vec<Row>,
     ) -> Result<(), NoMemory>
         requires { CanStop system.now x used self.old }
-        ensures core { OnOk result (self.new ≡ (may_stop by_priority system.now c t x used why self.old).core) }
-        ensures rows { OnOk result (rows.new.items ≡ rows.old.items ++ stamped c t (may_stop by_priority system.now c t x used why self.old).rows) }
+        ensures core { OnOk result (self.new ≡ (may_stop by_priority system.now t x used why self.old).core) }
+        ensures rows { OnOk result (rows.new.items ≡ rows.old.items ++ stamped c t (may_stop by_priority system.now t x used why self.old).rows) }
     {
         match why {
             Why::Done => self.stop(system, c, t, x, Why::Done, used, Standing::Done, rows),

@@ -2,10 +2,9 @@ ghost use Rattle.std.specs.Prelude.{◌≡◌, ◌^◌, ◌≤◌, ◌<◌, ◌+
 ghost use Rattle.mcs_ticks.specs.Queue.{by_priority};
 ghost use Rattle.mcs_core.specs.Run.{stamped};
 ghost use Rattle.mcs_notify.specs.Note.{waited};
-ghost use Rattle.mcs_core.specs.Core.{thread_of, note_of};
-ghost use Rattle.mcs_core.specs.System.{note_part, delay_between};
-ghost use Rattle.mcs_core.specs.Turn.{counts, mail_to, signals, waits_as, takes_effect, item_of, stop_after, after_move, after_waited, finishes, tick};
-ghost use Rattle.mcs_core.specs.Sound.{times_waiting, IsPlaced, IsFree, CanStop, WakesFree, IsSound};
+ghost use Rattle.mcs_core.specs.Core.{note_of};
+ghost use Rattle.mcs_core.specs.Turn.{counts, signals, waits_as, takes_effect, item_of, stop_after, after_move, after_waited, finishes, tick};
+ghost use Rattle.mcs_core.specs.Sound.{times_waiting, IsPlaced, IsFree, WakesFree, IsSound};
 ghost use Rattle.mcs_core.specs.Sound.Phase.{Between, InTick};
 ghost use Rattle.mcs_core.specs.WellFormed.{IsWellFormed};
 ghost use Rattle.mcs_core.specs.Items.{IsNoted, CanTakeEffect};
@@ -59,25 +58,17 @@ impl Local {
     }
 
     /// Which stop follows the thread's item when it is finished: `Spent` means none but that of a spent head.
-    fn stop_after(
-        &self,
-        system: &SystemParts,
-        c: CoreId,
-        t: Tick,
-        x: ThreadId,
-        item: &Option<Item>,
-    ) -> Why
+    fn stop_after(&self, system: &SystemParts, x: ThreadId, item: &Option<Item>) -> Why
         requires known { x < length self.now.threads }
         requires placed { IsPlaced system.now x self.now }
         requires noted { IsNoted (length self.now.notes) item.now }
-        ensures { result ≡ stop_after by_priority system.now c t x item.now self.now }
+        ensures { result ≡ stop_after system.now x item.now self.now }
     {
-        let _core = c;
         match item {
-            Some(Item::Yield) => after_move(self.move_of(system, t, x), Why::Yield),
+            Some(Item::Yield) => after_move(self.move_of(system, x), Why::Yield),
             Some(Item::Wait(note)) => self.stop_at_wait(*note),
-            Some(Item::Compute(_)) => after_move(self.move_of(system, t, x), Why::Spent),
-            Some(Item::Signal(_, _)) => after_move(self.move_of(system, t, x), Why::Spent),
+            Some(Item::Compute(_)) => after_move(self.move_of(system, x), Why::Spent),
+            Some(Item::Signal(_, _)) => after_move(self.move_of(system, x), Why::Spent),
             None => Why::Spent,
         }
     }
@@ -149,7 +140,7 @@ impl Local {
             Waited::Got(word) => {
                 let thread = x;
                 tell(rows, c, t, What::Got { thread, note, word })?;
-                self.give(system, t, x);
+                self.give(t, x);
                 self.move_on(system, c, t, x, rows)
             }
             Waited::Blocks => Ok(()),
@@ -201,12 +192,12 @@ impl Local {
         requires sound { IsSound system.now c t InTick None self.old }
         requires running { self.old.running ≡ Some (record { thread = x; using = used }) }
         requires soon { t ≤ 2 ^ 40 }
-        ensures core { OnOk result (self.new ≡ (finishes by_priority system.now c t x used (item_of system.now t x self.old) self.old).core) }
-        ensures rows { OnOk result (rows.new.items ≡ rows.old.items ++ stamped c t (finishes by_priority system.now c t x used (item_of system.now t x self.old) self.old).rows) }
-        ensures mails { OnOk result (mails.new.items ≡ mails.old.items ++ (finishes by_priority system.now c t x used (item_of system.now t x self.old) self.old).mails) }
+        ensures core { OnOk result (self.new ≡ (finishes by_priority system.now c t x used (item_of system.now x self.old) self.old).core) }
+        ensures rows { OnOk result (rows.new.items ≡ rows.old.items ++ stamped c t (finishes by_priority system.now c t x used (item_of system.now x self.old) self.old).rows) }
+        ensures mails { OnOk result (mails.new.items ≡ mails.old.items ++ (finishes by_priority system.now c t x used (item_of system.now x self.old) self.old).mails) }
     {
-        let item = self.item_of(system, t, x);
-        let why = self.stop_after(system, c, t, x, &item);
+        let item = self.item_of(system, x);
+        let why = self.stop_after(system, x, &item);
         self.take_effect(system, c, t, x, &item, rows, mails)?;
         self.may_stop(system, c, t, x, used, why, rows)
     }

@@ -65,11 +65,11 @@ module _ (system : System) (t : ℕ) where
   moves-alike x AllDone k = refl
 
   moves_on-alike : (x : ℕ) (k : Core) → sorted_turn (turns.moves_on system t x k) ≡ turns.moves_on system t x (with_queue_sorted k)
-  moves_on-alike x k = moves-alike x (turns.move_of system t x k) k
+  moves_on-alike x k = moves-alike x (turns.move_of system x k) k
 
   waits_as-alike : (x note : ℕ) (w : Waited) (k : Core) → sorted_turn (turns.waits_as system t x note w k) ≡ turns.waits_as system t x note w (with_queue_sorted k)
   waits_as-alike x note (Got word) k =
-      says_first (row.Got x note word) (turns.given system t x (with_note note (after_wait (Got word) (turns.queued system x) (note_of k note)) k))
+      says_first (row.Got x note word) (turns.given t x (with_note note (after_wait (Got word) (turns.queued system x) (note_of k note)) k))
       (turns.moves_on system t x) (turns.moves_on system t x) (moves_on-alike x)
   waits_as-alike x note Blocks k = refl
 
@@ -104,7 +104,7 @@ module _ (system : System) (t : ℕ) where
   wakes-alike x k =
       then_part _ _ (λ core. silent (turns.enters_back in_one_list system x (turns.date_of system t x core) core))
       (λ core. silent (turns.enters_back by_priority system x (turns.date_of system t x core) core))
-      (moves_on-alike system t x (turns.given system t x (turns.unblocked in_one_list system t x k)))
+      (moves_on-alike system t x (turns.given t x (turns.unblocked system t x k)))
       (λ core. ap silent (enters_back-alike system x (turns.date_of system t x core) core))
 
   posts_as-alike : (note : ℕ) (p : Posted) (k : Core) → sorted_turn (turns.posts_as in_one_list system t note p k) ≡ turns.posts_as by_priority system t note p (with_queue_sorted k)
@@ -126,19 +126,19 @@ module _ (system : System) (t : ℕ) where
   orders_running-alike order None k = refl
   orders_running-alike order (Some chosen) k =
       by_test ((turns.part_of system chosen.thread).context == order.context) _ _ _ _
-      (stops_to_front-alike chosen.thread why.Order chosen.using (turns.applied in_one_list system t order (turns.charged system chosen.thread chosen.using k))) refl
+      (stops_to_front-alike chosen.thread why.Order chosen.using (turns.applied t order (turns.charged system chosen.thread chosen.using k))) refl
 
   obeys-alike : (order : Order) (k : Core) → sorted_turn (turns.obeys in_one_list system t order k) ≡ turns.obeys by_priority system t order (with_queue_sorted k)
   obeys-alike order k =
       says_first (row.Order order.context) k
       (turns.orders_running in_one_list system t order k.running) (turns.orders_running by_priority system t order k.running) (orders_running-alike order k.running)
 
-  released-alike : (due : Dated) (k : Core) → sorted_turn (turns.released in_one_list system t due k) ≡ turns.released by_priority system t due (with_queue_sorted k)
+  released-alike : (due : Dated) (k : Core) → sorted_turn (turns.released in_one_list system due k) ≡ turns.released by_priority system due (with_queue_sorted k)
   released-alike due k = ap (says (row.Release due.thread)) (enters_back-alike system due.thread None k)
 
   releases-alike : (k : Core) → sorted_turn (turns.releases in_one_list system t k) ≡ turns.releases by_priority system t (with_queue_sorted k)
   releases-alike k =
-      each_part (turns.released in_one_list system t) (turns.released by_priority system t) released-alike (filter (turns.is_due in_one_list system t) k.releases) _
+      each_part (turns.released in_one_list system) (turns.released by_priority system) released-alike (filter (turns.is_due t) k.releases) _
 
   preempts_by-alike : (o : Option Chosen) (best : Option Queued) (k : Core) →
       sorted_turn (turns.preempts_by in_one_list system t o best k) ≡ turns.preempts_by by_priority system t o best (with_queue_sorted k)
@@ -179,7 +179,7 @@ module _ (system : System) (c t : ℕ) where
       sent queue l =
           if (note_part system note).core == c
           then turns.posts queue system t note badge l
-          else record { core = l; rows = []; mails = turns.mail_to queue system c t note badge ∷ [] }
+          else record { core = l; rows = []; mails = turns.mail_to system c t note badge ∷ [] }
 
   takes_effect-alike : (x : ℕ) (item : Option Item) (k : Core) →
       sorted_turn (turns.takes_effect in_one_list system c t x item k) ≡ turns.takes_effect by_priority system c t x item (with_queue_sorted k)
@@ -191,12 +191,12 @@ module _ (system : System) (c t : ℕ) where
   takes_effect-alike x None k = refl
 
   spent-alike : (x using : ℕ) (k : Core) →
-      sorted_turn (turns.may_stop in_one_list system c t x using why.Spent k) ≡ turns.may_stop by_priority system c t x using why.Spent (with_queue_sorted k)
+      sorted_turn (turns.may_stop in_one_list system t x using why.Spent k) ≡ turns.may_stop by_priority system t x using why.Spent (with_queue_sorted k)
   spent-alike x using k =
       by_test (using == head_amount (turns.its_context system x k)) _ _ _ _ (stops_to_back-alike system t x why.Spent using k) refl
 
   may_stop-alike : (x using : ℕ) (cause : Why) (k : Core) →
-      sorted_turn (turns.may_stop in_one_list system c t x using cause k) ≡ turns.may_stop by_priority system c t x using cause (with_queue_sorted k)
+      sorted_turn (turns.may_stop in_one_list system t x using cause k) ≡ turns.may_stop by_priority system t x using cause (with_queue_sorted k)
   may_stop-alike x using why.Done k = refl
   may_stop-alike x using why.Wait k = refl
   may_stop-alike x using why.Yield k = stops_to_back-alike system t x why.Yield (head_amount (turns.its_context system x k)) k
@@ -205,7 +205,7 @@ module _ (system : System) (c t : ℕ) where
   may_stop-alike x using why.Order k = spent-alike x using k
 
   stop_after-alike : (x : ℕ) (item : Option Item) (k : Core) →
-      turns.stop_after in_one_list system c t x item k ≡ turns.stop_after by_priority system c t x item (with_queue_sorted k)
+      turns.stop_after system x item k ≡ turns.stop_after system x item (with_queue_sorted k)
   stop_after-alike x (Some (Signal note badge)) k = refl
   stop_after-alike x (Some (Wait note)) k = refl
   stop_after-alike x (Some (Compute ticks)) k = refl
@@ -215,15 +215,15 @@ module _ (system : System) (c t : ℕ) where
   finishes-alike : (x using : ℕ) (item : Option Item) (k : Core) →
       sorted_turn (turns.finishes in_one_list system c t x using item k) ≡ turns.finishes by_priority system c t x using item (with_queue_sorted k)
   finishes-alike x using item k =
-      then_part _ _ (turns.may_stop in_one_list system c t x using (turns.stop_after in_one_list system c t x item k))
-      (turns.may_stop by_priority system c t x using (turns.stop_after in_one_list system c t x item k))
-      (takes_effect-alike x item k) (may_stop-alike x using (turns.stop_after in_one_list system c t x item k))
-      ∙ ap (λ cause. turns.takes_effect by_priority system c t x item (with_queue_sorted k) followed_by turns.may_stop by_priority system c t x using cause) (stop_after-alike x item k)
+      then_part _ _ (turns.may_stop in_one_list system t x using (turns.stop_after system x item k))
+      (turns.may_stop by_priority system t x using (turns.stop_after system x item k))
+      (takes_effect-alike x item k) (may_stop-alike x using (turns.stop_after system x item k))
+      ∙ ap (λ cause. turns.takes_effect by_priority system c t x item (with_queue_sorted k) followed_by turns.may_stop by_priority system t x using cause) (stop_after-alike x item k)
 
   after_count-alike : (x using : ℕ) (k : Core) →
       sorted_turn (turns.after_count in_one_list system c t x using k) ≡ turns.after_count by_priority system c t x using (with_queue_sorted k)
   after_count-alike x using k =
-      by_test ((thread_of k x).place.left == 0) _ _ _ _ (finishes-alike x using (turns.item_of system t x k) k) (spent-alike x using k)
+      by_test ((thread_of k x).place.left == 0) _ _ _ _ (finishes-alike x using (turns.item_of system x k) k) (spent-alike x using k)
 
   tick_of-alike : (o : Option Chosen) (k : Core) → sorted_turn (turns.tick_of in_one_list system c t o k) ≡ turns.tick_of by_priority system c t o (with_queue_sorted k)
   tick_of-alike None k = refl

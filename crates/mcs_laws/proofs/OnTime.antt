@@ -164,20 +164,20 @@ module _ (system : System) (t x : ℕ) where
 
   -- a thread wakes
   wakes-on_time : (y : ℕ) (k : Core) → (Owns y → places x k ≡ 0) → OnTime k → OnTime (turns.wakes by_priority system t y k).core
-  wakes-on_time y k none h = enters_back-on_time y (turns.date_of system t y after) after (fits y after) (moves-on_time y (turns.move_of system t y given) given (by (same (thread_part system y).context own_context)))
+  wakes-on_time y k none h = enters_back-on_time y (turns.date_of system t y after) after (fits y after) (moves-on_time y (turns.move_of system y given) given (by (same (thread_part system y).context own_context)))
     where
       unblocked : Core
-      unblocked = turns.unblocked by_priority system t y k
+      unblocked = turns.unblocked system t y k
 
       given : Core
-      given = turns.given system t y (turns.unblocked by_priority system t y k)
+      given = turns.given t y (turns.unblocked system t y k)
 
       after : Core
       after = (turns.moves_on system t y given).core
 
-      by : Same (thread_part system y).context own_context → OnTime (turns.unblocked by_priority system t y k)
+      by : Same (thread_part system y).context own_context → OnTime (turns.unblocked system t y k)
       by (Are e own) = absent x _ (suc t) k.running k.ready k.releases (omega (arith, none own)) (omega (arith, none own)) (omega (arith, none own))
-      by (Differ e other) = moved (head k) (head (turns.unblocked by_priority system t y k)) (suc t) k.running k.ready k.releases (ap head_moment (sym (other-moment y k _ other))) h
+      by (Differ e other) = moved (head k) (head (turns.unblocked system t y k)) (suc t) k.running k.ready k.releases (ap head_moment (sym (other-moment y k _ other))) h
 
   -- a post: whom it wakes leaves the waiters
   woke-leaves : (note badge y word z : ℕ) (k : Core) → posted badge (note_of k note) ≡ Woke y word →
@@ -242,11 +242,11 @@ module _ (system : System) (t x : ℕ) where
   stops_to_front-on_time y cause n k h = enters_front-on_time y (turns.date_of system t y k) (off k) (fits y (off k)) h
 
   -- an order for another context
-  applied-moment : (order : Order) (k : Core) → order.context ≢ own_context → head k ≡ head (turns.applied by_priority system t order k)
+  applied-moment : (order : Order) (k : Core) → order.context ≢ own_context → head k ≡ head (turns.applied t order k)
   applied-moment order k e = ap head_moment (sym (set-other own_context order.context k.contexts _ e))
 
-  applied-on_time : (order : Order) (k : Core) → order.context ≢ own_context → OnTime k → OnTime (turns.applied by_priority system t order k)
-  applied-on_time order k e h = moved (head k) (head (turns.applied by_priority system t order k)) (suc t) k.running k.ready k.releases (applied-moment order k e) h
+  applied-on_time : (order : Order) (k : Core) → order.context ≢ own_context → OnTime k → OnTime (turns.applied t order k)
+  applied-on_time order k e h = moved (head k) (head (turns.applied t order k)) (suc t) k.running k.ready k.releases (applied-moment order k e) h
 
   by_test : (b : Bool) (u v : Turn) → OnTime u.core → OnTime v.core → OnTime (cond b u v).core
   by_test true u v p q = p
@@ -258,9 +258,9 @@ module _ (system : System) (t x : ℕ) where
   orders_running-on_time order (Some chosen) k e other alone h =
       let charged = turns.charged system chosen.thread chosen.using k in
       by_test ((turns.part_of system chosen.thread).context == order.context)
-      (turns.stops_to_front by_priority system t chosen.thread why.Order chosen.using (turns.applied by_priority system t order charged))
-      (silent (turns.applied by_priority system t order k))
-      (stops_to_front-on_time chosen.thread why.Order chosen.using (turns.applied by_priority system t order charged)
+      (turns.stops_to_front by_priority system t chosen.thread why.Order chosen.using (turns.applied t order charged))
+      (silent (turns.applied t order k))
+      (stops_to_front-on_time chosen.thread why.Order chosen.using (turns.applied t order charged)
       (applied-on_time order (off charged) other (charged-on_time chosen.thread chosen.using k (runs-alone chosen.thread chosen.using k e alone) h)))
       (applied-on_time order k other h)
 
@@ -291,15 +291,15 @@ module _ (system : System) (t x : ℕ) where
   abbrev HaveCome : ℕ → List Dated → Type 0
   HaveCome m releases = AllByRecursion (λ (dated : Dated). dated.thread ≡ x → m < suc t) releases
 
-  due-come : (m : ℕ) (releases : List Dated) → AreNotBefore m releases → HaveCome m (filter (turns.is_due by_priority system t) releases)
+  due-come : (m : ℕ) (releases : List Dated) → AreNotBefore m releases → HaveCome m (filter (turns.is_due t) releases)
   due-come m [] h = tt
   due-come m (dated ∷ others) h = by (nat_le dated.date t) refl (due-come m others h.1)
     where
       within : (a b : ℕ) → nat_le a b ≡ true → a ≤ b
       within a b e = grind (arith, nat_tests)
 
-      by : (b : Bool) → nat_le dated.date t ≡ b → HaveCome m (filter (turns.is_due by_priority system t) others) →
-          HaveCome m (cond b (dated ∷ filter (turns.is_due by_priority system t) others) (filter (turns.is_due by_priority system t) others))
+      by : (b : Bool) → nat_le dated.date t ≡ b → HaveCome m (filter (turns.is_due t) others) →
+          HaveCome m (cond b (dated ∷ filter (turns.is_due t) others) (filter (turns.is_due t) others))
       by true e i = (λ own. omega (arith, within dated.date t e, h.0 own), i)
       by false e i = i
 
@@ -311,16 +311,16 @@ module _ (system : System) (t x : ℕ) where
       by true i = (h.0, i)
       by false i = i
 
-  each-released-on_time : (due : List Dated) (k : Core) → HaveCome (head k) due → OnTime k → OnTime (each (turns.released by_priority system t) due k).core
+  each-released-on_time : (due : List Dated) (k : Core) → HaveCome (head k) due → OnTime k → OnTime (each (turns.released by_priority system) due k).core
   each-released-on_time [] k come h = h
   each-released-on_time (dated ∷ due) k come h =
       each-released-on_time due (turns.enters_back by_priority system dated.thread None k) come.1 (enters_back-on_time dated.thread None k come.0 h)
 
   releases-on_time : (k : Core) → OnTime k → OnTime (turns.releases by_priority system t k).core
   releases-on_time k h =
-      each-released-on_time (filter (turns.is_due by_priority system t) k.releases) (record k { releases = filter (λ dated. not (turns.is_due by_priority system t dated)) k.releases })
+      each-released-on_time (filter (turns.is_due t) k.releases) (record k { releases = filter (λ dated. not (turns.is_due t dated)) k.releases })
       (due-come (head k) k.releases h.pends)
-      (record { runs = h.runs; ready = h.ready; pends = left-not_before (λ dated. not (turns.is_due by_priority system t dated)) (head k) k.releases h.pends })
+      (record { runs = h.runs; ready = h.ready; pends = left-not_before (λ dated. not (turns.is_due t dated)) (head k) k.releases h.pends })
 
   -- the choice
   preempts_by-on_time : (o : Option Chosen) (best : Option Queued) (k : Core) → k.running ≡ o → IsAlone k → OnTime k → OnTime (turns.preempts_by by_priority system t o best k).core
@@ -362,22 +362,22 @@ module _ (system : System) (c t x : ℕ) where
   signals-on_time : (y note badge : ℕ) (k : Core) → Alone k → On k → On (turns.signals by_priority system c t y note badge k).core
   signals-on_time y note badge k alone h =
       by_test system t x ((note_part system note).core == c) (turns.posts by_priority system t note badge k)
-      (record { core = k; rows = []; mails = turns.mail_to by_priority system c t note badge ∷ [] })
+      (record { core = k; rows = []; mails = turns.mail_to system c t note badge ∷ [] })
       (posts-on_time system t x note badge k alone h) h
 
   waits_as-on_time : (y note : ℕ) (w : Waited) (k : Core) → On k → On (turns.waits_as system t y note w k).core
   waits_as-on_time y note (Got word) k h =
-      let given = turns.given system t y (with_note note (after_wait (Got word) (turns.queued system y) (note_of k note)) k) in
-      moves-on_time system t x y (turns.move_of system t y given) given h
+      let given = turns.given t y (with_note note (after_wait (Got word) (turns.queued system y) (note_of k note)) k) in
+      moves-on_time system t x y (turns.move_of system y given) given h
   waits_as-on_time y note Blocks k h = h
 
   takes_effect-on_time : (y : ℕ) (item : Option Item) (k : Core) → Alone k → On k → On (turns.takes_effect by_priority system c t y item k).core
   takes_effect-on_time y (Some (Signal note badge)) k alone h =
       let sent = (turns.signals by_priority system c t y note badge k).core in
-      moves-on_time system t x y (turns.move_of system t y sent) sent (signals-on_time y note badge k alone h)
+      moves-on_time system t x y (turns.move_of system y sent) sent (signals-on_time y note badge k alone h)
   takes_effect-on_time y (Some (Wait note)) k alone h = waits_as-on_time y note (waited (note_of k note)) k h
-  takes_effect-on_time y (Some (Compute ticks)) k alone h = moves-on_time system t x y (turns.move_of system t y k) k h
-  takes_effect-on_time y (Some Yield) k alone h = moves-on_time system t x y (turns.move_of system t y k) k h
+  takes_effect-on_time y (Some (Compute ticks)) k alone h = moves-on_time system t x y (turns.move_of system y k) k h
+  takes_effect-on_time y (Some Yield) k alone h = moves-on_time system t x y (turns.move_of system y k) k h
   takes_effect-on_time y None k alone h = h
 
   -- the thread that runs is in no queue after the effect of its item
@@ -387,13 +387,13 @@ module _ (system : System) (c t x : ℕ) where
   moves_on-free : (y using : ℕ) (k from : Core) → k.running ≡ Some (record { thread = y; using = using }) → Alone k → from.running ≡ k.running → ((z : ℕ) → places z from ≤ places z k) →
       Free y (turns.moves_on system t y from).core
   moves_on-free y using k from e alone f l =
-      still-free y using k (turns.moves_on system t y from).core e alone (held.moves-running system t y y (turns.move_of system t y from) from ∙ f)
+      still-free y using k (turns.moves_on system t y from).core e alone (held.moves-running system t y y (turns.move_of system y from) from ∙ f)
       (λ z. omega (arith, held.moves_on-held system c t z y from, l z))
 
   waits_as-free : (y using note : ℕ) (w : Waited) (k : Core) → k.running ≡ Some (record { thread = y; using = using }) → Alone k → Free y (turns.waits_as system t y note w k).core
   waits_as-free y using note (Got word) k e alone =
-      let given = turns.given system t y (with_note note (after_wait (Got word) (turns.queued system y) (note_of k note)) k) in
-      still-free y using k (turns.waits_as system t y note (Got word) k).core e alone (held.moves-running system t y y (turns.move_of system t y given) given) (λ z. held.waits_as-got system c t z y note word k)
+      let given = turns.given t y (with_note note (after_wait (Got word) (turns.queued system y) (note_of k note)) k) in
+      still-free y using k (turns.waits_as system t y note (Got word) k).core e alone (held.moves-running system t y y (turns.move_of system y given) given) (λ z. held.waits_as-got system c t z y note word k)
   waits_as-free y using note Blocks k e alone = λ own. let f = runs-alone system t x y using k e alone own in record { same = f.same; ready = f.ready; releases = f.releases }
 
   effect-free : (y using : ℕ) (item : Option Item) (k : Core) → k.running ≡ Some (record { thread = y; using = using }) → Alone k → Free y (turns.takes_effect by_priority system c t y item k).core
@@ -404,12 +404,12 @@ module _ (system : System) (c t x : ℕ) where
   effect-free y using (Some Yield) k e alone = moves_on-free y using k k e alone refl (λ z. omega arith)
   effect-free y using None k e alone = runs-alone system t x y using k e alone
 
-  spent-on_time : (y using : ℕ) (k : Core) → Free y k → On k → On (turns.may_stop by_priority system c t y using why.Spent k).core
+  spent-on_time : (y using : ℕ) (k : Core) → Free y k → On k → On (turns.may_stop by_priority system t y using why.Spent k).core
   spent-on_time y using k free h =
       by_test system t x (using == head_amount (turns.its_context system y k)) (turns.stops_to_back by_priority system t y why.Spent using k) (silent k)
       (stops_to_back-on_time system t x y why.Spent using k free h) h
 
-  may_stop-on_time : (y using : ℕ) (cause : Why) (k : Core) → Free y k → On k → On (turns.may_stop by_priority system c t y using cause k).core
+  may_stop-on_time : (y using : ℕ) (cause : Why) (k : Core) → Free y k → On k → On (turns.may_stop by_priority system t y using cause k).core
   may_stop-on_time y using why.Done k free h = charged-on_time system t x y using k free h
   may_stop-on_time y using why.Wait k free h = charged-on_time system t x y using k free h
   may_stop-on_time y using why.Yield k free h = stops_to_back-on_time system t x y why.Yield (head_amount (turns.its_context system y k)) k free h
@@ -419,9 +419,9 @@ module _ (system : System) (c t x : ℕ) where
 
   after_count-on_time : (y using : ℕ) (k : Core) → k.running ≡ Some (record { thread = y; using = using }) → Alone k → On k → On (turns.after_count by_priority system c t y using k).core
   after_count-on_time y using k e alone h =
-      let item = turns.item_of system t y k in
-      by_test system t x ((thread_of k y).place.left == 0) (turns.finishes by_priority system c t y using item k) (turns.may_stop by_priority system c t y using why.Spent k)
-      (may_stop-on_time y using (turns.stop_after by_priority system c t y item k) (turns.takes_effect by_priority system c t y item k).core (effect-free y using item k e alone) (takes_effect-on_time y item k alone h))
+      let item = turns.item_of system y k in
+      by_test system t x ((thread_of k y).place.left == 0) (turns.finishes by_priority system c t y using item k) (turns.may_stop by_priority system t y using why.Spent k)
+      (may_stop-on_time y using (turns.stop_after system y item k) (turns.takes_effect by_priority system c t y item k).core (effect-free y using item k e alone) (takes_effect-on_time y item k alone h))
       (spent-on_time y using k (runs-alone system t x y using k e alone) h)
 
   -- before the turn the core is on time up to now, and after the end of the tick for one moment more

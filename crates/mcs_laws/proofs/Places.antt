@@ -184,11 +184,11 @@ module _ (system : System) (t y : ℕ) where
   wakes-held : (x : ℕ) (k : Core) → held (turns.wakes by_priority system t x k).core ≡ held k + one y x
   wakes-held x k =
       enters_back-held x _ _
-      ∙ ap (λ n. n + one y x) (moves-held x (turns.move_of system t x (turns.given system t x (turns.unblocked by_priority system t x k))) (turns.given system t x (turns.unblocked by_priority system t x k)))
+      ∙ ap (λ n. n + one y x) (moves-held x (turns.move_of system x (turns.given t x (turns.unblocked system t x k))) (turns.given t x (turns.unblocked system t x k)))
 
   wakes-running : (x : ℕ) (k : Core) → (turns.wakes by_priority system t x k).core.running ≡ k.running
   wakes-running x k =
-      enters_back-running x _ _ ∙ moves-running x (turns.move_of system t x (turns.given system t x (turns.unblocked by_priority system t x k))) (turns.given system t x (turns.unblocked by_priority system t x k))
+      enters_back-running x _ _ ∙ moves-running x (turns.move_of system x (turns.given t x (turns.unblocked system t x k))) (turns.given t x (turns.unblocked system t x k))
 
   posts_as-held : (note badge : ℕ) (p : Posted) (k : Core) → posted badge (note_of k note) ≡ p → held (turns.posts_as by_priority system t note p k).core ≤ held k
   posts_as-held note badge (Woke x word) k e =
@@ -233,9 +233,9 @@ module _ (system : System) (t y : ℕ) where
   orders_running-held order None k e = omega arith
   orders_running-held order (Some chosen) k e =
       by_test ((turns.part_of system chosen.thread).context == order.context) k
-      (turns.stops_to_front by_priority system t chosen.thread why.Order chosen.using (turns.applied by_priority system t order (turns.charged system chosen.thread chosen.using k)))
-      (silent (turns.applied by_priority system t order k))
-      (stops_to_front-held chosen.thread chosen.using chosen.using why.Order (turns.applied by_priority system t order (turns.charged system chosen.thread chosen.using k)) e)
+      (turns.stops_to_front by_priority system t chosen.thread why.Order chosen.using (turns.applied t order (turns.charged system chosen.thread chosen.using k)))
+      (silent (turns.applied t order k))
+      (stops_to_front-held chosen.thread chosen.using chosen.using why.Order (turns.applied t order (turns.charged system chosen.thread chosen.using k)) e)
       (omega arith)
 
   pub obeys-held : (order : Order) (k : Core) → held (turns.obeys by_priority system t order k).core ≤ held k
@@ -251,7 +251,7 @@ module _ (system : System) (t y : ℕ) where
       by true i = omega (arith, i, dated-cons y x xs, dated-cons y x (filter p xs))
       by false i = omega (arith, i, dated-cons y x xs, dated-cons y x (filter (λ x. not (p x)) xs))
 
-  released-held : (xs : List Dated) (k : Core) → held (each (turns.released by_priority system t) xs k).core ≡ held k + times_dated y xs
+  released-held : (xs : List Dated) (k : Core) → held (each (turns.released by_priority system) xs k).core ≡ held k + times_dated y xs
   released-held [] k = omega arith
   released-held (x ∷ xs) k =
       released-held xs (turns.enters_back by_priority system x.thread None k)
@@ -261,8 +261,8 @@ module _ (system : System) (t y : ℕ) where
   releases-held k =
       omega (
         arith,
-        released-held (filter (turns.is_due by_priority system t) k.releases) (record k { releases = filter (λ x. not (turns.is_due by_priority system t x)) k.releases }),
-        due-held (turns.is_due by_priority system t) k.releases,
+        released-held (filter (turns.is_due t) k.releases) (record k { releases = filter (λ x. not (turns.is_due t x)) k.releases }),
+        due-held (turns.is_due t) k.releases,
       )
 
   pub preempts_by-held : (o : Option Chosen) (best : Option Queued) (k : Core) → k.running ≡ o → held (turns.preempts_by by_priority system t o best k).core ≤ held k
@@ -284,8 +284,8 @@ module _ (system : System) (t y : ℕ) where
 module _ (system : System) (c t y : ℕ) where
   pub waits_as-got : (x note word : ℕ) (k : Core) → held system t y (turns.waits_as system t x note (Got word) k).core ≤ held system t y k
   waits_as-got x note word k =
-      let given = turns.given system t x (with_note note (after_wait (Got word) (turns.queued system x) (note_of k note)) k) in
-      omega (arith, moves-held system t y x (turns.move_of system t x given) given, set-waiting y k.notes note (after_wait (Got word) (turns.queued system x) (note_of k note)))
+      let given = turns.given t x (with_note note (after_wait (Got word) (turns.queued system x) (note_of k note)) k) in
+      omega (arith, moves-held system t y x (turns.move_of system x given) given, set-waiting y k.notes note (after_wait (Got word) (turns.queued system x) (note_of k note)))
 
   waits_as-blocks : (x note : ℕ) (k : Core) → held system t y (turns.waits_as system t x note Blocks k).core ≤ held system t y k + one y x
   waits_as-blocks x note k =
@@ -294,27 +294,27 @@ module _ (system : System) (c t y : ℕ) where
   pub signals-held : (x note badge : ℕ) (k : Core) → held system t y (turns.signals by_priority system c t x note badge k).core ≤ held system t y k
   signals-held x note badge k =
       by_test system t y ((note_part system note).core == c) k (turns.posts by_priority system t note badge k)
-      (record { core = k; rows = []; mails = turns.mail_to by_priority system c t note badge ∷ [] })
+      (record { core = k; rows = []; mails = turns.mail_to system c t note badge ∷ [] })
       (posts-held system t y note badge k) (omega arith)
 
   pub signals-running : (x note badge : ℕ) (k : Core) → (turns.signals by_priority system c t x note badge k).core.running ≡ k.running
   signals-running x note badge k = by ((note_part system note).core == c)
     where
-      by : (b : Bool) → (cond b (turns.posts by_priority system t note badge k) (record { core = k; rows = []; mails = turns.mail_to by_priority system c t note badge ∷ [] })).core.running ≡ k.running
+      by : (b : Bool) → (cond b (turns.posts by_priority system t note badge k) (record { core = k; rows = []; mails = turns.mail_to system c t note badge ∷ [] })).core.running ≡ k.running
       by true = posts_as-running system t y note (posted badge (note_of k note)) k
       by false = refl
 
   -- a stop of the running thread
   stops-held : (x using : ℕ) (cause : Why) (standing : Standing) (k : Core) → k.running ≡ Some (record { thread = x; using = using }) →
-      held system t y (turns.stops by_priority system t x cause using standing k).core + one y x ≡ held system t y k
+      held system t y (turns.stops system x cause using standing k).core + one y x ≡ held system t y k
   stops-held x using cause standing k e = off-held system t y (turns.charged system x using k) x using e
 
-  spent-held : (x using : ℕ) (k : Core) → k.running ≡ Some (record { thread = x; using = using }) → held system t y (turns.may_stop by_priority system c t x using why.Spent k).core ≤ held system t y k
+  spent-held : (x using : ℕ) (k : Core) → k.running ≡ Some (record { thread = x; using = using }) → held system t y (turns.may_stop by_priority system t x using why.Spent k).core ≤ held system t y k
   spent-held x using k e =
       by_test system t y (using == head_amount (turns.its_context system x k)) k (turns.stops_to_back by_priority system t x why.Spent using k) (silent k)
       (stops_to_back-held system t y x using using why.Spent k e) (omega arith)
 
-  may_stop-held : (x using : ℕ) (cause : Why) (k : Core) → k.running ≡ Some (record { thread = x; using = using }) → held system t y (turns.may_stop by_priority system c t x using cause k).core ≤ held system t y k
+  may_stop-held : (x using : ℕ) (cause : Why) (k : Core) → k.running ≡ Some (record { thread = x; using = using }) → held system t y (turns.may_stop by_priority system t x using cause k).core ≤ held system t y k
   may_stop-held x using why.Done k e = omega (arith, stops-held x using why.Done Done k e)
   may_stop-held x using why.Wait k e = omega (arith, stops-held x using why.Wait Blocked k e)
   may_stop-held x using why.Yield k e = stops_to_back-held system t y x using (head_amount (turns.its_context system x k)) why.Yield k e
@@ -324,41 +324,41 @@ module _ (system : System) (c t y : ℕ) where
 
   -- the item takes effect and at most one stop follows: a thread that joins the waiters stops
   then_stops : (x using : ℕ) (cause : Why) (k : Core) (effect : Turn) → k.running ≡ Some (record { thread = x; using = using }) → effect.core.running ≡ k.running → held system t y effect.core ≤ held system t y k →
-      held system t y (effect followed_by turns.may_stop by_priority system c t x using cause).core ≤ held system t y k
+      held system t y (effect followed_by turns.may_stop by_priority system t x using cause).core ≤ held system t y k
   then_stops x using cause k effect e f l = omega (arith, l, may_stop-held x using cause effect.core (f ∙ e))
 
   finishes-wait : (x using note : ℕ) (w : Waited) (k : Core) → k.running ≡ Some (record { thread = x; using = using }) →
-      held system t y (turns.waits_as system t x note w k followed_by turns.may_stop by_priority system c t x using (turns.after_waited w)).core ≤ held system t y k
+      held system t y (turns.waits_as system t x note w k followed_by turns.may_stop by_priority system t x using (turns.after_waited w)).core ≤ held system t y k
   finishes-wait x using note (Got word) k e =
       then_stops x using why.Spent k (turns.waits_as system t x note (Got word) k) e
-      (moves-running system t y x (turns.move_of system t x given) given) (waits_as-got x note word k)
+      (moves-running system t y x (turns.move_of system x given) given) (waits_as-got x note word k)
     where
       given : Core
-      given = turns.given system t x (with_note note (after_wait (Got word) (turns.queued system x) (note_of k note)) k)
+      given = turns.given t x (with_note note (after_wait (Got word) (turns.queued system x) (note_of k note)) k)
   finishes-wait x using note Blocks k e =
       omega (arith, waits_as-blocks x note k, stops-held x using why.Wait Blocked (turns.waits_as system t x note Blocks k).core e)
 
   pub moves_on-held : (x : ℕ) (k : Core) → held system t y (turns.moves_on system t x k).core ≤ held system t y k
-  moves_on-held x k = omega (arith, moves-held system t y x (turns.move_of system t x k) k)
+  moves_on-held x k = omega (arith, moves-held system t y x (turns.move_of system x k) k)
 
   finishes-held : (x using : ℕ) (item : Option Item) (k : Core) → k.running ≡ Some (record { thread = x; using = using }) →
       held system t y (turns.finishes by_priority system c t x using item k).core ≤ held system t y k
   finishes-held x using (Some (Signal note badge)) k e =
       let sent = turns.signals by_priority system c t x note badge k in
-      then_stops x using (turns.stop_after by_priority system c t x (Some (Signal note badge)) k) k (turns.takes_effect by_priority system c t x (Some (Signal note badge)) k) e
-      (moves-running system t y x (turns.move_of system t x sent.core) sent.core ∙ signals-running x note badge k)
+      then_stops x using (turns.stop_after system x (Some (Signal note badge)) k) k (turns.takes_effect by_priority system c t x (Some (Signal note badge)) k) e
+      (moves-running system t y x (turns.move_of system x sent.core) sent.core ∙ signals-running x note badge k)
       (omega (arith, moves_on-held x sent.core, signals-held x note badge k))
   finishes-held x using (Some (Wait note)) k e = finishes-wait x using note (waited (note_of k note)) k e
   finishes-held x using (Some (Compute ticks)) k e =
-      then_stops x using (turns.stop_after by_priority system c t x (Some (Compute ticks)) k) k (turns.moves_on system t x k) e (moves-running system t y x (turns.move_of system t x k) k) (moves_on-held x k)
+      then_stops x using (turns.stop_after system x (Some (Compute ticks)) k) k (turns.moves_on system t x k) e (moves-running system t y x (turns.move_of system x k) k) (moves_on-held x k)
   finishes-held x using (Some Yield) k e =
-      then_stops x using (turns.stop_after by_priority system c t x (Some Yield) k) k (turns.moves_on system t x k) e (moves-running system t y x (turns.move_of system t x k) k) (moves_on-held x k)
+      then_stops x using (turns.stop_after system x (Some Yield) k) k (turns.moves_on system t x k) e (moves-running system t y x (turns.move_of system x k) k) (moves_on-held x k)
   finishes-held x using None k e = then_stops x using why.Spent k (silent k) e refl (omega arith)
 
   after_count-held : (x using : ℕ) (k : Core) → k.running ≡ Some (record { thread = x; using = using }) → held system t y (turns.after_count by_priority system c t x using k).core ≤ held system t y k
   after_count-held x using k e =
-      by_test system t y ((thread_of k x).place.left == 0) k (turns.finishes by_priority system c t x using (turns.item_of system t x k) k) (turns.may_stop by_priority system c t x using why.Spent k)
-      (finishes-held x using (turns.item_of system t x k) k e) (spent-held x using k e)
+      by_test system t y ((thread_of k x).place.left == 0) k (turns.finishes by_priority system c t x using (turns.item_of system x k) k) (turns.may_stop by_priority system t x using why.Spent k)
+      (finishes-held x using (turns.item_of system x k) k e) (spent-held x using k e)
 
   pub tick_of-held : (o : Option Chosen) (k : Core) → k.running ≡ o → held system t y (turns.tick_of by_priority system c t o k).core ≤ held system t y k
   tick_of-held None k e = omega arith

@@ -93,13 +93,13 @@ module _ (system : System) (c t x : ℕ) where
       quiet k.running (turns.arrives by_priority system t mail k) (placed.posts_as-running system t x mail.note (posted mail.badge (note_of k mail.note)) k)
 
   orders_running-spends : (order : Order) (o : Option Chosen) (k : Core) → k.running ≡ o → Spends k.running (turns.orders_running by_priority system t order o k)
-  orders_running-spends order None k e = quiet k.running (silent (turns.applied by_priority system t order k)) refl
+  orders_running-spends order None k e = quiet k.running (silent (turns.applied t order k)) refl
   orders_running-spends order (Some chosen) k e =
-      let after = turns.applied by_priority system t order (turns.charged system chosen.thread chosen.using k) in
+      let after = turns.applied t order (turns.charged system chosen.thread chosen.using k) in
       let stopped = turns.stops_to_front by_priority system t chosen.thread why.Order chosen.using after in
-      by_test k.running ((turns.part_of system chosen.thread).context == order.context) stopped (silent (turns.applied by_priority system t order k))
+      by_test k.running ((turns.part_of system chosen.thread).context == order.context) stopped (silent (turns.applied t order k))
       (stop chosen.thread chosen.using chosen.using why.Order (turns.date_of system t chosen.thread after) k.running stopped e refl (λ own. omega arith))
-      (quiet k.running (silent (turns.applied by_priority system t order k)) refl)
+      (quiet k.running (silent (turns.applied t order k)) refl)
 
   obeys-spends : (order : Order) (k : Core) → Spends k.running (turns.obeys by_priority system t order k)
   obeys-spends order k =
@@ -108,8 +108,8 @@ module _ (system : System) (c t x : ℕ) where
 
   releases-spends : (k : Core) → Spends k.running (turns.releases by_priority system t k)
   releases-spends k =
-      each-spends (turns.released by_priority system t) (λ due core. quiet core.running (turns.released by_priority system t due core) refl)
-      (filter (turns.is_due by_priority system t) k.releases) (record k { releases = filter (λ dated. not (turns.is_due by_priority system t dated)) k.releases })
+      each-spends (turns.released by_priority system) (λ due core. quiet core.running (turns.released by_priority system due core) refl)
+      (filter (turns.is_due t) k.releases) (record k { releases = filter (λ dated. not (turns.is_due t dated)) k.releases })
 
   preempts_by-spends : (o : Option Chosen) (best : Option Queued) (k : Core) → k.running ≡ o → Spends k.running (turns.preempts_by by_priority system t o best k)
   preempts_by-spends (Some chosen) (Some best) k e =
@@ -130,16 +130,16 @@ module _ (system : System) (c t x : ℕ) where
   effect-running : (y : ℕ) (item : Option Item) (k : Core) → (turns.takes_effect by_priority system c t y item k).core.running ≡ k.running
   effect-running y (Some (Signal note badge)) k =
       let sent = (turns.signals by_priority system c t y note badge k).core in
-      placed.moves-running system t x y (turns.move_of system t y sent) sent ∙ placed.signals-running system c t x y note badge k
+      placed.moves-running system t x y (turns.move_of system y sent) sent ∙ placed.signals-running system c t x y note badge k
   effect-running y (Some (Wait note)) k = by (waited (note_of k note))
     where
       by : (w : Waited) → (turns.waits_as system t y note w k).core.running ≡ k.running
       by (Got word) =
-          let given = turns.given system t y (with_note note (after_wait (Got word) (turns.queued system y) (note_of k note)) k) in
-          placed.moves-running system t x y (turns.move_of system t y given) given
+          let given = turns.given t y (with_note note (after_wait (Got word) (turns.queued system y) (note_of k note)) k) in
+          placed.moves-running system t x y (turns.move_of system y given) given
       by Blocks = refl
-  effect-running y (Some (Compute ticks)) k = placed.moves-running system t x y (turns.move_of system t y k) k
-  effect-running y (Some Yield) k = placed.moves-running system t x y (turns.move_of system t y k) k
+  effect-running y (Some (Compute ticks)) k = placed.moves-running system t x y (turns.move_of system y k) k
+  effect-running y (Some Yield) k = placed.moves-running system t x y (turns.move_of system y k) k
   effect-running y None k = refl
 
   moves-contexts : (y : ℕ) (m : Moved) (k : Core) → (turns.moves system t y m k).core.contexts ≡ k.contexts
@@ -147,7 +147,7 @@ module _ (system : System) (c t x : ℕ) where
   moves-contexts y RoundEnds k = refl
   moves-contexts y AllDone k = refl
 
-  spent-spends : (y using : ℕ) (k : Core) → k.running ≡ Some (record { thread = y; using = using }) → Spends k.running (turns.may_stop by_priority system c t y using why.Spent k)
+  spent-spends : (y using : ℕ) (k : Core) → k.running ≡ Some (record { thread = y; using = using }) → Spends k.running (turns.may_stop by_priority system t y using why.Spent k)
   spent-spends y using k e =
       let stopped = turns.stops_to_back by_priority system t y why.Spent using k in
       by_test k.running (using == head_amount (turns.its_context system y k)) stopped (silent k)
@@ -156,9 +156,9 @@ module _ (system : System) (c t x : ℕ) where
 
   -- a yield charges the whole head, of which no more is in use
   may_stop-spends : (y using : ℕ) (cause : Why) (k : Core) → k.running ≡ Some (record { thread = y; using = using }) →
-      (cause ≡ why.Yield → y ≡ x → using ≤ head_amount (turns.its_context system y k)) → Spends k.running (turns.may_stop by_priority system c t y using cause k)
-  may_stop-spends y using why.Done k e l = stop y using using why.Done None k.running (turns.may_stop by_priority system c t y using why.Done k) e refl (λ own. omega arith)
-  may_stop-spends y using why.Wait k e l = stop y using using why.Wait None k.running (turns.may_stop by_priority system c t y using why.Wait k) e refl (λ own. omega arith)
+      (cause ≡ why.Yield → y ≡ x → using ≤ head_amount (turns.its_context system y k)) → Spends k.running (turns.may_stop by_priority system t y using cause k)
+  may_stop-spends y using why.Done k e l = stop y using using why.Done None k.running (turns.may_stop by_priority system t y using why.Done k) e refl (λ own. omega arith)
+  may_stop-spends y using why.Wait k e l = stop y using using why.Wait None k.running (turns.may_stop by_priority system t y using why.Wait k) e refl (λ own. omega arith)
   may_stop-spends y using why.Yield k e l =
       let whole = head_amount (turns.its_context system y k) in
       stop y using whole why.Yield (turns.date_of system t y (turns.charged system y whole k)) k.running (turns.stops_to_back by_priority system t y why.Yield whole k) e refl (l refl)
@@ -182,24 +182,24 @@ module _ (system : System) (c t x : ℕ) where
       (y ≡ x → using ≤ head_amount (turns.its_context system y k)) → Spends k.running (turns.finishes by_priority system c t y using item k)
   finishes-spends y using item k e l =
       let effect = turns.takes_effect by_priority system c t y item k in
-      then_spends k.running effect (turns.may_stop by_priority system c t y using (turns.stop_after by_priority system c t y item k))
+      then_spends k.running effect (turns.may_stop by_priority system t y using (turns.stop_after system y item k))
       (quiet k.running effect (effect-running y item k))
-      (may_stop-spends y using (turns.stop_after by_priority system c t y item k) effect.core (effect-running y item k ∙ e) (by item))
+      (may_stop-spends y using (turns.stop_after system y item k) effect.core (effect-running y item k ∙ e) (by item))
     where
-      by : (i : Option Item) → turns.stop_after by_priority system c t y i k ≡ why.Yield → y ≡ x →
+      by : (i : Option Item) → turns.stop_after system y i k ≡ why.Yield → y ≡ x →
           using ≤ head_amount (turns.its_context system y (turns.takes_effect by_priority system c t y i k).core)
-      by (Some (Signal note badge)) f own = absurd (moved-yields (turns.move_of system t y k) f)
+      by (Some (Signal note badge)) f own = absurd (moved-yields (turns.move_of system y k) f)
       by (Some (Wait note)) f own = absurd (waited-yields (waited (note_of k note)) f)
-      by (Some (Compute ticks)) f own = absurd (moved-yields (turns.move_of system t y k) f)
-      by (Some Yield) f own = omega (arith, l own, ap (λ contexts. head_amount (held (thread_part system y).context contexts)) (moves-contexts y (turns.move_of system t y k) k))
+      by (Some (Compute ticks)) f own = absurd (moved-yields (turns.move_of system y k) f)
+      by (Some Yield) f own = omega (arith, l own, ap (λ contexts. head_amount (held (thread_part system y).context contexts)) (moves-contexts y (turns.move_of system y k) k))
       by None f own = absurd (no_yield f)
 
   after_count-spends : (y using : ℕ) (k : Core) → k.running ≡ Some (record { thread = y; using = using }) →
       (y ≡ x → using ≤ head_amount (turns.its_context system y k)) → Spends k.running (turns.after_count by_priority system c t y using k)
   after_count-spends y using k e l =
-      by_test k.running ((thread_of k y).place.left == 0) (turns.finishes by_priority system c t y using (turns.item_of system t y k) k)
-      (turns.may_stop by_priority system c t y using why.Spent k)
-      (finishes-spends y using (turns.item_of system t y k) k e l) (spent-spends y using k e)
+      by_test k.running ((thread_of k y).place.left == 0) (turns.finishes by_priority system c t y using (turns.item_of system y k) k)
+      (turns.may_stop by_priority system t y using why.Spent k)
+      (finishes-spends y using (turns.item_of system y k) k e l) (spent-spends y using k e)
 
   -- the thread has used less than the head
   abbrev pub UsesLess : Option Chosen → Core → Type 0

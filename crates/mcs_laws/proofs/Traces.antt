@@ -192,7 +192,7 @@ module _ (queue : Discipline) (system : System) (c t x : ℕ) where
 
   -- unblocking, which leaves the running thread as it was
   unblocking : (P : Option Chosen → Context → Type 0) → ((o : Option Chosen) (k : Context) → P o k → P o (context_unblocked t k)) → (y : ℕ) (core : Core) (made : Turn) →
-      made.core.contexts ≡ (turns.unblocked queue system t y core).contexts → made.core.running ≡ core.running → charges_told system x made.rows ≡ [] → Traced P P [] core made
+      made.core.contexts ≡ (turns.unblocked system t y core).contexts → made.core.running ≡ core.running → charges_told system x made.rows ≡ [] → Traced P P [] core made
   unblocking P steady y core made e g f = by (same (thread_part system y).context x)
     where
       n : ℕ
@@ -234,7 +234,7 @@ module _ (queue : Discipline) (system : System) (c t x : ℕ) where
 
   -- an order, of this moment
   ordering : (P Q : Option Chosen → Context → Type 0) (order : Order) (core : Core) (made : Turn) → order.moment ≡ t → IsBudget order.config →
-      made.core.contexts ≡ (turns.applied queue system t order core).contexts → charges_told system x made.rows ≡ [] →
+      made.core.contexts ≡ (turns.applied t order core).contexts → charges_told system x made.rows ≡ [] →
       ((order.context ≢ x → context_of made.core x ≡ context_of core x) → holds P core → holds Q made.core) →
       Traced P Q (filter (is_order_for x) (order ∷ [])) core made
   ordering P Q order core made m budget e f h = by (same order.context x)
@@ -323,16 +323,16 @@ module _ (queue : Discipline) (system : System) (c t x : ℕ) where
     moves-traced y AllDone core = still P core _ refl refl refl
 
     moves_on-traced : (y : ℕ) (core : Core) → Traced P P [] core (turns.moves_on system t y core)
-    moves_on-traced y core = moves-traced y (turns.move_of system t y core) core
+    moves_on-traced y core = moves-traced y (turns.move_of system y core) core
 
     wakes-traced : (y : ℕ) (core : Core) → Traced P P [] core (turns.wakes queue system t y core)
     wakes-traced y core =
         then_part P P P [] [] core (turns.moves_on system t y given) (λ k. silent (turns.enters_back queue system y (turns.date_of system t y k) k))
-        (moved (turns.move_of system t y given))
+        (moved (turns.move_of system y given))
         (λ k. still P k _ (enters_back-same y (turns.date_of system t y k) k) (enters_back-running y (turns.date_of system t y k) k) refl)
       where
         given : Core
-        given = turns.given system t y (turns.unblocked queue system t y core)
+        given = turns.given t y (turns.unblocked system t y core)
 
         moved : (m : Moved) → Traced P P [] core (turns.moves system t y m given)
         moved Next = unblocking P steady y core _ refl refl refl
@@ -360,11 +360,11 @@ module _ (queue : Discipline) (system : System) (c t x : ℕ) where
         (λ k. by_test P P [] ((note_part system note).core == c) k (turns.posts queue system t note badge k) (sent k) (posts-traced note badge k) (still P k (sent k) refl refl refl))
       where
         sent : Core → Turn
-        sent k = record { core = k; rows = []; mails = turns.mail_to queue system c t note badge ∷ [] }
+        sent k = record { core = k; rows = []; mails = turns.mail_to system c t note badge ∷ [] }
 
     waits_as-traced : (y note : ℕ) (w : Waited) (core : Core) → Traced P P [] core (turns.waits_as system t y note w core)
     waits_as-traced y note (Got word) core =
-        let first = says (row.Got y note word) (turns.given system t y (with_note note (after_wait (Got word) (turns.queued system y) (note_of core note)) core)) in
+        let first = says (row.Got y note word) (turns.given t y (with_note note (after_wait (Got word) (turns.queued system y) (note_of core note)) core)) in
         then_part P P P [] [] core first (turns.moves_on system t y) (still P core first refl refl refl) (λ k. moves_on-traced y k)
     waits_as-traced y note Blocks core = still P core _ refl refl refl
 
@@ -389,7 +389,7 @@ module _ (queue : Discipline) (system : System) (c t x : ℕ) where
   counts-steady y using o k p = record { runs = p.runs; uses = λ own. ((p.uses own).0, omega (arith, (p.uses own).1, head_amount-unblocked t k)) }
 
   -- a stop, of what the running thread has used or of the whole head
-  stops-traced : (y using : ℕ) (cause : Why) (standing : Standing) (core : Core) → Traced (Counts y using) (Uses 1 1) [] core (turns.stops queue system t y cause using standing core)
+  stops-traced : (y using : ℕ) (cause : Why) (standing : Standing) (core : Core) → Traced (Counts y using) (Uses 1 1) [] core (turns.stops system y cause using standing core)
   stops-traced y using cause standing core = charging (Counts y using) (Uses 1 1) y using cause None core _ refl refl (λ own kept p. p.uses own) tt
 
   stops_to_back-traced : (P : Option Chosen → Context → Type 0) (y k : ℕ) (cause : Why) (core : Core) →
@@ -401,14 +401,14 @@ module _ (queue : Discipline) (system : System) (c t x : ℕ) where
       (idle 1 1 (turns.stops_to_back queue system t y cause k core).core
       (enters_back-running y (turns.date_of system t y (turns.charged system y k core)) (off (turns.charged system y k core))))
 
-  spent-traced : (y using : ℕ) (core : Core) → Traced (Counts y using) (Uses 1 1) [] core (turns.may_stop queue system c t y using why.Spent core)
+  spent-traced : (y using : ℕ) (core : Core) → Traced (Counts y using) (Uses 1 1) [] core (turns.may_stop queue system t y using why.Spent core)
   spent-traced y using core = by (same using (head_amount (turns.its_context system y core)))
     where
       stopped : Turn
       stopped = turns.stops_to_back queue system t y why.Spent using core
 
       on : (b : Bool) → (using == head_amount (turns.its_context system y core)) ≡ b → Traced (Counts y using) (Uses 1 1) [] core (cond b stopped (silent core)) →
-          Traced (Counts y using) (Uses 1 1) [] core (turns.may_stop queue system c t y using why.Spent core)
+          Traced (Counts y using) (Uses 1 1) [] core (turns.may_stop queue system t y using why.Spent core)
       on b e p = rw e p
 
       less : using ≢ head_amount (turns.its_context system y core) → (o : Option Chosen) → o ≡ core.running → Counts y using o (context_of core x) → Uses 1 1 o (context_of core x)
@@ -420,11 +420,11 @@ module _ (queue : Discipline) (system : System) (c t x : ℕ) where
               fewer : (a b : ℕ) → a ≢ b → a ≤ b → a + 1 ≤ b
               fewer a b e l = omega arith
 
-      by : Same using (head_amount (turns.its_context system y core)) → Traced (Counts y using) (Uses 1 1) [] core (turns.may_stop queue system c t y using why.Spent core)
+      by : Same using (head_amount (turns.its_context system y core)) → Traced (Counts y using) (Uses 1 1) [] core (turns.may_stop queue system t y using why.Spent core)
       by (Are e d) = on true e (stops_to_back-traced (Counts y using) y using why.Spent core (λ own kept p. p.uses own))
       by (Differ e d) = on false e (plain (Counts y using) (Uses 1 1) core (silent core) refl refl (λ kept p. less d core.running refl p))
 
-  may_stop-traced : (y using : ℕ) (cause : Why) (core : Core) → Traced (Counts y using) (Uses 1 1) [] core (turns.may_stop queue system c t y using cause core)
+  may_stop-traced : (y using : ℕ) (cause : Why) (core : Core) → Traced (Counts y using) (Uses 1 1) [] core (turns.may_stop queue system t y using cause core)
   may_stop-traced y using why.Done core = stops-traced y using _ _ core
   may_stop-traced y using why.Wait core = stops-traced y using _ _ core
   may_stop-traced y using why.Yield core =
@@ -439,12 +439,12 @@ module _ (queue : Discipline) (system : System) (c t x : ℕ) where
   after_count-traced : (y using : ℕ) (core : Core) → Traced (Counts y using) (Uses 1 1) [] core (turns.after_count queue system c t y using core)
   after_count-traced y using core =
       by_test (Counts y using) (Uses 1 1) [] ((thread_of core y).place.left == 0) core
-      (turns.finishes queue system c t y using (turns.item_of system t y core) core) (turns.may_stop queue system c t y using why.Spent core)
+      (turns.finishes queue system c t y using (turns.item_of system y core) core) (turns.may_stop queue system t y using why.Spent core)
       (
-      then_part (Counts y using) (Counts y using) (Uses 1 1) [] [] core (turns.takes_effect queue system c t y (turns.item_of system t y core) core)
-      (turns.may_stop queue system c t y using (turns.stop_after queue system c t y (turns.item_of system t y core) core))
-      (takes_effect-traced (Counts y using) (counts-steady y using) y (turns.item_of system t y core) core)
-      (λ k. may_stop-traced y using (turns.stop_after queue system c t y (turns.item_of system t y core) core) k)
+      then_part (Counts y using) (Counts y using) (Uses 1 1) [] [] core (turns.takes_effect queue system c t y (turns.item_of system y core) core)
+      (turns.may_stop queue system t y using (turns.stop_after system y (turns.item_of system y core) core))
+      (takes_effect-traced (Counts y using) (counts-steady y using) y (turns.item_of system y core) core)
+      (λ k. may_stop-traced y using (turns.stop_after system y (turns.item_of system y core) core) k)
       )
       (spent-traced y using core)
 
@@ -466,7 +466,7 @@ module _ (queue : Discipline) (system : System) (c t x : ℕ) where
   orders_running-traced : (order : Order) → order.moment ≡ t → IsBudget order.config → (o : Option Chosen) (core : Core) → core.running ≡ o →
       Traced (Uses 1 1) (Uses 1 1) (filter (is_order_for x) (order ∷ [])) core (turns.orders_running queue system t order o core)
   orders_running-traced order m budget None core e =
-      ordering (Uses 1 1) (Uses 1 1) order core (silent (turns.applied queue system t order core)) m budget refl refl (λ left p. idle 1 1 (turns.applied queue system t order core) e)
+      ordering (Uses 1 1) (Uses 1 1) order core (silent (turns.applied t order core)) m budget refl refl (λ left p. idle 1 1 (turns.applied t order core) e)
   orders_running-traced order m budget (Some chosen) core e = by (same (thread_part system chosen.thread).context order.context)
     where
       y : ℕ
@@ -476,17 +476,17 @@ module _ (queue : Discipline) (system : System) (c t x : ℕ) where
       charged =
           record {
             core = off (turns.charged system y chosen.using core);
-            rows = row.Stop y why.Order chosen.using (turns.date_of system t y (turns.applied queue system t order (turns.charged system y chosen.using core))) ∷ [];
+            rows = row.Stop y why.Order chosen.using (turns.date_of system t y (turns.applied t order (turns.charged system y chosen.using core))) ∷ [];
             mails = [];
           }
 
       stopped : Turn
-      stopped = turns.stops_to_front queue system t y why.Order chosen.using (turns.applied queue system t order (turns.charged system y chosen.using core))
+      stopped = turns.stops_to_front queue system t y why.Order chosen.using (turns.applied t order (turns.charged system y chosen.using core))
 
       os : List Order
       os = filter (is_order_for x) (order ∷ [])
 
-      on : (b : Bool) → ((thread_part system y).context == order.context) ≡ b → Traced (Uses 1 1) (Uses 1 1) os core (cond b stopped (silent (turns.applied queue system t order core))) →
+      on : (b : Bool) → ((thread_part system y).context == order.context) ≡ b → Traced (Uses 1 1) (Uses 1 1) os core (cond b stopped (silent (turns.applied t order core))) →
           Traced (Uses 1 1) (Uses 1 1) os core (turns.orders_running queue system t order (Some chosen) core)
       on b f p = rw f p
 
@@ -495,30 +495,30 @@ module _ (queue : Discipline) (system : System) (c t x : ℕ) where
           let q : Uses 1 1 (Some chosen) (context_of core x) = rw f at p in
           ((q own).0, omega (arith, (q own).1))
 
-      elsewhere : (thread_part system y).context ≢ order.context → (order.context ≢ x → context_of (turns.applied queue system t order core) x ≡ context_of core x) →
-          Uses 1 1 (Some chosen) (context_of core x) → Uses 1 1 (Some chosen) (context_of (turns.applied queue system t order core) x)
-      elsewhere d left q = λ own. carry (λ k. (1 ≤ chosen.using) × (chosen.using + 1 ≤ head_amount k)) (context_of core x) (context_of (turns.applied queue system t order core) x) (sym (left (λ f. d (own ∙ sym f)))) (q own)
+      elsewhere : (thread_part system y).context ≢ order.context → (order.context ≢ x → context_of (turns.applied t order core) x ≡ context_of core x) →
+          Uses 1 1 (Some chosen) (context_of core x) → Uses 1 1 (Some chosen) (context_of (turns.applied t order core) x)
+      elsewhere d left q = λ own. carry (λ k. (1 ≤ chosen.using) × (chosen.using + 1 ≤ head_amount k)) (context_of core x) (context_of (turns.applied t order core) x) (sym (left (λ f. d (own ∙ sym f)))) (q own)
 
       by : Same (thread_part system y).context order.context → Traced (Uses 1 1) (Uses 1 1) os core (turns.orders_running queue system t order (Some chosen) core)
       by (Are f d) =
           on true f
           (
-          as_made (Uses 1 1) (Uses 1 1) (Uses 1 1) os core (charged followed_by λ k. silent (turns.applied queue system t order k)) stopped
-          (enters_front-same y (turns.date_of system t y (turns.applied queue system t order (turns.charged system y chosen.using core))) (off (turns.applied queue system t order (turns.charged system y chosen.using core))))
+          as_made (Uses 1 1) (Uses 1 1) (Uses 1 1) os core (charged followed_by λ k. silent (turns.applied t order k)) stopped
+          (enters_front-same y (turns.date_of system t y (turns.applied t order (turns.charged system y chosen.using core))) (off (turns.applied t order (turns.charged system y chosen.using core))))
           refl
-          (idle 1 1 stopped.core (enters_front-running y (turns.date_of system t y (turns.applied queue system t order (turns.charged system y chosen.using core))) (off (turns.applied queue system t order (turns.charged system y chosen.using core)))))
+          (idle 1 1 stopped.core (enters_front-running y (turns.date_of system t y (turns.applied t order (turns.charged system y chosen.using core))) (off (turns.applied t order (turns.charged system y chosen.using core)))))
           (
-          then_part (Uses 1 1) (λ o k. o ≡ None) (Uses 1 1) [] os core charged (λ k. silent (turns.applied queue system t order k))
+          then_part (Uses 1 1) (λ o k. o ≡ None) (Uses 1 1) [] os core charged (λ k. silent (turns.applied t order k))
           (charging (Uses 1 1) (λ o k. o ≡ None) y chosen.using why.Order _ core charged refl refl (λ own kept p. uses core.running e p own) refl)
-          (λ k. ordering (λ o k. o ≡ None) (Uses 1 1) order k (silent (turns.applied queue system t order k)) m budget refl refl (λ left p. idle 1 1 (turns.applied queue system t order k) p))
+          (λ k. ordering (λ o k. o ≡ None) (Uses 1 1) order k (silent (turns.applied t order k)) m budget refl refl (λ left p. idle 1 1 (turns.applied t order k) p))
           )
           )
       by (Differ f d) =
           on false f
-          (ordering (Uses 1 1) (Uses 1 1) order core (silent (turns.applied queue system t order core)) m budget refl refl
+          (ordering (Uses 1 1) (Uses 1 1) order core (silent (turns.applied t order core)) m budget refl refl
           (λ left p. again core.running e (elsewhere d left (rw e at p))))
         where
-          again : (o : Option Chosen) → o ≡ Some chosen → Uses 1 1 (Some chosen) (context_of (turns.applied queue system t order core) x) → Uses 1 1 o (context_of (turns.applied queue system t order core) x)
+          again : (o : Option Chosen) → o ≡ Some chosen → Uses 1 1 (Some chosen) (context_of (turns.applied t order core) x) → Uses 1 1 o (context_of (turns.applied t order core) x)
           again o f q = rw f q
 
   obeys-traced : (order : Order) → order.moment ≡ t → IsBudget order.config → (core : Core) →
@@ -555,15 +555,15 @@ module _ (queue : Discipline) (system : System) (c t x : ℕ) where
           )
       by false e i = i core
 
-  released-traced : (due : Dated) (core : Core) → Traced (Uses 1 1) (Uses 1 1) [] core (turns.released queue system t due core)
+  released-traced : (due : Dated) (core : Core) → Traced (Uses 1 1) (Uses 1 1) [] core (turns.released queue system due core)
   released-traced due core = still (Uses 1 1) core _ refl refl refl
 
   releases-traced : (core : Core) → Traced (Uses 1 1) (Uses 1 1) [] core (turns.releases queue system t core)
   releases-traced core =
-      then_part (Uses 1 1) (Uses 1 1) (Uses 1 1) [] [] core (silent (record core { releases = filter (λ dated. not (turns.is_due queue system t dated)) core.releases }))
-      (each (turns.released queue system t) (filter (turns.is_due queue system t) core.releases))
+      then_part (Uses 1 1) (Uses 1 1) (Uses 1 1) [] [] core (silent (record core { releases = filter (λ dated. not (turns.is_due t dated)) core.releases }))
+      (each (turns.released queue system) (filter (turns.is_due t) core.releases))
       (still (Uses 1 1) core _ refl refl refl)
-      (λ k. each_part (Uses 1 1) (turns.released queue system t) released-traced (filter (turns.is_due queue system t) core.releases) k)
+      (λ k. each_part (Uses 1 1) (turns.released queue system) released-traced (filter (turns.is_due t) core.releases) k)
 
   preempts_by-traced : (o : Option Chosen) (best : Option Queued) (core : Core) → core.running ≡ o → Traced (Uses 1 1) (Uses 1 1) [] core (turns.preempts_by queue system t o best core)
   preempts_by-traced (Some chosen) (Some best) core e =

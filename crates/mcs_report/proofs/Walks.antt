@@ -139,9 +139,9 @@ module _ (system : System) (t x : ℕ) where
 
   wakes-plain : (y : ℕ) (k : Core) → Plain x k (turns.wakes by_priority system t y k)
   wakes-plain y k =
-      let woken = turns.given system t y (turns.unblocked by_priority system t y k) in
+      let woken = turns.given t y (turns.unblocked system t y k) in
       let first = turns.moves_on system t y woken in
-      let p = moves-plain y (turns.move_of system t y woken) woken in
+      let p = moves-plain y (turns.move_of system y woken) woken in
       plain-then x k first (λ core. silent (turns.enters_back by_priority system y (turns.date_of system t y core) core))
       record { running = p.running; rows = p.rows }
       record { running = enters_back-running y (turns.date_of system t y first.core) first.core; rows = tt }
@@ -172,14 +172,14 @@ module _ (system : System) (t x : ℕ) where
       (enters_front-running y (turns.date_of system t y core) (off core))
 
   orders_running-quits : (order : Order) (o : Option Chosen) (k : Core) → k.running ≡ o → Quits x k (turns.orders_running by_priority system t order o k)
-  orders_running-quits order None k e = silent-quits k (turns.applied by_priority system t order k) refl
+  orders_running-quits order None k e = silent-quits k (turns.applied t order k) refl
   orders_running-quits order (Some chosen) k e =
-      let core = turns.applied by_priority system t order (turns.charged system chosen.thread chosen.using k) in
+      let core = turns.applied t order (turns.charged system chosen.thread chosen.using k) in
       by_test x (λ turn. Quits x k turn) ((turns.part_of system chosen.thread).context == order.context)
       (turns.stops_to_front by_priority system t chosen.thread why.Order chosen.using core)
-      (silent (turns.applied by_priority system t order k))
+      (silent (turns.applied t order k))
       (stops_to_front-quits chosen.thread chosen.using chosen.using why.Order k core e)
-      (silent-quits k (turns.applied by_priority system t order k) refl)
+      (silent-quits k (turns.applied t order k) refl)
 
   says-quits : (what : What) (k : Core) → runs x what ≡ false → stops x what ≡ false → Quits x k (says what k)
   says-quits what k e f = plain-quits x k (says what k) record { running = refl; rows = (e, f, tt) }
@@ -190,13 +190,13 @@ module _ (system : System) (t x : ℕ) where
       (says-quits (row.Order order.context) k refl refl)
       (orders_running-quits order k.running k refl)
 
-  released-quits : (due : Dated) (k : Core) → Quits x k (turns.released by_priority system t due k)
-  released-quits due k = plain-quits x k (turns.released by_priority system t due k) record { running = refl; rows = (refl, refl, tt) }
+  released-quits : (due : Dated) (k : Core) → Quits x k (turns.released by_priority system due k)
+  released-quits due k = plain-quits x k (turns.released by_priority system due k) record { running = refl; rows = (refl, refl, tt) }
 
   releases-quits : (k : Core) → Quits x k (turns.releases by_priority system t k)
   releases-quits k =
-      let left = record k { releases = filter (λ dated. not (turns.is_due by_priority system t dated)) k.releases } in
-      let q = quits-each x (turns.released by_priority system t) released-quits (filter (turns.is_due by_priority system t) k.releases) left in
+      let left = record k { releases = filter (λ dated. not (turns.is_due t dated)) k.releases } in
+      let q = quits-each x (turns.released by_priority system) released-quits (filter (turns.is_due t) k.releases) left in
       record { walks = q.walks; plain = q.plain }
 
   preempts_by-quits : (o : Option Chosen) (best : Option Queued) (k : Core) → k.running ≡ o → Quits x k (turns.preempts_by by_priority system t o best k)
@@ -220,7 +220,7 @@ module _ (system : System) (c t x : ℕ) where
       (enters_back-running system t x y (turns.date_of system t y after) (off after))
 
   spent-quits : (y using : ℕ) (k : Core) → k.running ≡ Some (record { thread = y; using = using })
-      → Quits x k (turns.may_stop by_priority system c t y using why.Spent k)
+      → Quits x k (turns.may_stop by_priority system t y using why.Spent k)
   spent-quits y using k e =
       by_test x (λ turn. Quits x k turn) (using == head_amount (turns.its_context system y k))
       (turns.stops_to_back by_priority system t y why.Spent using k)
@@ -229,9 +229,9 @@ module _ (system : System) (c t x : ℕ) where
       (silent-quits system t x k k refl)
 
   may_stop-quits : (y using : ℕ) (cause : Why) (k : Core) → k.running ≡ Some (record { thread = y; using = using })
-      → Quits x k (turns.may_stop by_priority system c t y using cause k)
-  may_stop-quits y using why.Done k e = quits-stop x y using using why.Done None k (turns.stops by_priority system t y why.Done using Done k) e refl refl
-  may_stop-quits y using why.Wait k e = quits-stop x y using using why.Wait None k (turns.stops by_priority system t y why.Wait using Blocked k) e refl refl
+      → Quits x k (turns.may_stop by_priority system t y using cause k)
+  may_stop-quits y using why.Done k e = quits-stop x y using using why.Done None k (turns.stops system y why.Done using Done k) e refl refl
+  may_stop-quits y using why.Wait k e = quits-stop x y using using why.Wait None k (turns.stops system y why.Wait using Blocked k) e refl refl
   may_stop-quits y using why.Yield k e = stops_to_back-quits y using (head_amount (turns.its_context system y k)) why.Yield k e
   may_stop-quits y using why.Spent k e = spent-quits y using k e
   may_stop-quits y using why.Preempt k e = spent-quits y using k e
@@ -239,48 +239,48 @@ module _ (system : System) (c t x : ℕ) where
 
   signals-plain : (y note badge : ℕ) (k : Core) → Plain x k (turns.signals by_priority system c t y note badge k)
   signals-plain y note badge k =
-      let sent : Turn = record { core = k; rows = []; mails = turns.mail_to by_priority system c t note badge ∷ [] } in
+      let sent : Turn = record { core = k; rows = []; mails = turns.mail_to system c t note badge ∷ [] } in
       let p : Plain x k (cond ((note_part system note).core == c) (turns.posts by_priority system t note badge k) sent) =
       by_test x (λ turn. Plain x k turn) ((note_part system note).core == c) (turns.posts by_priority system t note badge k) sent
       (posts-plain system t x note badge k)
       record { running = refl; rows = tt }
       in
       plain-then x k (says (row.Signal y note badge) k)
-      (λ core. cond ((note_part system note).core == c) (turns.posts by_priority system t note badge core) (record { core = core; rows = []; mails = turns.mail_to by_priority system c t note badge ∷ [] }))
+      (λ core. cond ((note_part system note).core == c) (turns.posts by_priority system t note badge core) (record { core = core; rows = []; mails = turns.mail_to system c t note badge ∷ [] }))
       record { running = refl; rows = (refl, refl, tt) }
       p
 
   waits_as-plain : (y note : ℕ) (w : Waited) (k : Core) → Plain x k (turns.waits_as system t y note w k)
   waits_as-plain y note (Got word) k =
-      let given = turns.given system t y (with_note note (after_wait (Got word) (turns.queued system y) (note_of k note)) k) in
-      let p = moves-plain system t x y (turns.move_of system t y given) given in
+      let given = turns.given t y (with_note note (after_wait (Got word) (turns.queued system y) (note_of k note)) k) in
+      let p = moves-plain system t x y (turns.move_of system y given) given in
       record { running = p.running; rows = plain-append x (row.Got y note word ∷ []) (turns.moves_on system t y given).rows (refl, refl, tt) p.rows }
   waits_as-plain y note Blocks k = record { running = refl; rows = tt }
 
   effect-plain : (y : ℕ) (item : Option Item) (k : Core) → Plain x k (turns.takes_effect by_priority system c t y item k)
   effect-plain y (Some (Signal note badge)) k =
       let first = turns.signals by_priority system c t y note badge k in
-      plain-then x k first (turns.moves_on system t y) (signals-plain y note badge k) (moves-plain system t x y (turns.move_of system t y first.core) first.core)
+      plain-then x k first (turns.moves_on system t y) (signals-plain y note badge k) (moves-plain system t x y (turns.move_of system y first.core) first.core)
   effect-plain y (Some (Wait note)) k = waits_as-plain y note (waited (note_of k note)) k
-  effect-plain y (Some (Compute ticks)) k = moves-plain system t x y (turns.move_of system t y k) k
-  effect-plain y (Some Yield) k = moves-plain system t x y (turns.move_of system t y k) k
+  effect-plain y (Some (Compute ticks)) k = moves-plain system t x y (turns.move_of system y k) k
+  effect-plain y (Some Yield) k = moves-plain system t x y (turns.move_of system y k) k
   effect-plain y None k = record { running = refl; rows = tt }
 
   finishes-quits : (y using : ℕ) (item : Option Item) (k : Core) → k.running ≡ Some (record { thread = y; using = using })
       → Quits x k (turns.finishes by_priority system c t y using item k)
   finishes-quits y using item k e =
       let effect = turns.takes_effect by_priority system c t y item k in
-      let cause = turns.stop_after by_priority system c t y item k in
+      let cause = turns.stop_after system y item k in
       let p = effect-plain y item k in
-      quits-then x k effect (turns.may_stop by_priority system c t y using cause) (plain-quits x k effect p) (may_stop-quits y using cause effect.core (p.running ∙ e))
+      quits-then x k effect (turns.may_stop by_priority system t y using cause) (plain-quits x k effect p) (may_stop-quits y using cause effect.core (p.running ∙ e))
 
   after_count-quits : (y using : ℕ) (k : Core) → k.running ≡ Some (record { thread = y; using = using })
       → Quits x k (turns.after_count by_priority system c t y using k)
   after_count-quits y using k e =
       by_test x (λ turn. Quits x k turn) ((thread_of k y).place.left == 0)
-      (turns.finishes by_priority system c t y using (turns.item_of system t y k) k)
-      (turns.may_stop by_priority system c t y using why.Spent k)
-      (finishes-quits y using (turns.item_of system t y k) k e)
+      (turns.finishes by_priority system c t y using (turns.item_of system y k) k)
+      (turns.may_stop by_priority system t y using why.Spent k)
+      (finishes-quits y using (turns.item_of system y k) k e)
       (spent-quits y using k e)
 
   same_runner : (k from : Core) (turn : Turn) → is_open x from.running ≡ is_open x k.running → Quits x from turn → Quits x k turn

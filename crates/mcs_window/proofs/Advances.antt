@@ -17,8 +17,8 @@ use Rattle.mcs_window.specs.Inbox.{inbox, signals_between, IsMade, IsFor, Rises}
 use Rattle.mcs_window.specs.Kept.{AreHere, AreKept}
 use Rattle.mcs_window.specs.Stretch.{StandsAt, rows_between, IsReachedBy, IsAfter}
 use Rattle.mcs_window.proofs.Deliveries.{signals_from, flat_map-one, inbox-delivered}
-use Rattle.mcs_window.proofs.Inboxes.{from_inbox}
-use Rattle.mcs_window.proofs.Known.{known-signals}
+use Rattle.mcs_window.proofs.Inboxes.{from_inbox, of_turn}
+use Rattle.mcs_core.proofs.Known.{known-said}
 use Rattle.mcs_window.proofs.Ranges.{rows-join}
 use Rattle.mcs_window.proofs.Stretches.{stretches}
 
@@ -41,7 +41,7 @@ module _ (system : System) (well : IsWellFormed system) where
       of : (mail : Mail) → IsMade system (λ b. 0) (slice_index front) mail × IsFor system c t mail → IsExpected system state mail
       of mail (made, p) =
           record {
-            known = known-signals system well made.maker made.made mail made.is;
+            known = known-said system well mail.note mail.badge (of_turn system made.maker made.made mail made.is).said;
             home = p.home ∙ sym stands.number_is;
             arrives = (let same = stands.clock_is in omega (arith, p.arrives));
           }

@@ -1,4 +1,4 @@
-ghost use Rattle.std.specs.Prelude.{◌≡◌, IfOk, All, length, map};
+ghost use Rattle.std.specs.Prelude.{IfOk};
 ghost use Rattle.mcs_window.specs.Opening.{AreOpening, AreEmptyBoxes, AreEmptyRows};
 
 use mcs_core::{CoreState, System};

@@ -1,4 +1,4 @@
-ghost use Rattle.std.specs.Prelude.{◌≡◌, ◌<◌, ℕ, IfOk, length, slice_index_or};
+ghost use Rattle.std.specs.Prelude.{◌≡◌, ◌<◌, IfOk, slice_index_or};
 ghost use Rattle.mcs_core.specs.State.{State};
 ghost use Rattle.mcs_window.specs.Views.{views_in, AreStates};
 ghost use Rattle.mcs_window.specs.Queues.{AreQueued};

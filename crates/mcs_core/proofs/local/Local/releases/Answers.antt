@@ -24,7 +24,7 @@ due-preserved c =
     record {
       sound = rw (c.in_ok-release.ensures.core, c.take_due.ensures.left, i.left) i.sound;
       goes = goes-step c.args.c c.args.t c.args.rows.now.items _ _ c.due.rows.items c.release.new.rows.items
-          (released by_priority c.args.system.now c.args.t i.due (record c.due.self { releases = without c.in-Some.x c.due.self.releases }))
+          (released by_priority c.args.system.now i.due (record c.due.self { releases = without c.in-Some.x c.due.self.releases }))
           (releases by_priority c.args.system.now c.args.t) c.release.new.self
           c.due.invariant.goes i.step
           (c.in_ok-release.ensures.core
