@@ -1,8 +1,8 @@
 #!/usr/bin/env python3
 """costs.py [PROGRAM]: what runs of the built program cost on this machine: seconds of the processor and the greatest memory.
 
-Each line is a system that is made here: many threads on one core, many ticks in which nothing happens, and a file as large as the
-limits on scripts allow. Without PROGRAM it takes crates/mcsim/out/mcsim, which ./mcsim builds."""
+Each line is a system that is made here: many threads on one core, many ticks in which nothing happens, as many cores and threads as the
+limits allow, and a file as large as the limits on scripts allow. Without PROGRAM it takes crates/mcsim/out/mcsim, which ./mcsim builds."""
 import os
 import resource
 import subprocess
@@ -34,6 +34,16 @@ def long_compute():
     return system([('c', 0, 1000, 1000)], [('t', 'c', 5, 1, ['compute 1000000'])])
 
 
+def full():
+    """4,096 threads on 64 cores that each use 4 of 1000 ticks"""
+    names = [f't{k}' for k in range(4096)]
+    return system(
+        [(f'c{it}', k % 64, 4, 1000) for k, it in enumerate(names)],
+        [(it, f'c{it}', k // 64 + 1, 1000000, ['compute 4']) for k, it in enumerate(names)],
+        'version = 1\ncores = 64\ndelay = 100\n',
+    )
+
+
 def large_file():
     """4,096 threads with scripts of 1,024 items"""
     names = [f't{k}' for k in range(4096)]
@@ -57,4 +67,6 @@ def cost(title, text, *words):
 for words in (['--horizon', '100000'], ['--horizon', '1000000']):
     for what in (crowd, long_compute):
         cost(what.__doc__, what(), *words)
+for words in (['--horizon', '0'], ['--horizon', '10000']):
+    cost(full.__doc__, full(), *words)
 cost(large_file.__doc__, large_file(), '--horizon', '0')
