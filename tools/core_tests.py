@@ -63,7 +63,7 @@ def test(name, system, horizon, rows):
     numbers = Numbers(system)
     limits = [('delay', system['delay']), ('call', system.get('call', 1)), ('min_budget', system.get('min_budget', 1))]
     return (
-        f'\nconst {name.upper()}: Plan = Plan {{\n'
+        f'\nstatic {name.upper()}: Plan = Plan {{\n'
         + ''.join(f'    {key}: {value},\n' for key, value in limits)
         + field('contexts', [context(part) for part in system.get('context', [])])
         + field('notes', [note(part) for part in system.get('note', [])])

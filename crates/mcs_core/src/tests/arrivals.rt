@@ -5,7 +5,7 @@ use super::plan::{
 use super::play::{makes, sent};
 use std::test::Fail;
 
-const BESIDE_AN_ORDER: Plan = Plan {
+static BESIDE_AN_ORDER: Plan = Plan {
     cores: 2,
     delay: 2,
     contexts: &[
@@ -70,7 +70,7 @@ fn arrival_before_order_before_release(rt: HostRuntime) -> Result<(), Fail> {
     sent(&rt, &made, &mail)
 }
 
-const THREE_SIGNALS: Plan = Plan {
+static THREE_SIGNALS: Plan = Plan {
     cores: 2,
     delay: 3,
     contexts: &[PlannedContext("s", 1, 5, 10, 0)],
@@ -132,7 +132,7 @@ fn delivery_in_order_of_making(rt: HostRuntime) -> Result<(), Fail> {
     Ok(())
 }
 
-const TWO_MAKERS: Plan = Plan {
+static TWO_MAKERS: Plan = Plan {
     cores: 3,
     delay: 2,
     contexts: &[
@@ -220,7 +220,7 @@ fn signals_beyond_the_horizon_stay(rt: HostRuntime) -> Result<(), Fail> {
     Ok(())
 }
 
-const BLOCKED_AND_WOKEN: Plan = Plan {
+static BLOCKED_AND_WOKEN: Plan = Plan {
     cores: 2,
     delay: 2,
     contexts: &[

@@ -5,7 +5,7 @@ use super::threads::{ROUND_ROBIN, SMALL_HEAD_JOINS};
 use super::turns::{ENDS_WITHOUT_A_ROW, SMALL_REFILLS};
 use std::test::Fail;
 
-const DEPLETES: Plan = Plan {
+static DEPLETES: Plan = Plan {
     contexts: &[PlannedContext("a", 0, 2, 5, 0)],
     threads: &[PlannedThread("A", 0, 5, 0, 1, &[Compute(5)])],
     ..ONE_CORE
@@ -26,7 +26,7 @@ fn ticks_in_use(rt: HostRuntime) -> Result<(), Fail> {
     )
 }
 
-const ORDERED_TWICE: Plan = Plan {
+static ORDERED_TWICE: Plan = Plan {
     contexts: &[PlannedContext("a", 0, 10, 100, 0)],
     orders: &[PlannedOrder(4, 0, 6, 50, 0), PlannedOrder(4, 0, 8, 40, 0)],
     ..ONE_CORE
@@ -84,7 +84,7 @@ fn slices(rt: HostRuntime) -> Result<(), Fail> {
     )
 }
 
-const ON_TWO_CORES: Plan = Plan {
+static ON_TWO_CORES: Plan = Plan {
     cores: 2,
     contexts: &[
         PlannedContext("a", 1, 2, 5, 0),

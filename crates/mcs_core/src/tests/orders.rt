@@ -3,7 +3,7 @@ use super::plan::{ONE_CORE, Plan, PlannedContext, PlannedNote, PlannedOrder, Pla
 use super::play::{makes, shows};
 use std::test::Fail;
 
-const STOPS_THE_RUNNER: Plan = Plan {
+static STOPS_THE_RUNNER: Plan = Plan {
     contexts: &[PlannedContext("a", 0, 10, 100, 0)],
     threads: &[PlannedThread("A", 0, 5, 0, 1, &[Compute(20)])],
     orders: &[PlannedOrder(4, 0, 6, 50, 0)],
@@ -28,7 +28,7 @@ fn order_stops_the_runner(rt: HostRuntime) -> Result<(), Fail> {
     )
 }
 
-const CHARGES_FIRST: Plan = Plan {
+static CHARGES_FIRST: Plan = Plan {
     min_budget: 4,
     contexts: &[PlannedContext("a", 0, 10, 100, 0)],
     threads: &[PlannedThread("A", 0, 5, 0, 1, &[Compute(20)])],
@@ -56,7 +56,7 @@ fn order_charges_first(rt: HostRuntime) -> Result<(), Fail> {
     )
 }
 
-const FILE_ORDER: Plan = Plan {
+static FILE_ORDER: Plan = Plan {
     contexts: &[PlannedContext("a", 0, 10, 100, 0)],
     threads: &[PlannedThread("A", 0, 5, 0, 1, &[Compute(20)])],
     orders: &[
@@ -93,7 +93,7 @@ fn orders_of_one_moment_in_file_order(rt: HostRuntime) -> Result<(), Fail> {
     )
 }
 
-const FOR_A_READY_THREAD: Plan = Plan {
+static FOR_A_READY_THREAD: Plan = Plan {
     contexts: &[
         PlannedContext("a", 0, 10, 20, 0),
         PlannedContext("b", 0, 4, 20, 0),
@@ -126,7 +126,7 @@ fn order_for_a_ready_thread(rt: HostRuntime) -> Result<(), Fail> {
     )
 }
 
-const FOR_A_BLOCKED_THREAD: Plan = Plan {
+static FOR_A_BLOCKED_THREAD: Plan = Plan {
     contexts: &[
         PlannedContext("w", 0, 5, 20, 0),
         PlannedContext("s", 0, 9, 20, 0),
@@ -174,7 +174,7 @@ fn order_for_a_blocked_thread(rt: HostRuntime) -> Result<(), Fail> {
     )
 }
 
-const AFTER_THE_STOP: Plan = Plan {
+static AFTER_THE_STOP: Plan = Plan {
     contexts: &[
         PlannedContext("a", 0, 4, 20, 0),
         PlannedContext("b", 0, 4, 20, 0),
@@ -224,7 +224,7 @@ fn order_after_the_stop_of_its_moment(rt: HostRuntime) -> Result<(), Fail> {
     )
 }
 
-const AFTER_A_SPENT_HEAD: Plan = Plan {
+static AFTER_A_SPENT_HEAD: Plan = Plan {
     contexts: &[PlannedContext("a", 0, 3, 10, 0)],
     threads: &[PlannedThread("A", 0, 5, 0, 1, &[Compute(9)])],
     orders: &[PlannedOrder(3, 0, 2, 8, 0)],
@@ -250,7 +250,7 @@ fn order_after_a_spent_head(rt: HostRuntime) -> Result<(), Fail> {
     )
 }
 
-const AT_THE_FIRST_MOMENT: Plan = Plan {
+static AT_THE_FIRST_MOMENT: Plan = Plan {
     contexts: &[PlannedContext("a", 0, 5, 20, 0)],
     threads: &[PlannedThread("A", 0, 5, 0, 1, &[Compute(9)])],
     orders: &[PlannedOrder(0, 0, 3, 10, 0)],
@@ -273,7 +273,7 @@ fn order_before_the_releases(rt: HostRuntime) -> Result<(), Fail> {
     )
 }
 
-const TO_THE_FRONT: Plan = Plan {
+static TO_THE_FRONT: Plan = Plan {
     contexts: &[
         PlannedContext("a", 0, 5, 20, 0),
         PlannedContext("b", 0, 5, 20, 0),
@@ -309,7 +309,7 @@ fn ordered_to_the_front(rt: HostRuntime) -> Result<(), Fail> {
     )
 }
 
-const FOR_A_SLICE: Plan = Plan {
+static FOR_A_SLICE: Plan = Plan {
     contexts: &[PlannedContext("a", 0, 6, 6, 0)],
     threads: &[PlannedThread("A", 0, 5, 0, 1, &[Compute(30)])],
     orders: &[PlannedOrder(2, 0, 3, 3, 0), PlannedOrder(6, 0, 9, 9, 0)],
@@ -343,7 +343,7 @@ fn order_for_a_slice(rt: HostRuntime) -> Result<(), Fail> {
     )
 }
 
-const ON_ITS_OWN_CORE: Plan = Plan {
+static ON_ITS_OWN_CORE: Plan = Plan {
     cores: 2,
     contexts: &[
         PlannedContext("a", 0, 5, 20, 0),

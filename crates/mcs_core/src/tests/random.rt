@@ -5,7 +5,7 @@ use super::plan::{ONE_CORE, Plan, PlannedContext, PlannedNote, PlannedOrder, Pla
 use super::play::shows;
 use std::test::Fail;
 
-const RANDOM_ONE_01: Plan = Plan {
+static RANDOM_ONE_01: Plan = Plan {
     delay: 2,
     call: 1,
     min_budget: 1,
@@ -93,7 +93,7 @@ fn random_one_01(rt: HostRuntime) -> Result<(), Fail> {
     )
 }
 
-const RANDOM_ONE_02: Plan = Plan {
+static RANDOM_ONE_02: Plan = Plan {
     delay: 3,
     call: 1,
     min_budget: 1,
@@ -188,7 +188,7 @@ fn random_one_02(rt: HostRuntime) -> Result<(), Fail> {
     )
 }
 
-const RANDOM_ONE_03: Plan = Plan {
+static RANDOM_ONE_03: Plan = Plan {
     delay: 4,
     call: 1,
     min_budget: 1,
@@ -267,7 +267,7 @@ fn random_one_03(rt: HostRuntime) -> Result<(), Fail> {
     )
 }
 
-const RANDOM_ONE_04: Plan = Plan {
+static RANDOM_ONE_04: Plan = Plan {
     delay: 2,
     call: 1,
     min_budget: 4,
@@ -377,7 +377,7 @@ fn random_one_04(rt: HostRuntime) -> Result<(), Fail> {
     )
 }
 
-const RANDOM_ONE_05: Plan = Plan {
+static RANDOM_ONE_05: Plan = Plan {
     delay: 1,
     call: 1,
     min_budget: 1,
@@ -506,7 +506,7 @@ fn random_one_05(rt: HostRuntime) -> Result<(), Fail> {
     )
 }
 
-const RANDOM_ONE_06: Plan = Plan {
+static RANDOM_ONE_06: Plan = Plan {
     delay: 1,
     call: 3,
     min_budget: 1,
@@ -575,7 +575,7 @@ fn random_one_06(rt: HostRuntime) -> Result<(), Fail> {
     )
 }
 
-const RANDOM_ONE_07: Plan = Plan {
+static RANDOM_ONE_07: Plan = Plan {
     delay: 3,
     call: 1,
     min_budget: 1,
@@ -676,7 +676,7 @@ fn random_one_07(rt: HostRuntime) -> Result<(), Fail> {
     )
 }
 
-const RANDOM_ONE_08: Plan = Plan {
+static RANDOM_ONE_08: Plan = Plan {
     delay: 1,
     call: 1,
     min_budget: 2,
@@ -764,7 +764,7 @@ fn random_one_08(rt: HostRuntime) -> Result<(), Fail> {
     )
 }
 
-const RANDOM_ONE_09: Plan = Plan {
+static RANDOM_ONE_09: Plan = Plan {
     delay: 1,
     call: 1,
     min_budget: 3,
@@ -865,7 +865,7 @@ fn random_one_09(rt: HostRuntime) -> Result<(), Fail> {
     )
 }
 
-const RANDOM_ONE_10: Plan = Plan {
+static RANDOM_ONE_10: Plan = Plan {
     delay: 1,
     call: 1,
     min_budget: 2,
@@ -1019,7 +1019,7 @@ fn random_one_10(rt: HostRuntime) -> Result<(), Fail> {
     )
 }
 
-const RANDOM_ONE_11: Plan = Plan {
+static RANDOM_ONE_11: Plan = Plan {
     delay: 3,
     call: 1,
     min_budget: 3,
@@ -1067,7 +1067,7 @@ fn random_one_11(rt: HostRuntime) -> Result<(), Fail> {
     )
 }
 
-const RANDOM_ONE_12: Plan = Plan {
+static RANDOM_ONE_12: Plan = Plan {
     delay: 1,
     call: 1,
     min_budget: 6,
@@ -1158,7 +1158,7 @@ fn random_one_12(rt: HostRuntime) -> Result<(), Fail> {
     )
 }
 
-const RANDOM_ONE_13: Plan = Plan {
+static RANDOM_ONE_13: Plan = Plan {
     delay: 2,
     call: 3,
     min_budget: 3,
@@ -1223,7 +1223,7 @@ fn random_one_13(rt: HostRuntime) -> Result<(), Fail> {
     )
 }
 
-const RANDOM_ONE_14: Plan = Plan {
+static RANDOM_ONE_14: Plan = Plan {
     delay: 2,
     call: 1,
     min_budget: 1,
@@ -1346,7 +1346,7 @@ fn random_one_14(rt: HostRuntime) -> Result<(), Fail> {
     )
 }
 
-const RANDOM_ONE_15: Plan = Plan {
+static RANDOM_ONE_15: Plan = Plan {
     delay: 2,
     call: 1,
     min_budget: 1,
@@ -1418,7 +1418,7 @@ fn random_one_15(rt: HostRuntime) -> Result<(), Fail> {
     )
 }
 
-const RANDOM_ONE_16: Plan = Plan {
+static RANDOM_ONE_16: Plan = Plan {
     delay: 1,
     call: 3,
     min_budget: 1,
@@ -1513,7 +1513,7 @@ fn random_one_16(rt: HostRuntime) -> Result<(), Fail> {
     )
 }
 
-const RANDOM_ONE_17: Plan = Plan {
+static RANDOM_ONE_17: Plan = Plan {
     delay: 2,
     call: 1,
     min_budget: 1,
@@ -1631,7 +1631,7 @@ fn random_one_17(rt: HostRuntime) -> Result<(), Fail> {
     )
 }
 
-const RANDOM_ONE_18: Plan = Plan {
+static RANDOM_ONE_18: Plan = Plan {
     delay: 3,
     call: 1,
     min_budget: 1,
@@ -1765,7 +1765,7 @@ fn random_one_18(rt: HostRuntime) -> Result<(), Fail> {
     )
 }
 
-const RANDOM_ONE_19: Plan = Plan {
+static RANDOM_ONE_19: Plan = Plan {
     delay: 5,
     call: 3,
     min_budget: 1,
@@ -1808,7 +1808,7 @@ fn random_one_19(rt: HostRuntime) -> Result<(), Fail> {
     )
 }
 
-const RANDOM_ONE_20: Plan = Plan {
+static RANDOM_ONE_20: Plan = Plan {
     delay: 9,
     call: 2,
     min_budget: 5,
@@ -1885,7 +1885,7 @@ fn random_one_20(rt: HostRuntime) -> Result<(), Fail> {
     )
 }
 
-const RANDOM_ONE_21: Plan = Plan {
+static RANDOM_ONE_21: Plan = Plan {
     delay: 2,
     call: 1,
     min_budget: 5,
@@ -1952,7 +1952,7 @@ fn random_one_21(rt: HostRuntime) -> Result<(), Fail> {
     )
 }
 
-const RANDOM_ONE_22: Plan = Plan {
+static RANDOM_ONE_22: Plan = Plan {
     delay: 3,
     call: 1,
     min_budget: 1,
@@ -2019,7 +2019,7 @@ fn random_one_22(rt: HostRuntime) -> Result<(), Fail> {
     )
 }
 
-const RANDOM_ONE_23: Plan = Plan {
+static RANDOM_ONE_23: Plan = Plan {
     delay: 4,
     call: 1,
     min_budget: 2,
@@ -2090,7 +2090,7 @@ fn random_one_23(rt: HostRuntime) -> Result<(), Fail> {
     )
 }
 
-const RANDOM_ONE_24: Plan = Plan {
+static RANDOM_ONE_24: Plan = Plan {
     delay: 1,
     call: 3,
     min_budget: 5,
@@ -2152,7 +2152,7 @@ fn random_one_24(rt: HostRuntime) -> Result<(), Fail> {
     )
 }
 
-const RANDOM_ONE_25: Plan = Plan {
+static RANDOM_ONE_25: Plan = Plan {
     delay: 1,
     call: 3,
     min_budget: 2,
@@ -2252,7 +2252,7 @@ fn random_one_25(rt: HostRuntime) -> Result<(), Fail> {
     )
 }
 
-const RANDOM_ONE_26: Plan = Plan {
+static RANDOM_ONE_26: Plan = Plan {
     delay: 4,
     call: 1,
     min_budget: 1,
@@ -2357,7 +2357,7 @@ fn random_one_26(rt: HostRuntime) -> Result<(), Fail> {
     )
 }
 
-const RANDOM_ONE_27: Plan = Plan {
+static RANDOM_ONE_27: Plan = Plan {
     delay: 1,
     call: 1,
     min_budget: 1,
@@ -2435,7 +2435,7 @@ fn random_one_27(rt: HostRuntime) -> Result<(), Fail> {
     )
 }
 
-const RANDOM_ONE_28: Plan = Plan {
+static RANDOM_ONE_28: Plan = Plan {
     delay: 4,
     call: 1,
     min_budget: 1,
@@ -2557,7 +2557,7 @@ fn random_one_28(rt: HostRuntime) -> Result<(), Fail> {
     )
 }
 
-const RANDOM_ONE_29: Plan = Plan {
+static RANDOM_ONE_29: Plan = Plan {
     delay: 1,
     call: 1,
     min_budget: 3,
@@ -2646,7 +2646,7 @@ fn random_one_29(rt: HostRuntime) -> Result<(), Fail> {
     )
 }
 
-const RANDOM_ONE_30: Plan = Plan {
+static RANDOM_ONE_30: Plan = Plan {
     delay: 2,
     call: 3,
     min_budget: 5,

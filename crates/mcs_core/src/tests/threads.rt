@@ -3,7 +3,7 @@ use super::plan::{ONE_CORE, Plan, PlannedContext, PlannedNote, PlannedThread};
 use super::play::shows;
 use std::test::Fail;
 
-const WAKE_PREEMPTS: Plan = Plan {
+static WAKE_PREEMPTS: Plan = Plan {
     contexts: &[
         PlannedContext("a", 0, 10, 100, 0),
         PlannedContext("b", 0, 10, 100, 0),
@@ -48,7 +48,7 @@ fn wake_preempts(rt: HostRuntime) -> Result<(), Fail> {
     )
 }
 
-pub const SMALL_HEAD_JOINS: Plan = Plan {
+pub static SMALL_HEAD_JOINS: Plan = Plan {
     min_budget: 4,
     contexts: &[
         PlannedContext("a", 0, 10, 100, 0),
@@ -80,7 +80,7 @@ fn small_head_joins(rt: HostRuntime) -> Result<(), Fail> {
     )
 }
 
-pub const ROUND_ROBIN: Plan = Plan {
+pub static ROUND_ROBIN: Plan = Plan {
     contexts: &[
         PlannedContext("a", 0, 3, 3, 0),
         PlannedContext("b", 0, 3, 3, 0),
@@ -119,7 +119,7 @@ fn round_robin_takes_turns(rt: HostRuntime) -> Result<(), Fail> {
     )
 }
 
-const HELD_WORD: Plan = Plan {
+static HELD_WORD: Plan = Plan {
     contexts: &[
         PlannedContext("s", 0, 5, 10, 0),
         PlannedContext("w", 0, 5, 10, 0),
@@ -157,7 +157,7 @@ fn wait_takes_a_held_word(rt: HostRuntime) -> Result<(), Fail> {
     )
 }
 
-const YIELDS: Plan = Plan {
+static YIELDS: Plan = Plan {
     contexts: &[PlannedContext("a", 0, 4, 10, 0)],
     threads: &[PlannedThread("A", 0, 5, 0, 2, &[Compute(1), Yield])],
     ..ONE_CORE
@@ -184,7 +184,7 @@ fn yield_gives_the_head_away(rt: HostRuntime) -> Result<(), Fail> {
     )
 }
 
-const YIELDS_A_SLICE: Plan = Plan {
+static YIELDS_A_SLICE: Plan = Plan {
     contexts: &[
         PlannedContext("y", 0, 4, 4, 0),
         PlannedContext("z", 0, 9, 20, 0),
@@ -229,7 +229,7 @@ fn yield_gives_the_slice_away(rt: HostRuntime) -> Result<(), Fail> {
     )
 }
 
-const LONG_CALLS: Plan = Plan {
+static LONG_CALLS: Plan = Plan {
     call: 3,
     contexts: &[PlannedContext("a", 0, 5, 10, 0)],
     notes: &[PlannedNote("n", 0)],
@@ -255,7 +255,7 @@ fn call_costs_ticks(rt: HostRuntime) -> Result<(), Fail> {
     )
 }
 
-const WOKEN_EARLY: Plan = Plan {
+static WOKEN_EARLY: Plan = Plan {
     contexts: &[
         PlannedContext("w", 0, 1, 10, 0),
         PlannedContext("s", 0, 9, 20, 0),

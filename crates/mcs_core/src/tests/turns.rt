@@ -3,7 +3,7 @@ use super::plan::{ONE_CORE, Plan, PlannedContext, PlannedNote, PlannedThread};
 use super::play::shows;
 use std::test::Fail;
 
-const WAKE_BEFORE_STOP: Plan = Plan {
+static WAKE_BEFORE_STOP: Plan = Plan {
     contexts: &[
         PlannedContext("w", 0, 5, 10, 0),
         PlannedContext("s", 0, 2, 2, 0),
@@ -44,7 +44,7 @@ fn wake_before_stop(rt: HostRuntime) -> Result<(), Fail> {
     )
 }
 
-const ROUND_AT_THE_WORD: Plan = Plan {
+static ROUND_AT_THE_WORD: Plan = Plan {
     contexts: &[
         PlannedContext("w", 0, 10, 100, 0),
         PlannedContext("s", 0, 20, 100, 0),
@@ -121,7 +121,7 @@ fn round_begins_at_the_word(rt: HostRuntime) -> Result<(), Fail> {
     )
 }
 
-pub const ENDS_WITHOUT_A_ROW: Plan = Plan {
+pub static ENDS_WITHOUT_A_ROW: Plan = Plan {
     contexts: &[PlannedContext("a", 0, 9, 20, 0)],
     threads: &[PlannedThread("A", 0, 5, 0, 1, &[Compute(2), Compute(3)])],
     ..ONE_CORE
@@ -143,7 +143,7 @@ fn item_ends_without_a_row(rt: HostRuntime) -> Result<(), Fail> {
     )
 }
 
-const ENDS_AS_ITS_HEAD_ENDS: Plan = Plan {
+static ENDS_AS_ITS_HEAD_ENDS: Plan = Plan {
     contexts: &[
         PlannedContext("a", 0, 3, 10, 0),
         PlannedContext("b", 0, 2, 10, 0),
@@ -188,7 +188,7 @@ fn no_stop_for_a_spent_head_follows_another(rt: HostRuntime) -> Result<(), Fail>
     )
 }
 
-pub const SMALL_REFILLS: Plan = Plan {
+pub static SMALL_REFILLS: Plan = Plan {
     min_budget: 4,
     contexts: &[
         PlannedContext("a", 0, 10, 100, 1),
