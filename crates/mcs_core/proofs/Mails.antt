@@ -22,6 +22,7 @@ use Rattle.mcs_mail.specs.declared.mail.Mail.{Mail}
 use Rattle.mcs_core.specs.System.{System, note_part, thread_part, delay_between}
 use Rattle.mcs_core.specs.Core.{Core, note_of, thread_of}
 use Rattle.mcs_core.specs.declared.standing.Chosen.{Chosen}
+use Rattle.mcs_release.specs.Release.{is_due}
 use Rattle.mcs_core.specs.Turn as turns
 use Rattle.mcs_core.specs.Turn.{Turn, each, silent, says, ◌followed_by◌}
 
@@ -74,7 +75,7 @@ module _ (queue : Discipline) (system : System) (c t : ℕ) where
   obeys-none order core = orders_running-none order core.running core
 
   releases-none : (core : Core) → (turns.releases queue system t core).mails ≡ []
-  releases-none core = each-none (turns.released queue system) (λ due core. refl) (filter (turns.is_due t) core.releases) _
+  releases-none core = each-none (turns.released queue system) (λ due core. refl) (filter (is_due t) core.releases) _
 
   preempts_by-none : (o : Option Chosen) (best : Option Queued) (core : Core) → (turns.preempts_by queue system t o best core).mails ≡ []
   preempts_by-none (Some chosen) (Some best) core = cond-none (nat_lt (turns.part_of system chosen.thread).priority best.priority) _ _ refl refl

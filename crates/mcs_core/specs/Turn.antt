@@ -1,5 +1,5 @@
 -- The turn of one core at one moment: the end of the tick, arrivals, orders, releases, and the choice.
-use Rattle.std.specs.Prelude.{ℕ, ◌+◌, ◌-◌, Bool, ◌==◌, ◌&&◌, not, nat_lt, nat_le, if◌then◌else◌, List, [], ◌∷◌, ◌++◌, filter, Option, Some, None}
+use Rattle.std.specs.Prelude.{ℕ, ◌+◌, ◌-◌, Bool, ◌==◌, ◌&&◌, not, nat_lt, if◌then◌else◌, List, [], ◌∷◌, ◌++◌, filter, Option, Some, None}
 use Rattle.std.specs.List.{slice_get}
 use Rattle.mcs_ticks.specs.Queue.{Discipline, by_priority}
 use Rattle.mcs_ticks.specs.declared.queue.Queued.{Queued}
@@ -24,6 +24,7 @@ use Rattle.mcs_core.specs.declared.part.ThreadPart.{ThreadPart}
 use Rattle.mcs_core.specs.System.{System, thread_part, note_part, context_part, delay_between}
 use Rattle.mcs_core.specs.Core.{Core, thread_of, context_of, note_of, with_thread, with_context, with_note, stands, pends, off}
 use Rattle.mcs_release.specs.declared.dated.Dated.{Dated}
+use Rattle.mcs_release.specs.Release.{is_due}
 use Rattle.mcs_core.specs.declared.standing.Chosen.{Chosen}
 use Rattle.mcs_core.specs.declared.standing.Standing.{Standing}
 use Rattle.mcs_core.specs.declared.standing.Standing.TheVariants.{Blocked, Ready, Running, Done}
@@ -266,9 +267,6 @@ applied t order core = with_context order.context (context_ordered t order.confi
 -- a thread whose date has come is ready
 abbrev pub released : Discipline → System → Dated → Core → Turn
 released queue system due core = says (row.Release due.thread) (enters_back queue system due.thread None core)
-
-abbrev pub is_due : ℕ → Dated → Bool
-is_due t dated = nat_le dated.date t
 
 -- parts 2 to 5
 module _ (queue : Discipline) (system : System) (t : ℕ) where

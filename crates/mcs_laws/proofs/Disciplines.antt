@@ -28,6 +28,7 @@ use Rattle.mcs_core.specs.Core.{Core, opening_core, note_of, with_note, thread_o
 use Rattle.mcs_core.specs.declared.standing.Standing.TheVariants.{Ready}
 use Rattle.mcs_core.specs.declared.standing.Chosen.{Chosen}
 use Rattle.mcs_release.specs.declared.dated.Dated.{Dated}
+use Rattle.mcs_release.specs.Release.{is_due}
 use Rattle.mcs_core.specs.Turn as turns
 use Rattle.mcs_core.specs.Turn.{Turn, each, silent, says, ◌followed_by◌}
 use Rattle.mcs_core.specs.Clock as clocks
@@ -138,7 +139,7 @@ module _ (system : System) (t : ℕ) where
 
   releases-alike : (k : Core) → sorted_turn (turns.releases in_one_list system t k) ≡ turns.releases by_priority system t (with_queue_sorted k)
   releases-alike k =
-      each_part (turns.released in_one_list system) (turns.released by_priority system) released-alike (filter (turns.is_due t) k.releases) _
+      each_part (turns.released in_one_list system) (turns.released by_priority system) released-alike (filter (is_due t) k.releases) _
 
   preempts_by-alike : (o : Option Chosen) (best : Option Queued) (k : Core) →
       sorted_turn (turns.preempts_by in_one_list system t o best k) ≡ turns.preempts_by by_priority system t o best (with_queue_sorted k)

@@ -25,6 +25,7 @@ use Rattle.mcs_mail.specs.declared.mail.Mail.{Mail}
 use Rattle.mcs_core.specs.declared.standing.Chosen.{Chosen}
 use Rattle.mcs_core.specs.System.{System, note_part, thread_part}
 use Rattle.mcs_core.specs.Core.{Core, context_of, note_of, thread_of, with_note, off}
+use Rattle.mcs_release.specs.Release.{is_due}
 use Rattle.mcs_core.specs.Turn as turns
 use Rattle.mcs_core.specs.Turn.{Turn, each, silent, says, ◌followed_by◌, is_for_now}
 use Rattle.mcs_laws.specs.Places.{times_running, times_queued, times_dated, places}
@@ -291,15 +292,15 @@ module _ (system : System) (t x : ℕ) where
   abbrev HaveCome : ℕ → List Dated → Type 0
   HaveCome m releases = AllByRecursion (λ (dated : Dated). dated.thread ≡ x → m < suc t) releases
 
-  due-come : (m : ℕ) (releases : List Dated) → AreNotBefore m releases → HaveCome m (filter (turns.is_due t) releases)
+  due-come : (m : ℕ) (releases : List Dated) → AreNotBefore m releases → HaveCome m (filter (is_due t) releases)
   due-come m [] h = tt
   due-come m (dated ∷ others) h = by (nat_le dated.date t) refl (due-come m others h.1)
     where
       within : (a b : ℕ) → nat_le a b ≡ true → a ≤ b
       within a b e = grind (arith, nat_tests)
 
-      by : (b : Bool) → nat_le dated.date t ≡ b → HaveCome m (filter (turns.is_due t) others) →
-          HaveCome m (cond b (dated ∷ filter (turns.is_due t) others) (filter (turns.is_due t) others))
+      by : (b : Bool) → nat_le dated.date t ≡ b → HaveCome m (filter (is_due t) others) →
+          HaveCome m (cond b (dated ∷ filter (is_due t) others) (filter (is_due t) others))
       by true e i = (λ own. omega (arith, within dated.date t e, h.0 own), i)
       by false e i = i
 
@@ -318,9 +319,9 @@ module _ (system : System) (t x : ℕ) where
 
   releases-on_time : (k : Core) → OnTime k → OnTime (turns.releases by_priority system t k).core
   releases-on_time k h =
-      each-released-on_time (filter (turns.is_due t) k.releases) (record k { releases = filter (λ dated. not (turns.is_due t dated)) k.releases })
+      each-released-on_time (filter (is_due t) k.releases) (record k { releases = filter (λ dated. not (is_due t dated)) k.releases })
       (due-come (head k) k.releases h.pends)
-      (record { runs = h.runs; ready = h.ready; pends = left-not_before (λ dated. not (turns.is_due t dated)) (head k) k.releases h.pends })
+      (record { runs = h.runs; ready = h.ready; pends = left-not_before (λ dated. not (is_due t dated)) (head k) k.releases h.pends })
 
   -- the choice
   preempts_by-on_time : (o : Option Chosen) (best : Option Queued) (k : Core) → k.running ≡ o → IsAlone k → OnTime k → OnTime (turns.preempts_by by_priority system t o best k).core

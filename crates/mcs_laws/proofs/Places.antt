@@ -27,6 +27,7 @@ use Rattle.mcs_mail.specs.declared.mail.Mail.{Mail}
 use Rattle.mcs_core.specs.System.{System, TakesTime, note_part, core_of}
 use Rattle.mcs_core.specs.declared.part.ThreadPart.{ThreadPart}
 use Rattle.mcs_core.specs.Core.{Core, note_of, thread_of, with_note, off, opening_core, opening_releases}
+use Rattle.mcs_release.specs.Release.{is_due}
 use Rattle.mcs_core.specs.Turn as turns
 use Rattle.mcs_core.specs.Turn.{Turn, each, silent, says, ◌followed_by◌, is_for_now}
 use Rattle.mcs_core.specs.Clock as clocks
@@ -261,8 +262,8 @@ module _ (system : System) (t y : ℕ) where
   releases-held k =
       omega (
         arith,
-        released-held (filter (turns.is_due t) k.releases) (record k { releases = filter (λ x. not (turns.is_due t x)) k.releases }),
-        due-held (turns.is_due t) k.releases,
+        released-held (filter (is_due t) k.releases) (record k { releases = filter (λ x. not (is_due t x)) k.releases }),
+        due-held (is_due t) k.releases,
       )
 
   pub preempts_by-held : (o : Option Chosen) (best : Option Queued) (k : Core) → k.running ≡ o → held (turns.preempts_by by_priority system t o best k).core ≤ held k

@@ -24,6 +24,7 @@ use Rattle.mcs_core.specs.declared.standing.Chosen.{Chosen}
 use Rattle.mcs_core.specs.System.{System, thread_part}
 use Rattle.mcs_core.specs.Core.{Core, context_of, note_of, thread_of, with_note}
 use Rattle.mcs_core.specs.Contexts.{held}
+use Rattle.mcs_release.specs.Release.{is_due}
 use Rattle.mcs_core.specs.Turn as turns
 use Rattle.mcs_core.specs.Turn.{Turn, each, silent, says, ◌followed_by◌, is_for_now}
 use Rattle.mcs_laws.specs.Histories.{charge_told, charges_told}
@@ -109,7 +110,7 @@ module _ (system : System) (c t x : ℕ) where
   releases-spends : (k : Core) → Spends k.running (turns.releases by_priority system t k)
   releases-spends k =
       each-spends (turns.released by_priority system) (λ due core. quiet core.running (turns.released by_priority system due core) refl)
-      (filter (turns.is_due t) k.releases) (record k { releases = filter (λ dated. not (turns.is_due t dated)) k.releases })
+      (filter (is_due t) k.releases) (record k { releases = filter (λ dated. not (is_due t dated)) k.releases })
 
   preempts_by-spends : (o : Option Chosen) (best : Option Queued) (k : Core) → k.running ≡ o → Spends k.running (turns.preempts_by by_priority system t o best k)
   preempts_by-spends (Some chosen) (Some best) k e =

@@ -30,6 +30,7 @@ use Rattle.mcs_core.specs.Contexts.{no_server}
 use Rattle.mcs_core.specs.declared.standing.Chosen.{Chosen}
 use Rattle.mcs_release.specs.declared.dated.Dated.{Dated}
 use Rattle.mcs_core.specs.declared.standing.Standing.{Standing}
+use Rattle.mcs_release.specs.Release.{is_due}
 use Rattle.mcs_core.specs.Turn as turns
 use Rattle.mcs_core.specs.Turn.{Turn, each, silent, says, ◌followed_by◌, is_for_now}
 use Rattle.mcs_laws.specs.Changes.{Change, charges_of, orders_of, IsBudget, KeepsItsBudget, changed_by, AreSound}
@@ -560,10 +561,10 @@ module _ (queue : Discipline) (system : System) (c t x : ℕ) where
 
   releases-traced : (core : Core) → Traced (Uses 1 1) (Uses 1 1) [] core (turns.releases queue system t core)
   releases-traced core =
-      then_part (Uses 1 1) (Uses 1 1) (Uses 1 1) [] [] core (silent (record core { releases = filter (λ dated. not (turns.is_due t dated)) core.releases }))
-      (each (turns.released queue system) (filter (turns.is_due t) core.releases))
+      then_part (Uses 1 1) (Uses 1 1) (Uses 1 1) [] [] core (silent (record core { releases = filter (λ dated. not (is_due t dated)) core.releases }))
+      (each (turns.released queue system) (filter (is_due t) core.releases))
       (still (Uses 1 1) core _ refl refl refl)
-      (λ k. each_part (Uses 1 1) (turns.released queue system) released-traced (filter (turns.is_due t) core.releases) k)
+      (λ k. each_part (Uses 1 1) (turns.released queue system) released-traced (filter (is_due t) core.releases) k)
 
   preempts_by-traced : (o : Option Chosen) (best : Option Queued) (core : Core) → core.running ≡ o → Traced (Uses 1 1) (Uses 1 1) [] core (turns.preempts_by queue system t o best core)
   preempts_by-traced (Some chosen) (Some best) core e =

@@ -24,6 +24,7 @@ use Rattle.mcs_core.specs.declared.standing.Chosen.{Chosen}
 use Rattle.mcs_core.specs.declared.standing.Standing.TheVariants.{Blocked, Done}
 use Rattle.mcs_core.specs.System.{System, note_part}
 use Rattle.mcs_core.specs.Core.{Core, note_of, thread_of, with_note, off}
+use Rattle.mcs_release.specs.Release.{is_due}
 use Rattle.mcs_core.specs.Turn as turns
 use Rattle.mcs_core.specs.Turn.{Turn, each, silent, says, ◌followed_by◌, is_for_now}
 use Rattle.mcs_report.specs.Reports.{runs, stops}
@@ -195,8 +196,8 @@ module _ (system : System) (t x : ℕ) where
 
   releases-quits : (k : Core) → Quits x k (turns.releases by_priority system t k)
   releases-quits k =
-      let left = record k { releases = filter (λ dated. not (turns.is_due t dated)) k.releases } in
-      let q = quits-each x (turns.released by_priority system) released-quits (filter (turns.is_due t) k.releases) left in
+      let left = record k { releases = filter (λ dated. not (is_due t dated)) k.releases } in
+      let q = quits-each x (turns.released by_priority system) released-quits (filter (is_due t) k.releases) left in
       record { walks = q.walks; plain = q.plain }
 
   preempts_by-quits : (o : Option Chosen) (best : Option Queued) (k : Core) → k.running ≡ o → Quits x k (turns.preempts_by by_priority system t o best k)
