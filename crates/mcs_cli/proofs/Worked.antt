@@ -3,7 +3,7 @@ use Rattle.std.proofs.Common.{◌≡◌, refl, codes, [], ◌∷◌, Some}
 use Rattle.mcs_script.specs.declared.item.Item.TheVariants.{Compute}
 use Rattle.mcs_ticks.specs.declared.row.What.TheVariants as row
 use Rattle.mcs_ticks.specs.declared.row.Why.TheVariants as why
-use Rattle.mcs_core.specs.System.{System}
+use Rattle.mcs_system.specs.System.{System}
 use Rattle.std.specs.Fmt.{digits}
 use Rattle.mcs_cli.specs.Text.{row_text}
 use Rattle.mcs_cli.specs.Run.{output_of}

@@ -1,7 +1,7 @@
 ghost use Rattle.std.specs.Prelude.{◌≡◌};
 ghost use Rattle.mcs_cli.specs.Text.{context_name, note_name, thread_name};
 
-use mcs_core::System;
+use mcs_system::System;
 use mcs_ticks::{ContextId, NoteId, ThreadId};
 
 /// The name of a thread, or the empty text where the system has no such thread.

@@ -4,8 +4,8 @@ ghost use Rattle.mcs_cli.specs.Text.{after, core_line, reports_text, thread_line
 
 use crate::line::{append_counted, append_number, append_word};
 use crate::names::thread_name;
-use mcs_core::System;
 use mcs_report::{CoreReport, Reports, ThreadReport};
+use mcs_system::System;
 use mcs_ticks::{NoMemory, ThreadId};
 
 /// Appends the lines of reports: one for each thread in the file's order, then one for each core from 0. After a refusal the text is

@@ -5,7 +5,7 @@ ghost use Rattle.mcs_cli.specs.Text.{after, row_text, until_words, why_word, wor
 use crate::line::{append_counted, append_named, append_number, append_word};
 use crate::names::{context_name, note_name, thread_name};
 use itoa::Buffer;
-use mcs_core::System;
+use mcs_system::System;
 use mcs_ticks::{NoMemory, NoteId, Row, ThreadId, Tick, What, Why};
 
 /// Appends the line of a row: `<moment> <core> ` and what happened, with the names that the system has. After a refusal the text is

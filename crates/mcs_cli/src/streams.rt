@@ -5,8 +5,8 @@ ghost use Rattle.mcs_cli.specs.Text.{schedule_text};
 ghost use Rattle.mcs_cli.specs.Run.{IsRun, output_of, shown_text};
 
 use crate::{Options, RunFault, Show, put_reports, put_row};
-use mcs_core::System;
 use mcs_load::{LoadFault, load};
+use mcs_system::System;
 use mcs_team::{SimFault, Whole, simulate_alone};
 use mcs_ticks::{Limits, NoMemory, Row};
 use std::alloc::Global;

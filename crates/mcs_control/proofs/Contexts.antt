@@ -4,9 +4,9 @@ use Rattle.std.specs.Prelude.{◌==◌}
 use Rattle.std.proofs.lemmas.Bool.Decides.{nat_tests}
 use Rattle.mcs_refills.specs.Server.{Server, dates_from, charged, with_enough, unblocked}
 use Rattle.mcs_refills.specs.Slice.{slice_charged}
-use Rattle.mcs_refills.specs.Kept.{IsServer}
-use Rattle.mcs_refills.specs.Spacing.{Step, AreProper, IsSpaced, consumed}
-use Rattle.mcs_refills.specs.Spacing.Step.{Charge, Unblock}
+use Rattle.mcs_refills.specs.laws.Servers.{IsServer}
+use Rattle.mcs_refills.specs.laws.Spacing.{Step, AreProper, IsSpaced, consumed}
+use Rattle.mcs_refills.specs.laws.Spacing.Step.{Charge, Unblock}
 use Rattle.mcs_refills.proofs.Servers.{servers-kept}
 use Rattle.mcs_refills.proofs.Spaces.{consumed-spaced}
 use Rattle.mcs_control.specs.declared.config.Config.{Config}
@@ -14,7 +14,7 @@ use Rattle.mcs_control.specs.declared.config.Kind.TheVariants as kind
 use Rattle.mcs_control.specs.Control.{IsConfig, kind_of}
 use Rattle.mcs_control.specs.Context.{Budget, new_context, first_budget, context_charged, context_unblocked, context_ordered, head_amount, max_refills_of}
 use Rattle.mcs_control.specs.Context.Budget.{Dates, Slice}
-use Rattle.mcs_control.specs.Kept.{IsBudget, IsContext, ContextsAreKept, ConsumedAreSpaced, consumed_from}
+use Rattle.mcs_control.specs.laws.Contexts.{IsBudget, IsContext, ContextsAreKept, ConsumedAreSpaced, consumed_from}
 
 -- the kind tells how the budget and the period compare
 module _ (config : Config) where

@@ -8,8 +8,8 @@ use Rattle.mcs_control.specs.declared.context.Budget.TheVariants.{Sporadic, Roun
 use Rattle.mcs_control.specs.Control.{IsConfig, kind_of}
 use Rattle.mcs_control.specs.Context.{head_amount, max_refills_of}
 use Rattle.mcs_control.specs.Context.Budget.{Dates}
-use Rattle.mcs_control.specs.Kept.{IsContext}
-use Rattle.mcs_control.specs.Held.{held, IsHeld}
+use Rattle.mcs_control.specs.laws.Contexts.{IsContext}
+use Rattle.mcs_control.specs.stored.Context.{held, IsHeld}
 use Rattle.mcs_control.proofs.Contexts.{contexts-kept}
 
 pub new-slice : (config : Config) (room : ℕ) (slice : TimeSlice) → IsConfig config → config.budget ≡ config.period → slice ≡ full_slice config.budget → IsHeld config (RoundRobin slice) room

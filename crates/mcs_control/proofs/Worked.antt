@@ -1,12 +1,12 @@
 -- The definitions at worked values, each way of each choice once.
 use Rattle.std.specs.Prelude.{◌≡◌, ℕ, true, false, [], ◌∷◌, Some, None, Ok, Err, refl}
-use Rattle.mcs_refills.specs.Spacing.Step.{Charge, Unblock}
+use Rattle.mcs_refills.specs.laws.Spacing.Step.{Charge, Unblock}
 use Rattle.mcs_control.specs.declared.config.Config.{Config}
 use Rattle.mcs_control.specs.declared.config.Kind.TheVariants.{Sporadic, RoundRobin}
 use Rattle.mcs_control.specs.declared.config.ControlFault.TheVariants.{ZeroBudget, BudgetTooSmall, BudgetOverPeriod, PeriodTooLong, TooManyRefills}
 use Rattle.mcs_control.specs.Control.{checked}
 use Rattle.mcs_control.specs.Context.{Context, new_context, context_charged, context_unblocked, context_ordered, context_ready, head_amount, head_moment, view_of}
-use Rattle.mcs_control.specs.Kept.{consumed_from}
+use Rattle.mcs_control.specs.laws.Contexts.{consumed_from}
 
 abbrev config : ℕ → ℕ → ℕ → Config
 config budget period extra = record { budget = budget; period = period; extra = extra }

@@ -1,7 +1,7 @@
 ghost use Rattle.std.specs.Prelude.{◌≡◌, ◌+◌, ◌^◌, ◌≤◌, IfOk};
 ghost use Rattle.mcs_control.specs.Control.{IsConfig, kind_of};
 ghost use Rattle.mcs_control.specs.Context.{new_context, context_charged, context_unblocked, context_ordered, context_ready, head_amount, head_moment, max_refills_of, view_of};
-ghost use Rattle.mcs_control.specs.Kept.{IsContext};
+ghost use Rattle.mcs_control.specs.laws.Contexts.{IsContext};
 ghost use Rattle.mcs_refills.specs.Server.{refills_of};
 
 use crate::{Config, ContextView};
@@ -32,7 +32,7 @@ impl Model for Context {
 
     ghost Value = { WithRoom };
 
-    ghost use Rattle.mcs_control.specs.Held.{held, IsHeld};
+    ghost use Rattle.mcs_control.specs.stored.Context.{held, IsHeld};
 
     ghost view = { λ a. record { context = held a.config a.budget; room = a.room } };
 

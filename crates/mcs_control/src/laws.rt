@@ -1,5 +1,5 @@
 ghost use Rattle.mcs_control.specs.Control.{PassedAreConfigs};
-ghost use Rattle.mcs_control.specs.Kept.{ContextsAreKept, ConsumedAreSpaced};
+ghost use Rattle.mcs_control.specs.laws.Contexts.{ContextsAreKept, ConsumedAreSpaced};
 
 /// A law of SchedControl: what passes the check, whatever the least budget, is in range and has the kind that was answered.
 pub fn passed_configs_are_in_range()

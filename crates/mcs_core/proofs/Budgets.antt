@@ -12,7 +12,7 @@ use Rattle.mcs_control.specs.declared.config.ControlFault.TheVariants.{ZeroBudge
 use Rattle.mcs_control.specs.Control.{checked, kind_of}
 use Rattle.mcs_control.specs.Context.{Context, Budget, max_refills_of, head_amount, head_moment, context_charged, context_unblocked, context_ordered}
 use Rattle.mcs_control.specs.Context.Budget.{Dates, Slice}
-use Rattle.mcs_core.specs.Sound.{IsKeptBudget}
+use Rattle.mcs_core.specs.stored.Sound.{IsKeptBudget}
 
 -- what a configuration that passed its check is like
 pub record IsAccepted (min_budget : ℕ) (config : Config) : Type 0 where

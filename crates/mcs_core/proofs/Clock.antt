@@ -10,7 +10,7 @@ use Rattle.std.proofs.lemmas.List.FromFn.{length-map-range_with_len}
 use Rattle.mcs_ticks.specs.Queue.{by_priority}
 use Rattle.mcs_ticks.specs.declared.row.Row.{Row}
 use Rattle.mcs_mail.specs.declared.mail.Mail.{Mail}
-use Rattle.mcs_core.specs.System.{System, note_part, delay_between, TakesTime}
+use Rattle.mcs_system.specs.System.{System, note_part, delay_between, TakesTime}
 use Rattle.mcs_core.specs.Core.{Core, opening_core}
 use Rattle.mcs_core.specs.Turn.{Turn, turn}
 use Rattle.mcs_core.specs.Clock as clocks

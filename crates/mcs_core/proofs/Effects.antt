@@ -13,12 +13,12 @@ use Rattle.mcs_script.specs.declared.item.Item.TheVariants.{Compute, Signal, Wai
 use Rattle.mcs_core.specs.declared.standing.Chosen.{Chosen}
 use Rattle.mcs_core.specs.declared.standing.Standing.{Standing}
 use Rattle.mcs_core.specs.declared.standing.Standing.TheVariants.{Done}
-use Rattle.mcs_core.specs.System.{System, thread_part}
+use Rattle.mcs_system.specs.System.{System, thread_part}
 use Rattle.mcs_core.specs.Core.{Core, thread_of, note_of}
-use Rattle.mcs_core.specs.Items.{IsNoted, SignalsFree, CanTakeEffect}
+use Rattle.mcs_core.specs.stored.Items.{IsNoted, SignalsFree, CanTakeEffect}
 use Rattle.mcs_core.specs.Turn.{its_context, takes_effect, waits_as}
-use Rattle.mcs_core.specs.Sound.{times_ready, times_pending, times_blocked, Phase, IsFree, CanStop, WakesFree, IsSound}
-use Rattle.mcs_core.specs.Sound.Phase.{Between, InTick, PastTick}
+use Rattle.mcs_core.specs.stored.Sound.{times_ready, times_pending, times_blocked, Phase, IsFree, CanStop, WakesFree, IsSound}
+use Rattle.mcs_core.specs.stored.Sound.Phase.{Between, InTick, PastTick}
 use Rattle.mcs_core.proofs.Soundness.{IsOneEach}
 use Rattle.mcs_core.proofs.Budgets.{accepted-is, kept-head-most}
 use Rattle.mcs_core.proofs.Wakes.{IsWoken, woken-sound}

@@ -7,9 +7,9 @@ use Rattle.std.proofs.lemmas.List.{get_or_past}
 use Rattle.std.proofs.lemmas.List.Elements.{All-head, All-tail}
 use Rattle.mcs_script.specs.declared.item.Item.{Item}
 use Rattle.mcs_script.specs.declared.item.Item.TheVariants.{Signal}
-use Rattle.mcs_core.specs.declared.part.ThreadPart.{ThreadPart}
-use Rattle.mcs_core.specs.System.{System, thread_part, no_thread, core_of}
-use Rattle.mcs_core.specs.WellFormed.{IsWellFormed, IsItem}
+use Rattle.mcs_system.specs.declared.part.ThreadPart.{ThreadPart}
+use Rattle.mcs_system.specs.System.{System, thread_part, no_thread, core_of}
+use Rattle.mcs_system.specs.WellFormed.{IsWellFormed, IsItem}
 use Rattle.mcs_core.proofs.Mails.{IsSaid}
 
 module _ (system : System) where

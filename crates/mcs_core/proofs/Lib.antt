@@ -1,7 +1,6 @@
 pub mod Budgets
 pub mod Clock
 pub mod Counts
-pub mod Distinct
 pub mod Effects
 pub mod Enters
 pub mod Kept

@@ -14,17 +14,17 @@ use Rattle.mcs_control.specs.Control.{kind_of}
 use Rattle.mcs_control.specs.Context.{Context, WithRoom, new_context, first_budget, head_moment, moment_of}
 use Rattle.mcs_notify.specs.Note.{Note, quiet_note}
 use Rattle.mcs_release.specs.declared.dated.Dated.{Dated}
-use Rattle.mcs_core.specs.declared.part.ContextPart.{ContextPart}
-use Rattle.mcs_core.specs.declared.part.NotePart.{NotePart}
-use Rattle.mcs_core.specs.declared.part.ThreadPart.{ThreadPart}
+use Rattle.mcs_system.specs.declared.part.ContextPart.{ContextPart}
+use Rattle.mcs_system.specs.declared.part.NotePart.{NotePart}
+use Rattle.mcs_system.specs.declared.part.ThreadPart.{ThreadPart}
 use Rattle.mcs_core.specs.declared.standing.Standing.TheVariants.{Pending, Elsewhere}
 use Rattle.mcs_core.specs.declared.standing.Thread.{Thread}
-use Rattle.mcs_core.specs.System.{System, context_part, thread_part, no_context, no_thread, core_of, start_of}
+use Rattle.mcs_system.specs.System.{System, context_part, thread_part, no_context, no_thread, core_of, start_of}
 use Rattle.mcs_core.specs.Contexts.{no_server, is_some, is_own, seen_contexts, HasRoom, HaveRoom}
 use Rattle.mcs_core.specs.Core.{Core, no_state, thread_of, context_of, opening_thread, opening_releases, opening_contexts, opening_core}
-use Rattle.mcs_core.specs.Sound.{times_dated, times_waiting, times_ready, times_pending, times_blocked, is_here, may_run, has_context, IsKeptBudget, IsPlaced, AreEarly, IsBudget, IsSound}
-use Rattle.mcs_core.specs.Sound.Phase.{Between}
-use Rattle.mcs_core.specs.WellFormed.{IsWellFormed, IsContext, IsThread}
+use Rattle.mcs_core.specs.stored.Sound.{times_dated, times_waiting, times_ready, times_pending, times_blocked, is_here, may_run, has_context, IsKeptBudget, IsPlaced, AreEarly, IsBudget, IsSound}
+use Rattle.mcs_core.specs.stored.Sound.Phase.{Between}
+use Rattle.mcs_system.specs.WellFormed.{IsWellFormed, IsContext, IsThread}
 use Rattle.mcs_control.specs.declared.config.Order.{Order}
 use Rattle.mcs_core.specs.Orders.{orders_of}
 use Rattle.mcs_core.specs.State.{Fits}

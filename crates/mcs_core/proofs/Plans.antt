@@ -5,10 +5,10 @@ use Rattle.std.specs.List.{AllByRecursion}
 use Rattle.std.specs.List.Sorted.{IsPartitionedBy, IsPartitionPoint}
 use Rattle.std.proofs.lemmas.Bool.Decides.{nat_tests}
 use Rattle.mcs_control.specs.declared.config.Order.{Order}
-use Rattle.mcs_core.specs.System.{System}
+use Rattle.mcs_system.specs.System.{System}
 use Rattle.mcs_core.specs.Turn.{is_for_now}
 use Rattle.mcs_core.specs.Orders.{with_order, by_moment, is_for_core, orders_of, to_come, due_now, AreByMoment, IsPlanned, ArePlanned}
-use Rattle.mcs_core.specs.WellFormed.{IsWellFormed, IsOrder}
+use Rattle.mcs_system.specs.WellFormed.{IsWellFormed, IsOrder}
 
 -- orders that are all at u or later are all at an earlier moment or later
 from-earlier : (t u : ℕ) (os : List Order) → t ≤ u → AreByMoment u os → AreByMoment t os

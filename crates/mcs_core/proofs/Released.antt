@@ -9,11 +9,11 @@ use Rattle.mcs_release.specs.declared.dated.Dated.{Dated}
 use Rattle.mcs_release.specs.Release.{first_due, without, without_first_due, when_left, thread_of}
 use Rattle.mcs_core.specs.declared.standing.Standing.{Standing}
 use Rattle.mcs_core.specs.declared.standing.Standing.TheVariants.{Done}
-use Rattle.mcs_core.specs.System.{System}
+use Rattle.mcs_system.specs.System.{System}
 use Rattle.mcs_core.specs.Core.{Core, thread_of as state_of}
 use Rattle.mcs_core.specs.Turn.{silent, ◌followed_by◌, enters_back, released, releases}
-use Rattle.mcs_core.specs.Sound.{times_queued, times_dated, times_ready, times_pending, Phase, IsFree, IsSound}
-use Rattle.mcs_core.specs.Sound.Phase.{PastTick}
+use Rattle.mcs_core.specs.stored.Sound.{times_queued, times_dated, times_ready, times_pending, Phase, IsFree, IsSound}
+use Rattle.mcs_core.specs.stored.Sound.Phase.{PastTick}
 use Rattle.mcs_core.proofs.Counts.{times_queued-rest}
 use Rattle.mcs_core.proofs.Soundness.{IsOneEach}
 use Rattle.mcs_core.proofs.Turning.{all_due, first_entered, first-due, stands-due, releases-step, releases-none, release-sound, leaves-sound, placed-from, at_most_once, ready_from_count}

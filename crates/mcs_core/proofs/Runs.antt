@@ -8,7 +8,7 @@ use Rattle.std.proofs.lemmas.List.Elements.{All-cons}
 use Rattle.mcs_ticks.specs.declared.row.Row.{Row}
 use Rattle.mcs_mail.specs.declared.mail.Mail.{Mail}
 use Rattle.mcs_mail.specs.Box.{arriving, staying, is_before, put}
-use Rattle.mcs_core.specs.System.{System, note_part}
+use Rattle.mcs_system.specs.System.{System, note_part}
 use Rattle.mcs_core.specs.Core.{Core}
 use Rattle.mcs_core.specs.Orders.{to_come}
 use Rattle.mcs_core.specs.State.{State, IsExpected, made_by, state_after}

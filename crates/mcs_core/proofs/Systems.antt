@@ -6,9 +6,9 @@ use Rattle.std.proofs.lemmas.List.{get_or_past}
 use Rattle.mcs_control.specs.declared.config.Order.{Order}
 use Rattle.mcs_script.specs.declared.item.Item.{Item}
 use Rattle.mcs_script.specs.declared.item.Item.TheVariants.{Compute, Signal, Wait, Yield}
-use Rattle.mcs_core.specs.System.{System, thread_part, no_thread, core_of}
-use Rattle.mcs_core.specs.WellFormed.{IsWellFormed, IsItem, IsOrder}
-use Rattle.mcs_core.specs.Items.{IsNoted}
+use Rattle.mcs_system.specs.System.{System, thread_part, no_thread, core_of}
+use Rattle.mcs_system.specs.WellFormed.{IsWellFormed, IsItem, IsOrder}
+use Rattle.mcs_core.specs.stored.Items.{IsNoted}
 use Rattle.mcs_core.proofs.Soundness.{IsOneEach}
 use Rattle.mcs_core.proofs.Turning.{IsProperOrder}
 

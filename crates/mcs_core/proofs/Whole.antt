@@ -7,15 +7,15 @@ use Rattle.mcs_ticks.specs.declared.row.Row.{Row}
 use Rattle.mcs_ticks.specs.declared.row.What.{What}
 use Rattle.mcs_mail.specs.declared.mail.Mail.{Mail}
 use Rattle.mcs_control.specs.declared.config.Order.{Order}
-use Rattle.mcs_core.specs.System.{System}
+use Rattle.mcs_system.specs.System.{System}
 use Rattle.mcs_core.specs.Core.{Core}
 use Rattle.mcs_core.specs.Turn.{each, tick, arrives, obeys, is_for_now, releases, preempts, chooses, turn}
 use Rattle.mcs_core.specs.Run.{stamped}
 use Rattle.mcs_mail.specs.Box.{arriving}
 use Rattle.mcs_core.specs.Orders.{due_now, orders_of, to_come}
-use Rattle.mcs_core.specs.Sound.{IsSound}
-use Rattle.mcs_core.specs.Sound.Phase.{Between, PastTick}
-use Rattle.mcs_core.specs.WellFormed.{IsWellFormed}
+use Rattle.mcs_core.specs.stored.Sound.{IsSound}
+use Rattle.mcs_core.specs.stored.Sound.Phase.{Between, PastTick}
+use Rattle.mcs_system.specs.WellFormed.{IsWellFormed}
 use Rattle.mcs_core.proofs.Loops.{stamped-append, known-arriving}
 use Rattle.mcs_core.proofs.Plans.{due-of}
 use Rattle.mcs_core.proofs.Systems.{one-each, orders-proper, all-noted}

@@ -4,7 +4,7 @@ use Rattle.std.specs.List.{range_with_len}
 use Rattle.mcs_ticks.specs.Queue.{Discipline, by_priority}
 use Rattle.mcs_ticks.specs.declared.row.Row.{Row}
 use Rattle.mcs_mail.specs.declared.mail.Mail.{Mail}
-use Rattle.mcs_core.specs.System.{System, note_part}
+use Rattle.mcs_system.specs.System.{System, note_part}
 use Rattle.mcs_core.specs.Core.{Core, opening_core}
 use Rattle.mcs_core.specs.Turn.{Turn, turn_with}
 

@@ -9,10 +9,10 @@ use Rattle.mcs_core.specs.declared.standing.Standing.TheVariants.{Pending, Elsew
 use Rattle.mcs_core.specs.declared.standing.Thread.{Thread}
 use Rattle.mcs_core.specs.declared.standing.Chosen.{Chosen}
 use Rattle.mcs_release.specs.declared.dated.Dated.{Dated}
-use Rattle.mcs_core.specs.declared.part.ContextPart.{ContextPart}
-use Rattle.mcs_core.specs.declared.part.ThreadPart.{ThreadPart}
+use Rattle.mcs_system.specs.declared.part.ContextPart.{ContextPart}
+use Rattle.mcs_system.specs.declared.part.ThreadPart.{ThreadPart}
 use Rattle.mcs_core.specs.Contexts.{held}
-use Rattle.mcs_core.specs.System.{System, core_of, start_of}
+use Rattle.mcs_system.specs.System.{System, core_of, start_of}
 
 -- The ready queue is by priority, the greatest first, and first in first out within one. Threads, contexts and notifications of
 -- other cores keep their places in the lists.

@@ -3,7 +3,7 @@ use Rattle.std.specs.Prelude.{◌≡◌, ℕ, ◌<◌, ◌≤◌, Bool, true, �
 use Rattle.std.specs.List.{AllByRecursion}
 use Rattle.mcs_control.specs.Control.{checked, kind_of}
 use Rattle.mcs_control.specs.declared.config.Order.{Order}
-use Rattle.mcs_core.specs.System.{System, context_part}
+use Rattle.mcs_system.specs.System.{System, context_part}
 
 -- an order among others by moment, behind those of its moment
 abbrev pub with_order : List Order → Order → List Order

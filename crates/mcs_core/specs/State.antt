@@ -2,12 +2,12 @@
 use Rattle.std.specs.Prelude.{◌≡◌, ℕ, ◌<◌, ◌≤◌, ◌-◌, ◌+◌, ◌^◌, max, Bool, false, List, length, None}
 use Rattle.mcs_control.specs.declared.config.Order.{Order}
 use Rattle.mcs_mail.specs.declared.mail.Mail.{Mail}
-use Rattle.mcs_core.specs.System.{System, note_part}
+use Rattle.mcs_system.specs.System.{System, note_part}
 use Rattle.mcs_core.specs.Core.{Core, opening_core}
 use Rattle.mcs_core.specs.Orders.{orders_of, to_come}
 use Rattle.mcs_core.specs.Run.{Ran, ran}
-use Rattle.mcs_core.specs.Sound.{IsSound}
-use Rattle.mcs_core.specs.Sound.Phase.{Between}
+use Rattle.mcs_core.specs.stored.Sound.{IsSound}
+use Rattle.mcs_core.specs.stored.Sound.Phase.{Between}
 
 -- which core it is, the moment whose turn is next, the core, the orders that it is yet to obey, and whether memory failed it
 pub record State : Type 0 where

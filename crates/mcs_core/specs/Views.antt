@@ -2,7 +2,7 @@
 use Rattle.std.specs.Prelude.{ℕ, suc, ◌==◌, if◌then◌else◌, List, [], ◌∷◌, ◌++◌, Option, Some, None}
 use Rattle.mcs_control.specs.declared.view.ContextView.{ContextView}
 use Rattle.mcs_control.specs.Context.{Context, view_of}
-use Rattle.mcs_core.specs.System.{System, thread_part}
+use Rattle.mcs_system.specs.System.{System, thread_part}
 use Rattle.mcs_core.specs.Core.{Core}
 use Rattle.mcs_core.specs.declared.standing.Chosen.{Chosen}
 

@@ -3,14 +3,14 @@ ghost use Rattle.mcs_ticks.specs.Queue.{by_priority};
 ghost use Rattle.mcs_mail.specs.Box.{arriving, staying};
 ghost use Rattle.mcs_core.specs.Run.{stamped};
 ghost use Rattle.mcs_core.specs.Turn.{each, arrives};
-ghost use Rattle.mcs_core.specs.Sound.{IsSound};
-ghost use Rattle.mcs_core.specs.Sound.Phase.{PastTick};
-ghost use Rattle.mcs_core.specs.WellFormed.{IsWellFormed};
+ghost use Rattle.mcs_core.specs.stored.Sound.{IsSound};
+ghost use Rattle.mcs_core.specs.stored.Sound.Phase.{PastTick};
+ghost use Rattle.mcs_system.specs.WellFormed.{IsWellFormed};
 
-use crate::SystemParts;
 use crate::local::Local;
 use crate::tell::tell;
 use mcs_mail::{Mail, Mailbox};
+use mcs_system::SystemParts;
 use mcs_ticks::{CoreId, NoMemory, Row, Tick, What};
 
 impl Local {

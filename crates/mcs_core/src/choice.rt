@@ -2,13 +2,14 @@ ghost use Rattle.std.specs.Prelude.{◌≡◌, ◌+◌, ◌^◌, ◌≤◌, ◌+
 ghost use Rattle.mcs_ticks.specs.Queue.{by_priority};
 ghost use Rattle.mcs_core.specs.Run.{stamped};
 ghost use Rattle.mcs_core.specs.Turn.{preempts, chooses};
-ghost use Rattle.mcs_core.specs.Sound.{IsSound};
-ghost use Rattle.mcs_core.specs.Sound.Phase.{PastTick};
-ghost use Rattle.mcs_core.specs.WellFormed.{IsWellFormed};
+ghost use Rattle.mcs_core.specs.stored.Sound.{IsSound};
+ghost use Rattle.mcs_core.specs.stored.Sound.Phase.{PastTick};
+ghost use Rattle.mcs_system.specs.WellFormed.{IsWellFormed};
 
 use crate::local::Local;
 use crate::tell::tell;
-use crate::{Chosen, Standing, SystemParts};
+use crate::{Chosen, Standing};
+use mcs_system::SystemParts;
 use mcs_ticks::{CoreId, NoMemory, Row, Tick, What, Why};
 
 impl Local {
@@ -32,7 +33,7 @@ impl Local {
         let x = chosen.thread;
         let used = chosen.using;
         if let Some(best) = self.best() {
-            if system.thread_at(x).priority < best {
+            if system.thread(x).priority < best {
                 self.charge(system, x, used);
                 return self.stop_to_front(system, c, t, x, Why::Preempt, used, rows);
             }

@@ -5,18 +5,19 @@ ghost use Rattle.mcs_control.specs.Control.{IsConfig, kind_of};
 ghost use Rattle.mcs_notify.specs.Note.{posted, after_post, waited, after_wait};
 ghost use Rattle.mcs_ready.specs.Ready.{priority_of, thread_of as thread_of_queued};
 ghost use Rattle.mcs_release.specs.Release.{first_due, without_first_due, thread_of as thread_of_dated};
-ghost use Rattle.mcs_core.specs.System.{thread_part};
-ghost use Rattle.mcs_core.specs.Local.{IsRoomy};
+ghost use Rattle.mcs_system.specs.System.{thread_part};
+ghost use Rattle.mcs_core.specs.stored.Room.{IsRoomy};
 ghost use Rattle.mcs_core.specs.Core.{thread_of, context_of, note_of, with_thread, with_context, with_note, stands, pends, off};
 ghost use Rattle.mcs_core.specs.Turn.{its_context, applied, charged, queued, date_of, enters_back, enters_front};
-ghost use Rattle.mcs_core.specs.Sound.{times_queued, times_dated, times_waiting, has_context};
+ghost use Rattle.mcs_core.specs.stored.Sound.{times_queued, times_dated, times_waiting, has_context};
 
 use crate::contexts::Contexts;
-use crate::{Chosen, Standing, SystemParts, Thread};
+use crate::{Chosen, Standing, Thread};
 use mcs_control::{ContextView, Order};
 use mcs_notify::{Notes, Posted, Waited};
 use mcs_ready::Ready;
 use mcs_release::Releases;
+use mcs_system::SystemParts;
 use mcs_ticks::{ContextId, NoMemory, NoteId, ThreadId, Tick};
 use std::alloc::Global;
 use std::marker::Model;
@@ -35,7 +36,7 @@ pub(crate) struct Local {
 impl Model for Local {
     ghost use Rattle.std.specs.Prelude.{◌≡◌, length};
     ghost use Rattle.mcs_core.specs.Core.{Core};
-    ghost use Rattle.mcs_core.specs.Local.{IsRoomy};
+    ghost use Rattle.mcs_core.specs.stored.Room.{IsRoomy};
 
     ghost Value = { Core };
 
@@ -99,7 +100,7 @@ impl Local {
             Some(date) => self.pend(x, date),
             None => {
                 self.threads[x.0].standing = Standing::Ready;
-                self.ready.push_back(x, system.thread_at(x).priority);
+                self.ready.push_back(x, system.thread(x).priority);
             }
         }
     }
@@ -117,7 +118,7 @@ impl Local {
             Some(date) => self.pend(x, date),
             None => {
                 self.threads[x.0].standing = Standing::Ready;
-                self.ready.push_front(x, system.thread_at(x).priority);
+                self.ready.push_front(x, system.thread(x).priority);
             }
         }
     }
@@ -132,7 +133,7 @@ impl Local {
         ensures { self.new ≡ charged system.now x ticks self.old }
     {
         self.contexts
-            .charge(system.thread_at(x).context, ticks, system.min_budget);
+            .charge(system.thread(x).context, ticks, system.min_budget);
     }
 
     /// The date with which the thread has to wait for its context, if the context isn't ready at `t`.
@@ -141,7 +142,7 @@ impl Local {
         requires has { has_context (thread_part system.now x).context self.now ≡ true }
         ensures { result ≡ date_of system.now t x self.now }
     {
-        let context = system.thread_at(x).context;
+        let context = system.thread(x).context;
         if self.contexts.ready(context, t) {
             None
         } else {
@@ -155,7 +156,7 @@ impl Local {
         requires has { has_context (thread_part system.now x).context self.now ≡ true }
         ensures { result ≡ head_amount (its_context system.now x self.now) }
     {
-        self.contexts.head_amount(system.thread_at(x).context)
+        self.contexts.head_amount(system.thread(x).context)
     }
 
     /// The state of a thread of the core.
@@ -205,7 +206,7 @@ impl Local {
         ensures waited { result ≡ waited (note_of self.old note) }
         ensures core { self.new ≡ with_note note (after_wait result (queued system.now x) (note_of self.old note)) self.old }
     {
-        self.notes.wait(note, x, system.thread_at(x).priority)
+        self.notes.wait(note, x, system.thread(x).priority)
     }
 
     /// The word of a notification.

@@ -1,12 +1,13 @@
 ghost use Rattle.std.specs.Prelude.{◌≡◌, ◌++◌, ◌<◌, OnOk, length};
 ghost use Rattle.mcs_core.specs.Run.{stamped};
 ghost use Rattle.mcs_core.specs.Turn.{item_of, move_of, moves_on, given};
-ghost use Rattle.mcs_core.specs.Sound.{IsPlaced};
+ghost use Rattle.mcs_core.specs.stored.Sound.{IsPlaced};
 
+use crate::Thread;
 use crate::local::Local;
 use crate::tell::tell;
-use crate::{SystemParts, Thread};
 use mcs_script::{Item, Moved};
+use mcs_system::SystemParts;
 use mcs_ticks::{CoreId, NoMemory, Row, ThreadId, Tick, What};
 
 impl Local {
@@ -16,7 +17,7 @@ impl Local {
         requires part { x < length system.now.threads }
         ensures { result ≡ item_of system.now x self.now }
     {
-        system.thread_at(x).script.get(self.thread(x).place.item)
+        system.thread(x).script.get(self.thread(x).place.item)
     }
 
     /// What follows the item at which the thread is.
@@ -25,7 +26,7 @@ impl Local {
         requires placed { IsPlaced system.now x self.now }
         ensures { result ≡ move_of system.now x self.now }
     {
-        let part = system.thread_at(x);
+        let part = system.thread(x);
         let mut place = self.thread(x).place;
         place.advance(&part.script, system.call, part.rounds)
     }
@@ -44,7 +45,7 @@ impl Local {
         ensures core { OnOk result (self.new ≡ (moves_on system.now t x self.old).core) }
         ensures rows { OnOk result (rows.new.items ≡ rows.old.items ++ stamped c t (moves_on system.now t x self.old).rows) }
     {
-        let part = system.thread_at(x);
+        let part = system.thread(x);
         let state = self.thread(x);
         let mut place = state.place;
         let moved = place.advance(&part.script, system.call, part.rounds);

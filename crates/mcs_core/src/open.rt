@@ -4,40 +4,31 @@ ghost use Rattle.mcs_control.specs.Control.{IsConfig};
 ghost use Rattle.mcs_core.specs.Contexts.{HasRoom};
 ghost use Rattle.mcs_core.specs.Core.{opening_thread, opening_releases, opening_contexts, opening_core};
 ghost use Rattle.mcs_core.specs.Orders.{AreByMoment, with_order, orders_of};
-ghost use Rattle.mcs_core.specs.System.{context_part, start_of};
-ghost use Rattle.mcs_core.specs.WellFormed.{IsWellFormed};
+ghost use Rattle.mcs_system.specs.System.{context_part, start_of};
+ghost use Rattle.mcs_system.specs.WellFormed.{IsWellFormed};
 
 use crate::agenda::Agenda;
 use crate::contexts::Contexts;
 use crate::local::Local;
-use crate::{ContextPart, Standing, SystemParts, Thread, ThreadPart};
+use crate::{Standing, Thread};
 use mcs_control::{Context, Order};
 use mcs_notify::Notes;
 use mcs_ready::Ready;
 use mcs_release::Releases;
 use mcs_script::Place;
+use mcs_system::{ContextPart, SystemParts, ThreadPart};
 use mcs_ticks::{ContextId, CoreId, Limits, NoMemory, ThreadId, Tick};
 use std::alloc::Global;
 
 /// Room for as many refills as any configuration may ask for.
 const ROOM: usize = 2 + Limits::EXTRA_REFILLS as usize;
 
-/// The core of a context.
-fn core_of(system: &SystemParts, context: ContextId) -> CoreId
-    ensures { result ≡ (context_part system.now context).core }
-{
-    match system.contexts.as_slice().get(context.0) {
-        Some(part) => part.core,
-        None => CoreId(0),
-    }
-}
-
 /// A thread at the start: pending, if it is one of the core's.
 fn opening_thread(system: &SystemParts, c: CoreId, thread: &ThreadPart) -> Thread
     ensures { result ≡ opening_thread system.now c thread.now }
 {
     Thread {
-        standing: if core_of(system, thread.context) == c {
+        standing: if system.core_of_thread(thread) == c {
             Standing::Pending
         } else {
             Standing::Elsewhere
@@ -66,7 +57,7 @@ fn opening_releases(alloc: Global, system: &SystemParts, c: CoreId) -> Result<Re
 {
     let mut releases = Releases::new(alloc, system.threads.len())?;
     for (i, thread) in system.threads.as_slice().iter().enumerate() {
-        if core_of(system, thread.context) == c {
+        if system.core_of_thread(thread) == c {
             releases.enter(ThreadId(i), thread.start);
         }
     }
@@ -166,7 +157,7 @@ impl Agenda {
     {
         let mut orders = Vec::new(alloc);
         for order in system.orders.as_slice() {
-            if core_of(system, order.context) == c {
+            if system.core_of_context(order.context) == c {
                 insert_order(&mut orders, *order)?;
             }
         }

@@ -2,18 +2,19 @@ ghost use Rattle.std.specs.Prelude.{◌≡◌, ◌+◌, ◌^◌, ◌≤◌, ◌+
 ghost use Rattle.mcs_ticks.specs.Queue.{by_priority};
 ghost use Rattle.mcs_ticks.specs.declared.row.Why.TheVariants.{Order as OrderWhy};
 ghost use Rattle.mcs_core.specs.Run.{stamped};
-ghost use Rattle.mcs_core.specs.System.{thread_part};
+ghost use Rattle.mcs_system.specs.System.{thread_part};
 ghost use Rattle.mcs_core.specs.Turn.{each, applied, charged, obeys, stops_to_front};
 ghost use Rattle.mcs_core.specs.Orders.{IsPlanned, ArePlanned, AreByMoment, due_now, to_come};
-ghost use Rattle.mcs_core.specs.Sound.{IsSound};
-ghost use Rattle.mcs_core.specs.Sound.Phase.{PastTick};
-ghost use Rattle.mcs_core.specs.WellFormed.{IsWellFormed};
+ghost use Rattle.mcs_core.specs.stored.Sound.{IsSound};
+ghost use Rattle.mcs_core.specs.stored.Sound.Phase.{PastTick};
+ghost use Rattle.mcs_system.specs.WellFormed.{IsWellFormed};
 
+use crate::Chosen;
 use crate::agenda::Agenda;
 use crate::local::Local;
 use crate::tell::tell;
-use crate::{Chosen, SystemParts};
 use mcs_control::Order;
+use mcs_system::SystemParts;
 use mcs_ticks::{CoreId, NoMemory, Row, Tick, What, Why};
 
 impl Local {
@@ -62,7 +63,7 @@ impl Local {
         let context = order.context;
         tell(rows, c, t, What::Order { context })?;
         if let Some(chosen) = self.running() {
-            if system.thread_at(chosen.thread).context == context {
+            if system.thread(chosen.thread).context == context {
                 return self.obey_running(system, c, t, order, chosen, rows);
             }
         }

@@ -2,12 +2,12 @@ ghost use Rattle.std.specs.Prelude.{◌≡◌, ◌^◌, ◌≤◌, ◌++◌, ◌
 ghost use Rattle.mcs_ticks.specs.Queue.{by_priority};
 ghost use Rattle.mcs_core.specs.Run.{stamped};
 ghost use Rattle.mcs_core.specs.Turn.{unblocked, wakes, posts};
-ghost use Rattle.mcs_core.specs.Sound.{IsFree, WakesFree};
+ghost use Rattle.mcs_core.specs.stored.Sound.{IsFree, WakesFree};
 
-use crate::SystemParts;
 use crate::local::Local;
 use crate::tell::tell;
 use mcs_notify::Posted;
+use mcs_system::SystemParts;
 use mcs_ticks::{CoreId, NoMemory, NoteId, Row, ThreadId, Tick, What};
 
 impl Local {
@@ -18,7 +18,7 @@ impl Local {
         ensures core { self.new ≡ unblocked system.now t x self.old }
         ensures free { IsFree system.now x self.new }
     {
-        self.wake_context(system.thread_at(x).context, t);
+        self.wake_context(system.thread(x).context, t);
     }
 
     /// A thread that has left the waiters is woken: it moves on behind its wait, and enters a queue.

@@ -3,13 +3,13 @@ ghost use Rattle.mcs_ticks.specs.Queue.{by_priority};
 ghost use Rattle.mcs_ticks.specs.declared.row.What.TheVariants.{Release};
 ghost use Rattle.mcs_core.specs.Run.{stamped};
 ghost use Rattle.mcs_core.specs.Turn.{enters_back, releases};
-ghost use Rattle.mcs_core.specs.Sound.{IsFree, IsSound};
-ghost use Rattle.mcs_core.specs.Sound.Phase.{PastTick};
-ghost use Rattle.mcs_core.specs.WellFormed.{IsWellFormed};
+ghost use Rattle.mcs_core.specs.stored.Sound.{IsFree, IsSound};
+ghost use Rattle.mcs_core.specs.stored.Sound.Phase.{PastTick};
+ghost use Rattle.mcs_system.specs.WellFormed.{IsWellFormed};
 
-use crate::SystemParts;
 use crate::local::Local;
 use crate::tell::tell;
+use mcs_system::SystemParts;
 use mcs_ticks::{CoreId, NoMemory, Row, ThreadId, Tick, What};
 
 impl Local {

@@ -4,11 +4,12 @@ ghost use Rattle.mcs_ticks.specs.declared.row.What.TheVariants.{Stop};
 ghost use Rattle.mcs_core.specs.Run.{stamped};
 ghost use Rattle.mcs_core.specs.Turn.{charged, date_of, enters_back, enters_front, stops, stops_to_back, stops_to_front, may_stop};
 ghost use Rattle.mcs_core.specs.Core.{off};
-ghost use Rattle.mcs_core.specs.Sound.{CanStop, IsFree};
+ghost use Rattle.mcs_core.specs.stored.Sound.{CanStop, IsFree};
 
+use crate::Standing;
 use crate::local::Local;
 use crate::tell::tell;
-use crate::{Standing, SystemParts};
+use mcs_system::SystemParts;
 use mcs_ticks::{CoreId, NoMemory, Row, ThreadId, Tick, What, Why};
 
 impl Local {

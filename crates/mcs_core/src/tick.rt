@@ -4,17 +4,18 @@ ghost use Rattle.mcs_core.specs.Run.{stamped};
 ghost use Rattle.mcs_notify.specs.Note.{waited};
 ghost use Rattle.mcs_core.specs.Core.{note_of};
 ghost use Rattle.mcs_core.specs.Turn.{counts, signals, waits_as, takes_effect, item_of, stop_after, after_move, after_waited, finishes, tick};
-ghost use Rattle.mcs_core.specs.Sound.{times_waiting, IsPlaced, IsFree, WakesFree, IsSound};
-ghost use Rattle.mcs_core.specs.Sound.Phase.{Between, InTick};
-ghost use Rattle.mcs_core.specs.WellFormed.{IsWellFormed};
-ghost use Rattle.mcs_core.specs.Items.{IsNoted, CanTakeEffect};
+ghost use Rattle.mcs_core.specs.stored.Sound.{times_waiting, IsPlaced, IsFree, WakesFree, IsSound};
+ghost use Rattle.mcs_core.specs.stored.Sound.Phase.{Between, InTick};
+ghost use Rattle.mcs_system.specs.WellFormed.{IsWellFormed};
+ghost use Rattle.mcs_core.specs.stored.Items.{IsNoted, CanTakeEffect};
 
 use crate::local::Local;
 use crate::tell::tell;
-use crate::{Chosen, SystemParts, Thread};
+use crate::{Chosen, Thread};
 use mcs_mail::Mail;
 use mcs_notify::Waited;
 use mcs_script::{Item, Moved, Place};
+use mcs_system::SystemParts;
 use mcs_ticks::{CoreId, NoMemory, NoteId, Row, ThreadId, Tick, What, Why};
 
 impl Local {
@@ -105,7 +106,7 @@ impl Local {
                 badge,
             },
         )?;
-        if system.note_at(note).core == c {
+        if system.note(note).core == c {
             self.post(system, c, t, note, badge, rows)
         } else {
             let arrives = t.plus(system.delay).unwrap();

@@ -1,9 +1,9 @@
 ghost use Rattle.std.specs.Prelude.{◌≡◌, ◌<◌, length, IfOk, IfSome};
 ghost use Rattle.mcs_core.specs.Views.{using_of, views_of};
 
-use crate::SystemParts;
 use crate::local::Local;
 use mcs_control::ContextView;
+use mcs_system::SystemParts;
 use mcs_ticks::{ContextId, NoMemory};
 use std::alloc::Global;
 
@@ -14,7 +14,7 @@ impl Local {
         ensures { result ≡ using_of system.now context self.now.running }
     {
         match self.running() {
-            Some(chosen) if system.thread_at(chosen.thread).context == context => chosen.using,
+            Some(chosen) if system.thread(chosen.thread).context == context => chosen.using,
             _ => 0,
         }
     }

@@ -4,16 +4,16 @@ use Rattle.std.specs.Prelude.{◌==◌, filter, sum, slice_index}
 use Rattle.std.proofs.lemmas.Bool.Decides.{nat_tests}
 use Rattle.std.proofs.lemmas.Nat.{mul-le}
 use Rattle.std.proofs.lemmas.List.Sums.{sum_by-append}
-use Rattle.mcs_refills.specs.Spacing.{IsSpaced}
+use Rattle.mcs_refills.specs.laws.Spacing.{IsSpaced}
 use Rattle.mcs_control.specs.declared.config.Config.{Config}
 use Rattle.mcs_control.specs.declared.config.Kind.TheVariants.{Sporadic, RoundRobin}
 use Rattle.mcs_control.specs.Control.{kind_of}
 use Rattle.mcs_control.specs.Context.{Context, head_amount, head_moment}
 use Rattle.mcs_core.specs.declared.standing.Chosen.{Chosen}
-use Rattle.mcs_core.specs.System.{System, thread_part, context_part, no_context}
+use Rattle.mcs_system.specs.System.{System, thread_part, context_part, no_context}
 use Rattle.mcs_core.specs.Core.{Core}
 use Rattle.mcs_core.specs.Clock as clocks
-use Rattle.mcs_core.specs.WellFormed.{IsWellFormed}
+use Rattle.mcs_system.specs.WellFormed.{IsWellFormed}
 use Rattle.mcs_laws.specs.Changes.{Change, charges_of, AreSound, changed_by, taken_by, IsBudget}
 use Rattle.mcs_laws.specs.Changes.Change.{Charged}
 use Rattle.mcs_laws.specs.Histories as told
@@ -102,7 +102,7 @@ module _ (system : System) (well : IsWellFormed system) (x : ℕ) (known : x < l
         ap (λ (k : Core). used system home t x k.running) (before-next system well x known t),
       )
 
-  module _ (unordered : told.IsUnordered system context) (kind : kind_of config ≡ Sporadic) where
+  module _ (unordered : told.IsNeverReconfigured system context) (kind : kind_of config ≡ Sporadic) where
     -- while it runs, the last tick that it uses of the head has a date before the moment
     while_running : (t using : ℕ) → running (suc t) ≡ Some (record { thread = x; using = using }) → ticks_run system x (suc t) ≤ config.budget * periods_begun (suc t) config.period
     unfolding changes charged
@@ -187,7 +187,7 @@ module _ (system : System) (well : IsWellFormed system) (x : ℕ) (known : x < l
     sporadic zero = omega arith
     sporadic (suc t) = at_next t (running (suc t)) refl (sporadic t)
 
-  demand : told.IsUnordered system context → (t : ℕ) → ticks_run system x t ≤ config.budget * periods_begun t config.period
+  demand : told.IsNeverReconfigured system context → (t : ℕ) → ticks_run system x t ≤ config.budget * periods_begun t config.period
   demand unordered t = by (same config.budget config.period)
     where
       by : Same config.budget config.period → ticks_run system x t ≤ config.budget * periods_begun t config.period

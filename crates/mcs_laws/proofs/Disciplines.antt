@@ -23,7 +23,7 @@ use Rattle.mcs_script.specs.declared.item.Item.TheVariants.{Compute, Signal, Wai
 use Rattle.mcs_script.specs.declared.moved.Moved.{Moved}
 use Rattle.mcs_script.specs.declared.moved.Moved.TheVariants.{Next, RoundEnds, AllDone}
 use Rattle.mcs_mail.specs.declared.mail.Mail.{Mail}
-use Rattle.mcs_core.specs.System.{System, note_part}
+use Rattle.mcs_system.specs.System.{System, note_part}
 use Rattle.mcs_core.specs.Core.{Core, opening_core, note_of, with_note, thread_of, stands, off}
 use Rattle.mcs_core.specs.declared.standing.Standing.TheVariants.{Ready}
 use Rattle.mcs_core.specs.declared.standing.Chosen.{Chosen}

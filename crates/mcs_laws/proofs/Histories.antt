@@ -6,17 +6,17 @@ use Rattle.std.proofs.lemmas.List.FromFn.{get_or-map-range_with_len}
 use Rattle.mcs_ticks.specs.Queue.{by_priority}
 use Rattle.mcs_control.specs.declared.config.Order.{Order}
 use Rattle.mcs_control.specs.Context.{Context, new_context}
-use Rattle.mcs_core.specs.System.{System, TakesTime, context_part, no_context, start_of}
+use Rattle.mcs_system.specs.System.{System, TakesTime, context_part, no_context, start_of}
 use Rattle.mcs_core.specs.Core.{Core, context_of, opening_core, opening_contexts}
 use Rattle.mcs_core.specs.Contexts.{no_server}
-use Rattle.mcs_core.specs.declared.part.ContextPart.{ContextPart}
+use Rattle.mcs_system.specs.declared.part.ContextPart.{ContextPart}
 use Rattle.mcs_core.specs.declared.standing.Chosen.{Chosen}
 use Rattle.mcs_core.specs.Clock as clocks
 use Rattle.mcs_core.proofs.Clock.{core_at-world}
 use Rattle.mcs_laws.specs.Changes.{IsBudget, KeepsItsBudget, changed_by}
 use Rattle.mcs_laws.specs.Histories as told
 use Rattle.mcs_laws.proofs.Ranges.{by_recursion}
-use Rattle.mcs_core.specs.WellFormed.{IsWellFormed}
+use Rattle.mcs_system.specs.WellFormed.{IsWellFormed}
 use Rattle.mcs_laws.proofs.Kept.{accepted-gives, keeps-new, keeps-changes}
 use Rattle.mcs_laws.proofs.Traces as traces
 use Rattle.mcs_laws.proofs.Traces.{charges_of-append, orders_of-append, carry}

@@ -4,7 +4,7 @@ use Rattle.std.specs.Prelude.{◌==◌, nat_lt, ◌^◌, if◌then◌else◌, Re
 use Rattle.std.proofs.lemmas.Bool.Decides.{nat_tests}
 use Rattle.mcs_refills.specs.declared.refill.Refill.{Refill}
 use Rattle.mcs_refills.specs.Server as server
-use Rattle.mcs_refills.specs.Spacing.{AreKept}
+use Rattle.mcs_refills.specs.laws.Spacing.{AreKept}
 use Rattle.mcs_refills.proofs.Spaces.{kept-charged, kept-unblocked, kept-reconfigured, kept-new}
 use Rattle.mcs_control.specs.declared.config.Config.{Config}
 use Rattle.mcs_control.specs.declared.config.Kind.{Kind}

@@ -13,11 +13,11 @@ use Rattle.mcs_control.specs.declared.config.Order.{Order}
 use Rattle.mcs_control.specs.Control.{kind_of}
 use Rattle.mcs_control.specs.Context.{head_moment, new_context, first_budget, moment_of}
 use Rattle.mcs_release.specs.declared.dated.Dated.{Dated}
-use Rattle.mcs_core.specs.declared.part.ThreadPart.{ThreadPart}
-use Rattle.mcs_core.specs.System.{System, thread_part, context_part, no_thread, no_context, core_of, start_of}
+use Rattle.mcs_system.specs.declared.part.ThreadPart.{ThreadPart}
+use Rattle.mcs_system.specs.System.{System, thread_part, context_part, no_thread, no_context, core_of, start_of}
 use Rattle.mcs_core.specs.Core.{Core, context_of, opening_core, opening_releases}
 use Rattle.mcs_core.specs.Clock as clocks
-use Rattle.mcs_core.specs.WellFormed.{IsWellFormed}
+use Rattle.mcs_system.specs.WellFormed.{IsWellFormed}
 use Rattle.mcs_core.proofs.Clock.{core_at-world}
 use Rattle.mcs_laws.specs.Histories as told
 use Rattle.mcs_laws.specs.Places.{times_dated, places}
@@ -145,7 +145,7 @@ module _ (system : System) (well : IsWellFormed system) (x : ℕ) (known : x < l
         start,
       )
 
-  pub on-time : told.IsUnordered system context → (t : ℕ) → WasOnTime system home t x (before t)
+  pub on-time : told.IsNeverReconfigured system context → (t : ℕ) → WasOnTime system home t x (before t)
   on-time unordered zero =
       let P : Core → Type 0 = λ k. IsOnTime x (head_moment (context_of (before 0) context)) 0 k.running k.ready k.releases in
       subst P (sym before-first)

@@ -24,8 +24,8 @@ use Rattle.mcs_script.specs.declared.item.Item.TheVariants.{Compute, Signal, Wai
 use Rattle.mcs_script.specs.declared.moved.Moved.{Moved}
 use Rattle.mcs_script.specs.declared.moved.Moved.TheVariants.{Next, RoundEnds, AllDone}
 use Rattle.mcs_mail.specs.declared.mail.Mail.{Mail}
-use Rattle.mcs_core.specs.System.{System, TakesTime, note_part, core_of}
-use Rattle.mcs_core.specs.declared.part.ThreadPart.{ThreadPart}
+use Rattle.mcs_system.specs.System.{System, TakesTime, note_part, core_of}
+use Rattle.mcs_system.specs.declared.part.ThreadPart.{ThreadPart}
 use Rattle.mcs_core.specs.Core.{Core, note_of, thread_of, with_note, off, opening_core, opening_releases}
 use Rattle.mcs_release.specs.Release.{is_due}
 use Rattle.mcs_core.specs.Turn as turns

@@ -4,8 +4,8 @@ use Rattle.std.specs.Prelude.{filter, ◌==◌}
 use Rattle.std.specs.List.{AllByRecursion}
 use Rattle.std.proofs.lemmas.Bool.Decides.{nat_tests}
 use Rattle.mcs_refills.specs.Server.{dates_from, with_enough, charged, unblocked}
-use Rattle.mcs_refills.specs.Spacing.{Step, consumed, AreProper, IsSpaced}
-use Rattle.mcs_refills.specs.Spacing.Step.{Charge, Unblock}
+use Rattle.mcs_refills.specs.laws.Spacing.{Step, consumed, AreProper, IsSpaced}
+use Rattle.mcs_refills.specs.laws.Spacing.Step.{Charge, Unblock}
 use Rattle.mcs_refills.proofs.Spaces.{consumed-spaced, kept-new}
 use Rattle.mcs_control.specs.declared.config.Config.{Config}
 use Rattle.mcs_control.specs.declared.config.Order.{Order}
@@ -13,7 +13,7 @@ use Rattle.mcs_control.specs.declared.config.Kind.TheVariants.{Sporadic}
 use Rattle.mcs_control.specs.Control.{kind_of}
 use Rattle.mcs_control.specs.Context.{max_refills_of}
 use Rattle.mcs_control.specs.Context.Budget.{Dates}
-use Rattle.mcs_core.specs.System.{System, context_part, no_context, start_of}
+use Rattle.mcs_system.specs.System.{System, context_part, no_context, start_of}
 use Rattle.mcs_core.specs.Turn.{is_for_now}
 use Rattle.mcs_laws.specs.Changes.{Change, orders_of, changed_by, AreSound, taken_by}
 use Rattle.mcs_laws.specs.Changes.Change.{Charged, Unblocked, Ordered}
@@ -118,7 +118,7 @@ changes-spaced system budgets x on kind changes none sound = rw opening (rw step
         (kept-new config.budget config.period at fits) steps.proper
 
 -- no order comes where the system has none for the context
-pub no-orders : (system : System) (x : ℕ) (history : told.History system x) → told.IsUnordered system x → (t : ℕ) →
+pub no-orders : (system : System) (x : ℕ) (history : told.History system x) → told.IsNeverReconfigured system x → (t : ℕ) →
     orders_of (told.changes_before system x history t) ≡ []
 no-orders system x history unordered t =
     all-orders system x history

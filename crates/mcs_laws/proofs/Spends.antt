@@ -21,7 +21,7 @@ use Rattle.mcs_script.specs.declared.moved.Moved.{Moved}
 use Rattle.mcs_script.specs.declared.moved.Moved.TheVariants.{Next, RoundEnds, AllDone}
 use Rattle.mcs_mail.specs.declared.mail.Mail.{Mail}
 use Rattle.mcs_core.specs.declared.standing.Chosen.{Chosen}
-use Rattle.mcs_core.specs.System.{System, thread_part}
+use Rattle.mcs_system.specs.System.{System, thread_part}
 use Rattle.mcs_core.specs.Core.{Core, context_of, note_of, thread_of, with_note}
 use Rattle.mcs_core.specs.Contexts.{held}
 use Rattle.mcs_release.specs.Release.{is_due}

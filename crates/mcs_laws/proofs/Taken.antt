@@ -6,7 +6,7 @@ use Rattle.std.proofs.lemmas.Nat.{le-div, mod_below, mul-le}
 use Rattle.std.proofs.lemmas.List.{length-append, length-take-le, get_or-append-add, get_or-take}
 use Rattle.std.proofs.lemmas.List.Sums.{sum_by-cons}
 use Rattle.mcs_refills.specs.Server as server
-use Rattle.mcs_refills.specs.Spacing.{IsSpaced}
+use Rattle.mcs_refills.specs.laws.Spacing.{IsSpaced}
 use Rattle.mcs_control.specs.Context.{Context, Budget, head_amount, head_moment, amount_of, moment_of, budget_charged, budget_unblocked, budget_ordered}
 use Rattle.mcs_control.specs.Context.Budget.{Dates, Slice}
 use Rattle.mcs_laws.specs.Changes.{Change, charges_of, dates_in, changed, changed_by, AreSound, dates_taken, taken_by}

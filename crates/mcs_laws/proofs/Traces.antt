@@ -24,7 +24,7 @@ use Rattle.mcs_script.specs.declared.item.Item.TheVariants.{Compute, Signal, Wai
 use Rattle.mcs_script.specs.declared.moved.Moved.{Moved}
 use Rattle.mcs_script.specs.declared.moved.Moved.TheVariants.{Next, RoundEnds, AllDone}
 use Rattle.mcs_mail.specs.declared.mail.Mail.{Mail}
-use Rattle.mcs_core.specs.System.{System, note_part, thread_part, context_part}
+use Rattle.mcs_system.specs.System.{System, note_part, thread_part, context_part}
 use Rattle.mcs_core.specs.Core.{Core, context_of, note_of, thread_of, with_note, off}
 use Rattle.mcs_core.specs.Contexts.{no_server}
 use Rattle.mcs_core.specs.declared.standing.Chosen.{Chosen}

@@ -1,6 +1,6 @@
 -- What is done to a context over time, and what it keeps.
 use Rattle.std.specs.Prelude.{ℕ, ◌≤◌, List, [], ◌∷◌, ◌++◌, flat_map, take, fold}
-use Rattle.mcs_refills.specs.Spacing.{AreKept}
+use Rattle.mcs_refills.specs.laws.Spacing.{AreKept}
 use Rattle.mcs_control.specs.declared.config.Config.{Config}
 use Rattle.mcs_control.specs.declared.config.Order.{Order}
 use Rattle.mcs_control.specs.Context.{Context, Budget, context_charged, context_unblocked, context_ordered, head_amount}

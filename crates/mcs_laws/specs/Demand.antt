@@ -1,7 +1,7 @@
 -- How much a thread runs, and how much it may.
 use Rattle.std.specs.Prelude.{ℕ, zero, suc, ◌+◌, ◌-◌, ◌*◌, ◌/◌, ◌<◌, ◌≤◌, length}
-use Rattle.mcs_core.specs.System.{System, thread_part, context_part}
-use Rattle.mcs_laws.specs.Histories.{home_before, IsUnordered}
+use Rattle.mcs_system.specs.System.{System, thread_part, context_part}
+use Rattle.mcs_laws.specs.Histories.{home_before, IsNeverReconfigured}
 use Rattle.mcs_laws.specs.Places.{times_running}
 
 -- how many periods begin before the horizon, the first of them at moment 0
@@ -23,5 +23,5 @@ module _ (system : System) (thread : ℕ) where
 -- no thread whose context no order names runs more than that
 abbrev pub ThreadsRunWithinDemand : System → Type 0
 ThreadsRunWithinDemand system =
-    (thread horizon : ℕ) → thread < length system.threads → IsUnordered system (thread_part system thread).context →
+    (thread horizon : ℕ) → thread < length system.threads → IsNeverReconfigured system (thread_part system thread).context →
     ticks_run system thread horizon ≤ demand_of system thread horizon

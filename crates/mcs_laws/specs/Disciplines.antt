@@ -1,7 +1,7 @@
 -- The two ways to keep the ready threads, over whole schedules.
 use Rattle.std.specs.Prelude.{◌≡◌, ℕ, map}
 use Rattle.mcs_ticks.specs.Queue.{by_priority, in_one_list, sorted}
-use Rattle.mcs_core.specs.System.{System}
+use Rattle.mcs_system.specs.System.{System}
 use Rattle.mcs_core.specs.Core.{Core}
 use Rattle.mcs_core.specs.Clock.{clock_with, schedule_with}
 

@@ -3,14 +3,14 @@ use Rattle.std.specs.Prelude.{◌≡◌, ◌≢◌, ℕ, suc, ◌<◌, Bool, ◌
 use Rattle.std.specs.List.{range_with_len}
 use Rattle.mcs_ticks.specs.declared.row.What.{What}
 use Rattle.mcs_ticks.specs.declared.row.What.TheVariants as row
-use Rattle.mcs_refills.specs.Spacing.{IsSpaced}
+use Rattle.mcs_refills.specs.laws.Spacing.{IsSpaced}
 use Rattle.mcs_control.specs.declared.config.Order.{Order}
 use Rattle.mcs_control.specs.declared.config.Kind.TheVariants.{Sporadic}
 use Rattle.mcs_control.specs.Control.{kind_of}
 use Rattle.mcs_control.specs.Context.{Context, head_amount, new_context}
-use Rattle.mcs_core.specs.System.{System, context_part, thread_part, start_of}
+use Rattle.mcs_system.specs.System.{System, context_part, thread_part, start_of}
 use Rattle.mcs_core.specs.Core.{Core, context_of}
-use Rattle.mcs_core.specs.declared.part.ContextPart.{ContextPart}
+use Rattle.mcs_system.specs.declared.part.ContextPart.{ContextPart}
 use Rattle.mcs_core.specs.declared.standing.Chosen.{Chosen}
 use Rattle.mcs_core.specs.Turn.{is_for_now}
 use Rattle.mcs_core.specs.Clock.{world, core_at, turn_of}
@@ -100,8 +100,8 @@ module _ (system : System) where
   ContextsHaveHistories = (context : ℕ) → IsOnACore context → History context
 
   -- no order names the context
-  abbrev pub IsUnordered : ℕ → Type 0
-  IsUnordered context = All (λ (order : Order). order.context ≢ context) system.orders
+  abbrev pub IsNeverReconfigured : ℕ → Type 0
+  IsNeverReconfigured context = All (λ (order : Order). order.context ≢ context) system.orders
 
   -- of the dates that a sporadic context's charges take, where no order names it, the one a whole budget later is at least a period
   -- later
@@ -113,4 +113,4 @@ module _ (system : System) where
   abbrev pub ContextsAreSpaced : Type 0
   ContextsAreSpaced =
       (context : ℕ) (history : History context) → IsOnACore context → kind_of (context_part system context).config ≡ Sporadic →
-      IsUnordered context → (t : ℕ) → IsSpacedBefore context history t
+      IsNeverReconfigured context → (t : ℕ) → IsSpacedBefore context history t

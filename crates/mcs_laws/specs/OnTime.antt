@@ -5,8 +5,8 @@ use Rattle.mcs_ticks.specs.declared.queue.Queued.{Queued}
 use Rattle.mcs_control.specs.Context.{head_moment}
 use Rattle.mcs_release.specs.declared.dated.Dated.{Dated}
 use Rattle.mcs_core.specs.declared.standing.Chosen.{Chosen}
-use Rattle.mcs_core.specs.System.{System, thread_part}
-use Rattle.mcs_laws.specs.Histories.{home_before, context_before, IsUnordered}
+use Rattle.mcs_system.specs.System.{System, thread_part}
+use Rattle.mcs_laws.specs.Histories.{home_before, context_before, IsNeverReconfigured}
 use Rattle.mcs_laws.specs.Places.{times_queued}
 
 -- a thread whose context has this head moment
@@ -27,7 +27,7 @@ module _ (thread head : ℕ) where
 -- at each moment each thread whose context no order names is on time
 abbrev pub ThreadsAreOnTime : System → Type 0
 ThreadsAreOnTime system =
-    (thread t : ℕ) → thread < length system.threads → IsUnordered system (thread_part system thread).context →
+    (thread t : ℕ) → thread < length system.threads → IsNeverReconfigured system (thread_part system thread).context →
     let context = (thread_part system thread).context in
     let core = home_before system context t in
     IsOnTime thread (head_moment (context_before system context t)) t core.running core.ready core.releases

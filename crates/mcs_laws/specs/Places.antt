@@ -5,7 +5,7 @@ use Rattle.mcs_ticks.specs.declared.queue.Queued.{Queued}
 use Rattle.mcs_notify.specs.Note.{Note}
 use Rattle.mcs_release.specs.declared.dated.Dated.{Dated}
 use Rattle.mcs_core.specs.declared.standing.Chosen.{Chosen}
-use Rattle.mcs_core.specs.System.{System}
+use Rattle.mcs_system.specs.System.{System}
 use Rattle.mcs_core.specs.Core.{Core}
 use Rattle.mcs_core.specs.Clock.{world, core_at}
 

@@ -2,7 +2,7 @@
 use Rattle.std.specs.Prelude.{◌≡◌, ℕ, suc, ◌<◌, ◌≤◌, Bool, not, nat_lt, ◌&&◌, List, ◌++◌, filter, flat_map}
 use Rattle.std.specs.List.{range_with_len}
 use Rattle.mcs_mail.specs.declared.mail.Mail.{Mail}
-use Rattle.mcs_core.specs.System.{System, note_part}
+use Rattle.mcs_system.specs.System.{System, note_part}
 use Rattle.mcs_core.specs.Clock.{clock, world, core_at, turn_of, rows_of, arrives_at}
 
 module _ (system : System) where

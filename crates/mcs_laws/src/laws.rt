@@ -1,5 +1,5 @@
-ghost use Rattle.mcs_core.specs.System.{System, TakesTime};
-ghost use Rattle.mcs_core.specs.WellFormed.{IsWellFormed};
+ghost use Rattle.mcs_system.specs.System.{System, TakesTime};
+ghost use Rattle.mcs_system.specs.WellFormed.{IsWellFormed};
 ghost use Rattle.mcs_laws.specs.Turns.{CoresAreOfTurns, RowsAreOfTurns, SignalsAreOfTurns, ArrivalsAreOfTurns};
 ghost use Rattle.mcs_laws.specs.Disciplines.{DisciplinesAgree};
 ghost use Rattle.mcs_laws.specs.Places.{ThreadsHaveOnePlace};

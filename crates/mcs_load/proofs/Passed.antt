@@ -14,7 +14,7 @@ use Rattle.mcs_load.specs.declared.fault.LoadFault.{LoadFault}
 use Rattle.mcs_load.specs.declared.spot.Section.{Section}
 use Rattle.mcs_load.specs.Checks.{Test, Checked, first_failed}
 use Rattle.mcs_load.specs.Keys.{key_name}
-use Rattle.mcs_core.specs.Names.{is_name}
+use Rattle.mcs_system.specs.Names.{is_name}
 use Rattle.mcs_load.specs.Words.{each, if_there, is_in_range, number_or, number, whole_number, number_with_default, new_name, text, is_among, place_of, item_count, items_or_none, rows}
 use Rattle.mcs_load.specs.Script.{place_or_first}
 

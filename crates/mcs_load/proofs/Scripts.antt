@@ -6,8 +6,8 @@ use Rattle.std.proofs.lemmas.List.Elements.{All-push, All-nil}
 use Rattle.toml.specs.Data.{Data, Items, Members, get_member, as_str, as_array}
 use Rattle.mcs_script.specs.declared.item.Item.{Item}
 use Rattle.mcs_script.specs.Script.{IsScript, waits_last}
-use Rattle.mcs_core.specs.System.{System}
-use Rattle.mcs_core.specs.WellFormed.{IsItem}
+use Rattle.mcs_system.specs.System.{System}
+use Rattle.mcs_system.specs.WellFormed.{IsItem}
 use Rattle.mcs_script.specs.Raw.{Raw, Compute, Signal, Wait, Yield, read_as}
 use Rattle.mcs_script.specs.declared.fault.ItemFault.{ItemFault}
 use Rattle.mcs_load.specs.declared.at.At.{At}

@@ -10,12 +10,12 @@ use Rattle.mcs_control.specs.declared.config.Kind.{Kind}
 use Rattle.mcs_control.specs.declared.config.Kind.TheVariants as kinds
 use Rattle.mcs_control.specs.declared.config.Order.{Order}
 use Rattle.mcs_control.specs.Control.{checked, kind_of}
-use Rattle.mcs_core.specs.declared.part.ContextPart.{ContextPart}
-use Rattle.mcs_core.specs.declared.part.NotePart.{NotePart}
-use Rattle.mcs_core.specs.declared.part.ThreadPart.{ThreadPart}
-use Rattle.mcs_core.specs.System.{System}
-use Rattle.mcs_core.specs.Names.{is_name}
-use Rattle.mcs_core.specs.WellFormed.{AreNamed, IsContext, IsNote, IsThread, IsOrder, IsWellFormed}
+use Rattle.mcs_system.specs.declared.part.ContextPart.{ContextPart}
+use Rattle.mcs_system.specs.declared.part.NotePart.{NotePart}
+use Rattle.mcs_system.specs.declared.part.ThreadPart.{ThreadPart}
+use Rattle.mcs_system.specs.System.{System}
+use Rattle.mcs_system.specs.Names.{is_name}
+use Rattle.mcs_system.specs.WellFormed.{AreNamed, IsContext, IsNote, IsThread, IsOrder, IsWellFormed}
 use Rattle.mcs_load.specs.declared.at.At.{At}
 use Rattle.mcs_load.specs.declared.spot.Key.TheVariants as key
 use Rattle.mcs_load.specs.declared.spot.Section.TheVariants as section

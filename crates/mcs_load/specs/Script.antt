@@ -6,8 +6,8 @@ use Rattle.mcs_script.specs.declared.item.Item.{Item}
 use Rattle.mcs_script.specs.declared.item.Item.TheVariants as items
 use Rattle.mcs_script.specs.Raw.{Raw, Compute, Signal, Wait, Yield, read_as}
 use Rattle.mcs_script.specs.Script.{waits_last}
-use Rattle.mcs_core.specs.declared.part.NotePart.{NotePart}
-use Rattle.mcs_core.specs.System.{no_note}
+use Rattle.mcs_system.specs.declared.part.NotePart.{NotePart}
+use Rattle.mcs_system.specs.System.{no_note}
 use Rattle.mcs_load.specs.declared.at.At.{At}
 use Rattle.mcs_load.specs.declared.fault.FaultKind.{FaultKind}
 use Rattle.mcs_load.specs.declared.fault.FaultKind.TheVariants.{MissingKey, WrongKind, OutOfRange, TooMany, UnknownName, BadItem, WaitLast, OtherCore}

@@ -11,11 +11,11 @@ use Rattle.mcs_control.specs.declared.config.Order.{Order}
 use Rattle.mcs_control.specs.declared.config.ControlFault.{ControlFault}
 use Rattle.mcs_control.specs.declared.config.ControlFault.TheVariants as refused
 use Rattle.mcs_control.specs.Control.{checked, kind_of}
-use Rattle.mcs_core.specs.declared.part.ContextPart.{ContextPart}
-use Rattle.mcs_core.specs.declared.part.NotePart.{NotePart}
-use Rattle.mcs_core.specs.declared.part.ThreadPart.{ThreadPart}
-use Rattle.mcs_core.specs.declared.part.SystemParts.{SystemParts}
-use Rattle.mcs_core.specs.System.{no_context}
+use Rattle.mcs_system.specs.declared.part.ContextPart.{ContextPart}
+use Rattle.mcs_system.specs.declared.part.NotePart.{NotePart}
+use Rattle.mcs_system.specs.declared.part.ThreadPart.{ThreadPart}
+use Rattle.mcs_system.specs.declared.part.SystemParts.{SystemParts}
+use Rattle.mcs_system.specs.System.{no_context}
 use Rattle.mcs_load.specs.declared.fault.FaultKind.TheVariants.{NotToml, Control, UnknownName, ContextTaken, OtherCore, KindChange}
 use Rattle.mcs_load.specs.declared.spot.Key.{Key}
 use Rattle.mcs_load.specs.declared.spot.Key.TheVariants as key

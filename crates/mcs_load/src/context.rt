@@ -4,7 +4,7 @@ ghost use Rattle.mcs_load.specs.declared.spot.Section.TheVariants as section;
 ghost use Rattle.mcs_load.specs.Words.{row, each};
 ghost use Rattle.mcs_load.specs.Checks.{Gives, Tells};
 ghost use Rattle.mcs_load.specs.Walk.{context, contexts, known, known_context, part_at};
-ghost use Rattle.mcs_core.specs.declared.part.ContextPart.{ContextPart};
+ghost use Rattle.mcs_system.specs.declared.part.ContextPart.{ContextPart};
 
 use crate::at::At;
 use crate::config::accepted_config;
@@ -12,7 +12,7 @@ use crate::fault::{FaultKind, LoadFault};
 use crate::names::Names;
 use crate::spot::{Key, Section};
 use crate::words::{new_name, only_keys, row_table, rows, text, whole_number};
-use mcs_core::{ContextPart, Name};
+use mcs_system::{ContextPart, Name};
 use mcs_ticks::CoreId;
 use std::alloc::Global;
 use toml::{Table, Value};

@@ -13,7 +13,7 @@ use crate::order::orders;
 use crate::spot::{Key, Section};
 use crate::thread::threads;
 use crate::words::{number_with_default, only_keys, whole_number};
-use mcs_core::{System, SystemParts};
+use mcs_system::{System, SystemParts};
 use mcs_ticks::{Limits, Sequence};
 use std::alloc::Global;
 use toml::Table;

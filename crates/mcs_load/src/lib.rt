@@ -15,8 +15,6 @@ mod numbers;
 mod order;
 mod script;
 mod spot;
-#[cfg(test)]
-mod tests;
 mod thread;
 mod words;
 

@@ -16,7 +16,7 @@ use crate::numbers::moment;
 use crate::spot::{Key, Section};
 use crate::words::{only_keys, row_table, rows, whole_number};
 use mcs_control::{Config, Order};
-use mcs_core::ContextPart;
+use mcs_system::ContextPart;
 use mcs_ticks::{ContextId, CoreId, Limits};
 use std::alloc::Global;
 use toml::{Table, Value};

@@ -1,6 +1,6 @@
 ghost use Rattle.std.specs.Prelude.{◌≡◌, ◌<◌, IfOk, List, suc, length, map, [], ◌∷◌, ◌++◌};
 ghost use Rattle.toml.specs.View.{table_view, view, items_view};
-ghost use Rattle.mcs_core.specs.declared.part.ThreadPart.{ThreadPart};
+ghost use Rattle.mcs_system.specs.declared.part.ThreadPart.{ThreadPart};
 ghost use Rattle.mcs_load.specs.declared.spot.Section.TheVariants as section;
 ghost use Rattle.mcs_load.specs.Checks.{Gives, Tells};
 ghost use Rattle.mcs_load.specs.Words.{row, each};
@@ -15,7 +15,7 @@ use crate::script::script;
 use crate::spot::{Key, Section};
 use crate::words::{new_name, number_with_default, only_keys, row_table, rows, whole_number};
 use indexmap::IndexSet;
-use mcs_core::{ContextPart, Name, NotePart, ThreadPart};
+use mcs_system::{ContextPart, Name, NotePart, ThreadPart};
 use mcs_ticks::{ContextId, Limits, Tick};
 use std::alloc::Global;
 use toml::{Table, Value};

@@ -10,7 +10,7 @@ use crate::fault::{FaultKind, LoadFault};
 use crate::key::name_of;
 use crate::names::Names;
 use crate::spot::{Key, Section};
-use mcs_core::Name;
+use mcs_system::Name;
 use mcs_ticks::Limits;
 use toml::{Table, Value};
 

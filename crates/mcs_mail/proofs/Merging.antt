@@ -5,7 +5,7 @@ use Rattle.std.specs.Prelude.{is_some, IfSome, Result, Ok, Err, is_ok, OnOk, OnE
 use Rattle.std.proofs.lemmas.Bool.{false≢true}
 use Rattle.mcs_mail.specs.declared.mail.Mail.{Mail}
 use Rattle.mcs_mail.specs.Box.{is_before, put, put_all, IsIn, IsOrdered}
-use Rattle.mcs_mail.specs.Merge.{last_or, late_is_first, IsMerged}
+use Rattle.mcs_mail.specs.stored.Late.{last_or, late_is_first, IsMerged}
 use Rattle.mcs_mail.proofs.Boxes.{not_back, not_trans, ordered-put}
 use Rattle.mcs_mail.proofs.Orders.{from_put, not_itself, trans}
 

@@ -14,7 +14,7 @@ use Rattle.std.proofs.lemmas.List.Sorted.{Contains-permutation, IsPermutation-sy
 use Rattle.mcs_mail.specs.declared.mail.Mail.{Mail}
 use Rattle.mcs_mail.specs.declared.late.Numbered.{Numbered}
 use Rattle.mcs_mail.specs.Box.{is_before, put}
-use Rattle.mcs_mail.specs.Numbers.{mail_of, is_earlier, enter, in_order, mails_of, late_cmp, numbered, one_if, times, IsNumbered}
+use Rattle.mcs_mail.specs.stored.Numbers.{mail_of, is_earlier, enter, in_order, mails_of, late_cmp, numbered, one_if, times, IsNumbered}
 
 -- the order of four numbers each
 abbrev before : ℕ → ℕ → ℕ → ℕ → ℕ → ℕ → ℕ → ℕ → Bool

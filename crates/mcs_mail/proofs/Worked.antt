@@ -4,8 +4,8 @@ use Rattle.std.specs.declared.cmp.Reverse.{Reverse}
 use Rattle.mcs_mail.specs.declared.mail.Mail.{Mail}
 use Rattle.mcs_mail.specs.declared.late.Numbered.{Numbered}
 use Rattle.mcs_mail.specs.Box.{put, put_all, arriving, staying, due, without_due, first_arrival}
-use Rattle.mcs_mail.specs.Merge.{late_is_first}
-use Rattle.mcs_mail.specs.Numbers.{numbered, in_order, mails_of}
+use Rattle.mcs_mail.specs.stored.Late.{late_is_first}
+use Rattle.mcs_mail.specs.stored.Numbers.{numbered, in_order, mails_of}
 
 -- the badge tells the mail apart
 abbrev mail : ℕ → ℕ → ℕ → ℕ → Mail

@@ -1,6 +1,6 @@
 ghost use Rattle.std.specs.Prelude.{◌≡◌, ◌+◌, ◌-◌, ◌^◌, ◌<◌, ◌≤◌, nat_le, [], length, drop, slice_get, OnOk, OnErr, IfErr, IsOk};
 ghost use Rattle.mcs_mail.specs.Box.{put};
-ghost use Rattle.mcs_mail.specs.Numbers.{numbered, mail_of};
+ghost use Rattle.mcs_mail.specs.stored.Numbers.{numbered, mail_of};
 
 use crate::Mail;
 use mcs_ticks::{CoreId, NoMemory, NoteId, Tick};
@@ -30,13 +30,13 @@ pub(crate) struct Late {
 }
 
 impl Model for Late {
-    ghost use Rattle.mcs_mail.specs.Numbers.{LateMail};
+    ghost use Rattle.mcs_mail.specs.stored.Numbers.{LateMail};
 
     ghost Value = { LateMail };
 
     ghost use Rattle.std.specs.Prelude.{◌-◌};
     ghost use Rattle.std.specs.BinaryHeap.{heap_items, heap_len, heap_capacity};
-    ghost use Rattle.mcs_mail.specs.Numbers.{in_order, mails_of, IsNumbered};
+    ghost use Rattle.mcs_mail.specs.stored.Numbers.{in_order, mails_of, IsNumbered};
 
     ghost view = { λ a. record { mails = mails_of (in_order (heap_items a.heap)); spare = heap_capacity a.heap - heap_len a.heap; next = a.next } };
 

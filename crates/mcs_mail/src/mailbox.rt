@@ -1,7 +1,7 @@
 ghost use Rattle.std.specs.Prelude.{◌≡◌, ◌<◌, ◌≤◌, ◌+◌, ◌^◌, [], length, drop, slice_get, OnOk, OnErr, IfErr, IsOk, insert};
 ghost use Rattle.std.specs.VecDeque.{deque_len, deque_capacity};
 ghost use Rattle.mcs_mail.specs.Box.{Content, is_before, put, put_all, due, without_due, first_arrival, IsOrdered};
-ghost use Rattle.mcs_mail.specs.Merge.{last_or, late_is_first, IsMerged};
+ghost use Rattle.mcs_mail.specs.stored.Late.{last_or, late_is_first, IsMerged};
 
 use crate::Mail;
 use crate::late::Late;
@@ -28,7 +28,7 @@ impl Model for Mailbox {
     ghost use Rattle.std.specs.Prelude.{◌-◌, ◌+◌, length, min};
     ghost use Rattle.std.specs.VecDeque.{deque_len, deque_capacity};
     ghost use Rattle.mcs_mail.specs.Box.{put_all};
-    ghost use Rattle.mcs_mail.specs.Merge.{IsMerged};
+    ghost use Rattle.mcs_mail.specs.stored.Late.{IsMerged};
 
     ghost view = { λ a. record { mails = put_all a.late.mails a.ring.items; spare = min (deque_capacity a.ring - (deque_len a.ring + length a.late.mails)) a.late.spare } };
 

@@ -6,7 +6,7 @@ use Rattle.std.proofs.lemmas.Bool.Decides.{nat_tests}
 use Rattle.mcs_ticks.specs.declared.queue.Queued.{Queued}
 use Rattle.mcs_notify.specs.declared.notes.Waiting.{Waiting}
 use Rattle.mcs_notify.specs.Note.{Note}
-use Rattle.mcs_notify.specs.Kept.{waiters_of, IsOff, AreWaiting}
+use Rattle.mcs_notify.specs.stored.Waiters.{waiters_of, IsOff, AreWaiting}
 
 off-push : (thread : ℕ) (ws : List Waiting) (w : Waiting) → IsOff thread ws → w.thread.thread ≢ thread → IsOff thread (ws ++ w ∷ [])
 off-push thread [] w h n = (n, tt)

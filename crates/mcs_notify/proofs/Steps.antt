@@ -10,7 +10,7 @@ use Rattle.mcs_notify.specs.declared.notes.Waiting.{Waiting}
 use Rattle.mcs_notify.specs.declared.posted.Posted.TheVariants.{Woke, Held}
 use Rattle.mcs_notify.specs.declared.posted.Waited.TheVariants.{Got, Blocks}
 use Rattle.mcs_notify.specs.Note.{Note, note_of, quiet_note, Notifications, with_note, is_waiting, posted, after_post, waited, after_wait}
-use Rattle.mcs_notify.specs.Kept.{waiters_of, notes_from, seen_as, IsOff, AreWaiting, IsKept, BestLeaves}
+use Rattle.mcs_notify.specs.stored.Waiters.{waiters_of, notes_from, seen_as, IsOff, AreWaiting, IsKept, BestLeaves}
 use Rattle.mcs_notify.proofs.Places.{waiting-push, waiting-remove, length-waiting, off_from, none_at}
 use Rattle.mcs_notify.proofs.Views.{length-notes_from, notes_from-at, notes_from-set, counted-at, counted-set, length-waiters_of}
 use Rattle.mcs_notify.proofs.Waiters.{waiters_of-push, waiters_of-push_other, waiters_of-remove, waiters_of-remove_other, length-waiters_of-remove}

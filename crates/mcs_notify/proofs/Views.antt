@@ -3,7 +3,7 @@ use Rattle.std.proofs.Common.{◌≡◌, ◌≢◌, ℕ, zero, suc, ◌+◌, ◌
 use Rattle.mcs_notify.specs.Note.{Note, quiet_note, note_of}
 use Rattle.mcs_notify.specs.declared.notes.Kept.{Kept}
 use Rattle.mcs_notify.specs.declared.notes.Waiting.{Waiting}
-use Rattle.mcs_notify.specs.Kept.{waiters_of, notes_from, AreCounted}
+use Rattle.mcs_notify.specs.stored.Waiters.{waiters_of, notes_from, AreCounted}
 
 pub length-notes_from : (kept : List Kept) (n : ℕ) (waiting : List Waiting) → length (notes_from n kept waiting) ≡ length kept
 length-notes_from [] n waiting = refl

@@ -6,7 +6,7 @@ use Rattle.std.proofs.lemmas.List.{take_more}
 use Rattle.mcs_ticks.specs.declared.queue.Queued.{Queued}
 use Rattle.mcs_ticks.specs.Queue.{first_among, first_of_greatest, without}
 use Rattle.mcs_notify.specs.declared.notes.Waiting.{Waiting}
-use Rattle.mcs_notify.specs.Kept.{waiters_of, IsOff, AreWaiting, IsBest, better}
+use Rattle.mcs_notify.specs.stored.Waiters.{waiters_of, IsOff, AreWaiting, IsBest, better}
 
 -- one more at the end
 pub waiters_of-push : (note : ℕ) (ws : List Waiting) (w : Waiting) → (w.note == note) ≡ true → waiters_of note (ws ++ w ∷ []) ≡ waiters_of note ws ++ w.thread ∷ []

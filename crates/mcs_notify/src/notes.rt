@@ -1,7 +1,7 @@
 ghost use Rattle.std.specs.Prelude.{◌≡◌, ◌≢◌, ◌<◌, ◌≤◌, false, length, replicate, set, IfOk, MatchOption, vec_capacity, []};
 ghost use Rattle.mcs_ticks.specs.Queue.{first_of_greatest};
 ghost use Rattle.mcs_notify.specs.Note.{Notifications, quiet_note, note_of, with_note, is_waiting, posted, after_post, waited, after_wait};
-ghost use Rattle.mcs_notify.specs.Kept.{waiters_of, IsBest, BestLeaves, better};
+ghost use Rattle.mcs_notify.specs.stored.Waiters.{waiters_of, IsBest, BestLeaves, better};
 
 use crate::posted::{Posted, Waited};
 use mcs_ticks::{NoMemory, NoteId, Queued, ThreadId};
@@ -37,7 +37,7 @@ impl Model for Notes {
     ghost Value = { Notifications };
 
     ghost use Rattle.std.specs.Prelude.{vec_capacity};
-    ghost use Rattle.mcs_notify.specs.Kept.{seen_as, IsKept};
+    ghost use Rattle.mcs_notify.specs.stored.Waiters.{seen_as, IsKept};
 
     ghost view = { λ a. seen_as a.notes.items a.waiting.items a.threads };
 

@@ -7,8 +7,8 @@ use Rattle.std.proofs.lemmas.List.{length-map, get_or-map, get_or_past, map-set,
 use Rattle.mcs_ticks.specs.declared.queue.Queued.{Queued}
 use Rattle.mcs_ticks.specs.Queue.{entered_back, entered_front, first_of}
 use Rattle.mcs_ready.specs.declared.ready.Line.{Line}
-use Rattle.mcs_ready.specs.Places.{IsKept, line_from, threads_of, all_threads, queue_from, with_back, with_front, without_first, before_back, no_line, is_some_in, last_or, times, times_in, one_if}
-use Rattle.mcs_ready.specs.Priorities.{has}
+use Rattle.mcs_ready.specs.stored.Lines.{IsKept, line_from, threads_of, all_threads, queue_from, with_back, with_front, without_first, before_back, no_line, is_some_in, last_or, times, times_in, one_if}
+use Rattle.mcs_ready.specs.stored.Priorities.{has}
 use Rattle.mcs_ready.specs.Ready.{AreBelow, AreDistinct, ReadyQueue, queued, is_held, priority_of}
 use Rattle.mcs_ready.proofs.Lines.{length-line_from, lines-set, line-front, line-back}
 use Rattle.mcs_ready.proofs.Queues.{queue-back, queue-front, queue-first, queue-none}

@@ -1,7 +1,7 @@
 -- The threads of a line, each named by the one before it.
 use Rattle.std.proofs.Common.{◌≡◌, ◌≢◌, ℕ, zero, suc, ◌<◌, ◌≤◌, List, [], ◌∷◌, ◌++◌, length, get_or, set, refl, sym, ap, subst, ◌∙◌, arith, get_or-set_same, get_or-set_other}
 use Rattle.mcs_ready.specs.declared.ready.Line.{Line}
-use Rattle.mcs_ready.specs.Places.{line_from, threads_of, all_threads, last_or, times, times_in}
+use Rattle.mcs_ready.specs.stored.Lines.{line_from, threads_of, all_threads, last_or, times, times_in}
 use Rattle.mcs_ready.proofs.Times.{times-cons_same, times-last, times-le-times_in}
 
 pub length-line_from : (next : List ℕ) (first len : ℕ) → length (line_from next first len) ≡ len

@@ -5,7 +5,7 @@ use Rattle.std.proofs.lemmas.Bool.{cases_eq, cases_lt, eq-eqb, ne_eqb}
 use Rattle.std.proofs.lemmas.Nat.Bits.{bit_at_set_same, bit_at_set_other, bit_at_clear_same, bit_at_clear_other, bit_at_above, bit_at-zero}
 use Rattle.std.proofs.Math.Nat.{pow-suc}
 use Rattle.std.proofs.lemmas.Nat.{shr_high}
-use Rattle.mcs_ready.specs.Priorities.{has}
+use Rattle.mcs_ready.specs.stored.Priorities.{has}
 
 -- a word is written: at a priority of another word nothing changes
 has-other : (words : List ℕ) (p q word : ℕ) → q / 64 ≢ p / 64 → has (set words (p / 64) word) q ≡ has words q

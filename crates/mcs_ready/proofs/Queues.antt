@@ -5,7 +5,7 @@ use Rattle.std.proofs.lemmas.Bool.{lt-ltb, le-ltb}
 use Rattle.std.proofs.lemmas.List.{append_assoc, append-nil, map_push}
 use Rattle.mcs_ticks.specs.declared.queue.Queued.{Queued}
 use Rattle.mcs_ticks.specs.Queue.{entered_back, entered_front}
-use Rattle.mcs_ready.specs.Places.{queued_at, queue_from}
+use Rattle.mcs_ready.specs.stored.Lines.{queued_at, queue_from}
 use Rattle.mcs_ready.specs.Ready.{queued}
 
 -- a thread enters behind all of its priority or above

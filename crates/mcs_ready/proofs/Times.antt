@@ -5,7 +5,7 @@ use Rattle.std.proofs.lemmas.Bool.{cases_eq, eq-eqb, ne_eqb}
 use Rattle.std.proofs.lemmas.Bool.Decides.{nat_tests}
 use Rattle.std.proofs.lemmas.List.{map-append}
 use Rattle.mcs_ticks.specs.declared.queue.Queued.{Queued}
-use Rattle.mcs_ready.specs.Places.{queued_at, queue_from, times, times_in, one_if, last_or}
+use Rattle.mcs_ready.specs.stored.Lines.{queued_at, queue_from, times, times_in, one_if, last_or}
 use Rattle.mcs_ready.specs.Ready.{is_held}
 
 pub times-append : (x : ℕ) (ys zs : List ℕ) → times x (ys ++ zs) ≡ times x ys + times x zs

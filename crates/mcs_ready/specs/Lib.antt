@@ -1,3 +1,2 @@
-pub mod Places
-pub mod Priorities
 pub mod Ready
+pub mod stored

@@ -4,8 +4,6 @@
 
 mod priorities;
 mod ready;
-#[cfg(test)]
-mod tests;
 
 pub use mcs_ticks::queues_answer_alike;
 pub use ready::{Ready, held_once};

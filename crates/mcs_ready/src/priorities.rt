@@ -1,5 +1,5 @@
 ghost use Rattle.std.specs.Prelude.{◌≡◌, ℕ, ◌<◌, ◌==◌, if◌then◌else◌, true, false, MatchOption};
-ghost use Rattle.mcs_ready.specs.Priorities.{has};
+ghost use Rattle.mcs_ready.specs.stored.Priorities.{has};
 
 /// A set of priorities. Priority `p` is in it where bit `p % 64` of word `p / 64` is 1.
 #[derive(Debug, Drop)]

@@ -1,7 +1,7 @@
 ghost use Rattle.std.specs.Prelude.{◌≡◌, ℕ, ◌+◌, ◌<◌, ◌^◌, false, [], IfOk, Some};
 ghost use Rattle.mcs_ticks.specs.Queue.{by_priority};
 ghost use Rattle.mcs_ready.specs.Ready.{queued, is_held, thread_of, priority_of, AreDistinct, AreBelow};
-ghost use Rattle.mcs_ready.specs.Places.{with_back, with_front, without_first, before_back};
+ghost use Rattle.mcs_ready.specs.stored.Lines.{with_back, with_front, without_first, before_back};
 
 use crate::priorities::Priorities;
 use mcs_ticks::{NoMemory, ThreadId};
@@ -88,7 +88,7 @@ impl Model for Ready {
 
     ghost Value = { ReadyQueue };
 
-    ghost use Rattle.mcs_ready.specs.Places.{queue_from, all_threads, IsKept};
+    ghost use Rattle.mcs_ready.specs.stored.Lines.{queue_from, all_threads, IsKept};
 
     ghost view = { λ a. record { queue = queue_from 0 (all_threads a.next.items a.lines.items); room = length a.held.items } };
 

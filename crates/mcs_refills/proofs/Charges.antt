@@ -3,7 +3,7 @@ use Rattle.std.proofs.Common.{◌≡◌, ◌≢◌, ℕ, suc, ◌+◌, ◌-◌, 
 use Rattle.std.specs.Prelude.{◌==◌, nat_lt}
 use Rattle.std.proofs.lemmas.Bool.Decides.{nat_tests}
 use Rattle.mcs_refills.specs.declared.refill.Refill.{Refill}
-use Rattle.mcs_refills.specs.Keeping.{IsBefore, AreApart, IsKept, end_of, grown, given_back, taken, left_after, after_charge}
+use Rattle.mcs_refills.specs.stored.Refills.{IsBefore, AreApart, IsKept, end_of, grown, given_back, taken, left_after, after_charge}
 use Rattle.mcs_refills.specs.Server.{enough, gathered, joined, dates_of, last_moved, first_moment, first_amount, with_enough, charged}
 use Rattle.mcs_refills.proofs.Dates.{refills_of-dates_of, dates_of-charged}
 use Rattle.mcs_refills.proofs.Gathers.{end_of-first}

@@ -4,7 +4,7 @@ use Rattle.std.specs.Prelude.{◌==◌, nat_lt}
 use Rattle.std.specs.List.{range_with_len}
 use Rattle.std.proofs.lemmas.Bool.Decides.{nat_tests}
 use Rattle.mcs_refills.specs.declared.refill.Refill.{Refill}
-use Rattle.mcs_refills.specs.Keeping.{IsBefore, AreApart, end_of, left_after, grown, given_back}
+use Rattle.mcs_refills.specs.stored.Refills.{IsBefore, AreApart, end_of, left_after, grown, given_back}
 use Rattle.mcs_refills.specs.Server.{dates_of, with_date, refills_of, first_date, last_date, last_moved, rejoined, charged}
 
 -- a number's successor, as the definitions write it

@@ -3,7 +3,7 @@ use Rattle.std.proofs.Common.{◌≡◌, ℕ, zero, suc, ◌+◌, ◌-◌, ◌<�
 use Rattle.std.specs.Prelude.{◌==◌, nat_lt}
 use Rattle.std.proofs.lemmas.Bool.Decides.{nat_tests}
 use Rattle.mcs_refills.specs.declared.refill.Refill.{Refill}
-use Rattle.mcs_refills.specs.Keeping.{end_of, grown, given_back}
+use Rattle.mcs_refills.specs.stored.Refills.{end_of, grown, given_back}
 use Rattle.mcs_refills.specs.Server.{last_moved}
 
 pub end_of-last : (rs : List Refill) (i : ℕ) (x d : Refill) → suc i ≡ length rs → x ≡ get_or rs i d → end_of rs ≡ x.begins + x.amount

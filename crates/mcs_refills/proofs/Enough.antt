@@ -4,10 +4,10 @@ use Rattle.std.specs.Prelude.{◌==◌, nat_lt, nat_le}
 use Rattle.std.specs.List.{range_with_len}
 use Rattle.std.proofs.lemmas.Bool.Decides.{nat_tests}
 use Rattle.mcs_refills.specs.declared.refill.Refill.{Refill}
-use Rattle.mcs_refills.specs.Keeping.{AreApart, end_of, with_reached, after_unblock, after_reconfigure}
+use Rattle.mcs_refills.specs.stored.Refills.{AreApart, end_of, with_reached, after_unblock, after_reconfigure}
 use Rattle.mcs_refills.specs.Server.{dates_of, refills_of, first_moment, first_amount, head_amount, charged, enough, gathered, joined, with_enough, unblocked, reconfigured}
-use Rattle.mcs_refills.specs.Spacing.{IsWithin, AreKept}
-use Rattle.mcs_refills.specs.Kept.{HeadsHaveEnough}
+use Rattle.mcs_refills.specs.laws.Spacing.{IsWithin, AreKept}
+use Rattle.mcs_refills.specs.laws.Servers.{HeadsHaveEnough}
 use Rattle.mcs_refills.proofs.Dates.{refills_of-dates_of}
 use Rattle.mcs_refills.proofs.Charges.{IsLike-enough}
 use Rattle.mcs_refills.proofs.Unblocks.{dates_of-after_unblock, few-unblocked}

@@ -4,7 +4,7 @@ use Rattle.std.specs.Prelude.{nat_lt, nat_le}
 use Rattle.std.proofs.lemmas.Bool.Decides.{nat_tests}
 use Rattle.std.proofs.lemmas.List.{drop_more, length-drop}
 use Rattle.mcs_refills.specs.declared.refill.Refill.{Refill}
-use Rattle.mcs_refills.specs.Keeping.{AreApart, end_of}
+use Rattle.mcs_refills.specs.stored.Refills.{AreApart, end_of}
 use Rattle.mcs_refills.specs.Server.{enough, joined}
 
 less : (a b : ℕ) → a < b → nat_lt a b ≡ true

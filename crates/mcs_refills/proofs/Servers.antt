@@ -3,10 +3,10 @@ use Rattle.std.proofs.Common.{◌≡◌, ℕ, ◌+◌, ◌<◌, ◌≤◌, Bool,
 use Rattle.std.specs.Prelude.{◌==◌}
 use Rattle.std.proofs.lemmas.Bool.Decides.{nat_tests}
 use Rattle.mcs_refills.specs.declared.refill.Refill.{Refill}
-use Rattle.mcs_refills.specs.Keeping.{AreApart, IsKept, end_of, after_charge, after_unblock}
+use Rattle.mcs_refills.specs.stored.Refills.{AreApart, IsKept, end_of, after_charge, after_unblock}
 use Rattle.mcs_refills.specs.Server.{Server, dates_of, with_date, refills_of, first_amount, head_amount, charged, with_enough, unblocked}
-use Rattle.mcs_refills.specs.Spacing.{IsWithin}
-use Rattle.mcs_refills.specs.Kept.{IsServer, ServersAreKept}
+use Rattle.mcs_refills.specs.laws.Spacing.{IsWithin}
+use Rattle.mcs_refills.specs.laws.Servers.{IsServer, ServersAreKept}
 use Rattle.mcs_refills.proofs.Dates.{refills_of-dates_of}
 use Rattle.mcs_refills.proofs.Charges.{IsLike, IsLike-charge, dates_of-charge}
 use Rattle.mcs_refills.proofs.Gathers.{end_of-first}

@@ -5,8 +5,8 @@ use Rattle.std.specs.List.{range_with_len}
 use Rattle.std.proofs.lemmas.Bool.Decides.{nat_tests}
 use Rattle.mcs_refills.specs.declared.refill.Refill.{Refill}
 use Rattle.mcs_refills.specs.Server.{dates_from, reconfigured, head_amount, dates_of, with_date, refills_of, first_date, last_moved, rejoined, charged, touches, unblocked, with_enough, enough, gathered, joined}
-use Rattle.mcs_refills.specs.Spacing.{IsUnder, IsWithin, AreKept, after_use, Step, stepped, consumed, IsProper, AreProper, StepsSpace, ConsumedAreSpaced}
-use Rattle.mcs_refills.specs.Spacing.Step.{Charge, Unblock}
+use Rattle.mcs_refills.specs.laws.Spacing.{IsUnder, IsWithin, AreKept, after_use, Step, stepped, consumed, IsProper, AreProper, StepsSpace, ConsumedAreSpaced}
+use Rattle.mcs_refills.specs.laws.Spacing.Step.{Charge, Unblock}
 use Rattle.mcs_refills.proofs.Dates.{range-add}
 
 -- places

@@ -3,8 +3,8 @@ use Rattle.std.specs.Prelude.{◌≡◌, ℕ, true, false, List, [], ◌∷◌, 
 use Rattle.mcs_refills.specs.declared.refill.Refill.{Refill}
 use Rattle.mcs_refills.specs.Server.{dates_of, refills_of, is_ready, charged, with_enough, unblocked, reconfigured}
 use Rattle.mcs_refills.specs.Slice.{slice_charged, slice_reconfigured, times_used_up, left_after_all}
-use Rattle.mcs_refills.specs.Spacing.{consumed}
-use Rattle.mcs_refills.specs.Spacing.Step.{Charge, Unblock}
+use Rattle.mcs_refills.specs.laws.Spacing.{consumed}
+use Rattle.mcs_refills.specs.laws.Spacing.Step.{Charge, Unblock}
 
 abbrev r : ℕ → ℕ → Refill
 r begins amount = record { begins = begins; amount = amount }

@@ -1,6 +1,6 @@
 ghost use Rattle.std.specs.Prelude.{◌≡◌, ◌^◌, ◌<◌, ◌≤◌, IfOk, length, slice_get};
 ghost use Rattle.mcs_refills.specs.Server.{new_server, refills_of, is_ready, first_date, head_amount, server_charged, server_unblocked, server_reconfigured};
-ghost use Rattle.mcs_refills.specs.Kept.{IsServer};
+ghost use Rattle.mcs_refills.specs.laws.Servers.{IsServer};
 
 use crate::Refill;
 use crate::steps::{charge_list, reconfigure_list, unblock_list};
@@ -23,7 +23,7 @@ pub struct Refills {
 impl Model for Refills {
     ghost use Rattle.std.specs.Prelude.{vec_capacity};
     ghost use Rattle.mcs_refills.specs.Server.{Server, dates_of};
-    ghost use Rattle.mcs_refills.specs.Keeping.{IsStored};
+    ghost use Rattle.mcs_refills.specs.stored.Refills.{IsStored};
 
     ghost Value = { Server };
 

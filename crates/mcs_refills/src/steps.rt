@@ -1,5 +1,5 @@
 ghost use Rattle.std.specs.Prelude.{◌≡◌, ◌+◌, ◌^◌, ◌<◌, ◌≤◌, ◌∷◌, length, drop, vec_len, vec_capacity};
-ghost use Rattle.mcs_refills.specs.Keeping.{end_of, taken, given_back, AreApart, IsKept, after_charge, after_unblock, after_reconfigure};
+ghost use Rattle.mcs_refills.specs.stored.Refills.{end_of, taken, given_back, AreApart, IsKept, after_charge, after_unblock, after_reconfigure};
 ghost use Rattle.mcs_refills.specs.Server.{first_amount, first_moment, enough};
 
 use crate::Refill;

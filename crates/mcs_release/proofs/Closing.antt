@@ -9,7 +9,7 @@ use Rattle.std.proofs.lemmas.List.Sorted.{sum_by-IsPermutation}
 use Rattle.std.proofs.lemmas.List.Sums.{sum_by-cons}
 use Rattle.mcs_release.specs.declared.dated.Dated.{Dated}
 use Rattle.mcs_release.specs.declared.releases.Due.{Due}
-use Rattle.mcs_release.specs.Places.{entered, due_at, dues_from, due_cmp, IsPlaced}
+use Rattle.mcs_release.specs.stored.Heap.{entered, due_at, dues_from, due_cmp, IsPlaced}
 use Rattle.mcs_release.proofs.Dues.{dues-emptied, dues-moved, dues-count, count-is-length}
 use Rattle.mcs_release.proofs.Entered.{entered-moved}
 

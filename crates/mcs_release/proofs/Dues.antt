@@ -5,7 +5,7 @@ use Rattle.std.specs.declared.cmp.Reverse.{Reverse}
 use Rattle.std.proofs.lemmas.List.Sums.{sum_by-cons}
 use Rattle.mcs_release.specs.declared.dated.Dated.{Dated}
 use Rattle.mcs_release.specs.declared.releases.Due.{Due}
-use Rattle.mcs_release.specs.Places.{entered, due_at, dues_from}
+use Rattle.mcs_release.specs.stored.Heap.{entered, due_at, dues_from}
 
 module _ (f : Reverse Due → ℕ) where
   pub dues-put : (places : List (Option Dated)) (n k : ℕ) (x : Dated) → k < length places → get_or places k None ≡ None →

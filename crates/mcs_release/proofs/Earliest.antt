@@ -10,7 +10,7 @@ use Rattle.std.proofs.lemmas.Bool.Decides.{nat_tests}
 use Rattle.std.proofs.lemmas.List.Sums.{sum_by-cons, get_or-le-sum_by}
 use Rattle.mcs_release.specs.declared.dated.Dated.{Dated}
 use Rattle.mcs_release.specs.declared.releases.Due.{Due}
-use Rattle.mcs_release.specs.Places.{entered, due_at, dues_from, due_cmp, one_if}
+use Rattle.mcs_release.specs.stored.Heap.{entered, due_at, dues_from, due_cmp, one_if}
 use Rattle.mcs_release.specs.Release.{dated, earlier, earliest}
 
 -- how many stand before this one in the heap's order

@@ -1,7 +1,7 @@
 -- The entries of places: one is put in, taken out, or moved to the front.
 use Rattle.std.proofs.Common.{◌≡◌, ℕ, zero, suc, ◌<◌, ◌≤◌, List, [], ◌∷◌, ◌++◌, length, get_or, set, Option, Some, None, refl, ap, arith}
 use Rattle.mcs_release.specs.declared.dated.Dated.{Dated}
-use Rattle.mcs_release.specs.Places.{entered, times}
+use Rattle.mcs_release.specs.stored.Heap.{entered, times}
 use Rattle.mcs_release.specs.Release.{without}
 use Rattle.std.proofs.lemmas.Bool.{ne_eqb, eq-eqb}
 use Rattle.mcs_release.proofs.Times.{times-cons_same}

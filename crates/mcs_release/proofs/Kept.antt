@@ -12,7 +12,7 @@ use Rattle.std.proofs.lemmas.List.Sorted.{sum_by-IsPermutation}
 use Rattle.std.proofs.lemmas.List.Sums.{sum_by-cons}
 use Rattle.mcs_release.specs.declared.dated.Dated.{Dated}
 use Rattle.mcs_release.specs.declared.releases.Due.{Due}
-use Rattle.mcs_release.specs.Places.{entered, due_at, dues_from, due_cmp, times, one_if, IsPlaced, IsKept}
+use Rattle.mcs_release.specs.stored.Heap.{entered, due_at, dues_from, due_cmp, times, one_if, IsPlaced, IsKept}
 use Rattle.mcs_release.specs.Release.{ReleaseQueue, dated, is_held, earliest, next_date, first_due, without_first_due, when_left, AreBelow, AreDistinct}
 use Rattle.mcs_release.proofs.Dues.{dues-put, dues-left, dues-count, count-is-length}
 use Rattle.mcs_release.proofs.Earliest.{before-top, earliest-top, none-top, place-top}

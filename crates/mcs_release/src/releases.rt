@@ -1,6 +1,6 @@
 ghost use Rattle.std.specs.Prelude.{◌≡◌, ℕ, ◌<◌, ◌≤◌, ◌++◌, ◌∷◌, false, [], length, slice_set, IfOk, IsPermutation};
 ghost use Rattle.std.specs.BinaryHeap.{heap_items, heap_len, heap_capacity, KeepsHeap};
-ghost use Rattle.mcs_release.specs.Places.{due_at, due_cmp, entered, IsPlaced};
+ghost use Rattle.mcs_release.specs.stored.Heap.{due_at, due_cmp, entered, IsPlaced};
 ghost use Rattle.mcs_release.specs.Release.{dated, is_held, next_date, first_due, without_first_due, thread_of, AreDistinct, AreBelow};
 
 use crate::Dated;
@@ -37,7 +37,7 @@ impl Model for Releases {
     ghost Value = { ReleaseQueue };
 
     ghost use Rattle.std.specs.BinaryHeap.{heap_items, heap_capacity};
-    ghost use Rattle.mcs_release.specs.Places.{entered, IsKept};
+    ghost use Rattle.mcs_release.specs.stored.Heap.{entered, IsKept};
 
     ghost view = { λ a. record { queue = entered a.places.items; room = a.room } };
 

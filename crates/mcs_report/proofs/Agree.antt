@@ -6,14 +6,14 @@ use Rattle.mcs_ticks.specs.declared.row.What.{What}
 use Rattle.mcs_ticks.specs.declared.row.What.TheVariants as row
 use Rattle.mcs_ticks.specs.declared.row.Why.{Why}
 use Rattle.mcs_ticks.specs.declared.row.Why.TheVariants as why
-use Rattle.mcs_core.specs.declared.part.ThreadPart.{ThreadPart}
-use Rattle.mcs_core.specs.System.{System, core_of}
+use Rattle.mcs_system.specs.declared.part.ThreadPart.{ThreadPart}
+use Rattle.mcs_system.specs.System.{System, core_of}
 use Rattle.mcs_report.specs.declared.account.Account.{Account}
 use Rattle.mcs_report.specs.declared.reports.ThreadReport.{ThreadReport}
 use Rattle.mcs_report.specs.declared.reports.Reports.{Reports}
 use Rattle.mcs_report.specs.Reports.{capped, responses, least, thread_report, thread_reports, ran_on, core_report_of, reports_of}
 use Rattle.mcs_report.specs.Tally.{Tally, no_report, opened, report_at, ran_by, begun, stopped, responded, opened_tally, finished}
-use Rattle.mcs_report.specs.Agree.{RunsApart, tally_of, but_ran}
+use Rattle.mcs_report.specs.laws.Agreement.{RunsApart, tally_of, but_ran}
 use Rattle.mcs_report.proofs.Alone.{alone, told_alone, each_from, accounts-fold, horizon-fold, cores-fold}
 use Rattle.mcs_report.proofs.Counts.{IsGiven, least_after, counts-fold}
 use Rattle.mcs_report.proofs.Runs.{ran-fold}

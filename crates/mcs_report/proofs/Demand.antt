@@ -1,15 +1,15 @@
 -- What a thread runs in a schedule is bounded, and its report says no more.
 use Rattle.std.proofs.Common.{◌≡◌, ℕ, zero, suc, ◌+◌, ◌<◌, List, [], ◌∷◌, length, get_or, ap, arith}
 use Rattle.mcs_ticks.specs.declared.row.Row.{Row}
-use Rattle.mcs_core.specs.declared.part.ThreadPart.{ThreadPart}
-use Rattle.mcs_core.specs.System.{System, no_thread}
-use Rattle.mcs_core.specs.WellFormed.{IsWellFormed}
+use Rattle.mcs_system.specs.declared.part.ThreadPart.{ThreadPart}
+use Rattle.mcs_system.specs.System.{System, no_thread}
+use Rattle.mcs_system.specs.WellFormed.{IsWellFormed}
 use Rattle.mcs_core.specs.Clock.{schedule}
 use Rattle.mcs_laws.proofs.Demand.{within-demand}
 use Rattle.mcs_report.specs.declared.reports.ThreadReport.{ThreadReport}
 use Rattle.mcs_report.specs.Reports.{thread_report, thread_reports, reports_of}
 use Rattle.mcs_report.specs.Tally.{no_report}
-use Rattle.mcs_report.specs.Demand.{RunsAreWithinDemand, AreWithinDemand, DemandIsBounded}
+use Rattle.mcs_report.specs.laws.Demand.{RunsAreWithinDemand, AreWithinDemand, DemandIsBounded}
 use Rattle.mcs_report.proofs.Ticks.{runs-ticks}
 
 -- the report of a thread

@@ -9,7 +9,7 @@ use Rattle.mcs_ticks.specs.declared.row.Why.TheVariants as why
 use Rattle.mcs_report.specs.declared.account.Account.{Account}
 use Rattle.mcs_report.specs.Reports.{capped, runs, stops, next_stop, run_lengths}
 use Rattle.mcs_report.specs.Tally.{begun, ticks_since, stopped, responded, report_at}
-use Rattle.mcs_report.specs.Agree.{StopsFirst, RunsApart}
+use Rattle.mcs_report.specs.laws.Agreement.{StopsFirst, RunsApart}
 use Rattle.mcs_report.proofs.Alone.{alone, told_alone}
 
 -- what a row does to the run of a thread: it begins, it ends, or neither

@@ -12,17 +12,17 @@ use Rattle.mcs_ticks.specs.declared.row.What.{What}
 use Rattle.mcs_notify.specs.Note.{Note, quiet_note}
 use Rattle.mcs_release.specs.declared.dated.Dated.{Dated}
 use Rattle.mcs_core.specs.declared.standing.Chosen.{Chosen}
-use Rattle.mcs_core.specs.declared.part.ThreadPart.{ThreadPart}
-use Rattle.mcs_core.specs.System.{System, TakesTime, no_thread, no_context, thread_part, context_part, core_of}
+use Rattle.mcs_system.specs.declared.part.ThreadPart.{ThreadPart}
+use Rattle.mcs_system.specs.System.{System, TakesTime, no_thread, no_context, thread_part, context_part, core_of}
 use Rattle.mcs_core.specs.Core.{Core, opening_core, opening_releases}
 use Rattle.mcs_core.specs.Clock as clocks
-use Rattle.mcs_core.specs.WellFormed.{IsWellFormed}
+use Rattle.mcs_system.specs.WellFormed.{IsWellFormed}
 use Rattle.mcs_core.proofs.Clock.{core_at-world, rows-clock}
 use Rattle.mcs_laws.specs.Places.{times_running, times_queued, times_dated, times_waiting, places}
 use Rattle.mcs_laws.proofs.Places.{turn-held}
 use Rattle.mcs_report.specs.Reports.{runs, stops}
-use Rattle.mcs_report.specs.Agree.{StopsFirst, RunsApart}
-use Rattle.mcs_report.specs.Schedules.{SchedulesRunApart, SchedulesAreReported}
+use Rattle.mcs_report.specs.laws.Agreement.{StopsFirst, RunsApart}
+use Rattle.mcs_report.specs.laws.Schedules.{SchedulesRunApart, SchedulesAreReported}
 use Rattle.mcs_report.proofs.Agree.{agree}
 use Rattle.mcs_report.proofs.Walks.{Walks, ArePlain, is_open, after_row, walks-append, walks-plain, turn-turns}
 

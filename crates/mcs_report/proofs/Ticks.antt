@@ -6,14 +6,14 @@ use Rattle.mcs_ticks.specs.declared.row.Row.{Row}
 use Rattle.mcs_ticks.specs.declared.row.What.{What}
 use Rattle.mcs_ticks.specs.declared.row.What.TheVariants as row
 use Rattle.mcs_core.specs.declared.standing.Chosen.{Chosen}
-use Rattle.mcs_core.specs.System.{System, TakesTime}
+use Rattle.mcs_system.specs.System.{System, TakesTime}
 use Rattle.mcs_core.specs.Clock as clocks
 use Rattle.mcs_core.proofs.Clock.{rows-clock}
 use Rattle.mcs_laws.specs.Places.{times_running}
 use Rattle.mcs_laws.specs.Demand.{ticks_run}
 use Rattle.mcs_report.specs.Reports.{runs, stops, next_stop, run_lengths}
 use Rattle.mcs_report.specs.Tally.{ticks_since}
-use Rattle.mcs_report.specs.Demand.{RunsAreTicks}
+use Rattle.mcs_report.specs.laws.Demand.{RunsAreTicks}
 use Rattle.mcs_report.proofs.Runs.{open_run, open_run-stop, open_run-other, run_lengths-run, run_lengths-other}
 use Rattle.mcs_report.proofs.Walks.{Walks, is_open, after_row}
 use Rattle.mcs_report.proofs.Schedules.{whats, one_if, own_core, own_core_known, going, rows_from, walks-from, walks-clock}

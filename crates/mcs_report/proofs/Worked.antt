@@ -6,9 +6,9 @@ use Rattle.mcs_ticks.specs.declared.row.What.TheVariants as row
 use Rattle.mcs_ticks.specs.declared.row.Why.TheVariants as why
 use Rattle.mcs_script.specs.declared.item.Item.{Item}
 use Rattle.mcs_script.specs.declared.item.Item.TheVariants.{Compute, Signal, Wait, Yield}
-use Rattle.mcs_core.specs.declared.part.ContextPart.{ContextPart}
-use Rattle.mcs_core.specs.declared.part.ThreadPart.{ThreadPart}
-use Rattle.mcs_core.specs.System.{System}
+use Rattle.mcs_system.specs.declared.part.ContextPart.{ContextPart}
+use Rattle.mcs_system.specs.declared.part.ThreadPart.{ThreadPart}
+use Rattle.mcs_system.specs.System.{System}
 use Rattle.mcs_core.specs.Clock.{schedule}
 use Rattle.mcs_report.specs.declared.reports.ThreadReport.{ThreadReport}
 use Rattle.mcs_report.specs.declared.reports.Reports.{Reports}

@@ -1,6 +1,6 @@
-ghost use Rattle.mcs_report.specs.Agree.{Agree, AgreeButRan};
-ghost use Rattle.mcs_report.specs.Schedules.{SchedulesRunApart, SchedulesAreReported};
-ghost use Rattle.mcs_report.specs.Demand.{RunsAreTicks, DemandIsBounded};
+ghost use Rattle.mcs_report.specs.laws.Agreement.{Agree, AgreeButRan};
+ghost use Rattle.mcs_report.specs.laws.Schedules.{SchedulesRunApart, SchedulesAreReported};
+ghost use Rattle.mcs_report.specs.laws.Demand.{RunsAreTicks, DemandIsBounded};
 
 /// A law of tallies, for every list of rows in which each run of a thread is stopped before the next one, as in every schedule:
 /// what is finished after adding the rows is the reports of the rows.

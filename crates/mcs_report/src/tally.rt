@@ -1,12 +1,12 @@
 ghost use Rattle.std.specs.Prelude.{◌≡◌, ◌≤◌, ◌+◌, [], length, map, fold, vec_capacity, IfOk};
 ghost use Rattle.std.specs.List.{range_with_len};
-ghost use Rattle.mcs_core.specs.System.{core_of};
+ghost use Rattle.mcs_system.specs.System.{core_of};
 ghost use Rattle.mcs_report.specs.Reports.{capped, core_report_of};
 ghost use Rattle.mcs_report.specs.Tally.{opened, told, report_at, ran_by, opened_tally, added, finished};
 
 use crate::account::Account;
 use crate::{CoreReport, Reports, ThreadReport};
-use mcs_core::{System, SystemParts, ThreadPart};
+use mcs_system::{System, SystemParts, ThreadPart};
 use mcs_ticks::{CoreId, NoMemory, Row, Sequence, Tick, What};
 use std::alloc::Global;
 use std::marker::Model;
@@ -37,15 +37,6 @@ impl Model for Tally {
         × (a.core_reports.items ≡ []) × (a.cores ≤ vec_capacity a.core_reports) };
 }
 
-fn core_of(parts: &SystemParts, thread: &ThreadPart) -> CoreId
-    ensures { result ≡ core_of parts.now thread.now }
-{
-    match parts.contexts.as_slice().get(thread.context.0) {
-        Some(context) => context.core,
-        None => CoreId(0),
-    }
-}
-
 fn opened_accounts(alloc: Global, parts: &SystemParts) -> Result<Vec<Account>, NoMemory>
     ensures { IfOk result
         (λ accounts. accounts.items ≡ map (λ thread. opened (core_of parts.now thread) thread.deadline) parts.now.threads) }
@@ -54,7 +45,7 @@ fn opened_accounts(alloc: Global, parts: &SystemParts) -> Result<Vec<Account>, N
         .threads
         .as_slice()
         .iter()
-        .map(|thread| Account::new(core_of(parts, thread), thread.deadline))
+        .map(|thread| Account::new(parts.core_of_thread(thread), thread.deadline))
         .collect(alloc)?;
     Ok(accounts)
 }

@@ -7,8 +7,6 @@ mod moved;
 mod place;
 mod raw;
 mod script;
-#[cfg(test)]
-mod tests;
 
 pub use fault::ItemFault;
 pub use item::Item;

@@ -8,8 +8,8 @@ use Rattle.std.proofs.lemmas.List.Elements.{All-nil, All-cons}
 use Rattle.mcs_ticks.specs.declared.row.Row.{Row}
 use Rattle.mcs_merge.specs.Lists.{rows_of_lists}
 use Rattle.mcs_merge.specs.Merge.{DoNotFall}
-use Rattle.mcs_core.specs.System.{System}
-use Rattle.mcs_window.specs.Merging.{rows_of_cores}
+use Rattle.mcs_system.specs.System.{System}
+use Rattle.mcs_window.specs.laws.Merging.{rows_of_cores}
 use Rattle.mcs_window.specs.Progress.{Progress, clock_of, taken_of, with_taken}
 use Rattle.mcs_window.specs.Stretch.{rows_between}
 use Rattle.mcs_window.proofs.Merging.{order-between}

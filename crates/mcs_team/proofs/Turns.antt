@@ -3,13 +3,13 @@ use Rattle.std.proofs.Common.{◌≡◌, ◌≢◌, ℕ, ◌+◌, ◌<◌, ◌�
 use Rattle.std.specs.Prelude.{nat_lt, slice_index}
 use Rattle.std.proofs.lemmas.Bool.Decides.{eqb_tells, nat_tests}
 use Rattle.std.proofs.lemmas.List.{get_or-set_same, get_or-set_other, length-set}
-use Rattle.mcs_core.specs.System.{System, delay_between}
+use Rattle.mcs_system.specs.System.{System, delay_between}
 use Rattle.mcs_window.specs.Progress.{Progress, clock_of, advanced}
-use Rattle.mcs_window.specs.Stretch.{IsReachedBy}
+use Rattle.mcs_window.specs.Stretch.{NothingArrivesBefore}
 use Rattle.mcs_team.specs.Windows.{AllAt, AreAllowed, AreBetween}
 
 pub between-reached : (start : Progress) (past n : ℕ) (progress : Progress) → AreAllowed start past → n < start.system.cores → AreBetween start past n progress →
-    IsReachedBy progress.system n past progress.clocks
+    NothingArrivesBefore progress.system n past progress.clocks
 between-reached start past n progress allowed l so_far b known other = by (nat_lt b n) refl
   where
     delay : delay_between progress.system b n ≡ delay_between start.system b n

@@ -4,9 +4,9 @@ use Rattle.std.specs.List.{range_with_len}
 use Rattle.std.specs.declared.alloc.Global.{Global}
 use Rattle.mcs_ticks.specs.declared.row.Row.{Row}
 use Rattle.mcs_merge.specs.Lists.{rows_of_lists}
-use Rattle.mcs_core.specs.System.{System}
+use Rattle.mcs_system.specs.System.{System}
 use Rattle.mcs_team.specs.declared.windows.Windows.{Windows}
-use Rattle.mcs_window.specs.Stretch.{IsReachedBy, rows_between}
+use Rattle.mcs_window.specs.Stretch.{NothingArrivesBefore, rows_between}
 use Rattle.mcs_window.specs.Progress.{Progress, clock_of, taken_of}
 
 -- the windows of a system up to a horizon
@@ -30,7 +30,7 @@ pub record AllAt (system : System) (horizon t : ℕ) (progress : Progress) : Typ
 pub record AreAllowed (progress : Progress) (past : ℕ) : Type 0 where
   pub many_are : length progress.clocks ≡ progress.system.cores
   pub not_back : (c : ℕ) → c < progress.system.cores → clock_of progress c ≤ past
-  pub reached : (c : ℕ) → c < progress.system.cores → IsReachedBy progress.system c past progress.clocks
+  pub reached : (c : ℕ) → c < progress.system.cores → NothingArrivesBefore progress.system c past progress.clocks
 
 -- the cores below this number have come to the moment, and the others stand as they stood
 pub record AreBetween (start : Progress) (past many : ℕ) (progress : Progress) : Type 0 where

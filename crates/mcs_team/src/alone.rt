@@ -2,17 +2,17 @@ ghost use Rattle.std.specs.Prelude.{◌≡◌, ◌≤◌, ◌+◌, ◌^◌, fold
 ghost use Rattle.std.specs.Arc.{arc_value};
 ghost use Rattle.mcs_core.specs.Clock.{schedule};
 ghost use Rattle.mcs_merge.specs.Lists.{rows_of_lists};
-ghost use Rattle.mcs_report.specs.Demand.{AreWithinDemand};
+ghost use Rattle.mcs_report.specs.laws.Demand.{AreWithinDemand};
 ghost use Rattle.mcs_report.specs.Reports.{reports_of};
 ghost use Rattle.mcs_report.specs.Tally.{added, finished};
-ghost use Rattle.mcs_window.specs.Merging.{rows_of_cores};
+ghost use Rattle.mcs_window.specs.laws.Merging.{rows_of_cores};
 ghost use Rattle.mcs_team.specs.Windows.{AllAt, AreUntaken};
 
 use crate::windows::Windows;
 use crate::{SimFault, Whole};
-use mcs_core::System;
 use mcs_merge::merge;
 use mcs_report::{Reports, Tally, demand_is_bounded, schedules_are_reported};
+use mcs_system::System;
 use mcs_ticks::{CoreId, NoMemory, Row, Sequence, Tick};
 use mcs_window::{Cores, rows_merge};
 use std::alloc::Global;

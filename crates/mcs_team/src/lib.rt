@@ -4,8 +4,6 @@
 mod alone;
 mod fault;
 mod snapshot;
-#[cfg(test)]
-mod tests;
 mod whole;
 mod windows;
 

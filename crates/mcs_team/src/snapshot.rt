@@ -5,7 +5,7 @@ ghost use Rattle.mcs_window.specs.Views.{views_before};
 use crate::SimFault;
 use crate::windows::Windows;
 use mcs_control::ContextView;
-use mcs_core::System;
+use mcs_system::System;
 use mcs_ticks::Tick;
 use mcs_window::Cores;
 use std::alloc::Global;

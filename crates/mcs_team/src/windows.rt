@@ -1,8 +1,8 @@
 ghost use Rattle.std.specs.Prelude.{◌≡◌, ◌≤◌, ◌<◌, ◌+◌, ◌^◌, IfOk, OnOk, false};
-ghost use Rattle.mcs_core.specs.WellFormed.{IsWellFormed};
+ghost use Rattle.mcs_system.specs.WellFormed.{IsWellFormed};
 ghost use Rattle.mcs_team.specs.Windows.{AllAt, AreAllowed, AreFor, AreOf};
 
-use mcs_core::System;
+use mcs_system::System;
 use mcs_ticks::{CoreId, NoMemory, Tick};
 use mcs_window::Cores;
 

@@ -9,8 +9,6 @@ mod memory;
 mod queue;
 mod row;
 mod sequence;
-#[cfg(test)]
-mod tests;
 mod tick;
 
 pub use ids::{ContextId, CoreId, NoteId, ThreadId};

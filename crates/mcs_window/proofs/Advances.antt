@@ -8,14 +8,14 @@ use Rattle.std.specs.declared.alloc.Global.{Global}
 use Rattle.mcs_ticks.specs.declared.row.Row.{Row}
 use Rattle.mcs_mail.specs.declared.mail.Mail.{Mail}
 use Rattle.mcs_mail.specs.Box.{Content, IsIn, put_all}
-use Rattle.mcs_core.specs.System.{System, delay_between, TakesTime}
-use Rattle.mcs_core.specs.WellFormed.{IsWellFormed}
+use Rattle.mcs_system.specs.System.{System, delay_between, TakesTime}
+use Rattle.mcs_system.specs.WellFormed.{IsWellFormed}
 use Rattle.mcs_core.specs.Run.{Ran}
 use Rattle.mcs_core.specs.State.{State, Fits, IsExpected, made_by, state_after}
-use Rattle.mcs_window.specs.Delivery.{is_home, AreDelivered}
+use Rattle.mcs_window.specs.stored.Delivery.{is_home, AreDelivered}
 use Rattle.mcs_window.specs.Inbox.{inbox, signals_between, IsMade, IsFor, Rises}
-use Rattle.mcs_window.specs.Kept.{AreHere, AreKept}
-use Rattle.mcs_window.specs.Stretch.{StandsAt, rows_between, IsReachedBy, IsAfter}
+use Rattle.mcs_window.specs.stored.Cores.{AreHere, AreKept}
+use Rattle.mcs_window.specs.Stretch.{StandsAt, rows_between, NothingArrivesBefore, IsAfter}
 use Rattle.mcs_window.proofs.Deliveries.{signals_from, flat_map-one, inbox-delivered}
 use Rattle.mcs_window.proofs.Inboxes.{from_inbox, of_turn}
 use Rattle.mcs_core.proofs.Known.{known-said}
@@ -48,7 +48,7 @@ module _ (system : System) (well : IsWellFormed system) where
 
   -- what the turns of a core alone make
   pub ran_here : (c t to : ℕ) (front : List ℕ) (state : State) (mails : List Mail) → StandsAt system c t state → mails ≡ inbox system c t front → c < system.cores → t ≤ to →
-      IsReachedBy system c to front → IsAfter system c t to front (made_by system state to mails)
+      NothingArrivesBefore system c to front → IsAfter system c t to front (made_by system state to mails)
   ran_here c t to front state mails stands e known l reached =
       rw (stands.number_is, stands.clock_is)
       (stretches system takes_time c t to front state.core mails known l reached (record { state_is = stands.core_is; mail_is = e }))
@@ -90,7 +90,7 @@ module _ (system : System) (well : IsWellFormed system) where
         ∙ sym (flat_map-one (λ b. signals_between system b (slice_index front b) (slice_index later b)) c system.cores 0 (omega arith) (omega arith) (λ b k. none_between b (slice_index later b) (slice_index front b) (later_other b k)))
 
     -- the states, and the boxes with what was delivered
-    module _ (states : List State) (boxes full : List Content) (here : AreHere system front states boxes) (h : c < system.cores) (l : slice_index front c ≤ to) (reached : IsReachedBy system c to front)
+    module _ (states : List State) (boxes full : List Content) (here : AreHere system front states boxes) (h : c < system.cores) (l : slice_index front c ≤ to) (reached : NothingArrivesBefore system c to front)
         (states_of : length states ≡ system.cores) (boxes_of : length boxes ≡ system.cores) (state : State) (box : Content) (stands : StandsAt system c to state)
         (box_is : box.mails ≡ inbox system c to front) (delivered : AreDelivered system (signals_from system front later) (set boxes c box) full) where
       reached_later : (b d : ℕ) → b < system.cores → d < system.cores → d ≢ b → slice_index later b ≤ slice_index later d + delay_between system d b
@@ -110,7 +110,7 @@ module _ (system : System) (well : IsWellFormed system) where
         | inr e ↦ rw (later_other b e.1) (subst (StandsAt system b (slice_index front b)) (sym (get_or-set_other states c b state x e.1)) (here.states_are b x p))
       ]
 
-      reached_here : (b : ℕ) → b < system.cores → IsReachedBy system b (slice_index front b) front
+      reached_here : (b : ℕ) → b < system.cores → NothingArrivesBefore system b (slice_index front b) front
       reached_here b p d q other = here.reached b d p q other
 
       box_own : (x : Content) → (get_or full c x).mails ≡ inbox system c to later

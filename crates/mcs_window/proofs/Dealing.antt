@@ -10,18 +10,18 @@ use Rattle.mcs_mail.specs.Box.{Content}
 use Rattle.mcs_control.specs.declared.view.ContextView.{ContextView}
 use Rattle.mcs_control.specs.Context.{Context}
 use Rattle.mcs_core.specs.declared.standing.Chosen.{Chosen}
-use Rattle.mcs_core.specs.declared.part.ContextPart.{ContextPart}
-use Rattle.mcs_core.specs.declared.part.SystemParts.{SystemParts}
-use Rattle.mcs_core.specs.System.{System, context_part, no_context}
-use Rattle.mcs_core.specs.WellFormed.{IsWellFormed}
+use Rattle.mcs_system.specs.declared.part.ContextPart.{ContextPart}
+use Rattle.mcs_system.specs.declared.part.SystemParts.{SystemParts}
+use Rattle.mcs_system.specs.System.{System, context_part, no_context}
+use Rattle.mcs_system.specs.WellFormed.{IsWellFormed}
 use Rattle.mcs_core.specs.Core.{Core}
 use Rattle.mcs_core.specs.Clock.{world, core_at}
 use Rattle.mcs_core.specs.Contexts.{is_some}
-use Rattle.mcs_core.specs.Sound.{has_context}
+use Rattle.mcs_core.specs.stored.Sound.{has_context}
 use Rattle.mcs_core.specs.State.{State}
 use Rattle.mcs_core.specs.Views.{own_view, views_from, views_of}
-use Rattle.mcs_window.specs.Queues.{AreQueued, AreBegun}
-use Rattle.mcs_window.specs.Kept.{AreHere}
+use Rattle.mcs_window.specs.stored.Views.{AreQueued, AreBegun}
+use Rattle.mcs_window.specs.stored.Cores.{AreHere}
 use Rattle.mcs_window.specs.Views.{view_in, views_in, views_at, views_before, AreStates}
 use Rattle.mcs_window.proofs.Ranges.{flat_map-join}
 

@@ -8,11 +8,11 @@ use Rattle.std.proofs.lemmas.List.Elements.{filter-append}
 use Rattle.mcs_ticks.specs.Queue.{by_priority}
 use Rattle.mcs_mail.specs.declared.mail.Mail.{Mail}
 use Rattle.mcs_mail.specs.Box.{Content, put, put_all}
-use Rattle.mcs_core.specs.System.{System, note_part, delay_between, TakesTime}
+use Rattle.mcs_system.specs.System.{System, note_part, delay_between, TakesTime}
 use Rattle.mcs_core.specs.Clock as clocks
 use Rattle.mcs_core.proofs.Mails as mails
-use Rattle.mcs_window.specs.Delivery.{is_home, AreDelivered}
-use Rattle.mcs_window.specs.Stretch.{IsReachedBy}
+use Rattle.mcs_window.specs.stored.Delivery.{is_home, AreDelivered}
+use Rattle.mcs_window.specs.Stretch.{NothingArrivesBefore}
 use Rattle.mcs_window.specs.Inbox as boxes
 use Rattle.mcs_window.specs.Inbox.{inbox, news, signals_between}
 use Rattle.mcs_window.proofs.Boxes.{out_of_turn}
@@ -100,7 +100,7 @@ module _ (system : System) where
   abbrev pub signals_from : List ℕ → List ℕ → List Mail
   signals_from front later = flat_map (λ b. signals_between system b (slice_index front b) (slice_index later b)) (range_with_len 0 system.cores)
 
-  late : (c past : ℕ) (front : List ℕ) (b m : ℕ) → b < system.cores → IsReachedBy system c past front → slice_index front b ≤ m →
+  late : (c past : ℕ) (front : List ℕ) (b m : ℕ) → b < system.cores → NothingArrivesBefore system c past front → slice_index front b ≤ m →
       (ms : List Mail) → mails.IsOutgoing by_priority system b m ms → filter (is_home system c) ms ≡ filter (boxes.is_for system c past) ms
   late c past front b m h reached l [] k = refl
   late c past front b m h reached l (mail ∷ []) k = by ((note_part system mail.note).core == c) refl
@@ -120,7 +120,7 @@ module _ (system : System) where
   late c past front b m h reached l (mail ∷ next ∷ ms) k = absurd k
 
   -- what is at home at c arrives no earlier than the clocks allow
-  pub home-news : (c past : ℕ) (front later : List ℕ) → IsReachedBy system c past front → filter (is_home system c) (signals_from front later) ≡ news system c past front later
+  pub home-news : (c past : ℕ) (front later : List ℕ) → NothingArrivesBefore system c past front → filter (is_home system c) (signals_from front later) ≡ news system c past front later
   home-news c past front later reached =
       filter-flat_map (is_home system c) (λ b. signals_between system b (slice_index front b) (slice_index later b)) system.cores 0
       ∙ flat_map-same _ _ system.cores 0 (λ b _ h.
@@ -129,7 +129,7 @@ module _ (system : System) where
       ∙ sym (filter-flat_map (boxes.is_for system c past) (λ m. (clocks.turn_of system b m).mails) (slice_index later b - slice_index front b) (slice_index front b)))
 
   -- so an inbox with them is the inbox by the later clocks
-  pub inbox-delivered : TakesTime system → (c past : ℕ) (front later : List ℕ) → boxes.Rises system front later → IsReachedBy system c past front →
+  pub inbox-delivered : TakesTime system → (c past : ℕ) (front later : List ℕ) → boxes.Rises system front later → NothingArrivesBefore system c past front →
       put_all (filter (is_home system c) (signals_from front later)) (inbox system c past front) ≡ inbox system c past later
   inbox-delivered takes_time c past front later rises reached =
       ap (λ ms. put_all ms (inbox system c past front)) (home-news c past front later reached)

@@ -6,7 +6,7 @@ use Rattle.mcs_ticks.specs.Queue.{by_priority}
 use Rattle.mcs_mail.specs.declared.mail.Mail.{Mail}
 use Rattle.mcs_mail.specs.Box.{is_before, IsIn, ArePairwise, IsInOrder}
 use Rattle.mcs_mail.proofs.Members.{in_filter, from_filter, in_flat_map, from_flat_map, pairwise-filter, pairwise-flat_map}
-use Rattle.mcs_core.specs.System.{System, note_part, delay_between, TakesTime}
+use Rattle.mcs_system.specs.System.{System, note_part, delay_between, TakesTime}
 use Rattle.mcs_core.specs.Clock as clocks
 use Rattle.mcs_core.proofs.Mails as mails
 use Rattle.mcs_core.proofs.Mails.{IsMadeNow}

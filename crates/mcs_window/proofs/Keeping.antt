@@ -9,11 +9,11 @@ use Rattle.std.proofs.lemmas.List.{get_or-set_same, get_or-set_other, length-set
 use Rattle.mcs_ticks.specs.declared.row.Row.{Row}
 use Rattle.mcs_mail.specs.declared.mail.Mail.{Mail}
 use Rattle.mcs_mail.specs.Box.{Content}
-use Rattle.mcs_core.specs.System.{System}
+use Rattle.mcs_system.specs.System.{System}
 use Rattle.mcs_core.specs.State.{State, Fits, made_by, state_after}
-use Rattle.mcs_window.specs.Delivery.{AreDelivered}
-use Rattle.mcs_window.specs.Kept.{AreHere, AreWhole, IsKept}
-use Rattle.mcs_window.specs.Stretch.{StandsAt, rows_between, IsReachedBy, IsAfter}
+use Rattle.mcs_window.specs.stored.Delivery.{AreDelivered}
+use Rattle.mcs_window.specs.stored.Cores.{AreHere, AreWhole, IsKept}
+use Rattle.mcs_window.specs.Stretch.{StandsAt, rows_between, NothingArrivesBefore, IsAfter}
 use Rattle.mcs_window.specs.declared.cores.Cores.TheInside.{Inside}
 use Rattle.mcs_window.proofs.Deliveries.{signals_from}
 use Rattle.mcs_window.proofs.Advances.{ran_here, state_here, signals_own, here_later, kept_later}
@@ -36,7 +36,7 @@ module _ (a : Inside) (kept : IsKept a) where
   -- the rows of a core stay, whatever became of its turns
   pub spent_kept : (k : ℕ) (state : State) (box : Content) (full : List Content) (old new fresh : Vec Row Global) (signals : Vec Mail Global) → k < system.cores → length full ≡ length (set a.boxes.items k box) →
       old ≡ get_or a.rows.items k old → new.items ≡ old.items →
-      IsKept (record a { states = with_item a.states k state; boxes = with_items (with_item a.boxes k box) full; rows = with_item a.rows k new; spent = true; fresh = fresh; signals = signals })
+      IsKept (record a { states = with_item a.states k state; boxes = with_items (with_item a.boxes k box) full; rows = with_item a.rows k new; failed = true; fresh = fresh; signals = signals })
   spent_kept k state box full old new fresh signals h many at same =
       record {
         horizon = kept.horizon;
@@ -63,8 +63,8 @@ module _ (a : Inside) (kept : IsKept a) where
       ]
 
   -- the core has taken its turns
-  pub advanced_kept : (k to : ℕ) (state after : State) (box left : Content) (full : List Content) (old new fresh empty : Vec Row Global) (signals none : Vec Mail Global) → a.spent ≡ false →
-      k < system.cores → slice_index a.clocks.items k ≤ to → to ≤ a.horizon + 1 → IsReachedBy system k to a.clocks.items →
+  pub advanced_kept : (k to : ℕ) (state after : State) (box left : Content) (full : List Content) (old new fresh empty : Vec Row Global) (signals none : Vec Mail Global) → a.failed ≡ false →
+      k < system.cores → slice_index a.clocks.items k ≤ to → to ≤ a.horizon + 1 → NothingArrivesBefore system k to a.clocks.items →
       state ≡ get_or a.states.items k state → box ≡ get_or a.boxes.items k box → HasRun system to state after box left a.fresh.items fresh.items a.signals.items signals.items →
       AreDelivered system signals.items (set a.boxes.items k left) full → old ≡ get_or a.rows.items k old → new.items ≡ old.items ++ fresh.items → empty.items ≡ [] → none.items ≡ [] →
       IsKept (record a {
@@ -72,7 +72,7 @@ module _ (a : Inside) (kept : IsKept a) where
         states = with_item a.states k after;
         boxes = with_items (with_item a.boxes k left) full;
         rows = with_item a.rows k new;
-        spent = false;
+        failed = false;
         fresh = empty;
         signals = none;
       })

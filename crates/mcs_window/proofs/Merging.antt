@@ -11,12 +11,12 @@ use Rattle.mcs_merge.specs.Merge.{rows_at, AreFrom, DoNotFall}
 use Rattle.mcs_merge.proofs.Joins.{AreFrom-earlier}
 use Rattle.mcs_merge.proofs.Pushes.{AreUntil, DoNotFall-append}
 use Rattle.mcs_merge.proofs.Merges.{merged-is}
-use Rattle.mcs_core.specs.System.{System, TakesTime}
+use Rattle.mcs_system.specs.System.{System, TakesTime}
 use Rattle.mcs_core.specs.Clock as clocks
 use Rattle.mcs_core.specs.Clock.{rows_of, schedule}
 use Rattle.mcs_core.proofs.Clock.{rows-clock}
-use Rattle.mcs_window.specs.Merging as merging
-use Rattle.mcs_window.specs.Merging.{rows_of_cores}
+use Rattle.mcs_window.specs.laws.Merging as merging
+use Rattle.mcs_window.specs.laws.Merging.{rows_of_cores}
 use Rattle.mcs_window.specs.Stretch.{rows_between}
 use Rattle.mcs_window.proofs.Ranges.{flat_map-join}
 

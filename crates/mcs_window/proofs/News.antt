@@ -6,7 +6,7 @@ use Rattle.mcs_mail.specs.declared.mail.Mail.{Mail}
 use Rattle.mcs_mail.specs.Box.{put_all, IsIn, ArePairwise, Differ}
 use Rattle.mcs_mail.proofs.Members.{in_filter, from_filter, in_flat_map, from_flat_map, pairwise-filter, pairwise-flat_map}
 use Rattle.mcs_mail.proofs.Orders.{from_put_all, in_put_all, pairwise-put_all}
-use Rattle.mcs_core.specs.System.{System, note_part}
+use Rattle.mcs_system.specs.System.{System, note_part}
 use Rattle.mcs_core.specs.Clock as clocks
 use Rattle.mcs_core.proofs.Mails.{IsMadeNow}
 use Rattle.mcs_window.specs.Inbox as boxes

@@ -7,13 +7,13 @@ use Rattle.std.proofs.lemmas.Bool.Decides.{nat_tests}
 use Rattle.std.proofs.lemmas.List.{get_or_append_left, get_or_push, get_or-replicate, length_push, length-replicate}
 use Rattle.mcs_mail.specs.declared.mail.Mail.{Mail}
 use Rattle.mcs_mail.specs.Box.{Content, IsIn}
-use Rattle.mcs_core.specs.System.{System}
-use Rattle.mcs_core.specs.WellFormed.{IsWellFormed}
+use Rattle.mcs_system.specs.System.{System}
+use Rattle.mcs_system.specs.WellFormed.{IsWellFormed}
 use Rattle.mcs_core.specs.Core.{Core, opening_core}
 use Rattle.mcs_core.specs.State.{State, Fits, opening_state}
 use Rattle.mcs_window.specs.Inbox.{inbox}
-use Rattle.mcs_window.specs.Kept.{IsKept}
-use Rattle.mcs_window.specs.Opening.{AreOpening, AreEmptyBoxes, AreEmptyRows}
+use Rattle.mcs_window.specs.stored.Cores.{IsKept}
+use Rattle.mcs_window.specs.stored.Opening.{AreOpening, AreEmptyBoxes, AreEmptyRows}
 use Rattle.mcs_window.specs.Stretch.{StandsAt, rows_between}
 use Rattle.mcs_window.specs.declared.cores.Cores.TheInside.{Inside}
 use Rattle.mcs_window.proofs.Inboxes.{from_inbox}

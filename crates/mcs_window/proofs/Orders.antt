@@ -1,6 +1,6 @@
 -- Orders in which the cores take their turns.
 use Rattle.std.proofs.Common.{[], ◌∷◌, arith}
-use Rattle.mcs_core.specs.System.{System, TakesTime}
+use Rattle.mcs_system.specs.System.{System, TakesTime}
 use Rattle.mcs_window.specs.Progress.{stepped, TurnsAreSafe, TheLeastMayStep}
 
 pub safe-turns : TurnsAreSafe

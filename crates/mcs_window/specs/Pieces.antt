@@ -3,10 +3,10 @@ use Rattle.std.specs.Prelude.{◌≡◌, ℕ, ◌+◌, ◌<◌, ◌≤◌, ◌^�
 use Rattle.mcs_ticks.specs.declared.row.Row.{Row}
 use Rattle.mcs_mail.specs.declared.mail.Mail.{Mail}
 use Rattle.mcs_mail.specs.Box.{Content}
-use Rattle.mcs_core.specs.System.{System}
+use Rattle.mcs_system.specs.System.{System}
 use Rattle.mcs_core.specs.State.{State}
 use Rattle.mcs_window.specs.Inbox.{inbox, signals_between}
-use Rattle.mcs_window.specs.Stretch.{rows_between, IsReachedBy, StandsAt}
+use Rattle.mcs_window.specs.Stretch.{rows_between, NothingArrivesBefore, StandsAt}
 
 pub record Work : Type 0 where
   pub system : System
@@ -33,7 +33,7 @@ pub record IsStretch (system : System) (core first past : ℕ) (front : List ℕ
   pub known : core < system.cores
   pub in_order : first ≤ past
   pub in_time : past ≤ 2 ^ 40 + 1
-  pub reached : IsReachedBy system core past front
+  pub reached : NothingArrivesBefore system core past front
   pub idle : (b : ℕ) → system.cores ≤ b → slice_index front b ≡ 0
 
 -- what stands before the stretch, and what stands after it

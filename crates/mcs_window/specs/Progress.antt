@@ -1,6 +1,6 @@
 -- How far each core of a system has come: every core has a clock of its own, the next moment that it takes.
 use Rattle.std.specs.Prelude.{◌≡◌, ◌≢◌, ◌⊎◌, ℕ, suc, ◌+◌, ◌<◌, ◌≤◌, Bool, true, false, List, [], ◌∷◌, replicate, slice_index, slice_set}
-use Rattle.mcs_core.specs.System.{System, delay_between}
+use Rattle.mcs_system.specs.System.{System, delay_between}
 use Rattle.mcs_window.specs.declared.fault.StepFault.{StepFault}
 use Rattle.mcs_window.specs.declared.fault.StepFault.TheVariants.{Ended, NotSafe, NoMemory}
 use Rattle.mcs_window.specs.Safe.{MayStep, IsSafe}
@@ -11,7 +11,7 @@ pub record Progress : Type 0 where
   pub horizon : ℕ
   pub clocks : List ℕ
   pub taken : List ℕ
-  pub spent : Bool
+  pub failed : Bool
 
 abbrev pub clock_of : Progress → ℕ → ℕ
 clock_of progress c = slice_index progress.clocks c
@@ -21,7 +21,7 @@ taken_of progress c = slice_index progress.taken c
 
 abbrev pub opening_progress : System → ℕ → Progress
 opening_progress system horizon =
-    record { system = system; horizon = horizon; clocks = replicate system.cores 0; taken = replicate system.cores 0; spent = false }
+    record { system = system; horizon = horizon; clocks = replicate system.cores 0; taken = replicate system.cores 0; failed = false }
 
 -- core c comes to a later moment, or takes the turn at its clock
 abbrev pub advanced : Progress → ℕ → ℕ → Progress
@@ -35,8 +35,8 @@ abbrev pub with_taken : Progress → ℕ → Progress
 with_taken progress c = record progress { taken = slice_set progress.taken c (clock_of progress c) }
 
 -- there was no memory for a step
-abbrev pub with_spent : Progress → Progress
-with_spent progress = record progress { spent = true }
+abbrev pub with_failed : Progress → Progress
+with_failed progress = record progress { failed = true }
 
 -- a signal that core b still makes could reach core c at its clock
 pub record IsBehind (progress : Progress) (c b : ℕ) : Type 0 where
@@ -51,20 +51,20 @@ pub record IsFirstBehind (progress : Progress) (c b : ℕ) : Type 0 where
 
 -- core c may step, and no want of memory was met before
 pub record IsReady (progress : Progress) (c : ℕ) : Type 0 where
-  pub whole : progress.spent ≡ false
+  pub whole : progress.failed ≡ false
   pub may : MayStep progress.system progress.horizon progress.clocks c
 
 -- when each fault of a step comes, in this order of tests; there is no memory after it was wanted once
 abbrev pub IsFault : Progress → ℕ → StepFault → Type 0
-IsFault progress c Ended = (progress.spent ≡ false) × (clock_of progress c ≡ progress.horizon + 1)
-IsFault progress c (NotSafe b) = (progress.spent ≡ false) × (clock_of progress c ≤ progress.horizon) × IsFirstBehind progress c b
-IsFault progress c NoMemory = (progress.spent ≡ true) ⊎ IsReady progress c
+IsFault progress c Ended = (progress.failed ≡ false) × (clock_of progress c ≡ progress.horizon + 1)
+IsFault progress c (NotSafe b) = (progress.failed ≡ false) × (clock_of progress c ≤ progress.horizon) × IsFirstBehind progress c b
+IsFault progress c NoMemory = (progress.failed ≡ true) ⊎ IsReady progress c
 
 -- only want of memory changes anything
 abbrev pub after_fault : StepFault → Progress → Progress
 after_fault Ended progress = progress
 after_fault (NotSafe b) progress = progress
-after_fault NoMemory progress = with_spent progress
+after_fault NoMemory progress = with_failed progress
 
 -- the cores of the list take one turn each, in its order
 abbrev pub TakeTurns : Progress → List ℕ → Type 0

@@ -2,7 +2,7 @@
 use Rattle.std.specs.Prelude.{◌≡◌, ℕ, ◌<◌, false, List, flat_map, get_or, length, None, slice_index, slice_index_or}
 use Rattle.std.specs.List.{range_with_len}
 use Rattle.mcs_control.specs.declared.view.ContextView.{ContextView}
-use Rattle.mcs_core.specs.System.{System, context_part}
+use Rattle.mcs_system.specs.System.{System, context_part}
 use Rattle.mcs_core.specs.Core.{Core}
 use Rattle.mcs_core.specs.Clock.{world, core_at}
 use Rattle.mcs_core.specs.State.{State, Fits}

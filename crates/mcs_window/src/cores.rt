@@ -1,16 +1,17 @@
 ghost use Rattle.std.specs.Prelude.{◌≡◌, ◌≤◌, ◌<◌, ◌^◌, ◌+◌, ℕ, true, false, IfOk, OnOk, OnErr, IfErr, IfSome, IfNone, IsErr, IsTrue};
 ghost use Rattle.std.specs.Arc.{arc_value};
-ghost use Rattle.mcs_window.specs.Stretch.{rows_between, IsReachedBy};
+ghost use Rattle.mcs_window.specs.Stretch.{rows_between, NothingArrivesBefore};
 ghost use Rattle.mcs_window.specs.Views.{views_at};
-ghost use Rattle.mcs_window.specs.Progress.{Progress, opening_progress, clock_of, taken_of, advanced, stepped, with_taken, with_spent, after_fault, IsReady, IsFault, IsBehind, IsFirstBehind};
+ghost use Rattle.mcs_window.specs.Progress.{Progress, opening_progress, clock_of, taken_of, advanced, stepped, with_taken, with_failed, after_fault, IsReady, IsFault, IsBehind, IsFirstBehind};
 
 use crate::StepFault;
 use crate::delivery::deliver;
 use crate::opening::{empty_boxes, empty_rows, opening_states};
 use crate::views::all_views;
 use mcs_control::ContextView;
-use mcs_core::{CoreState, System};
+use mcs_core::CoreState;
 use mcs_mail::{Mail, Mailbox};
+use mcs_system::System;
 use mcs_ticks::{CoreId, NoMemory, Row, Tick};
 use std::alloc::Global;
 use std::marker::Model;
@@ -27,7 +28,7 @@ pub struct Cores {
     states: Vec<CoreState>,
     boxes: Vec<Mailbox>,
     rows: Vec<Vec<Row>>,
-    spent: bool,
+    failed: bool,
     fresh: Vec<Row>,
     signals: Vec<Mail>,
 }
@@ -37,7 +38,7 @@ impl Model for Cores {
 
     ghost Value = { Progress };
 
-    ghost use Rattle.mcs_window.specs.Kept.{IsKept, progress_of};
+    ghost use Rattle.mcs_window.specs.stored.Cores.{IsKept, progress_of};
 
     ghost view = { progress_of };
 
@@ -64,7 +65,7 @@ impl Cores {
             states,
             boxes,
             rows,
-            spent: false,
+            failed: false,
             fresh: Vec::new(alloc),
             signals: Vec::new(alloc),
         })
@@ -102,7 +103,7 @@ impl Cores {
         ensures fault { IfErr result (IsFault self.old core) }
         ensures after_fault { IfErr result (λ fault. self.new ≡ after_fault fault self.old) }
     {
-        if self.spent {
+        if self.failed {
             return Err(StepFault::NoMemory);
         }
         let clock = self.clocks[core.0];
@@ -122,9 +123,9 @@ impl Cores {
     /// The contexts of all cores in file order, each as its core has it at its clock. After a step's `NoMemory` it answers it too.
     pub fn contexts(&self, alloc: Global) -> Result<Vec<ContextView>, NoMemory>
         ensures views { IfOk result (λ views. views.items ≡ views_at self.now.system self.now.clocks) }
-        ensures spent { IsTrue self.now.spent → IsErr result }
+        ensures failed { IsTrue self.now.failed → IsErr result }
     {
-        if self.spent {
+        if self.failed {
             return Err(NoMemory);
         }
         let views = all_views(alloc, &self.system, &self.states)?;
@@ -147,14 +148,14 @@ impl Cores {
         requires known { core < self.old.system.cores }
         requires not_back { clock_of self.old core ≤ to }
         requires in_time { to ≤ self.old.horizon + 1 }
-        requires reached { IsReachedBy self.old.system core to self.old.clocks }
-        ensures ok { OnOk result ((self.old.spent ≡ false) × (self.new ≡ advanced self.old core to)) }
-        ensures err { OnErr result (self.new ≡ with_spent self.old) }
+        requires reached { NothingArrivesBefore self.old.system core to self.old.clocks }
+        ensures ok { OnOk result ((self.old.failed ≡ false) × (self.new ≡ advanced self.old core to)) }
+        ensures err { OnErr result (self.new ≡ with_failed self.old) }
     {
-        if self.spent {
+        if self.failed {
             return Err(NoMemory);
         }
-        self.spent = true;
+        self.failed = true;
         let state = &mut self.states[core.0];
         let mail = &mut self.boxes[core.0];
         state.run(&self.system, mail, to, &mut self.fresh, &mut self.signals)?;
@@ -163,7 +164,7 @@ impl Cores {
         rows.append(&mut self.fresh)?;
         self.signals.clear();
         self.clocks[core.0] = to;
-        self.spent = false;
+        self.failed = false;
         Ok(())
     }
 }

@@ -1,21 +1,9 @@
 ghost use Rattle.std.specs.Prelude.{◌≡◌, ◌<◌, length, OnOk};
-ghost use Rattle.mcs_window.specs.Delivery.{home_of, AreDelivered};
+ghost use Rattle.mcs_window.specs.stored.Delivery.{home_of, AreDelivered};
 
-use mcs_core::System;
 use mcs_mail::{Mail, Mailbox};
+use mcs_system::System;
 use mcs_ticks::{CoreId, NoMemory};
-
-// The core at which the signal's notification is at home.
-fn home_of(system: &System, mail: &Mail) -> CoreId
-    ensures home { result ≡ home_of system.now mail.now }
-    ensures known { result < system.now.cores }
-{
-    let parts = system.parts();
-    match parts.notes.as_slice().get(mail.note.0) {
-        Some(note) => note.core,
-        None => CoreId(0),
-    }
-}
 
 // Puts each signal into the box of its home.
 pub(crate) fn deliver(
@@ -27,7 +15,7 @@ pub(crate) fn deliver(
     ensures { OnOk result (AreDelivered system.now signals.now boxes.old boxes.new) }
 {
     for mail in signals {
-        let mailbox = &mut boxes[home_of(system, mail).0];
+        let mailbox = &mut boxes[system.home_of(mail.note).0];
         let Ok(()) = mailbox.put(*mail) else {
             return Err(NoMemory);
         };

@@ -1,8 +1,9 @@
 ghost use Rattle.std.specs.Prelude.{IfOk};
-ghost use Rattle.mcs_window.specs.Opening.{AreOpening, AreEmptyBoxes, AreEmptyRows};
+ghost use Rattle.mcs_window.specs.stored.Opening.{AreOpening, AreEmptyBoxes, AreEmptyRows};
 
-use mcs_core::{CoreState, System};
+use mcs_core::CoreState;
 use mcs_mail::Mailbox;
+use mcs_system::System;
 use mcs_ticks::{CoreId, NoMemory, Row};
 use std::alloc::Global;
 

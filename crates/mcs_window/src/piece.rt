@@ -1,8 +1,9 @@
 ghost use Rattle.std.specs.Prelude.{◌≡◌, IfOk, IfErr};
 ghost use Rattle.mcs_window.specs.Pieces.{IsOf, IsWork, IsOutcome};
 
-use mcs_core::{CoreState, System};
+use mcs_core::CoreState;
 use mcs_mail::{Mail, Mailbox};
+use mcs_system::System;
 use mcs_ticks::{CoreId, Row, Tick};
 use std::alloc::Global;
 use std::marker::Model;

@@ -3,9 +3,10 @@ ghost use Rattle.std.specs.Arc.{arc_value};
 
 use crate::Piece;
 use mcs_control::Config;
-use mcs_core::{ContextPart, CoreState, Name, System, SystemParts, ThreadPart};
+use mcs_core::CoreState;
 use mcs_mail::Mailbox;
 use mcs_script::{Item, Script};
+use mcs_system::{ContextPart, Name, System, SystemParts, ThreadPart};
 use mcs_ticks::{ContextId, CoreId, Sequence, Tick, What};
 use std::alloc::Global;
 use std::sync::Arc;

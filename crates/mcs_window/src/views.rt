@@ -1,10 +1,11 @@
 ghost use Rattle.std.specs.Prelude.{◌≡◌, ◌<◌, IfOk, slice_index_or};
 ghost use Rattle.mcs_core.specs.State.{State};
 ghost use Rattle.mcs_window.specs.Views.{views_in, AreStates};
-ghost use Rattle.mcs_window.specs.Queues.{AreQueued};
+ghost use Rattle.mcs_window.specs.stored.Views.{AreQueued};
 
 use mcs_control::ContextView;
-use mcs_core::{CoreState, System};
+use mcs_core::CoreState;
+use mcs_system::System;
 use mcs_ticks::NoMemory;
 use std::alloc::Global;
 use std::collections::VecDeque;

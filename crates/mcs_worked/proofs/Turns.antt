@@ -5,7 +5,7 @@ use Rattle.mcs_ticks.specs.declared.row.What.TheVariants as row
 use Rattle.mcs_ticks.specs.declared.row.Why.TheVariants as why
 use Rattle.mcs_script.specs.declared.item.Item.TheVariants.{Compute, Signal, Wait}
 use Rattle.mcs_script.specs.declared.place.Place.{Place}
-use Rattle.mcs_core.specs.System.{System}
+use Rattle.mcs_system.specs.System.{System}
 use Rattle.mcs_core.specs.Core.{Core, thread_of}
 use Rattle.mcs_core.specs.Turn.{Turn}
 use Rattle.mcs_core.specs.Clock.{schedule, world, core_at}

@@ -4,10 +4,10 @@ use Rattle.mcs_ticks.specs.declared.row.Row.{Row}
 use Rattle.mcs_ticks.specs.declared.row.What.{What}
 use Rattle.mcs_control.specs.declared.config.Order.{Order}
 use Rattle.mcs_script.specs.declared.item.Item.{Item}
-use Rattle.mcs_core.specs.declared.part.ContextPart.{ContextPart}
-use Rattle.mcs_core.specs.declared.part.NotePart.{NotePart}
-use Rattle.mcs_core.specs.declared.part.ThreadPart.{ThreadPart}
-use Rattle.mcs_core.specs.System.{System}
+use Rattle.mcs_system.specs.declared.part.ContextPart.{ContextPart}
+use Rattle.mcs_system.specs.declared.part.NotePart.{NotePart}
+use Rattle.mcs_system.specs.declared.part.ThreadPart.{ThreadPart}
+use Rattle.mcs_system.specs.System.{System}
 
 -- a context: its name, core, budget, period, and extra refills
 abbrev pub context : List ℕ → ℕ → ℕ → ℕ → ℕ → ContextPart

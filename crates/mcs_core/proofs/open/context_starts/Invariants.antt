@@ -1,5 +1,5 @@
 use Rattle.std.proofs.Common.{◌≡◌, ℕ, ◌<◌, length, get_or, drop}
-use Rattle.mcs_core.specs.System.{start_of}
+use Rattle.mcs_system.specs.System.{start_of}
 use Rattle.mcs_core.proofs.open.context_starts.Given as goal
 
 abbrev pub invariant-loop-i : goal.invariant-loop-i

@@ -2,8 +2,8 @@ use Rattle.std.proofs.Common.{◌≡◌, ◌<◌, List, [], ◌∷◌, length, g
 use Rattle.std.specs.Prelude.{true, false, ◌==◌}
 use Rattle.std.proofs.lemmas.List.{length-take-le}
 use Rattle.mcs_release.specs.Release.{ReleaseQueue}
-use Rattle.mcs_core.specs.declared.part.ThreadPart.{ThreadPart}
-use Rattle.mcs_core.specs.System.{core_of}
+use Rattle.mcs_system.specs.declared.part.ThreadPart.{ThreadPart}
+use Rattle.mcs_system.specs.System.{core_of}
 use Rattle.mcs_core.specs.Core.{opening_releases}
 use Rattle.mcs_core.proofs.Counts.{not_held_releases}
 use Rattle.mcs_core.proofs.Opening.{none-after, released-next}

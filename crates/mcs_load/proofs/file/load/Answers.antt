@@ -1,7 +1,7 @@
 use Rattle.std.proofs.Common.{subst}
 use Rattle.toml.specs.View.{table_view}
-use Rattle.mcs_core.specs.declared.part.SystemParts.{SystemParts}
-use Rattle.mcs_core.specs.WellFormed.{IsWellFormed}
+use Rattle.mcs_system.specs.declared.part.SystemParts.{SystemParts}
+use Rattle.mcs_system.specs.WellFormed.{IsWellFormed}
 use Rattle.mcs_load.proofs.WellFormed.{walk_passed}
 use Rattle.mcs_load.proofs.file.load.Goals as goal
 

@@ -1,6 +1,6 @@
 use Rattle.std.proofs.Common.{◌∙◌, ◌++◌, ◌∷◌, [], length-append, sym, ap, arith}
 use Rattle.std.proofs.lemmas.List.{map_push}
-use Rattle.mcs_core.specs.declared.part.NotePart.{NotePart}
+use Rattle.mcs_system.specs.declared.part.NotePart.{NotePart}
 use Rattle.std.proofs.lemmas.Result.{err_from_is_err_and}
 use Rattle.mcs_load.specs.declared.spot.Section.TheVariants as section
 use Rattle.mcs_load.specs.Walk.{note}

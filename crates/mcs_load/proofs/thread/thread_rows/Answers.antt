@@ -1,7 +1,7 @@
 use Rattle.std.proofs.Common.{◌∙◌, ◌++◌, ◌∷◌, [], length-append, sym, ap, arith}
 use Rattle.std.proofs.lemmas.List.{map_push}
 use Rattle.std.proofs.lemmas.Result.{err_from_is_err_and}
-use Rattle.mcs_core.specs.declared.part.ThreadPart.{ThreadPart}
+use Rattle.mcs_system.specs.declared.part.ThreadPart.{ThreadPart}
 use Rattle.mcs_load.specs.declared.spot.Section.TheVariants as section
 use Rattle.mcs_load.specs.Walk.{thread}
 use Rattle.mcs_load.specs.Words.{row}

@@ -1,5 +1,5 @@
 use Rattle.std.proofs.Common.{take}
-use Rattle.mcs_notify.specs.Kept.{waiters_of, IsBest}
+use Rattle.mcs_notify.specs.stored.Waiters.{waiters_of, IsBest}
 use Rattle.mcs_notify.proofs.notes.best_of.Given as goal
 
 abbrev pub invariant-loop-place : goal.invariant-loop-place

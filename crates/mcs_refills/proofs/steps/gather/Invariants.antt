@@ -1,5 +1,5 @@
 use Rattle.std.proofs.Common.{◌≡◌, ◌-◌, ◌≤◌, ◌∷◌, drop, vec_len}
-use Rattle.mcs_refills.specs.Keeping.{AreApart, end_of}
+use Rattle.mcs_refills.specs.stored.Refills.{AreApart, end_of}
 use Rattle.mcs_refills.specs.Server.{enough}
 use Rattle.mcs_refills.proofs.steps.gather.Given as goal
 

@@ -1,5 +1,5 @@
 use Rattle.std.proofs.Common.{◌≡◌, ◌-◌, ◌≤◌, ◌∷◌, drop, vec_len}
-use Rattle.mcs_refills.specs.Keeping.{AreApart, end_of, with_reached, after_unblock}
+use Rattle.mcs_refills.specs.stored.Refills.{AreApart, end_of, with_reached, after_unblock}
 use Rattle.mcs_refills.proofs.steps.unblock_list.Given as goal
 
 abbrev pub invariant-joins : goal.invariant-joins

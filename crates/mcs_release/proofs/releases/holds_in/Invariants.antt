@@ -1,5 +1,5 @@
 use Rattle.std.proofs.Common.{◌≡◌, drop}
-use Rattle.mcs_release.specs.Places.{entered}
+use Rattle.mcs_release.specs.stored.Heap.{entered}
 use Rattle.mcs_release.specs.Release.{is_held}
 use Rattle.mcs_release.proofs.releases.holds_in.Given as goal
 

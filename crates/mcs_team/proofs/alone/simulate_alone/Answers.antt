@@ -1,11 +1,11 @@
 use Rattle.std.proofs.Common.{◌≡◌, ℕ, sym, subst, rules}
 use Rattle.std.specs.Arc.{arc_value}
-use Rattle.mcs_core.specs.System.{System}
-use Rattle.mcs_core.specs.WellFormed.{IsWellFormed}
+use Rattle.mcs_system.specs.System.{System}
+use Rattle.mcs_system.specs.WellFormed.{IsWellFormed}
 use Rattle.mcs_core.specs.Clock.{schedule}
 use Rattle.mcs_report.specs.declared.reports.Reports.{Reports}
 use Rattle.mcs_report.specs.Reports.{reports_of}
-use Rattle.mcs_report.specs.Demand.{DemandIsBounded, AreWithinDemand}
+use Rattle.mcs_report.specs.laws.Demand.{DemandIsBounded, AreWithinDemand}
 use Rattle.mcs_team.proofs.Takings.{cores-in_order}
 use Rattle.mcs_team.proofs.alone.simulate_alone.Goals as goal
 

@@ -1,6 +1,6 @@
 use Rattle.std.proofs.Common.{◌+◌, ◌∙◌, ap, subst}
 use Rattle.std.specs.Arc.{arc_value}
-use Rattle.mcs_core.specs.System.{System}
+use Rattle.mcs_system.specs.System.{System}
 use Rattle.mcs_window.specs.Progress.{Progress}
 use Rattle.mcs_window.specs.Views.{views_at}
 use Rattle.mcs_window.proofs.Dealing.{views-at_one}

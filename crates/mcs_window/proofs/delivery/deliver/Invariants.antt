@@ -1,5 +1,5 @@
 use Rattle.std.proofs.Common.{take}
-use Rattle.mcs_window.specs.Delivery.{AreDelivered}
+use Rattle.mcs_window.specs.stored.Delivery.{AreDelivered}
 use Rattle.mcs_window.proofs.delivery.deliver.Given as goal
 
 abbrev pub invariant-loop-mail : goal.invariant-loop-mail

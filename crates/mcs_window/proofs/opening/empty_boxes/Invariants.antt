@@ -1,4 +1,4 @@
-use Rattle.mcs_window.specs.Opening.{AreEmptyBoxes}
+use Rattle.mcs_window.specs.stored.Opening.{AreEmptyBoxes}
 use Rattle.mcs_window.proofs.opening.empty_boxes.Given as goal
 
 abbrev pub invariant-loop : goal.invariant-loop

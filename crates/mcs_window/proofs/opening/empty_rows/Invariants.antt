@@ -1,4 +1,4 @@
-use Rattle.mcs_window.specs.Opening.{AreEmptyRows}
+use Rattle.mcs_window.specs.stored.Opening.{AreEmptyRows}
 use Rattle.mcs_window.proofs.opening.empty_rows.Given as goal
 
 abbrev pub invariant-loop : goal.invariant-loop

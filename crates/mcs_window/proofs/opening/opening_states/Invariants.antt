@@ -1,4 +1,4 @@
-use Rattle.mcs_window.specs.Opening.{AreOpening}
+use Rattle.mcs_window.specs.stored.Opening.{AreOpening}
 use Rattle.mcs_window.proofs.opening.opening_states.Given as goal
 
 abbrev pub invariant-loop-core : goal.invariant-loop-core

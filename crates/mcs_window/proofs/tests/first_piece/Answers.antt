@@ -1,7 +1,7 @@
 use Rattle.std.proofs.Common.{◌≡◌, ℕ, zero, suc, ◌-◌, ◌∙◌, replicate, refl, sym, ap, subst, rules, arith}
 use Rattle.std.specs.Prelude.{slice_index}
 use Rattle.std.specs.Arc.{arc_value}
-use Rattle.mcs_core.specs.System.{System}
+use Rattle.mcs_system.specs.System.{System}
 use Rattle.mcs_core.specs.State.{Fits, opening_state}
 use Rattle.mcs_window.proofs.Openings.{opening_stands, inbox-opening}
 use Rattle.mcs_window.proofs.tests.first_piece.Goals as goal

@@ -1,9 +1,9 @@
 use Rattle.std.proofs.Common.{◌≡◌, ◌+◌, ◌∙◌, length, get_or, set, ap, sym, subst, arith}
 use Rattle.std.specs.Prelude.{flat_map}
 use Rattle.std.specs.List.{range_with_len}
-use Rattle.mcs_core.specs.declared.part.SystemParts.{SystemParts}
+use Rattle.mcs_system.specs.declared.part.SystemParts.{SystemParts}
 use Rattle.mcs_core.specs.State.{opening_state}
-use Rattle.mcs_window.specs.Queues.{AreDealt}
+use Rattle.mcs_window.specs.stored.Views.{AreDealt}
 use Rattle.mcs_window.specs.Views.{view_in}
 use Rattle.mcs_window.proofs.Dealing.{part-at, core-known, has-head, dealt-left, dealt-more}
 use Rattle.std.proofs.lemmas.List.{nil_from_length}

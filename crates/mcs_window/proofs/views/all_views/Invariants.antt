@@ -1,4 +1,4 @@
-use Rattle.mcs_window.specs.Queues.{AreDealt}
+use Rattle.mcs_window.specs.stored.Views.{AreDealt}
 use Rattle.mcs_window.proofs.views.all_views.Given as goal
 
 abbrev pub invariant-loop-context : goal.invariant-loop-context

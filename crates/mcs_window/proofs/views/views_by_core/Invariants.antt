@@ -1,4 +1,4 @@
-use Rattle.mcs_window.specs.Queues.{AreBegun}
+use Rattle.mcs_window.specs.stored.Views.{AreBegun}
 use Rattle.mcs_window.proofs.views.views_by_core.Given as goal
 
 abbrev pub invariant-loop-state : goal.invariant-loop-state

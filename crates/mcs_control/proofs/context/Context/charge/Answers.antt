@@ -1,7 +1,7 @@
 use Rattle.std.proofs.Common.{ℕ, ap, subst, arith}
 use Rattle.mcs_control.specs.declared.context.Budget.{Budget}
 use Rattle.mcs_control.specs.Context.{WithRoom, head_amount}
-use Rattle.mcs_control.specs.Held.{held, IsHeld}
+use Rattle.mcs_control.specs.stored.Context.{held, IsHeld}
 use Rattle.mcs_control.proofs.Helds.{charged-refills, charged-slice}
 use Rattle.mcs_control.proofs.context.Context.charge.Goals as goal
 use Rattle.mcs_control.proofs.context.Context.charge.Goals.{in-Sporadic, in-RoundRobin}

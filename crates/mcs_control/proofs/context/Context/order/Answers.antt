@@ -2,7 +2,7 @@ use Rattle.std.proofs.Common.{◌≡◌, ap, sym, subst, ◌∙◌}
 use Rattle.mcs_control.specs.declared.context.Budget.{Budget}
 use Rattle.mcs_control.specs.Context.{WithRoom}
 use Rattle.mcs_control.specs.Control.{kind_of}
-use Rattle.mcs_control.specs.Held.{IsHeld}
+use Rattle.mcs_control.specs.stored.Context.{IsHeld}
 use Rattle.mcs_control.proofs.Helds.{ordered-refills, ordered-slice}
 use Rattle.mcs_control.proofs.context.Context.order.Goals as goal
 use Rattle.mcs_control.proofs.context.Context.order.Goals.{in-Sporadic, in-RoundRobin}

@@ -1,6 +1,6 @@
 use Rattle.std.proofs.Common.{subst}
 use Rattle.mcs_control.specs.declared.context.Budget.{Budget}
-use Rattle.mcs_control.specs.Held.{IsHeld}
+use Rattle.mcs_control.specs.stored.Context.{IsHeld}
 use Rattle.mcs_control.proofs.Helds.{unblocked-refills}
 use Rattle.mcs_control.proofs.context.Context.wake.Goals as goal
 use Rattle.mcs_control.proofs.context.Context.wake.Goals.{in-Sporadic, in-RoundRobin}

@@ -4,7 +4,7 @@ use Rattle.mcs_mail.specs.declared.mail.Mail.{Mail}
 use Rattle.mcs_mail.specs.Box.{arriving}
 use Rattle.mcs_mail.proofs.Boxes.{due-some, due-none, no_earlier-without_due}
 use Rattle.mcs_core.specs.Turn.{each, arrives}
-use Rattle.mcs_core.specs.Sound.Phase.{PastTick}
+use Rattle.mcs_core.specs.stored.Sound.Phase.{PastTick}
 use Rattle.mcs_core.proofs.Loops.{goes-step, goes-end-core, goes-end-rows, all-without_due, first-known, none-taken}
 use Rattle.mcs_core.proofs.Systems.{one-each}
 use Rattle.mcs_core.proofs.Wakes.{posts-sound}

@@ -3,8 +3,8 @@ use Rattle.mcs_ticks.specs.Queue.{by_priority}
 use Rattle.mcs_mail.specs.declared.mail.Mail.{Mail}
 use Rattle.mcs_mail.specs.Box.{arriving, staying}
 use Rattle.mcs_core.specs.Turn.{each, arrives}
-use Rattle.mcs_core.specs.Sound.{IsSound}
-use Rattle.mcs_core.specs.Sound.Phase.{PastTick}
+use Rattle.mcs_core.specs.stored.Sound.{IsSound}
+use Rattle.mcs_core.specs.stored.Sound.Phase.{PastTick}
 use Rattle.mcs_core.proofs.Loops.{GoesOn}
 use Rattle.mcs_core.proofs.local.Local.arrivals.Given as goal
 

@@ -1,4 +1,4 @@
-use Rattle.mcs_core.specs.Sound.Phase.{PastTick}
+use Rattle.mcs_core.specs.stored.Sound.Phase.{PastTick}
 use Rattle.mcs_core.proofs.Effects.{wakes_free}
 use Rattle.mcs_core.proofs.Systems.{one-each}
 use Rattle.mcs_core.proofs.local.Local.arrive.Goals as goal

@@ -1,5 +1,5 @@
 use Rattle.std.proofs.Common.{◌+◌, sym, ◌∙◌}
-use Rattle.mcs_core.specs.Sound.Phase.{PastTick}
+use Rattle.mcs_core.specs.stored.Sound.Phase.{PastTick}
 use Rattle.mcs_core.proofs.Released.{best-known}
 use Rattle.mcs_core.proofs.local.Local.choose.Goals as goal
 

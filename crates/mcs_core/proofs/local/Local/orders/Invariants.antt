@@ -2,8 +2,8 @@ use Rattle.std.proofs.Common.{◌≡◌, ◌+◌, length, None}
 use Rattle.mcs_ticks.specs.Queue.{by_priority}
 use Rattle.mcs_core.specs.Turn.{each, obeys}
 use Rattle.mcs_core.specs.Orders.{ArePlanned, AreByMoment, due_now, to_come}
-use Rattle.mcs_core.specs.Sound.{IsSound}
-use Rattle.mcs_core.specs.Sound.Phase.{PastTick}
+use Rattle.mcs_core.specs.stored.Sound.{IsSound}
+use Rattle.mcs_core.specs.stored.Sound.Phase.{PastTick}
 use Rattle.mcs_core.proofs.Loops.{GoesOn}
 use Rattle.mcs_core.proofs.local.Local.orders.Given as goal
 

@@ -2,7 +2,7 @@ use Rattle.std.proofs.Common.{◌≡◌, ℕ, zero, suc, ◌+◌, ◌<◌, List,
 use Rattle.std.specs.Prelude.{Option, Some, None, option_map}
 use Rattle.mcs_control.specs.Context.{Context, view_of}
 use Rattle.mcs_control.specs.declared.view.ContextView.{ContextView}
-use Rattle.mcs_core.specs.System.{System}
+use Rattle.mcs_system.specs.System.{System}
 use Rattle.mcs_core.specs.declared.standing.Chosen.{Chosen}
 use Rattle.mcs_core.specs.Views.{using_of, own_view, views_from}
 use Rattle.mcs_core.proofs.local.Local.views.Goals as goal

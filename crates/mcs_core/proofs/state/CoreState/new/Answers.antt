@@ -1,5 +1,5 @@
 use Rattle.std.proofs.Common.{ap, ◌∙◌}
-use Rattle.mcs_core.specs.System.{System}
+use Rattle.mcs_system.specs.System.{System}
 use Rattle.mcs_core.specs.Core.{opening_core}
 use Rattle.mcs_core.specs.Orders.{orders_of}
 use Rattle.mcs_core.proofs.Opening.{fits-opening}

@@ -3,8 +3,8 @@ use Rattle.std.specs.Prelude.{max}
 use Rattle.mcs_mail.specs.declared.mail.Mail.{Mail}
 use Rattle.mcs_core.specs.Orders.{orders_of, to_come}
 use Rattle.mcs_core.specs.Run.{ran}
-use Rattle.mcs_core.specs.Sound.{IsSound}
-use Rattle.mcs_core.specs.Sound.Phase.{Between}
+use Rattle.mcs_core.specs.stored.Sound.{IsSound}
+use Rattle.mcs_core.specs.stored.Sound.Phase.{Between}
 use Rattle.mcs_core.specs.State.{made_by}
 use Rattle.mcs_core.proofs.Runs.{RunsOn}
 use Rattle.mcs_core.proofs.state.CoreState.run.Given as goal

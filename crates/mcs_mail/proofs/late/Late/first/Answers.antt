@@ -1,6 +1,6 @@
 use Rattle.std.proofs.Common.{◌∙◌, ap, arith, refl, slice_get, sym, Some}
 use Rattle.mcs_mail.specs.declared.mail.Mail.{Mail}
-use Rattle.mcs_mail.specs.Numbers.{LateMail}
+use Rattle.mcs_mail.specs.stored.Numbers.{LateMail}
 use Rattle.mcs_mail.proofs.Numbering.{first-top}
 use Rattle.mcs_mail.proofs.late.Late.first.Goals as goal
 

@@ -1,5 +1,5 @@
 use Rattle.std.proofs.Common.{◌∙◌, ap, length, sym}
-use Rattle.mcs_mail.specs.Numbers.{LateMail}
+use Rattle.mcs_mail.specs.stored.Numbers.{LateMail}
 use Rattle.mcs_mail.proofs.Numbering.{held-count}
 use Rattle.mcs_mail.proofs.late.Late.len.Goals as goal
 

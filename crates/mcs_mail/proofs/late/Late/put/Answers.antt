@@ -1,6 +1,6 @@
 use Rattle.std.proofs.Common.{◌∙◌, ap}
 use Rattle.mcs_mail.specs.Box.{put}
-use Rattle.mcs_mail.specs.Numbers.{LateMail}
+use Rattle.mcs_mail.specs.stored.Numbers.{LateMail}
 use Rattle.mcs_mail.proofs.Numbering.{pushed-mails, pushed-numbered}
 use Rattle.mcs_mail.proofs.late.Late.put.Goals as goal
 

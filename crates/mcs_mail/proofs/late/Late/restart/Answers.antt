@@ -1,5 +1,5 @@
 use Rattle.std.proofs.Common.{ap, ◌∙◌}
-use Rattle.mcs_mail.specs.Numbers.{LateMail}
+use Rattle.mcs_mail.specs.stored.Numbers.{LateMail}
 use Rattle.mcs_mail.proofs.Numbering.{none-numbered}
 use Rattle.mcs_mail.proofs.late.Late.restart.Goals as goal
 

@@ -1,6 +1,6 @@
 use Rattle.std.proofs.Common.{◌∙◌, ap, drop, slice_get, sym, List, Some}
 use Rattle.mcs_mail.specs.declared.mail.Mail.{Mail}
-use Rattle.mcs_mail.specs.Numbers.{LateMail}
+use Rattle.mcs_mail.specs.stored.Numbers.{LateMail}
 use Rattle.mcs_mail.proofs.Numbering.{popped-mails, popped-numbered}
 use Rattle.mcs_mail.proofs.late.Late.take_first.Goals as goal
 

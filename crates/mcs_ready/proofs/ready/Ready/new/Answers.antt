@@ -1,5 +1,5 @@
 use Rattle.std.proofs.Common.{◌≡◌, refl, replicate, false, rules}
-use Rattle.mcs_ready.specs.Places.{no_line}
+use Rattle.mcs_ready.specs.stored.Lines.{no_line}
 use Rattle.mcs_ready.proofs.Kept.{IsKept-new}
 use Rattle.mcs_ready.proofs.ready.Ready.new.Goals as goal
 

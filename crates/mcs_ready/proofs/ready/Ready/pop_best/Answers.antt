@@ -4,8 +4,8 @@ use Rattle.std.specs.Prelude.{if◌then◌else◌, nat_lt, ◌==◌}
 use Rattle.mcs_ticks.specs.declared.queue.Queued.{Queued}
 use Rattle.mcs_ticks.specs.Queue.{first_of, rest_of}
 use Rattle.mcs_ready.specs.declared.ready.Line.{Line}
-use Rattle.mcs_ready.specs.Places.{no_line}
-use Rattle.mcs_ready.specs.Priorities.{has}
+use Rattle.mcs_ready.specs.stored.Lines.{no_line}
+use Rattle.mcs_ready.specs.stored.Priorities.{has}
 use Rattle.mcs_ready.specs.Ready.{ReadyQueue, thread_of}
 use Rattle.mcs_ready.proofs.Kept.{IsKept-without_first, first-below, first-below-next, marked-below, queue-without_first, queue_unmarked, same_value, some-marked, within}
 use Rattle.mcs_ready.proofs.ready.Ready.pop_best.Goals as goal

@@ -1,7 +1,7 @@
 use Rattle.std.proofs.Common.{◌≡◌, ◌∙◌, ap, arith, get_or, length-set, rules}
 use Rattle.std.proofs.lemmas.List.{get_or_read}
 use Rattle.mcs_ticks.specs.Queue.{entered_back}
-use Rattle.mcs_ready.specs.Places.{no_line}
+use Rattle.mcs_ready.specs.stored.Lines.{no_line}
 use Rattle.mcs_ready.specs.Ready.{ReadyQueue, queued}
 use Rattle.mcs_ready.proofs.Kept.{IsKept-with_back, before_back-below, free-view, len_at, queue-with_back, same_value, within, within-room}
 use Rattle.mcs_ready.proofs.ready.Ready.push_back.Goals as goal

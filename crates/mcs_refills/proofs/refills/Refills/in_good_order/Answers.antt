@@ -1,6 +1,6 @@
 use Rattle.std.proofs.Common.{length, refl, subst}
 use Rattle.mcs_refills.specs.Server.{Server, dates_of}
-use Rattle.mcs_refills.specs.Kept.{IsServer}
+use Rattle.mcs_refills.specs.laws.Servers.{IsServer}
 use Rattle.mcs_refills.proofs.Servers.{in-good-order}
 use Rattle.mcs_refills.proofs.refills.Refills.in_good_order.Goals as goal
 

@@ -1,7 +1,7 @@
 use Rattle.std.proofs.Common.{ℕ, List, ap, ◌∙◌}
 use Rattle.mcs_refills.specs.declared.refill.Refill.{Refill}
 use Rattle.mcs_refills.specs.Server.{Server, dates_of, server_reconfigured}
-use Rattle.mcs_refills.specs.Keeping.{after_reconfigure}
+use Rattle.mcs_refills.specs.stored.Refills.{after_reconfigure}
 use Rattle.mcs_refills.proofs.Reconfigures.{dates_of-after_reconfigure}
 use Rattle.mcs_refills.proofs.refills.Refills.reorder.Goals as goal
 

@@ -1,7 +1,7 @@
 use Rattle.std.proofs.Common.{ℕ, List, ap, ◌∙◌, arith}
 use Rattle.mcs_refills.specs.declared.refill.Refill.{Refill}
 use Rattle.mcs_refills.specs.Server.{Server, dates_of, server_unblocked}
-use Rattle.mcs_refills.specs.Keeping.{after_unblock}
+use Rattle.mcs_refills.specs.stored.Refills.{after_unblock}
 use Rattle.mcs_refills.proofs.Unblocks.{IsKept-unblock, dates_of-after_unblock}
 use Rattle.mcs_refills.proofs.refills.Refills.unblock.Goals as goal
 

@@ -1,6 +1,6 @@
 use Rattle.std.proofs.Common.{◌≡◌, ◌++◌, ◌∷◌, [], ◌∙◌, ap, arith, length}
 use Rattle.std.proofs.lemmas.List.{take_at}
-use Rattle.mcs_release.specs.Places.{entered}
+use Rattle.mcs_release.specs.stored.Heap.{entered}
 use Rattle.mcs_release.specs.Release.{ReleaseQueue, dated, is_held}
 use Rattle.mcs_release.proofs.Kept.{IsKept-entered, entered-more, fewer-than-places, fewer-than-room, heap-fits, same_value}
 use Rattle.mcs_release.proofs.releases.Releases.enter.Goals as goal

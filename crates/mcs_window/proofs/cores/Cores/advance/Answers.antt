@@ -2,7 +2,7 @@ use Rattle.std.proofs.Common.{◌≡◌, ◌<◌, ◌≤◌, ◌+◌, length, se
 use Rattle.std.specs.Prelude.{slice_index}
 use Rattle.std.specs.Arc.{arc_value}
 use Rattle.mcs_mail.specs.Box.{Content}
-use Rattle.mcs_window.specs.Stretch.{IsReachedBy, StandsAt}
+use Rattle.mcs_window.specs.Stretch.{NothingArrivesBefore, StandsAt}
 use Rattle.mcs_window.proofs.Advances.{expected}
 use Rattle.mcs_window.proofs.Keeping.{spent_kept, advanced_kept}
 use Rattle.mcs_window.proofs.cores.Cores.advance.Goals as goal
@@ -34,7 +34,7 @@ invariant_of-self-2 c =
     let h : k < (arc_value a.system).cores = search rules in
     let l : slice_index a.clocks.items k ≤ c.args.to = search rules in
     let in_time : c.args.to ≤ a.horizon + 1 = search rules in
-    let reached : IsReachedBy (arc_value a.system) k c.args.to a.clocks.items = search rules in
+    let reached : NothingArrivesBefore (arc_value a.system) k c.args.to a.clocks.items = search rules in
     advanced_kept a c.self.invariant k c.args.to c.index_mut-state.result.now c.run.new.self c.index_mut-mail.result.now c.run.new.mail c.deliver.new.boxes
     c.index_mut-rows.result.now c.append.new.self c.run.new.rows c.append.new.other c.run.new.signals c.clear.new.self
     c.if-self.false h l in_time reached c.index_mut-state.ensures.value c.index_mut-mail.ensures.value

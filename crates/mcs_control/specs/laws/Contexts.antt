@@ -1,0 +1,50 @@
+-- What holds of each context, and what its charges take.
+use Rattle.std.specs.Prelude.{◌≡◌, ℕ, ◌<◌, ◌≤◌, List, [], ◌∷◌, ◌++◌, length}
+use Rattle.mcs_control.specs.declared.config.Config.{Config}
+use Rattle.mcs_refills.specs.Server.{refills_of}
+use Rattle.mcs_refills.specs.laws.Spacing.{AreKept, Step, AreProper, IsSpaced, used_by}
+use Rattle.mcs_refills.specs.laws.Spacing.Step.{Charge, Unblock}
+use Rattle.mcs_control.specs.Context.{Budget, Context, new_context, context_charged, context_unblocked, context_ordered, head_amount, max_refills_of}
+use Rattle.mcs_control.specs.Context.Budget.{Dates, Slice}
+use Rattle.mcs_control.specs.Control.{IsConfig, kind_of}
+
+-- a budget of the configuration's kind: as many dates as the budget, which ascend and span less than the period, in few refills;
+-- or a slice with something left, and at most the budget
+abbrev pub IsBudget : Config → Budget → Type 0
+IsBudget config (Dates dates) =
+    (config.budget < config.period) × AreKept config.budget config.period dates × (length (refills_of dates) ≤ max_refills_of config)
+IsBudget config (Slice left) = (config.budget ≡ config.period) × (1 ≤ left) × (left ≤ config.budget)
+
+-- a context in good order
+pub record IsContext (context : Context) : Type 0 where
+  pub config : IsConfig context.config
+  pub budget : IsBudget context.config context.budget
+
+-- a new context is in good order, a charge and unblocking leave it so, and an order makes it so by the new configuration
+abbrev pub ContextsAreKept : Type 0
+ContextsAreKept =
+    ((config : Config) (at : ℕ) → IsConfig config → IsContext (new_context config at))
+    × ((k min_budget : ℕ) (context : Context) → IsContext context → 1 ≤ k → k ≤ head_amount context → IsContext (context_charged k min_budget context))
+    × ((t : ℕ) (context : Context) → IsContext context → IsContext (context_unblocked t context))
+    × ((t : ℕ) (config : Config) (context : Context) → IsContext context → IsConfig config → kind_of config ≡ kind_of context.config → IsContext (context_ordered t config context))
+
+-- what is done to a context: charges, and the unblocking of a wake
+abbrev pub context_stepped : Step → Context → Context
+context_stepped (Charge k min_budget) context = context_charged k min_budget context
+context_stepped (Unblock t) context = context_unblocked t context
+
+-- the dates that a step takes from a budget; a slice has none
+abbrev pub taken_by : Step → Budget → List ℕ
+taken_by step (Dates dates) = used_by step dates
+taken_by step (Slice left) = []
+
+-- the dates that charges take from a context, in order
+abbrev pub consumed_from : List Step → Context → List ℕ
+consumed_from [] context = []
+consumed_from (step ∷ steps) context = taken_by step context.budget ++ consumed_from steps (context_stepped step context)
+
+-- where no order comes between, the date a whole budget later is at least a period later
+abbrev pub ConsumedAreSpaced : Type 0
+ConsumedAreSpaced =
+    (context : Context) (steps : List Step) → IsContext context → AreProper steps →
+    IsSpaced context.config.budget context.config.period (consumed_from steps context)

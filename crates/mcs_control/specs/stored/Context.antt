@@ -1,0 +1,24 @@
+-- The context that the type holds.
+use Rattle.std.specs.Prelude.{◌≡◌, ℕ}
+use Rattle.mcs_control.specs.declared.config.Config.{Config}
+use Rattle.mcs_control.specs.declared.context.Budget.{Budget}
+use Rattle.mcs_control.specs.declared.context.Budget.TheVariants.{Sporadic, RoundRobin}
+use Rattle.mcs_control.specs.Context as context
+use Rattle.mcs_control.specs.Context.Budget.{Dates, Slice}
+use Rattle.mcs_control.specs.laws.Contexts.{IsContext}
+
+abbrev pub held_budget : Budget → context.Budget
+held_budget (Sporadic server) = Dates server.dates
+held_budget (RoundRobin slice) = Slice slice.left
+
+abbrev pub held : Config → Budget → context.Context
+held config budget = record { config = config; budget = held_budget budget }
+
+-- the refills or the slice are configured as the context is
+abbrev pub IsConfigured : Config → ℕ → Budget → Type 0
+IsConfigured config room (Sporadic server) = (server.period ≡ config.period) × (server.max_refills ≡ context.max_refills_of config) × (server.room ≡ room)
+IsConfigured config room (RoundRobin slice) = slice.budget ≡ config.budget
+
+pub record IsHeld (config : Config) (budget : Budget) (room : ℕ) : Type 0 where
+  pub context : IsContext (held config budget)
+  pub configured : IsConfigured config room budget

@@ -1,6 +1,0 @@
-use Rattle.std.specs.Prelude.{All}
-use Rattle.mcs_core.specs.State.{IsExpected}
-use Rattle.mcs_core.proofs.tests.play.posted.Given as goal
-
-abbrev pub invariant-loop-planned : goal.invariant-loop-planned
-invariant-loop-planned l = All (IsExpected l.system l.state) l.mailbox.mails

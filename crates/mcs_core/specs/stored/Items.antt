@@ -1,0 +1,37 @@
+-- What an item needs of its core.
+use Rattle.std.specs.Prelude.{◌≡◌, ℕ, ◌<◌, length, Option, Some, None}
+use Rattle.mcs_script.specs.declared.item.Item.{Item}
+use Rattle.mcs_script.specs.declared.item.Item.TheVariants.{Compute, Signal, Wait, Yield}
+use Rattle.mcs_ticks.specs.Queue.{by_priority}
+use Rattle.mcs_system.specs.System.{System}
+use Rattle.mcs_core.specs.Core.{Core}
+use Rattle.mcs_core.specs.Turn.{signals}
+use Rattle.mcs_core.specs.stored.Sound.{times_waiting, IsPlaced, IsFree, WakesFree}
+
+-- its notification is one of these
+abbrev pub IsNoted : ℕ → Option Item → Type 0
+IsNoted notes (Some (Signal note badge)) = note < notes
+IsNoted notes (Some (Wait note)) = note < notes
+IsNoted notes (Some (Compute ticks)) = Unit {0}
+IsNoted notes (Some Yield) = Unit {0}
+IsNoted notes None = Unit {0}
+
+module _ (system : System) (c t x : ℕ) where
+  -- whom a signal wakes is free, and the thread goes on in its script after it
+  abbrev pub SignalsFree : Option Item → Core → Type 0
+  SignalsFree (Some (Signal note badge)) core =
+      WakesFree system note badge core
+      × (x < length (signals by_priority system c t x note badge core).core.threads)
+      × IsPlaced system x (signals by_priority system c t x note badge core).core
+  SignalsFree (Some (Wait note)) core = Unit {0}
+  SignalsFree (Some (Compute ticks)) core = Unit {0}
+  SignalsFree (Some Yield) core = Unit {0}
+  SignalsFree None core = Unit {0}
+
+  -- the thread's item may take effect
+  pub record CanTakeEffect (item : Option Item) (core : Core) : Type 0 where
+    pub free : IsFree system x core
+    pub not_waiting : times_waiting x core.notes ≡ 0
+    pub noted : IsNoted (length core.notes) item
+    pub part : IsNoted (length system.notes) item
+    pub signals_free : SignalsFree item core

@@ -1,9 +1,0 @@
-mod arrivals;
-mod contexts;
-mod orders;
-mod plan;
-mod play;
-mod random;
-mod threads;
-mod told;
-mod turns;

@@ -1,0 +1,51 @@
+-- Whether two systems are the same: a test of each part, which answers true exactly where the parts are equal.
+use Rattle.std.specs.Prelude.{Bool, true, false, ◌&&◌, ◌==◌, nat_eq}
+use Rattle.std.specs.Cmp.Lexicographic.{pointwise}
+use Rattle.mcs_control.specs.declared.config.Config.{Config}
+use Rattle.mcs_control.specs.declared.config.Order.{Order}
+use Rattle.mcs_script.specs.declared.item.Item.{Item}
+use Rattle.mcs_script.specs.declared.item.Item.TheVariants.{Compute, Signal, Wait, Yield}
+use Rattle.mcs_system.specs.declared.part.ContextPart.{ContextPart}
+use Rattle.mcs_system.specs.declared.part.NotePart.{NotePart}
+use Rattle.mcs_system.specs.declared.part.ThreadPart.{ThreadPart}
+use Rattle.mcs_system.specs.System.{System}
+
+abbrev pub same_config : Config → Config → Bool
+same_config a b = a.budget == b.budget && a.period == b.period && a.extra == b.extra
+
+abbrev pub same_item : Item → Item → Bool
+same_item (Compute x) (Compute y) = x == y
+same_item (Signal n x) (Signal m y) = n == m && x == y
+same_item (Wait n) (Wait m) = n == m
+same_item Yield Yield = true
+same_item _ _ = false
+
+abbrev pub same_context : ContextPart → ContextPart → Bool
+same_context a b = pointwise nat_eq a.name b.name && a.core == b.core && same_config a.config b.config
+
+abbrev pub same_note : NotePart → NotePart → Bool
+same_note a b = pointwise nat_eq a.name b.name && a.core == b.core
+
+abbrev pub same_thread : ThreadPart → ThreadPart → Bool
+same_thread a b =
+    pointwise nat_eq a.name b.name
+    && a.context == b.context
+    && a.priority == b.priority
+    && a.start == b.start
+    && a.rounds == b.rounds
+    && a.deadline == b.deadline
+    && pointwise same_item a.script b.script
+
+abbrev pub same_order : Order → Order → Bool
+same_order a b = a.moment == b.moment && a.context == b.context && same_config a.config b.config
+
+abbrev pub same_limits : System → System → Bool
+same_limits a b = a.cores == b.cores && a.delay == b.delay && a.call == b.call && a.min_budget == b.min_budget
+
+abbrev pub same_system : System → System → Bool
+same_system a b =
+    same_limits a b
+    && pointwise same_context a.contexts b.contexts
+    && pointwise same_note a.notes b.notes
+    && pointwise same_thread a.threads b.threads
+    && pointwise same_order a.orders b.orders

@@ -1,0 +1,45 @@
+-- A system: what a file describes, each thing numbered by its place in its list.
+use Rattle.std.specs.Prelude.{ℕ, ◌≤◌, ◌==◌, if◌then◌else◌, List, [], ◌∷◌, get_or}
+use Rattle.mcs_system.specs.declared.part.ContextPart.{ContextPart}
+use Rattle.mcs_system.specs.declared.part.NotePart.{NotePart}
+use Rattle.mcs_system.specs.declared.part.ThreadPart.{ThreadPart}
+use Rattle.mcs_system.specs.declared.part.SystemParts.{SystemParts}
+
+abbrev pub System : Type 0
+System = SystemParts
+
+-- what stands past the end of each list; it is never reached
+abbrev pub no_context : ContextPart
+no_context = record { name = []; core = 0; config = record { budget = 0; period = 0; extra = 0 } }
+
+abbrev pub no_thread : ThreadPart
+no_thread = record { name = []; context = 0; priority = 0; start = 0; rounds = 0; deadline = 0; script = [] }
+
+abbrev pub no_note : NotePart
+no_note = record { name = []; core = 0 }
+
+abbrev pub context_part : System → ℕ → ContextPart
+context_part system context = get_or system.contexts context no_context
+
+abbrev pub note_part : System → ℕ → NotePart
+note_part system note = get_or system.notes note no_note
+
+abbrev pub thread_part : System → ℕ → ThreadPart
+thread_part system thread = get_or system.threads thread no_thread
+
+-- a thread's core is its context's
+abbrev pub core_of : System → ThreadPart → ℕ
+core_of system thread = (context_part system thread.context).core
+
+-- the start of the thread that has this context, or 0
+abbrev pub start_of : List ThreadPart → ℕ → ℕ
+start_of [] context = 0
+start_of (thread ∷ threads) context = if thread.context == context then thread.start else start_of threads context
+
+-- how long a signal of this maker is under way to this core
+abbrev pub delay_between : System → ℕ → ℕ → ℕ
+delay_between system maker home = system.delay
+
+-- each signal is under way for at least one tick
+abbrev pub TakesTime : System → Type 0
+TakesTime system = (maker home : ℕ) → 1 ≤ delay_between system maker home

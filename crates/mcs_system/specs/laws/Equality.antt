@@ -1,0 +1,71 @@
+-- The tests of sameness answer true exactly where the parts are equal.
+use Rattle.std.proofs.Common.{◌≡◌, Decides, refl, arith}
+use Rattle.std.proofs.lemmas.Bool.Decides.{nat_tests}
+use Rattle.std.specs.Cmp.Lexicographic.{pointwise_decides, bytes_decides}
+use Rattle.std.specs.Cmp.{decided, IsEquivalence}
+use Rattle.mcs_control.specs.declared.config.Config.{Config}
+use Rattle.mcs_control.specs.declared.config.Order.{Order}
+use Rattle.mcs_script.specs.declared.item.Item.{Item}
+use Rattle.mcs_script.specs.declared.item.Item.TheVariants.{Compute, Signal, Wait, Yield}
+use Rattle.mcs_system.specs.declared.part.ContextPart.{ContextPart}
+use Rattle.mcs_system.specs.declared.part.NotePart.{NotePart}
+use Rattle.mcs_system.specs.declared.part.ThreadPart.{ThreadPart}
+use Rattle.mcs_system.specs.System.{System}
+use Rattle.mcs_system.specs.Equality.{same_config, same_item, same_context, same_note, same_thread, same_order, same_system}
+
+pub same_config_decides : (a b : Config) → Decides (same_config a b) (a ≡ b)
+same_config_decides a b = (λ e. grind (arith, nat_tests), λ e. grind (arith, nat_tests))
+
+pub same_item_decides : (a b : Item) → Decides (same_item a b) (a ≡ b)
+same_item_decides (Compute x) (Compute y) = (λ e. grind (arith, nat_tests), λ e. grind (arith, nat_tests))
+same_item_decides (Compute x) (Signal m y) = (λ e. cc, λ e. cc)
+same_item_decides (Compute x) (Wait m) = (λ e. cc, λ e. cc)
+same_item_decides (Compute x) Yield = (λ e. cc, λ e. cc)
+same_item_decides (Signal n x) (Compute y) = (λ e. cc, λ e. cc)
+same_item_decides (Signal n x) (Signal m y) = (λ e. grind (arith, nat_tests), λ e. grind (arith, nat_tests))
+same_item_decides (Signal n x) (Wait m) = (λ e. cc, λ e. cc)
+same_item_decides (Signal n x) Yield = (λ e. cc, λ e. cc)
+same_item_decides (Wait n) (Compute y) = (λ e. cc, λ e. cc)
+same_item_decides (Wait n) (Signal m y) = (λ e. cc, λ e. cc)
+same_item_decides (Wait n) (Wait m) = (λ e. grind (arith, nat_tests), λ e. grind (arith, nat_tests))
+same_item_decides (Wait n) Yield = (λ e. cc, λ e. cc)
+same_item_decides Yield (Compute y) = (λ e. cc, λ e. cc)
+same_item_decides Yield (Signal m y) = (λ e. cc, λ e. cc)
+same_item_decides Yield (Wait m) = (λ e. cc, λ e. cc)
+same_item_decides Yield Yield = (λ e. refl, λ e. refl)
+
+pub same_context_decides : (a b : ContextPart) → Decides (same_context a b) (a ≡ b)
+same_context_decides a b =
+    let name = bytes_decides a.name b.name in
+    let config = same_config_decides a.config b.config in
+    (λ e. grind (arith, nat_tests, name.0, config.0), λ e. grind (arith, nat_tests, name.1, config.1))
+
+pub same_note_decides : (a b : NotePart) → Decides (same_note a b) (a ≡ b)
+same_note_decides a b =
+    let name = bytes_decides a.name b.name in
+    (λ e. grind (arith, nat_tests, name.0), λ e. grind (arith, nat_tests, name.1))
+
+pub same_order_decides : (a b : Order) → Decides (same_order a b) (a ≡ b)
+same_order_decides a b =
+    let config = same_config_decides a.config b.config in
+    (λ e. grind (arith, nat_tests, config.0), λ e. grind (arith, nat_tests, config.1))
+
+pub same_thread_decides : (a b : ThreadPart) → Decides (same_thread a b) (a ≡ b)
+same_thread_decides a b =
+    let name = bytes_decides a.name b.name in
+    let script = pointwise_decides same_item_decides a.script b.script in
+    (λ e. grind (arith, nat_tests, name.0, script.0), λ e. grind (arith, nat_tests, name.1, script.1))
+
+pub same_system_decides : (a b : System) → Decides (same_system a b) (a ≡ b)
+same_system_decides a b =
+    let contexts = pointwise_decides same_context_decides a.contexts b.contexts in
+    let notes = pointwise_decides same_note_decides a.notes b.notes in
+    let threads = pointwise_decides same_thread_decides a.threads b.threads in
+    let orders = pointwise_decides same_order_decides a.orders b.orders in
+    (λ e. grind (arith, nat_tests, contexts.0, notes.0, threads.0, orders.0), λ e. grind (arith, nat_tests, contexts.1, notes.1, threads.1, orders.1))
+
+pub same_thread_equivalence : IsEquivalence same_thread
+same_thread_equivalence = decided same_thread same_thread_decides
+
+pub same_system_equivalence : IsEquivalence same_system
+same_system_equivalence = decided same_system same_system_decides

@@ -1,0 +1,13 @@
+//! Systems: what a file describes, and when it is well formed.
+#![tactic(auto)]
+
+mod equality;
+mod lookup;
+mod name;
+mod part;
+mod system;
+mod well_formed;
+
+pub use name::Name;
+pub use part::{ContextPart, NotePart, SystemParts, ThreadPart};
+pub use system::System;

@@ -1,0 +1,62 @@
+ghost use Rattle.std.specs.Prelude.{◌≡◌, ◌<◌, length};
+ghost use Rattle.mcs_system.specs.System.{context_part, note_part, thread_part, core_of};
+
+use crate::{ContextPart, NotePart, System, SystemParts, ThreadPart};
+use mcs_ticks::{ContextId, CoreId, NoteId, ThreadId};
+
+impl SystemParts {
+    /// The context with this number.
+    pub fn context(&self, context: ContextId) -> &ContextPart
+        requires { context < length self.now.contexts }
+        ensures { result.now ≡ context_part self.now context }
+    {
+        &self.contexts.as_slice()[context.0]
+    }
+
+    /// The notification with this number.
+    pub fn note(&self, note: NoteId) -> &NotePart
+        requires { note < length self.now.notes }
+        ensures { result.now ≡ note_part self.now note }
+    {
+        &self.notes.as_slice()[note.0]
+    }
+
+    /// The thread with this number.
+    pub fn thread(&self, thread: ThreadId) -> &ThreadPart
+        requires { thread < length self.now.threads }
+        ensures { result.now ≡ thread_part self.now thread }
+    {
+        &self.threads.as_slice()[thread.0]
+    }
+
+    /// The core of a context, and core 0 where there is no such context.
+    pub fn core_of_context(&self, context: ContextId) -> CoreId
+        ensures { result ≡ (context_part self.now context).core }
+    {
+        match self.contexts.as_slice().get(context.0) {
+            Some(part) => part.core,
+            None => CoreId(0),
+        }
+    }
+
+    /// The core of a thread, which is its context's, and core 0 where there is no such context.
+    pub fn core_of_thread(&self, thread: &ThreadPart) -> CoreId
+        ensures { result ≡ core_of self.now thread.now }
+    {
+        self.core_of_context(thread.context)
+    }
+}
+
+impl System {
+    /// The core at which a notification is at home, and core 0 where there is no such notification. It is a core of the system.
+    pub fn home_of(&self, note: NoteId) -> CoreId
+        ensures home { result ≡ (note_part self.now note).core }
+        ensures known { result < self.now.cores }
+    {
+        let parts = self.parts();
+        match parts.notes.as_slice().get(note.0) {
+            Some(part) => part.core,
+            None => CoreId(0),
+        }
+    }
+}

@@ -1,0 +1,247 @@
+ghost use Rattle.std.specs.Prelude.{◌≡◌, ◌↔◌, ◌≢◌, ℕ, ◌<◌, ◌≤◌, ◌^◌, List, length, All, AllPairs, Any, IsTrue, IsSome, IfSome};
+ghost use Rattle.mcs_script.specs.Script.{IsScript};
+ghost use Rattle.mcs_system.specs.System.{context_part};
+ghost use Rattle.mcs_system.specs.Names.{is_name};
+ghost use Rattle.mcs_system.specs.WellFormed.{AreNamed, AreLimits, IsContext, IsNote, IsItem, IsThread, IsOrder, IsWellFormed};
+
+use crate::{ContextPart, Name, NotePart, SystemParts, ThreadPart};
+use mcs_control::{Config, Order};
+use mcs_script::{Item, Script};
+use mcs_ticks::{ContextId, CoreId, Limits, NoteId};
+
+/// A thing with a name.
+trait Named {
+    ghost name: { Self → List ℕ };
+
+    fn name(&self) -> &Name
+        ensures { result.now ≡ name self.now };
+}
+
+impl Named for ContextPart {
+    ghost name = { λ context. context.name };
+
+    fn name(&self) -> &Name {
+        &self.name
+    }
+}
+
+impl Named for NotePart {
+    ghost name = { λ note. note.name };
+
+    fn name(&self) -> &Name {
+        &self.name
+    }
+}
+
+impl Named for ThreadPart {
+    ghost name = { λ thread. thread.name };
+
+    fn name(&self) -> &Name {
+        &self.name
+    }
+}
+
+fn have_names<T: Named>(things: &[T]) -> bool
+    ensures { IsTrue result ↔ All (λ thing. IsTrue (is_name (T.name thing))) things.now }
+{
+    things
+        .iter()
+        .all(|thing| Name::accepts(thing.name().as_str()))
+}
+
+fn shares_name<T: Named>(thing: &T, earlier: &[T]) -> bool
+    ensures { IsTrue result ↔ Any (λ other. T.name other ≡ T.name thing.now) earlier.now }
+{
+    earlier.iter().any(|other| other.name() == thing.name())
+}
+
+// Each name is compared with all earlier ones: it takes no memory, and is done once for a system.
+fn have_distinct_names<T: Named>(things: &[T]) -> bool
+    ensures { IsTrue result ↔ AllPairs (λ a b. T.name a ≢ T.name b) things.now }
+{
+    for (i, thing) in things.iter().enumerate() {
+        if shares_name(thing, &things[..i]) {
+            return false;
+        }
+    }
+    true
+}
+
+// The limits of contexts, notifications and threads are the same.
+fn are_named<T: Named>(things: &[T]) -> bool
+    ensures { IsTrue result ↔ AreNamed T.name things.now }
+{
+    things.len() <= Limits::THREADS && have_names(things) && have_distinct_names(things)
+}
+
+fn shares_context(thread: &ThreadPart, earlier: &[ThreadPart]) -> bool
+    ensures { IsTrue result ↔ Any (λ other. other.context ≡ thread.now.context) earlier.now }
+{
+    earlier.iter().any(|other| other.context == thread.context)
+}
+
+fn have_contexts_of_their_own(threads: &[ThreadPart]) -> bool
+    ensures { IsTrue result ↔ AllPairs (λ a b. a.context ≢ b.context) threads.now }
+{
+    for (i, thread) in threads.iter().enumerate() {
+        if shares_context(thread, &threads[..i]) {
+            return false;
+        }
+    }
+    true
+}
+
+fn has_numbers(thread: &ThreadPart) -> bool
+    ensures { IsTrue result
+        ↔ (thread.now.priority ≤ 255) × (thread.now.start ≤ 2 ^ 40) × (thread.now.rounds ≤ 2 ^ 40)
+        × (thread.now.deadline ≤ 2 ^ 40) }
+{
+    u64::from(thread.priority) <= Limits::PRIORITY
+        && thread.start.get() <= Limits::START
+        && thread.rounds <= Limits::ROUNDS
+        && thread.deadline <= Limits::DEADLINE
+}
+
+impl SystemParts {
+    /// Whether the system is well formed: counts and numbers lie in their ranges (profile M), names are 1 to 32 characters of
+    /// `A-Z a-z 0-9 _ -` and distinct in each kind, each configuration passes its check with the system's least budget, no two
+    /// threads have one context, a thread waits on notifications of its own core alone, and an order keeps the context's kind. It
+    /// takes no memory. Names and threads are compared in pairs, so it takes time with the square of their number.
+    pub fn is_well_formed(&self) -> bool
+        ensures { IsTrue result ↔ IsWellFormed self.now }
+    {
+        self.has_limits()
+            && are_named(self.contexts.as_slice())
+            && self.has_contexts()
+            && are_named(self.notes.as_slice())
+            && self.has_notes()
+            && are_named(self.threads.as_slice())
+            && self.has_threads()
+            && have_contexts_of_their_own(self.threads.as_slice())
+            && self.orders.len() <= Limits::ORDERS
+            && self.has_orders()
+    }
+
+    fn has_limits(&self) -> bool
+        ensures { IsTrue result ↔ AreLimits self.now }
+    {
+        1 <= self.cores
+            && self.cores <= Limits::CORES
+            && 1 <= self.delay
+            && self.delay <= Limits::DELAY
+            && 1 <= self.call
+            && self.call <= Limits::CALL
+            && 1 <= self.min_budget
+            && self.min_budget <= Limits::MIN_BUDGET
+    }
+
+    fn is_context(&self, context: &ContextPart) -> bool
+        ensures { IsTrue result ↔ IsContext self.now context.now }
+    {
+        context.core.0 < self.cores && context.config.check(self.min_budget).is_ok()
+    }
+
+    fn has_contexts(&self) -> bool
+        ensures { IsTrue result ↔ All (IsContext self.now) self.now.contexts }
+    {
+        self.contexts
+            .as_slice()
+            .iter()
+            .all(|context| self.is_context(context))
+    }
+
+    fn has_notes(&self) -> bool
+        ensures { IsTrue result ↔ All (IsNote self.now) self.now.notes }
+    {
+        self.notes
+            .as_slice()
+            .iter()
+            .all(|note| note.core.0 < self.cores)
+    }
+
+    fn is_at_home(&self, note: NoteId, core: CoreId) -> bool
+        ensures { IsTrue result ↔ IsItem self.now core (Item.Wait note) }
+    {
+        match self.notes.as_slice().get(note.0) {
+            Some(part) => part.core == core,
+            None => false,
+        }
+    }
+
+    fn is_item(&self, core: CoreId, item: Item) -> bool
+        ensures { IsTrue result ↔ IsItem self.now core item }
+    {
+        match item {
+            Item::Compute(ticks) => 1 <= ticks && ticks <= Limits::COMPUTE,
+            Item::Signal(note, badge) => note.0 < self.notes.len() && 1 <= badge,
+            Item::Wait(note) => self.is_at_home(note, core),
+            Item::Yield => true,
+        }
+    }
+
+    fn has_items(&self, core: CoreId, script: &Script) -> bool
+        ensures items { IsTrue result ↔ All (IsItem self.now core) script.now }
+        ensures is_script { IsScript script.now }
+    {
+        for i in 0..script.len() {
+            match script.get(i) {
+                Some(item) if !self.is_item(core, item) => return false,
+                _ => {}
+            }
+        }
+        true
+    }
+
+    // The context with this number, if there is one: its core and its configuration.
+    fn accepted_at(&self, context: ContextId) -> Option<(CoreId, Config)>
+        ensures there { IsSome result ↔ (context < length self.now.contexts) }
+        ensures value { IfSome result
+            (λ part. (part.0 ≡ (context_part self.now context).core)
+            × (part.1 ≡ (context_part self.now context).config)) }
+    {
+        self.contexts
+            .as_slice()
+            .get(context.0)
+            .map(|part| (part.core, part.config))
+    }
+
+    fn is_thread(&self, thread: &ThreadPart) -> bool
+        ensures { IsTrue result ↔ IsThread self.now thread.now }
+    {
+        match self.accepted_at(thread.context) {
+            Some((core, _)) => has_numbers(thread) && self.has_items(core, &thread.script),
+            None => false,
+        }
+    }
+
+    fn has_threads(&self) -> bool
+        ensures { IsTrue result ↔ All (IsThread self.now) self.now.threads }
+    {
+        self.threads
+            .as_slice()
+            .iter()
+            .all(|thread| self.is_thread(thread))
+    }
+
+    fn is_order(&self, order: &Order) -> bool
+        ensures { IsTrue result ↔ IsOrder self.now order.now }
+    {
+        match self.accepted_at(order.context) {
+            Some((_, config)) => {
+                order.moment.get() <= Limits::ORDER_MOMENT
+                    && order.config.check(self.min_budget).is_ok()
+                    && order.config.kind() == config.kind()
+            }
+            None => false,
+        }
+    }
+
+    fn has_orders(&self) -> bool
+        ensures { IsTrue result ↔ All (IsOrder self.now) self.now.orders }
+    {
+        self.orders
+            .as_slice()
+            .iter()
+            .all(|order| self.is_order(order))
+    }
+}

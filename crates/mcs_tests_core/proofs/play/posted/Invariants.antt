@@ -1,0 +1,6 @@
+use Rattle.std.specs.Prelude.{All}
+use Rattle.mcs_core.specs.State.{IsExpected}
+use Rattle.mcs_tests_core.proofs.play.posted.Given as goal
+
+abbrev pub invariant-loop-planned : goal.invariant-loop-planned
+invariant-loop-planned l = All (IsExpected l.system l.state) l.mailbox.mails

@@ -1,0 +1,456 @@
+use mcs_control::{Config, Order};
+use mcs_system::{ContextPart, Name, NotePart, System, SystemParts, ThreadPart};
+use mcs_script::{Item, Script};
+use mcs_ticks::{ContextId, CoreId, NoteId, Sequence, Tick};
+use std::alloc::Global;
+use std::process::Abort;
+use std::test::Fail;
+
+// The parts of a system of two cores, of which a test changes some.
+#[derive(Clone, Copy)]
+struct Sample {
+    cores: usize,
+    delay: u64,
+    call: u64,
+    min_budget: u64,
+    context: &'static str,
+    context_core: usize,
+    config: Config,
+    note: &'static str,
+    note_core: usize,
+    thread: &'static str,
+    bound_to: usize,
+    priority: u8,
+    start: u64,
+    rounds: u64,
+    deadline: u64,
+    compute: u64,
+    signal_to: usize,
+    badge: u32,
+    wait_on: usize,
+    order_at: u64,
+    order_for: usize,
+    order: Config,
+}
+
+const SPORADIC: Config = Config {
+    budget: 4,
+    period: 10,
+    extra: 0,
+};
+
+const SAMPLE: Sample = Sample {
+    cores: 2,
+    delay: 1,
+    call: 1,
+    min_budget: 1,
+    context: "a",
+    context_core: 0,
+    config: SPORADIC,
+    note: "n",
+    note_core: 0,
+    thread: "A",
+    bound_to: 0,
+    priority: 5,
+    start: 0,
+    rounds: 1,
+    deadline: 0,
+    compute: 1,
+    signal_to: 1,
+    badge: 1,
+    wait_on: 0,
+    order_at: 3,
+    order_for: 0,
+    order: SPORADIC,
+};
+
+fn tick(ticks: u64) -> Result<Tick, Fail> {
+    Ok(Tick::new(ticks).ok_or("a tick")?)
+}
+
+fn name(alloc: Global, text: &str) -> Result<Name, Fail> {
+    Ok(Name::new(String::from_str(alloc, text)?))
+}
+
+fn script(items: Vec<Item>) -> Result<Script, Fail> {
+    match Script::new(items) {
+        Ok(script) => Ok(script),
+        Err(_) => Err(Fail::from("a script")),
+    }
+}
+
+fn contexts(alloc: Global, sample: Sample) -> Result<Vec<ContextPart>, Fail> {
+    let first = ContextPart {
+        name: name(alloc, sample.context)?,
+        core: CoreId(sample.context_core),
+        config: sample.config,
+    };
+    let second = ContextPart {
+        name: name(alloc, "b")?,
+        core: CoreId(1),
+        config: Config {
+            budget: 5,
+            period: 5,
+            extra: 0,
+        },
+    };
+    Ok(vec![in alloc; first, second]?)
+}
+
+fn notes(alloc: Global, sample: Sample) -> Result<Vec<NotePart>, Fail> {
+    let first = NotePart {
+        name: name(alloc, sample.note)?,
+        core: CoreId(sample.note_core),
+    };
+    let second = NotePart {
+        name: name(alloc, "m")?,
+        core: CoreId(1),
+    };
+    Ok(vec![in alloc; first, second]?)
+}
+
+fn threads(alloc: Global, sample: Sample) -> Result<Vec<ThreadPart>, Fail> {
+    let items = vec![in alloc;
+        Item::Compute(sample.compute),
+        Item::Signal(NoteId(sample.signal_to), sample.badge),
+        Item::Wait(NoteId(sample.wait_on)),
+        Item::Yield,
+    ]?;
+    let first = ThreadPart {
+        name: name(alloc, sample.thread)?,
+        context: ContextId(sample.bound_to),
+        priority: sample.priority,
+        start: tick(sample.start)?,
+        rounds: sample.rounds,
+        deadline: sample.deadline,
+        script: script(items)?,
+    };
+    let second = ThreadPart {
+        name: name(alloc, "B")?,
+        context: ContextId(1),
+        priority: 0,
+        start: Tick::ZERO,
+        rounds: 0,
+        deadline: 0,
+        script: script(vec![in alloc; Item::Yield]?)?,
+    };
+    Ok(vec![in alloc; first, second]?)
+}
+
+fn parts(alloc: Global, sample: Sample) -> Result<SystemParts, Fail> {
+    let order = Order {
+        moment: tick(sample.order_at)?,
+        context: ContextId(sample.order_for),
+        config: sample.order,
+    };
+    Ok(SystemParts {
+        cores: sample.cores,
+        delay: sample.delay,
+        call: sample.call,
+        min_budget: sample.min_budget,
+        contexts: Sequence::new(contexts(alloc, sample)?),
+        notes: Sequence::new(notes(alloc, sample)?),
+        threads: Sequence::new(threads(alloc, sample)?),
+        orders: Sequence::new(vec![in alloc; order]?),
+    })
+}
+
+const LONGEST: u64 = 1 << 40;
+
+// One part of the sample is another.
+#[derive(Clone, Copy)]
+enum Change {
+    Cores(usize),
+    Delay(u64),
+    Call(u64),
+    MinBudget(u64),
+    Context(&'static str),
+    ContextCore(usize),
+    Configured(u64, u64, u64),
+    Note(&'static str),
+    NoteCore(usize),
+    Thread(&'static str),
+    BoundTo(usize),
+    Priority(u8),
+    Start(u64),
+    Rounds(u64),
+    Deadline(u64),
+    Compute(u64),
+    SignalTo(usize),
+    Badge(u32),
+    WaitOn(usize),
+    OrderAt(u64),
+    OrderFor(usize),
+    Ordered(u64, u64, u64),
+}
+
+fn config(budget: u64, period: u64, extra: u64) -> Config {
+    Config {
+        budget,
+        period,
+        extra,
+    }
+}
+
+fn apply(change: Change, sample: &mut Sample) {
+    match change {
+        Change::Cores(cores) => sample.cores = cores,
+        Change::Delay(delay) => sample.delay = delay,
+        Change::Call(call) => sample.call = call,
+        Change::MinBudget(budget) => sample.min_budget = budget,
+        Change::Context(name) => sample.context = name,
+        Change::ContextCore(core) => sample.context_core = core,
+        Change::Configured(budget, period, extra) => sample.config = config(budget, period, extra),
+        Change::Note(name) => sample.note = name,
+        Change::NoteCore(core) => sample.note_core = core,
+        Change::Thread(name) => sample.thread = name,
+        Change::BoundTo(context) => sample.bound_to = context,
+        Change::Priority(priority) => sample.priority = priority,
+        Change::Start(start) => sample.start = start,
+        Change::Rounds(rounds) => sample.rounds = rounds,
+        Change::Deadline(deadline) => sample.deadline = deadline,
+        Change::Compute(ticks) => sample.compute = ticks,
+        Change::SignalTo(note) => sample.signal_to = note,
+        Change::Badge(badge) => sample.badge = badge,
+        Change::WaitOn(note) => sample.wait_on = note,
+        Change::OrderAt(moment) => sample.order_at = moment,
+        Change::OrderFor(context) => sample.order_for = context,
+        Change::Ordered(budget, period, extra) => sample.order = config(budget, period, extra),
+    }
+}
+
+fn changed(alloc: Global, change: Change) -> Result<SystemParts, Fail> {
+    let mut sample = SAMPLE;
+    apply(change, &mut sample);
+    parts(alloc, sample)
+}
+
+fn all_are(
+    rt: &impl Abort,
+    alloc: Global,
+    well_formed: bool,
+    changes: &[Change],
+) -> Result<(), Fail> {
+    for (number, change) in changes.iter().enumerate() {
+        let is_well_formed = changed(alloc, *change)?.is_well_formed();
+        assert_eq!(rt; is_well_formed, well_formed, "change {number}");
+    }
+    Ok(())
+}
+
+// Each number at its limits, one at a time.
+#[test]
+fn limits_are_accepted(rt: HostRuntime) -> Result<(), Fail> {
+    let changes = [
+        Change::Cores(64),
+        Change::Delay(1_048_576),
+        Change::Call(65_536),
+        Change::MinBudget(4),
+        Change::Configured(LONGEST - 1, LONGEST, 64),
+        Change::Configured(1, 2, 0),
+        Change::NoteCore(0),
+        Change::Priority(0),
+        Change::Priority(255),
+        Change::Start(LONGEST),
+        Change::Rounds(LONGEST),
+        Change::Deadline(LONGEST),
+        Change::Compute(LONGEST),
+        Change::SignalTo(0),
+        Change::Badge(u32::MAX),
+        Change::OrderAt(LONGEST),
+        Change::Ordered(LONGEST - 1, LONGEST, 64),
+    ];
+    all_are(&rt, rt.alloc(), true, &changes)
+}
+
+// One number past its limit, and nothing else.
+#[test]
+fn one_past_a_limit_is_refused(rt: HostRuntime) -> Result<(), Fail> {
+    let changes = [
+        Change::Cores(0),
+        Change::Cores(65),
+        Change::Delay(0),
+        Change::Delay(1_048_577),
+        Change::Call(0),
+        Change::Call(65_537),
+        Change::MinBudget(0),
+        Change::MinBudget(1_048_577),
+        Change::Start(LONGEST + 1),
+        Change::Rounds(LONGEST + 1),
+        Change::Deadline(LONGEST + 1),
+        Change::Compute(0),
+        Change::Compute(LONGEST + 1),
+        Change::Badge(0),
+        Change::OrderAt(LONGEST + 1),
+    ];
+    all_are(&rt, rt.alloc(), false, &changes)
+}
+
+// One part that does not fit the others: a core, a context or a notification that is not there, a configuration that is refused, a
+// context that two threads have, a wait away from home, an order that changes the kind, a name that another one has.
+#[test]
+fn parts_that_do_not_fit_are_refused(rt: HostRuntime) -> Result<(), Fail> {
+    let changes = [
+        Change::Cores(1),
+        Change::ContextCore(2),
+        Change::ContextCore(1),
+        Change::NoteCore(2),
+        Change::NoteCore(1),
+        Change::MinBudget(5),
+        Change::Configured(0, 10, 0),
+        Change::Configured(11, 10, 0),
+        Change::Configured(4, LONGEST + 1, 0),
+        Change::Configured(4, 10, 65),
+        Change::Configured(10, 10, 0),
+        Change::BoundTo(1),
+        Change::BoundTo(2),
+        Change::SignalTo(2),
+        Change::WaitOn(1),
+        Change::WaitOn(2),
+        Change::OrderFor(1),
+        Change::OrderFor(2),
+        Change::Ordered(10, 10, 0),
+        Change::Ordered(0, 10, 0),
+        Change::Context("b"),
+        Change::Note("m"),
+        Change::Thread("B"),
+    ];
+    all_are(&rt, rt.alloc(), false, &changes)
+}
+
+#[test]
+fn names_are_of_32_characters(rt: HostRuntime) -> Result<(), Fail> {
+    let good = [
+        "A",
+        "Z",
+        "a",
+        "z",
+        "0",
+        "9",
+        "_",
+        "-",
+        "abcdefghijklmnopqrstuvwxyz012345",
+    ];
+    for name in good {
+        let changes = [
+            Change::Context(name),
+            Change::Note(name),
+            Change::Thread(name),
+        ];
+        all_are(&rt, rt.alloc(), true, &changes)?;
+    }
+    let bad = [
+        "",
+        "@",
+        "[",
+        "`",
+        "{",
+        "/",
+        ":",
+        ".",
+        " ",
+        "é",
+        "abcdefghijklmnopqrstuvwxyz0123456",
+    ];
+    for name in bad {
+        let changes = [
+            Change::Context(name),
+            Change::Note(name),
+            Change::Thread(name),
+        ];
+        all_are(&rt, rt.alloc(), false, &changes)?;
+    }
+    Ok(())
+}
+
+// Notifications n0, n1, .. and orders for the first context, as many as are wanted.
+fn crowded(alloc: Global, notes: u64, orders: u64) -> Result<SystemParts, Fail> {
+    let mut parts = parts(alloc, SAMPLE)?;
+    let mut more_notes = self::notes(alloc, SAMPLE)?;
+    for number in 2..notes {
+        let text = format!(in alloc; "n{number}")?;
+        more_notes.push(NotePart {
+            name: Name::new(text),
+            core: CoreId(1),
+        })?;
+    }
+    let mut more_orders = Vec::new(alloc);
+    for number in 0..orders {
+        more_orders.push(Order {
+            moment: tick(number)?,
+            context: ContextId(0),
+            config: SPORADIC,
+        })?;
+    }
+    parts.notes = Sequence::new(more_notes);
+    parts.orders = Sequence::new(more_orders);
+    Ok(parts)
+}
+
+#[test]
+fn there_are_4096_of_a_kind(rt: HostRuntime) -> Result<(), Fail> {
+    assert!(rt; crowded(rt.alloc(), 4_096, 4_096)?.is_well_formed());
+    assert!(rt; !crowded(rt.alloc(), 4_097, 0)?.is_well_formed());
+    assert!(rt; !crowded(rt.alloc(), 2, 4_097)?.is_well_formed());
+    assert!(rt; crowded(rt.alloc(), 2, 0)?.is_well_formed());
+    Ok(())
+}
+
+fn made_sample(rt: &impl Abort, alloc: Global) -> Result<System, Fail> {
+    let parts = parts(alloc, SAMPLE)?;
+    assert!(rt; parts.is_well_formed());
+    Ok(System::new(parts))
+}
+
+fn is_like(rt: &impl Abort, alloc: Global, one: &System) -> Result<bool, Fail> {
+    let other = made_sample(rt, alloc)?;
+    Ok(*one == other)
+}
+
+fn differs(rt: &impl Abort, alloc: Global, one: &System, change: Change) -> Result<bool, Fail> {
+    let other = changed(alloc, change)?;
+    assert!(rt; other.is_well_formed());
+    Ok(*one != System::new(other))
+}
+
+fn all_tell(rt: &impl Abort, alloc: Global, one: &System) -> Result<(), Fail> {
+    for change in CHANGES {
+        assert!(rt; differs(rt, alloc, one, *change)?);
+    }
+    Ok(())
+}
+
+static CHANGES: &[Change] = &[
+    Change::Cores(3),
+    Change::Delay(2),
+    Change::Call(2),
+    Change::MinBudget(2),
+    Change::Context("c"),
+    Change::Configured(5, 10, 0),
+    Change::Configured(4, 11, 0),
+    Change::Configured(4, 10, 1),
+    Change::Note("o"),
+    Change::Thread("C"),
+    Change::Priority(6),
+    Change::Start(1),
+    Change::Rounds(2),
+    Change::Deadline(1),
+    Change::Compute(2),
+    Change::SignalTo(0),
+    Change::Badge(2),
+    Change::OrderAt(4),
+    Change::Ordered(3, 10, 0),
+];
+
+fn compares(rt: &impl Abort, alloc: Global, one: &System) -> Result<(), Fail> {
+    assert!(rt; is_like(rt, alloc, one)?);
+    assert_eq!(rt; one.parts().delay, 1);
+    all_tell(rt, alloc, one)
+}
+
+// A system is equal to another one made of the same parts, and each part tells.
+#[test]
+fn systems_are_compared_by_their_parts(rt: HostRuntime) -> Result<(), Fail> {
+    let one = made_sample(&rt, rt.alloc())?;
+    compares(&rt, rt.alloc(), &one)
+}

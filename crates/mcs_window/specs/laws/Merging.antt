@@ -1,0 +1,17 @@
+-- The rows that each core makes alone, merged.
+use Rattle.std.specs.Prelude.{◌≡◌, ℕ, suc, List, map}
+use Rattle.std.specs.List.{range_with_len}
+use Rattle.mcs_ticks.specs.declared.row.Row.{Row}
+use Rattle.mcs_merge.specs.Merge.{merged}
+use Rattle.mcs_system.specs.System.{System}
+use Rattle.mcs_core.specs.Clock.{schedule}
+use Rattle.mcs_window.specs.Stretch.{rows_between}
+
+module _ (system : System) where
+  -- for each core the clock's rows of that core from moment 0 to the horizon
+  abbrev pub rows_of_cores : ℕ → List (List Row)
+  rows_of_cores horizon = map (λ c. rows_between system c 0 (suc horizon)) (range_with_len 0 system.cores)
+
+  -- merged they are the schedule
+  abbrev pub RowsMerge : Type 0
+  RowsMerge = (horizon : ℕ) → merged (rows_of_cores horizon) ≡ schedule system horizon

@@ -1,0 +1,4 @@
+pub mod Cores
+pub mod Views
+pub mod Opening
+pub mod Delivery

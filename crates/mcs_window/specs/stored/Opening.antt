@@ -1,0 +1,21 @@
+-- What each core has at the beginning: its first state, an empty box and no rows.
+use Rattle.std.specs.Prelude.{◌≡◌, ℕ, ◌<◌, List, [], length, slice_index_or, Vec}
+use Rattle.std.specs.declared.alloc.Global.{Global}
+use Rattle.mcs_ticks.specs.declared.row.Row.{Row}
+use Rattle.mcs_mail.specs.Box.{Content}
+use Rattle.mcs_system.specs.System.{System}
+use Rattle.mcs_core.specs.State.{State, Fits, opening_state}
+
+-- the first states of the cores below this number
+pub record AreOpening (system : System) (many : ℕ) (states : List State) : Type 0 where
+  pub many_are : length states ≡ many
+  pub each : (c : ℕ) (x : State) → c < many → slice_index_or states c x ≡ opening_state system c
+  pub fit : (c : ℕ) (x : State) → c < many → Fits system (slice_index_or states c x)
+
+pub record AreEmptyBoxes (many : ℕ) (boxes : List Content) : Type 0 where
+  pub many_are : length boxes ≡ many
+  pub each : (c : ℕ) (x : Content) → c < many → (slice_index_or boxes c x).mails ≡ []
+
+pub record AreEmptyRows (many : ℕ) (rows : List (Vec Row Global)) : Type 0 where
+  pub many_are : length rows ≡ many
+  pub each : (c : ℕ) (x : Vec Row Global) → c < many → (slice_index_or rows c x).items ≡ []
