@@ -25,7 +25,7 @@ loop-i-preserved c =
     let same : c.as_slice-thread-items.result.now ≡ ts = c.as_slice-thread-items.ensures in
     let l : c.loop-i.i < length ts = omega (arith, ap length same, c.loop-i-test.true) in
     let at : x ≡ get_or ts c.loop-i.i x = c.thread-item.is ∙ ap (λ xs. get_or xs c.loop-i.i x) same in
-    let own : c.eq.result ≡ (core_of c.args.system.now x == c.args.c) = c.eq.ensures ∙ ap (λ n. n == c.args.c) c.core_of.ensures in
+    let own : c.eq.result ≡ (core_of c.args.system.now x == c.args.c) = c.eq.ensures ∙ ap (λ n. n == c.args.c) c.core_of_thread.ensures in
     elim c.if-eq.branch [
       | then-eq w ↦ record {
         queue =

@@ -19,7 +19,7 @@ loop-order-preserved c =
     let same : c.as_slice-order-items.result.now ≡ all = c.as_slice-order-items.ensures in
     let l : i < length all = omega (arith, ap length same, c.loop-order-test.true) in
     let at : x ≡ get_or all i x = c.order-item.is ∙ ap (λ xs. get_or xs i x) same in
-    let own : c.eq.result ≡ is_for_core c.args.system.now c.args.c x = c.eq.ensures ∙ ap (λ n. n == c.args.c) c.core_of.ensures in
+    let own : c.eq.result ≡ is_for_core c.args.system.now c.args.c x = c.eq.ensures ∙ ap (λ n. n == c.args.c) c.core_of_context.ensures in
     let next = by_moment-next (is_for_core c.args.system.now c.args.c) all i x l at in
     elim c.if-eq.branch [
       | then-eq+in_ok-insert_order w ↦
