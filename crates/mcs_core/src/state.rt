@@ -1,15 +1,10 @@
-ghost use Rattle.std.specs.Prelude.{◌≡◌, ◌+◌, ◌^◌, ◌≤◌, ◌<◌, ◌++◌, true, false, OnOk, OnErr, IfOk, IsErr, IsTrue, ◌↔◌, All, None, length};
-ghost use Rattle.mcs_mail.specs.Box.{arriving, staying};
-ghost use Rattle.mcs_core.specs.Orders.{orders_of, to_come};
-ghost use Rattle.mcs_core.specs.Run.{stamped};
-ghost use Rattle.mcs_core.specs.Turn.{turn};
-ghost use Rattle.mcs_core.specs.stored.Sound.{IsSound};
-ghost use Rattle.mcs_core.specs.stored.Sound.Phase.{Between};
+ghost use Rattle.std.specs.Prelude.{◌≡◌, ◌+◌, ◌^◌, ◌≤◌, ◌<◌, ◌++◌, true, false, OnOk, OnErr, IfOk, IsErr, IsTrue, ◌↔◌, All};
 ghost use Rattle.mcs_core.specs.State.{Fits, IsExpected, opening_state, made_by, state_after};
 ghost use Rattle.mcs_core.specs.Views.{views_of};
 
 use crate::agenda::Agenda;
 use crate::local::Local;
+use crate::log::{Here, Log};
 use mcs_control::ContextView;
 use mcs_mail::{Mail, Mailbox};
 use mcs_system::System;
@@ -98,28 +93,30 @@ impl CoreState {
         rows: &mut Vec<Row>,
         signals: &mut Vec<Mail>,
     ) -> Result<(), NoMemory>
-        requires sound { IsSound system.now self.old.number self.old.clock Between None self.old.core }
-        requires planned { self.old.orders ≡ to_come self.old.clock (orders_of system.now self.old.number) }
-        requires known { All (λ mail. mail.note < length system.now.notes) mail.old.mails }
-        requires come { All (λ mail. self.old.clock ≤ mail.arrives) mail.old.mails }
-        requires soon { self.old.clock ≤ 2 ^ 40 }
-        ensures state { OnOk result (self.new ≡ record {
-          number = self.old.number;
-          clock = self.old.clock + 1;
-          core = (turn system.now self.old.number self.old.clock (arriving self.old.clock mail.old.mails) self.old.core).core;
-          orders = to_come (self.old.clock + 1) (orders_of system.now self.old.number);
-          failed = self.old.failed;
-        }) }
-        ensures sound { OnOk result (IsSound system.now self.old.number (self.old.clock + 1) Between None self.new.core) }
-        ensures rows { OnOk result (rows.new.items ≡ rows.old.items ++ stamped self.old.number self.old.clock (turn system.now self.old.number self.old.clock (arriving self.old.clock mail.old.mails) self.old.core).rows) }
-        ensures signals { OnOk result (signals.new.items ≡ signals.old.items ++ (turn system.now self.old.number self.old.clock (arriving self.old.clock mail.old.mails) self.old.core).mails) }
-        ensures mail { OnOk result (mail.new.mails ≡ staying self.old.clock mail.old.mails) }
+        requires going { self.old.failed ≡ false }
+        requires fits { Fits system.now self.old }
+        requires in_time { self.old.clock ≤ 2 ^ 40 }
+        requires expected { All (IsExpected system.now self.old) mail.old.mails }
+        ensures state { OnOk result
+            (self.new ≡ state_after self.old (self.old.clock + 1)
+            (made_by system.now self.old (self.old.clock + 1) mail.old.mails)) }
+        ensures rows { OnOk result
+            (rows.new.items ≡ rows.old.items ++ (made_by system.now self.old (self.old.clock + 1) mail.old.mails).rows) }
+        ensures signals { OnOk result
+            (signals.new.items ≡ signals.old.items ++ (made_by system.now self.old (self.old.clock + 1) mail.old.mails).mails) }
+        ensures mail { OnOk result
+            (mail.new.mails ≡ (made_by system.now self.old (self.old.clock + 1) mail.old.mails).box) }
+        ensures fits { OnOk result (Fits system.now self.new) }
         ensures kept { (self.new.number ≡ self.old.number) × (OnErr result (self.new.clock ≡ self.old.clock)) }
     {
-        let t = self.clock;
-        let c = self.number;
-        self.local.turn(system.parts(), c, t, &mut self.agenda, mail, rows, signals)?;
-        self.clock = t.plus(1).unwrap();
+        let here = Here {
+            system: system.parts(),
+            core: self.number,
+            moment: self.clock,
+        };
+        let mut log = Log { rows, signals };
+        self.local.turn(&here, &mut self.agenda, mail, &mut log)?;
+        self.clock = self.clock.plus(1).unwrap();
         Ok(())
     }
 
