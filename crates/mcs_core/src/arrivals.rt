@@ -44,7 +44,8 @@ impl Local {
         requires soon { here.now.moment ≤ 2 ^ 40 }
         ensures makes { OnOk result
             (Makes here.now
-            (each (arrives by_priority here.now.system.now here.now.moment) (arriving here.now.moment mail.old.mails) self.old)
+            (each (arrives by_priority here.now.system.now here.now.moment) (arriving here.now.moment mail.old.mails)
+            self.old)
             self.new log.old log.new) }
         ensures mail { OnOk result (mail.new.mails ≡ staying here.now.moment mail.old.mails) }
     {

@@ -1,15 +1,17 @@
-ghost use Rattle.std.specs.Prelude.{◌+◌, ◌^◌, ◌≤◌, OnOk, None};
+ghost use Rattle.std.specs.Prelude.{◌≡◌, ◌+◌, ◌^◌, ◌≤◌, ◌<◌, nat_lt, OnOk, None, length};
 ghost use Rattle.mcs_ticks.specs.Queue.{by_priority};
 ghost use Rattle.mcs_core.specs.Turn.{preempts, chooses};
 ghost use Rattle.mcs_core.specs.stored.Parts.{Makes};
 ghost use Rattle.mcs_core.specs.stored.Sound.{IsSound};
 ghost use Rattle.mcs_core.specs.stored.Sound.Phase.{PastTick};
+ghost use Rattle.mcs_system.specs.System.{thread_part};
 ghost use Rattle.mcs_system.specs.WellFormed.{IsWellFormed};
 
 use crate::local::Local;
 use crate::log::{Here, Log};
 use crate::{Chosen, Standing};
-use mcs_ticks::{NoMemory, What, Why};
+use mcs_system::SystemParts;
+use mcs_ticks::{NoMemory, ThreadId, What, Why};
 
 impl Local {
     /// A running thread gives way to a ready one of greater priority.
@@ -27,7 +29,7 @@ impl Local {
         let thread = chosen.thread;
         let used = chosen.using;
         if let Some(best) = self.best() {
-            if here.system.thread(thread).priority < best {
+            if gives_way(here.system, thread, best) {
                 self.charge(here.system, thread, used);
                 return self.stop_to_front(here, thread, Why::Preempt, used, log);
             }
@@ -51,4 +53,12 @@ impl Local {
         }
         Ok(())
     }
+}
+
+/// Whether a thread gives way to a ready one of this priority.
+fn gives_way(system: &SystemParts, thread: ThreadId, best: u8) -> bool
+    requires { thread < length system.now.threads }
+    ensures { result ≡ nat_lt (thread_part system.now thread).priority best }
+{
+    system.thread(thread).priority < best
 }

@@ -108,7 +108,8 @@ impl Contexts {
         Contexts { contexts }
     }
 
-    /// What there is to see of a context, if the core holds it. `NoMemory` is answered where the list of refills is refused.
+    /// What there is to see of a context, if the core holds it. `NoMemory` is answered where the list of refills is
+    /// refused.
     pub(crate) fn view(
         &self,
         alloc: Global,

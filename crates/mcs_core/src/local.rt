@@ -216,7 +216,8 @@ impl Local {
         requires part { thread < length system.now.threads }
         requires free { times_waiting thread self.old.notes ≡ 0 }
         ensures waited { result ≡ waited (note_of self.old note) }
-        ensures core { self.new ≡ with_note note (after_wait result (queued system.now thread) (note_of self.old note)) self.old }
+        ensures core { self.new
+            ≡ with_note note (after_wait result (queued system.now thread) (note_of self.old note)) self.old }
     {
         self.notes
             .wait(note, thread, system.thread(thread).priority)
@@ -295,7 +296,8 @@ impl Local {
         }
     }
 
-    /// What there is to see of a context, if the core holds it. `NoMemory` is answered where the list of refills is refused.
+    /// What there is to see of a context, if the core holds it. `NoMemory` is answered where the list of refills is
+    /// refused.
     pub(crate) fn view_context(
         &self,
         alloc: Global,
@@ -303,7 +305,8 @@ impl Local {
         in_use: u64,
     ) -> Result<Option<ContextView>, NoMemory>
         requires known { context < length self.now.contexts }
-        ensures { IfOk result (λ view. view ≡ option_map (view_of context in_use) (get_or self.now.contexts context None)) }
+        ensures { IfOk result
+            (λ view. view ≡ option_map (view_of context in_use) (get_or self.now.contexts context None)) }
     {
         self.contexts.view(alloc, context, in_use)
     }

@@ -1,10 +1,10 @@
 ghost use Rattle.std.specs.Prelude.{◌≡◌, ◌+◌, ◌^◌, ◌≤◌, OnOk, Some, None};
 ghost use Rattle.mcs_ticks.specs.Queue.{by_priority};
 ghost use Rattle.mcs_system.specs.System.{thread_part};
-ghost use Rattle.mcs_core.specs.Turn.{each, orders_running, obeys};
+ghost use Rattle.mcs_core.specs.Turn.{each, applied, charged, orders_running, obeys};
 ghost use Rattle.mcs_core.specs.Orders.{IsPlanned, ArePlanned, AreByMoment, due_now, to_come};
 ghost use Rattle.mcs_core.specs.stored.Parts.{Makes};
-ghost use Rattle.mcs_core.specs.stored.Sound.{IsSound};
+ghost use Rattle.mcs_core.specs.stored.Sound.{IsFree, IsSound};
 ghost use Rattle.mcs_core.specs.stored.Sound.Phase.{PastTick};
 ghost use Rattle.mcs_system.specs.WellFormed.{IsWellFormed};
 
@@ -16,6 +16,22 @@ use mcs_control::Order;
 use mcs_ticks::{NoMemory, What, Why};
 
 impl Local {
+    /// The thread that runs is charged, and then its context takes the order's configuration.
+    fn charge_and_apply(&mut self, here: &Here<'_>, order: Order, chosen: Chosen)
+        requires well_formed { IsWellFormed here.now.system.now }
+        requires sound { IsSound here.now.system.now here.now.core here.now.moment PastTick None self.old }
+        requires running { self.old.running ≡ Some chosen }
+        requires its { (thread_part here.now.system.now chosen.thread).context ≡ order.context }
+        requires planned { IsPlanned here.now.system.now here.now.core order }
+        requires soon { here.now.moment ≤ 2 ^ 40 }
+        ensures core { self.new
+            ≡ applied here.now.moment order (charged here.now.system.now chosen.thread chosen.using self.old) }
+        ensures free { IsFree here.now.system.now chosen.thread self.new }
+    {
+        self.charge(here.system, chosen.thread, chosen.using);
+        self.apply(here.moment, order);
+    }
+
     /// An order for the context of the thread that runs: the thread is charged, and stops.
     fn obey_running(
         &mut self,
@@ -37,8 +53,7 @@ impl Local {
     {
         let thread = chosen.thread;
         let used = chosen.using;
-        self.charge(here.system, thread, used);
-        self.apply(here.moment, order);
+        self.charge_and_apply(here, order, chosen);
         self.stop_to_front(here, thread, Why::Order, used, log)
     }
 

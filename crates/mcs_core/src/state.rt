@@ -12,8 +12,8 @@ use mcs_ticks::{CoreId, NoMemory, Row, Tick};
 use std::alloc::Global;
 use std::marker::Model;
 
-/// The state of one core between two turns: the moment whose turn is next, what stands on the core, and the orders that it is yet
-/// to obey. After a call was refused memory the state is spent.
+/// The state of one core between two turns: the moment whose turn is next, what stands on the core, and the orders that
+/// it is yet to obey. After a call was refused memory the state is spent.
 #[derive(Drop)]
 pub struct CoreState {
     number: CoreId,
@@ -28,12 +28,18 @@ impl Model for CoreState {
 
     ghost Value = { State };
 
-    ghost view = { λ a. record { number = a.number; clock = a.clock; core = a.local; orders = a.agenda; failed = a.failed } };
+    ghost view = { λ a. record {
+      number = a.number;
+      clock = a.clock;
+      core = a.local;
+      orders = a.agenda;
+      failed = a.failed;
+    } };
 }
 
 impl CoreState {
-    /// The first state of a core: each of its threads is pending with its start as date. `NoMemory` is answered where the room for
-    /// its threads, contexts, notifications or orders is refused; what a turn needs is made here.
+    /// The first state of a core: each of its threads is pending with its start as date. `NoMemory` is answered where
+    /// the room for its threads, contexts, notifications or orders is refused; what a turn needs is made here.
     pub fn new(alloc: Global, system: &System, core: CoreId) -> Result<Self, NoMemory>
         requires { core < system.now.cores }
         ensures state { IfOk result (λ state. state ≡ opening_state system.now core) }
@@ -51,8 +57,8 @@ impl CoreState {
         })
     }
 
-    /// What there is to see of the core's contexts, in file order, with the ticks in use of the thread that runs. `NoMemory` is
-    /// answered where a growth is refused, and by a state that is spent.
+    /// What there is to see of the core's contexts, in file order, with the ticks in use of the thread that runs.
+    /// `NoMemory` is answered where a growth is refused, and by a state that is spent.
     pub fn contexts(&self, alloc: Global, system: &System) -> Result<Vec<ContextView>, NoMemory>
         requires { Fits system.now self.now }
         ensures views { IfOk result (λ views. views.items ≡ views_of system.now self.now.core) }
@@ -101,9 +107,11 @@ impl CoreState {
             (self.new ≡ state_after self.old (self.old.clock + 1)
             (made_by system.now self.old (self.old.clock + 1) mail.old.mails)) }
         ensures rows { OnOk result
-            (rows.new.items ≡ rows.old.items ++ (made_by system.now self.old (self.old.clock + 1) mail.old.mails).rows) }
+            (rows.new.items
+            ≡ rows.old.items ++ (made_by system.now self.old (self.old.clock + 1) mail.old.mails).rows) }
         ensures signals { OnOk result
-            (signals.new.items ≡ signals.old.items ++ (made_by system.now self.old (self.old.clock + 1) mail.old.mails).mails) }
+            (signals.new.items
+            ≡ signals.old.items ++ (made_by system.now self.old (self.old.clock + 1) mail.old.mails).mails) }
         ensures mail { OnOk result
             (mail.new.mails ≡ (made_by system.now self.old (self.old.clock + 1) mail.old.mails).box) }
         ensures fits { OnOk result (Fits system.now self.new) }
@@ -120,9 +128,10 @@ impl CoreState {
         Ok(())
     }
 
-    /// Takes the turns from the clock up to, not including, moment `to`, with the mail of the box as arrivals. Rows are appended,
-    /// and so are the signals for other cores; mail that does not arrive stays in the box. Where memory is refused the state is
-    /// spent, and nothing is said of the box, the rows and the signals; a state that is spent refuses at once and changes nothing.
+    /// Takes the turns from the clock up to, not including, moment `to`, with the mail of the box as arrivals. Rows are
+    /// appended, and so are the signals for other cores; mail that does not arrive stays in the box. Where memory is
+    /// refused the state is spent, and nothing is said of the box, the rows and the signals; a state that is spent
+    /// refuses at once and changes nothing.
     pub fn run(
         &mut self,
         system: &System,
@@ -134,14 +143,18 @@ impl CoreState {
         requires fits { Fits system.now self.old }
         requires in_time { to ≤ 2 ^ 40 + 1 }
         requires expected { All (IsExpected system.now self.old) mail.old.mails }
-        ensures state { OnOk result (self.new ≡ state_after self.old to (made_by system.now self.old to mail.old.mails)) }
-        ensures rows { OnOk result (rows.new.items ≡ rows.old.items ++ (made_by system.now self.old to mail.old.mails).rows) }
-        ensures signals { OnOk result (signals.new.items ≡ signals.old.items ++ (made_by system.now self.old to mail.old.mails).mails) }
+        ensures state { OnOk result
+            (self.new ≡ state_after self.old to (made_by system.now self.old to mail.old.mails)) }
+        ensures rows { OnOk result
+            (rows.new.items ≡ rows.old.items ++ (made_by system.now self.old to mail.old.mails).rows) }
+        ensures signals { OnOk result
+            (signals.new.items ≡ signals.old.items ++ (made_by system.now self.old to mail.old.mails).mails) }
         ensures mail { OnOk result (mail.new.mails ≡ (made_by system.now self.old to mail.old.mails).box) }
         ensures fits { Fits system.now self.new }
         ensures failed { OnErr result (self.new.failed ≡ true) }
         ensures going { OnOk result (self.old.failed ≡ false) }
-        ensures spent { self.old.failed ≡ true → (self.new ≡ self.old) × (rows.new ≡ rows.old) × (signals.new ≡ signals.old) × (mail.new ≡ mail.old) }
+        ensures spent { self.old.failed ≡ true →
+            (self.new ≡ self.old) × (rows.new ≡ rows.old) × (signals.new ≡ signals.old) × (mail.new ≡ mail.old) }
     {
         if self.failed {
             return Err(NoMemory);

@@ -12,7 +12,8 @@ use crate::log::{Here, Log};
 use mcs_ticks::{NoMemory, ThreadId, Tick, What, Why};
 
 impl Local {
-    /// The running thread leaves the core for the back of the ready queue, or for the release queue with the date that is answered.
+    /// The running thread leaves the core for the back of the ready queue, or for the release queue with the date that
+    /// is answered.
     fn leave_to_back(&mut self, here: &Here<'_>, thread: ThreadId) -> Option<Tick>
         requires { IsFree here.now.system.now thread self.old }
         ensures until { result ≡ date_of here.now.system.now here.now.moment thread self.old }
@@ -25,7 +26,8 @@ impl Local {
         until
     }
 
-    /// The running thread leaves the core for the front of the ready queue, or for the release queue with the date that is answered.
+    /// The running thread leaves the core for the front of the ready queue, or for the release queue with the date that
+    /// is answered.
     fn leave_to_front(&mut self, here: &Here<'_>, thread: ThreadId) -> Option<Tick>
         requires { IsFree here.now.system.now thread self.old }
         ensures until { result ≡ date_of here.now.system.now here.now.moment thread self.old }
@@ -77,8 +79,8 @@ impl Local {
         log.tell(here, stopped(thread, why, ticks, until))
     }
 
-    /// The running thread, whose context has been charged, stops, and goes to the front of the ready queue, or into the release
-    /// queue.
+    /// The running thread, whose context has been charged, stops, and goes to the front of the ready queue, or into the
+    /// release queue.
     pub(crate) fn stop_to_front(
         &mut self,
         here: &Here<'_>,

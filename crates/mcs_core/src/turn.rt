@@ -14,7 +14,8 @@ use mcs_mail::Mailbox;
 use mcs_ticks::NoMemory;
 
 impl Local {
-    /// The whole turn of a core at a moment: it costs what happens in it, however many threads, contexts and orders there are.
+    /// The whole turn of a core at a moment: it costs what happens in it, however many threads, contexts and orders
+    /// there are.
     pub(crate) fn turn(
         &mut self,
         here: &Here<'_>,
