@@ -32,7 +32,8 @@ module _ (system : System) where
 -- the clock with the ready threads kept by this discipline
 module _ (queue : Discipline) (system : System) where
   abbrev pub turn_at_with : ℕ → ℕ → World → Turn
-  turn_at_with t c world = turn_with queue system c t (filter (arrives_at system t c) world.mails) (core_at system world c)
+  turn_at_with t c world =
+      turn_with queue system c t (filter (arrives_at system t c) world.mails) (core_at system world c)
 
   -- core c takes its turn at t: the signals that arrive are taken, and those that it makes join
   abbrev pub takes_turn_with : ℕ → Clock → ℕ → Clock
