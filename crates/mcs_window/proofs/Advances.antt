@@ -101,17 +101,17 @@ module _ (system : System) (well : IsWellFormed system) where
             let j = reached d q g in
             let k : delay_between system d b ≡ delay_between system d c = ap (λ m. delay_between system d m) e.1 in
             omega arith)
-        | inr e ↦ (let f = later_other b e.1 in let g = here.reached b d p q other in let i = rises l d q in omega arith)
+        | inr e ↦ (let f = later_other b e.1 in let g = (here b state box p).reached d q other in let i = rises l d q in omega arith)
       ]
 
       states_later : (b : ℕ) (x : State) → b < system.cores → StandsAt system b (slice_index later b) (get_or (set states c state) b x)
       states_later b x p = elim (eqb_tells b c) [
         | inl e ↦ rw (e.1, later_same) (subst (StandsAt system c to) (sym (get_or-set_same states c state x (omega arith))) stands)
-        | inr e ↦ rw (later_other b e.1) (subst (StandsAt system b (slice_index front b)) (sym (get_or-set_other states c b state x e.1)) (here.states_are b x p))
+        | inr e ↦ rw (later_other b e.1) (subst (StandsAt system b (slice_index front b)) (sym (get_or-set_other states c b state x e.1)) (here b x box p).state_is)
       ]
 
       reached_here : (b : ℕ) → b < system.cores → NothingArrivesBefore system b (slice_index front b) front
-      reached_here b p d q other = here.reached b d p q other
+      reached_here b p = (here b state box p).reached
 
       box_own : (x : Content) → (get_or full c x).mails ≡ inbox system c to later
       box_own x =
@@ -124,7 +124,7 @@ module _ (system : System) (well : IsWellFormed system) where
       box_other b x p e =
           delivered.each b x (omega (arith, length-set boxes c box))
           ∙ ap (λ (y : Content). put_all (filter (is_home system b) (signals_from system front later)) y.mails) (get_or-set_other boxes c b box x e)
-          ∙ ap (put_all (filter (is_home system b) (signals_from system front later))) (here.boxes_are b x p)
+          ∙ ap (put_all (filter (is_home system b) (signals_from system front later))) (here b state x p).box_is
           ∙ inbox-delivered system takes_time b (slice_index front b) front later (rises l) (reached_here b p)
 
       boxes_later : (b : ℕ) (x : Content) → b < system.cores → (get_or full b x).mails ≡ inbox system b (slice_index later b) later
@@ -134,7 +134,7 @@ module _ (system : System) (well : IsWellFormed system) where
       ]
 
       pub here_later : AreHere system later (set states c state) full
-      here_later = record { reached = reached_later; states_are = states_later; boxes_are = boxes_later }
+      here_later b x y p = record { reached = λ d q other. reached_later b d p q other; state_is = states_later b x p; box_is = boxes_later b y p }
 
     -- the clocks, and the rows since the last taking
     module _ (horizon : ℕ) (taken : List ℕ) (rows : List (Vec Row Global)) (kept : AreKept system horizon front taken rows) (h : c < system.cores) (l : slice_index front c ≤ to) (in_time : to ≤ horizon + 1)
