@@ -19,5 +19,3 @@ mod threads;
 mod told;
 #[cfg(test)]
 mod turns;
-#[cfg(test)]
-mod well_formed;
