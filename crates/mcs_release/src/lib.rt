@@ -5,8 +5,6 @@
 mod dated;
 mod laws;
 mod releases;
-#[cfg(test)]
-mod tests;
 
 pub use dated::Dated;
 pub use laws::equal_dates_leave_in_order;

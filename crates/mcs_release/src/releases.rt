@@ -176,27 +176,3 @@ pub fn held_once(releases: &Releases)
 {
     let _ = &releases.room;
 }
-
-#[cfg(test)]
-impl Releases {
-    /// Whether `x` is held, by a look at every place.
-    pub(crate) fn holds(&self, x: ThreadId) -> bool
-        ensures { result ≡ is_held x self.now.queue }
-    {
-        holds_in(&self.places, x)
-    }
-}
-
-#[cfg(test)]
-fn holds_in(places: &[Option<Dated>], x: ThreadId) -> bool
-    ensures { result ≡ is_held x (entered places.now) }
-{
-    for place in places {
-        if let Some(entry) = place {
-            if entry.thread == x {
-                return true;
-            }
-        }
-    }
-    false
-}
