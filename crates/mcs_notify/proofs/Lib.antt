@@ -1,5 +1,5 @@
-pub mod Places
-pub mod Waiters
-pub mod Views
-pub mod Steps
+pub mod Best
+pub mod Kept
+pub mod Lines
+pub mod Times
 mod Worked

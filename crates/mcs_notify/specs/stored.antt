@@ -1,1 +1,1 @@
-pub mod Waiters
+pub mod Lines

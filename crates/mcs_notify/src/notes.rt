@@ -1,34 +1,26 @@
-ghost use Rattle.std.specs.Prelude.{◌≡◌, ◌≢◌, ◌<◌, ◌≤◌, false, length, replicate, set, IfOk, MatchOption, vec_capacity, []};
-ghost use Rattle.mcs_ticks.specs.Queue.{first_of_greatest};
-ghost use Rattle.mcs_notify.specs.Note.{Notifications, quiet_note, note_of, with_note, is_waiting, posted, after_post, waited, after_wait};
-ghost use Rattle.mcs_notify.specs.stored.Waiters.{waiters_of, IsBest, BestLeaves, better};
+ghost use Rattle.std.specs.Prelude.{◌≡◌, ◌<◌, false, length, replicate, IfOk};
+ghost use Rattle.mcs_notify.specs.Note.{quiet_note, note_of, with_note, is_waiting, posted, after_post, waited, after_wait};
 
+use crate::line::{Line, Place};
 use crate::posted::{Posted, Waited};
-use mcs_ticks::{NoMemory, NoteId, Queued, ThreadId};
+use mcs_ticks::{NoMemory, NoteId, ThreadId};
 use std::alloc::Global;
 use std::marker::Model;
 
-/// The word of a notification, and how many threads wait on it.
-#[derive(Clone, Copy, Debug, PartialEq, Eq)]
+/// The word of a notification, and its waiters.
+#[derive(Clone, Copy, Debug)]
 struct Kept {
     word: u32,
-    waiters: usize,
-}
-
-/// A thread that waits, and on which notification.
-#[derive(Clone, Copy, Debug, PartialEq, Eq)]
-struct Waiting {
-    note: NoteId,
-    thread: Queued,
+    line: Line,
 }
 
 /// The notifications of a system: words, and the threads that wait on them. Contracts see a list of notes, by number, and how many
-/// threads there are. All threads that wait stand in one list, in the order in which they began to wait.
+/// threads there are. Each notification has a line of its waiters, and each thread one place, in which it names the one behind it.
 #[derive(Debug, Drop)]
 pub struct Notes {
     notes: Vec<Kept>,
-    waiting: Vec<Waiting>,
-    threads: usize,
+    // a place for each thread
+    places: Vec<Place>,
 }
 
 impl Model for Notes {
@@ -36,12 +28,11 @@ impl Model for Notes {
 
     ghost Value = { Notifications };
 
-    ghost use Rattle.std.specs.Prelude.{vec_capacity};
-    ghost use Rattle.mcs_notify.specs.stored.Waiters.{seen_as, IsKept};
+    ghost use Rattle.mcs_notify.specs.stored.Lines.{seen_as, IsKept};
 
-    ghost view = { λ a. seen_as a.notes.items a.waiting.items a.threads };
+    ghost view = { λ a. seen_as a.notes.items a.places.items };
 
-    ghost invariant = { λ a. IsKept a.notes.items a.waiting.items a.threads (vec_capacity a.waiting) };
+    ghost invariant = { λ a. IsKept a.notes.items a.places.items };
 }
 
 impl Notes {
@@ -51,30 +42,28 @@ impl Notes {
     {
         let quiet = Kept {
             word: 0,
-            waiters: 0,
+            line: Line::EMPTY,
         };
         Ok(Notes {
             notes: vec![in alloc; quiet; notes]?,
-            waiting: Vec::with_capacity(alloc, threads)?,
-            threads,
+            places: vec![in alloc; Place::NONE; threads]?,
         })
     }
 
     /// Posts a badge: the waiter of greatest priority, of these the longest waiting, is woken with the badge, or, where no thread
-    /// waits, the badge is ORed into the word. Constant time where no thread waits.
+    /// waits, the badge is ORed into the word. Goes once through the waiters of this notification: constant time where there is none.
     pub fn post(&mut self, note: NoteId, badge: u32) -> Posted
         requires { note < length self.old.notes }
         ensures posted { result ≡ posted badge (note_of self.old.notes note) }
         ensures note { self.new ≡ with_note note (after_post result (note_of self.old.notes note)) self.old }
     {
         let kept = &mut self.notes[note.0];
-        if kept.waiters == 0 {
+        if kept.line.is_empty() {
             kept.word |= badge;
             return Posted::Held(kept.word);
         }
-        kept.waiters -= 1;
-        let woken = take_best(&mut self.waiting, note);
-        Posted::Woke(woken.thread, badge)
+        let woken = kept.line.pop_best(&mut self.places);
+        Posted::Woke(woken, badge)
     }
 
     /// Waits for a word: a word that is not 0 is taken, and at word 0 the thread joins the waiters. The thread is not waiting on
@@ -92,10 +81,7 @@ impl Notes {
             kept.word = 0;
             return Waited::Got(word);
         }
-        kept.waiters += 1;
-        let thread = Queued { thread, priority };
-        let pushed = self.waiting.push(Waiting { note, thread });
-        prove!(pushed.is_ok());
+        kept.line.push_back(&mut self.places, thread, priority);
         Waited::Blocks
     }
 
@@ -105,44 +91,5 @@ impl Notes {
         ensures { result ≡ (note_of self.now.notes note).word }
     {
         self.notes[note.0].word
-    }
-}
-
-// Takes the waiter of greatest priority, of these the longest waiting, out of the list.
-fn take_best(waiting: &mut Vec<Waiting>, note: NoteId) -> Queued
-    requires { waiters_of note waiting.old.items ≢ [] }
-    ensures best { BestLeaves note waiting.old.items result waiting.new.items }
-    ensures room { vec_capacity waiting.new ≡ vec_capacity waiting.old }
-{
-    let best = best_of(waiting, note);
-    prove!(best.is_some());
-    match best {
-        Some((place, thread)) => {
-            waiting.remove(place);
-            thread
-        }
-        None => unreachable!(),
-    }
-}
-
-// The place in the list, and the thread, of that waiter.
-fn best_of(waiting: &[Waiting], note: NoteId) -> Option<(usize, Queued)>
-    ensures { IsBest note waiting.now (waiters_of note waiting.now) result }
-{
-    let mut best: Option<(usize, Queued)> = None;
-    for (place, one) in waiting.iter().enumerate() {
-        if one.note == note {
-            best = Some(better(best, (place, one.thread)));
-        }
-    }
-    best
-}
-
-fn better(best: Option<(usize, Queued)>, next: (usize, Queued)) -> (usize, Queued)
-    ensures { result ≡ better best next }
-{
-    match best {
-        Some(first) if next.1.priority <= first.1.priority => first,
-        _ => next,
     }
 }

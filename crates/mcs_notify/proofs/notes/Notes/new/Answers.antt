@@ -1,15 +1,16 @@
-use Rattle.std.proofs.Common.{refl, ap}
-use Rattle.mcs_notify.proofs.Views.{notes_from-replicate, counted-replicate}
+use Rattle.std.proofs.Common.{◌≡◌, replicate, rules}
+use Rattle.std.proofs.lemmas.List.{length-replicate}
+use Rattle.mcs_notify.specs.stored.Lines.{quiet, no_place}
+use Rattle.mcs_notify.proofs.Kept.{new-kept, new-note}
 use Rattle.mcs_notify.proofs.notes.Notes.new.Goals as goal
 
 pub invariant_of-result : goal.invariant_of-result
 invariant_of-result c =
-    let e = c.in_ok-vec.ensures.items_if_clones_equal (λ y h. h) in
-    rw (e, c.in_ok-with_capacity.ensures.items)
-    (record { counted = counted-replicate c.args.notes 0 (record { word = 0; waiters = 0 }) refl; each = tt; room_for_all = c.in_ok-with_capacity.ensures.capacity })
+    let notes : c.in_ok-vec.field-0.items ≡ replicate c.args.notes quiet = c.in_ok-vec.ensures.items_if_clones_equal (search rules) in
+    rw notes (new-kept c.args.notes _)
 
 pub returns : goal.returns
 returns c =
-    let e = c.in_ok-vec.ensures.items_if_clones_equal (λ y h. h) in
-    rw (e, c.in_ok-with_capacity.ensures.items)
-    (ap (λ ns. record { notes = ns; threads = c.args.threads }) (notes_from-replicate c.args.notes 0 (record { word = 0; waiters = 0 }) refl))
+    let notes : c.in_ok-vec.field-0.items ≡ replicate c.args.notes quiet = c.in_ok-vec.ensures.items_if_clones_equal (search rules) in
+    let places : c.in_ok-vec-2.field-0.items ≡ replicate c.args.threads no_place = c.in_ok-vec-2.ensures.items_if_clones_equal (search rules) in
+    rw (notes, places) (new-note c.args.notes (replicate c.args.threads no_place) c.args.threads (length-replicate c.args.threads no_place))

@@ -1,0 +1,127 @@
+ghost use Rattle.std.specs.Prelude.{◌≡◌, ℕ, ◌+◌, ◌<◌, ◌==◌, ◌^◌, length};
+ghost use Rattle.mcs_notify.specs.stored.Lines.{IsBest, BestLeaves, nth, place_of, with_back, before_back, joined, without_waiter, unlinked};
+
+use mcs_ticks::ThreadId;
+
+/// The place of a thread: where it waits, its priority, and the thread behind it in its line. It means nothing where the thread
+/// waits nowhere, and the last of a line has no thread behind it.
+#[derive(Clone, Copy, Debug)]
+pub(crate) struct Place {
+    behind: ThreadId,
+    priority: u8,
+}
+
+/// The waiters of one notification, in order of beginning to wait: the first and the last of them, and how many there are. With
+/// none the other two mean nothing.
+#[derive(Clone, Copy, Debug)]
+pub(crate) struct Line {
+    first: ThreadId,
+    last: ThreadId,
+    len: usize,
+}
+
+/// A waiter, and the one before it, or itself where it is the first.
+#[derive(Clone, Copy, Debug)]
+struct Waiter {
+    before: ThreadId,
+    thread: ThreadId,
+}
+
+impl Place {
+    /// The place of a thread that waits nowhere.
+    pub(crate) const NONE: Place = Place {
+        behind: ThreadId(0),
+        priority: 0,
+    };
+}
+
+impl Line {
+    /// No waiter.
+    pub(crate) const EMPTY: Line = Line {
+        first: ThreadId(0),
+        last: ThreadId(0),
+        len: 0,
+    };
+
+    /// Whether no thread waits.
+    pub(crate) fn is_empty(&self) -> bool
+        ensures { result ≡ (self.now.len == 0) }
+    {
+        self.len == 0
+    }
+
+    /// Puts a thread behind the last waiter.
+    pub(crate) fn push_back(&mut self, places: &mut [Place], thread: ThreadId, priority: u8)
+        requires room { self.old.len + 1 < 2 ^ 64 }
+        requires thread { thread < length places.old }
+        requires before { before_back thread self.old < length places.old }
+        ensures line { self.new ≡ with_back thread self.old }
+        ensures places { places.new ≡ joined thread priority self.old places.old }
+    {
+        let before = if self.len == 0 { thread } else { self.last };
+        places[thread.0] = Place {
+            behind: thread,
+            priority,
+        };
+        places[before.0].behind = thread;
+        if self.len == 0 {
+            self.first = thread;
+        }
+        self.last = thread;
+        self.len += 1;
+    }
+
+    /// Takes the waiter of greatest priority out, of these the longest waiting, in one walk over the line.
+    pub(crate) fn pop_best(&mut self, places: &mut [Place]) -> ThreadId
+        requires some { 0 < self.old.len }
+        requires within { (k : ℕ) → k < self.old.len → nth places.old self.old.first k < length places.old }
+        ensures { BestLeaves places.old self.old result places.new self.new }
+    {
+        let best = self.best(places);
+        self.remove(places, &best);
+        best.thread
+    }
+
+    /// The waiter of greatest priority, of these the longest waiting.
+    fn best(&self, places: &[Place]) -> Waiter
+        requires some { 0 < self.now.len }
+        requires within { (k : ℕ) → k < self.now.len → nth places.now self.now.first k < length places.now }
+        ensures { IsBest places.now self.now.first self.now.len result }
+    {
+        let mut best = self.first;
+        let mut before = self.first;
+        let mut last = self.first;
+        let mut next = places[last.0].behind;
+        for _ in 1..self.len {
+            if places[next.0].priority > places[best.0].priority {
+                best = next;
+                before = last;
+            }
+            last = next;
+            next = places[next.0].behind;
+        }
+        Waiter {
+            before,
+            thread: best,
+        }
+    }
+
+    /// Takes a waiter out.
+    fn remove(&mut self, places: &mut [Place], one: &Waiter)
+        requires some { 0 < self.old.len }
+        requires thread { one.now.thread < length places.old }
+        requires before { one.now.before < length places.old }
+        ensures line { self.new ≡ without_waiter one.now (place_of places.old one.now.thread).behind self.old }
+        ensures places { places.new ≡ unlinked one.now places.old }
+    {
+        let behind = places[one.thread.0].behind;
+        places[one.before.0].behind = behind;
+        if one.thread == self.first {
+            self.first = behind;
+        }
+        if one.thread == self.last {
+            self.last = one.before;
+        }
+        self.len -= 1;
+    }
+}
