@@ -1,12 +1,12 @@
+//! Cores that go ahead of one another, as far as they may.
 ghost use Rattle.std.specs.Prelude.{◌≡◌, ◌<◌, ◌≤◌, ◌^◌, All, IfOk};
 ghost use Rattle.mcs_merge.specs.Merge.{DoNotFall};
 
-use super::sketch::{Sketch, tick, told};
-use super::whole::{early, signals, two_makers};
-use mcs_system::System;
+use super::systems::{IDLE, SIGNALS, TWO_MAKERS, moment, system};
 use mcs_merge::merge;
+use mcs_system::System;
 use mcs_team::simulate_alone;
-use mcs_ticks::{CoreId, NoMemory, Row};
+use mcs_ticks::{CoreId, NoMemory, Row, Tick};
 use mcs_window::{Cores, StepFault};
 use std::alloc::Global;
 use std::process::Abort;
@@ -52,33 +52,49 @@ fn step_at_random(cores: &mut Cores, many: usize, seed: usize) -> usize
     steps
 }
 
-fn agrees(
+// The rows of all cores, merged, after steps up to the horizon.
+fn rows_of_steps(
     rt: &impl Abort,
     alloc: Global,
     system: Arc<System>,
-    horizon: u64,
+    horizon: Tick,
     seed: usize,
-) -> Result<(), Fail> {
-    let horizon = early(tick(horizon)?)?;
+) -> Result<Vec<Row>, Fail>
+    requires { horizon ≤ 2 ^ 40 }
+{
     let many = system.parts().cores;
-    let mut cores = Cores::new(alloc, Arc::try_clone(&system)?, horizon)?;
+    let mut cores = Cores::new(alloc, system, horizon)?;
     let steps = step_at_random(&mut cores, many, seed);
     assert_eq!(rt; steps as u64, (horizon.get() + 1) * many as u64);
     let lists = taken(alloc, &mut cores, many)?;
-    let merged = merge(alloc, lists)?;
-    let whole = simulate_alone(alloc, system, horizon)?;
-    let text = told(alloc, merged.as_slice())?;
-    assert_eq!(rt; text.as_str(), told(alloc, whole.rows.as_slice())?.as_str());
+    Ok(merge(alloc, lists)?)
+}
+
+fn agrees(
+    rt: &impl Abort,
+    alloc: Global,
+    system: &Arc<System>,
+    horizon: Tick,
+    schedule: &[Row],
+) -> Result<(), Fail>
+    requires { horizon ≤ 2 ^ 40 }
+{
+    for seed in 0..8 {
+        let rows = rows_of_steps(rt, alloc, Arc::try_clone(system)?, horizon, seed)?;
+        assert!(rt; rows.as_slice() == schedule);
+    }
     Ok(())
 }
 
 #[test]
 fn any_safe_order_gives_the_schedule(rt: HostRuntime) -> Result<(), Fail> {
     let alloc = rt.alloc();
-    for seed in 0..8 {
-        agrees(&rt, alloc, signals(alloc)?, 12, seed)?;
-        agrees(&rt, alloc, two_makers(alloc, 2)?, 10, 100 + seed)?;
-        agrees(&rt, alloc, two_makers(alloc, 1)?, 10, 200 + seed)?;
+    for text in [SIGNALS, TWO_MAKERS] {
+        let system = system(alloc, text)?;
+        let horizon = moment(40)?;
+        let whole = simulate_alone(alloc, Arc::try_clone(&system)?, horizon)?;
+        assert!(rt; whole.rows.len() > 10);
+        agrees(&rt, alloc, &system, horizon, whole.rows.as_slice())?;
     }
     Ok(())
 }
@@ -86,10 +102,9 @@ fn any_safe_order_gives_the_schedule(rt: HostRuntime) -> Result<(), Fail> {
 #[test]
 fn safe_steps(rt: HostRuntime) -> Result<(), Fail> {
     let alloc = rt.alloc();
-    let system = signals(alloc)?;
-    let many = system.parts().cores;
-    assert_eq!(rt; many, 2);
-    let mut cores = Cores::new(alloc, system, early(tick(7)?)?)?;
+    let system = system(alloc, SIGNALS)?;
+    assert_eq!(rt; system.parts().cores, 2);
+    let mut cores = Cores::new(alloc, system, moment(7)?)?;
     assert_eq!(rt; step(&mut cores, 0), Ok(()));
     assert_eq!(rt; step(&mut cores, 0), Ok(()));
     assert_eq!(rt; step(&mut cores, 0), Ok(()));
@@ -102,10 +117,9 @@ fn safe_steps(rt: HostRuntime) -> Result<(), Fail> {
 #[test]
 fn no_step_after_the_horizon(rt: HostRuntime) -> Result<(), Fail> {
     let alloc = rt.alloc();
-    let system = Sketch::new(alloc).system(2, 1)?;
-    let many = system.parts().cores;
-    assert_eq!(rt; many, 2);
-    let mut cores = Cores::new(alloc, system, early(tick(1)?)?)?;
+    let system = system(alloc, IDLE)?;
+    assert_eq!(rt; system.parts().cores, 2);
+    let mut cores = Cores::new(alloc, system, moment(1)?)?;
     assert_eq!(rt; step(&mut cores, 0), Ok(()));
     assert_eq!(rt; step(&mut cores, 1), Ok(()));
     assert_eq!(rt; step(&mut cores, 1), Ok(()));
