@@ -1,6 +1,6 @@
 ghost use Rattle.std.specs.Prelude.{◌≡◌, [], ◌∷◌, ◌++◌, OnOk, OnErr, decimal, flat_map};
 ghost use Rattle.std.specs.Io.{StartsWith};
-ghost use Rattle.mcs_cli.specs.Text.{after, core_line, reports_text, thread_line};
+ghost use Rattle.mcs_text.specs.Text.{after, core_line, reports_text, thread_line};
 
 use crate::line::{append_counted, append_number, append_word};
 use crate::names::thread_name;

@@ -1,7 +1,7 @@
 use Rattle.std.proofs.Common.{◌≡◌, ◌++◌, ◌∷◌, [], drop, flat_map, decimal}
 use Rattle.std.specs.Io.{StartsWith}
-use Rattle.mcs_cli.specs.Text.{after}
-use Rattle.mcs_cli.proofs.report.append_counts.Given as goal
+use Rattle.mcs_text.specs.Text.{after}
+use Rattle.mcs_text.proofs.report.append_counts.Given as goal
 
 abbrev pub invariant-loop-word : goal.invariant-loop-word
 invariant-loop-word l = record {

@@ -1,6 +1,6 @@
 ghost use Rattle.std.specs.Prelude.{◌≡◌, ◌++◌, ◌∷◌, [], OnOk, decimal};
 ghost use Rattle.std.specs.Io.{StartsWith};
-ghost use Rattle.mcs_cli.specs.Text.{after};
+ghost use Rattle.mcs_text.specs.Text.{after};
 
 use itoa::Buffer;
 use mcs_ticks::NoMemory;

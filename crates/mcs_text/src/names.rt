@@ -1,5 +1,5 @@
 ghost use Rattle.std.specs.Prelude.{◌≡◌};
-ghost use Rattle.mcs_cli.specs.Text.{context_name, note_name, thread_name};
+ghost use Rattle.mcs_text.specs.Text.{context_name, note_name, thread_name};
 
 use mcs_system::System;
 use mcs_ticks::{ContextId, NoteId, ThreadId};

@@ -1,7 +1,7 @@
 use Rattle.std.proofs.Common.{◌≡◌, ◌++◌, drop}
 use Rattle.std.specs.Io.{StartsWith}
-use Rattle.mcs_cli.specs.Text.{core_lines, reports_text, thread_lines}
-use Rattle.mcs_cli.proofs.report.append_reports.Given as goal
+use Rattle.mcs_text.specs.Text.{core_lines, reports_text, thread_lines}
+use Rattle.mcs_text.proofs.report.append_reports.Given as goal
 
 abbrev pub invariant-loop-thread : goal.invariant-loop-thread
 invariant-loop-thread l = record {

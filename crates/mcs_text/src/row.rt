@@ -1,6 +1,6 @@
 ghost use Rattle.std.specs.Prelude.{◌≡◌, ◌++◌, ◌∷◌, [], OnOk, OnErr, decimal};
 ghost use Rattle.std.specs.Io.{StartsWith};
-ghost use Rattle.mcs_cli.specs.Text.{after, row_text, until_words, why_word, words_of, note_name as note_name_of, thread_name as thread_name_of};
+ghost use Rattle.mcs_text.specs.Text.{after, row_text, until_words, why_word, words_of, note_name as note_name_of, thread_name as thread_name_of};
 
 use crate::line::{append_counted, append_named, append_number, append_word};
 use crate::names::{context_name, note_name, thread_name};
