@@ -37,7 +37,7 @@ abbrev pub new_context : Config → ℕ → Context
 new_context config at = record { config = config; budget = first_budget (kind_of config) at config.budget }
 
 abbrev pub budget_charged : ℕ → ℕ → Config → Budget → Budget
-budget_charged k min_budget config (Dates dates) = Dates (server.with_enough min_budget (server.charged k config.period (max_refills_of config) dates))
+budget_charged k min_budget config (Dates dates) = Dates (server.charged_with_enough k min_budget config.period (max_refills_of config) dates)
 budget_charged k min_budget config (Slice left) = Slice (slice_charged k config.budget left)
 
 -- charged k ticks

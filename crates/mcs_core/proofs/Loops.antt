@@ -10,8 +10,7 @@ use Rattle.mcs_mail.specs.declared.mail.Mail.{Mail}
 use Rattle.mcs_mail.specs.Box.{due, without_due, arriving}
 use Rattle.mcs_system.specs.System.{System}
 use Rattle.mcs_core.specs.Core.{Core}
-use Rattle.mcs_core.specs.Turn.{Turn, silent, ◌followed_by◌}
-use Rattle.mcs_core.specs.Run.{stamped}
+use Rattle.mcs_core.specs.Turn.{stamped, Turn, silent, ◌followed_by◌}
 use Rattle.mcs_core.specs.declared.log.Here.{Here}
 use Rattle.mcs_core.specs.declared.log.Log.{Log}
 use Rattle.mcs_core.specs.stored.Parts.{Makes}

@@ -12,8 +12,8 @@ use Rattle.mcs_system.specs.System.{System, note_part}
 use Rattle.mcs_core.specs.Core.{Core}
 use Rattle.mcs_core.specs.Orders.{to_come}
 use Rattle.mcs_core.specs.State.{State, IsExpected, made_by, state_after}
-use Rattle.mcs_core.specs.Turn.{turn}
-use Rattle.mcs_core.specs.Run.{Ran, ran, with_turn, stamped}
+use Rattle.mcs_core.specs.Turn.{stamped, turn}
+use Rattle.mcs_core.specs.Run.{Ran, ran, with_turn}
 
 -- mail that stays arrives later
 pub later-staying : (t : ℕ) (mails : List Mail) → All (λ (mail : Mail). t ≤ mail.arrives) mails → All (λ (mail : Mail). t + 1 ≤ mail.arrives) (staying t mails)

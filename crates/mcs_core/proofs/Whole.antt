@@ -32,12 +32,12 @@ pub whole-turn : (here : Here) (mails : List Mail) (orders : List Order) (c0 c1 
     orders ≡ filter (is_for_now system here.core t) system.orders →
     Makes here (tick by_priority system here.core t c0) c1 l0 l1 → Makes here (each (arrives by_priority system t) mails c1) c2 l1 l2 →
     Makes here (each (obeys by_priority system t) orders c2) c3 l2 l3 → Makes here (releases by_priority system t c3) c4 l3 l4 →
-    Makes here (preempts by_priority system t c4) c5 l4 l5 → Makes here (chooses by_priority c5) c6 l5 l6 →
+    Makes here (preempts by_priority system t c4) c5 l4 l5 → Makes here (chooses by_priority system t c5) c6 l5 l6 →
     Makes here (turn system here.core t mails c0) c6 l0 l6
 whole-turn here mails orders c0 c1 c2 c3 c4 c5 c6 l0 l1 l2 l3 l4 l5 l6 e ticked arrived obeyed released preempted chosen =
     let system = here.system.now in
     let t = here.moment in
-    then-makes here _ (chooses by_priority) c5 c6 l0 l5 l6
+    then-makes here _ (chooses by_priority system t) c5 c6 l0 l5 l6
     (then-makes here _ (preempts by_priority system t) c4 c5 l0 l4 l5
     (then-makes here _ (releases by_priority system t) c3 c4 l0 l3 l4
     (then-makes here _ (each (obeys by_priority system t) (filter (is_for_now system here.core t) system.orders)) c2 c3 l0 l2 l3

@@ -6,7 +6,7 @@ use Rattle.mcs_ticks.specs.declared.row.Row.{Row}
 use Rattle.mcs_mail.specs.declared.mail.Mail.{Mail}
 use Rattle.mcs_system.specs.System.{System, note_part}
 use Rattle.mcs_core.specs.Core.{Core, opening_core}
-use Rattle.mcs_core.specs.Turn.{Turn, turn_with}
+use Rattle.mcs_core.specs.Turn.{Turn, turn_with, stamped}
 
 -- all cores, and the signals under way, in order of making
 pub record World : Type 0 where
@@ -44,7 +44,7 @@ module _ (queue : Discipline) (system : System) where
           cores = set clock.world.cores c made.core;
           mails = filter (λ mail. not (arrives_at system t c mail)) clock.world.mails ++ made.mails;
         };
-        rows = clock.rows ++ map (λ what. record { moment = t; core = c; what = what }) made.rows;
+        rows = clock.rows ++ stamped c t made.rows;
       }
 
   abbrev pub takes_moment_with : ℕ → Clock → Clock
@@ -82,7 +82,7 @@ module _ (system : System) where
   turn_of c t = turn_at t c (world t)
 
   abbrev pub rows_of : ℕ → ℕ → List Row
-  rows_of c t = map (λ what. record { moment = t; core = c; what = what }) (turn_of c t).rows
+  rows_of c t = stamped c t (turn_of c t).rows
 
   abbrev pub schedule : ℕ → List Row
   schedule horizon = schedule_with by_priority system horizon

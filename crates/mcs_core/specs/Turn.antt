@@ -1,8 +1,9 @@
 -- The turn of one core at one moment: the end of the tick, arrivals, orders, releases, and the choice.
-use Rattle.std.specs.Prelude.{ℕ, ◌+◌, ◌-◌, Bool, ◌==◌, ◌&&◌, not, nat_lt, if◌then◌else◌, List, [], ◌∷◌, ◌++◌, filter, Option, Some, None}
+use Rattle.std.specs.Prelude.{ℕ, ◌+◌, ◌-◌, Bool, ◌==◌, ◌&&◌, not, nat_lt, if◌then◌else◌, List, [], ◌∷◌, ◌++◌, map, filter, Option, Some, None}
 use Rattle.std.specs.List.{slice_get}
 use Rattle.mcs_ticks.specs.Queue.{Discipline, by_priority}
 use Rattle.mcs_ticks.specs.declared.queue.Queued.{Queued}
+use Rattle.mcs_ticks.specs.declared.row.Row.{Row}
 use Rattle.mcs_ticks.specs.declared.row.What.{What}
 use Rattle.mcs_ticks.specs.declared.row.What.TheVariants as row
 use Rattle.mcs_ticks.specs.declared.row.Why.{Why}
@@ -34,6 +35,10 @@ pub record Turn : Type 0 where
   pub core : Core
   pub rows : List What
   pub mails : List Mail
+
+-- the rows of what is told of core c at moment t
+abbrev pub stamped : ℕ → ℕ → List What → List Row
+stamped c t told = map (λ what. record { moment = t; core = c; what = what }) told
 
 abbrev pub silent : Core → Turn
 silent core = record { core = core; rows = []; mails = [] }
@@ -329,8 +334,7 @@ module _ (queue : Discipline) (system : System) (t : ℕ) where
   abbrev pub preempts : Core → Turn
   preempts core = preempts_by core.running (queue.best core.ready) core
 
--- .. and where none runs, the best one is chosen
-module _ (queue : Discipline) where
+  -- .. and where none runs, the best one is chosen
   abbrev pub chooses_of : Option Chosen → Option Queued → Core → Turn
   chooses_of (Some chosen) best core = silent core
   chooses_of None None core = silent core
@@ -354,7 +358,7 @@ turn_with queue system c t mails core =
     followed_by each (obeys queue system t) (filter (is_for_now system c t) system.orders)
     followed_by releases queue system t
     followed_by preempts queue system t
-    followed_by chooses queue
+    followed_by chooses queue system t
 
 -- the turn with the ready threads by priority, which is what a core shows
 abbrev pub turn : System → ℕ → ℕ → List Mail → Core → Turn

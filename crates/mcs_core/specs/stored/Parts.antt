@@ -4,8 +4,7 @@ use Rattle.std.specs.Prelude.{◌≡◌, List, ◌++◌}
 use Rattle.mcs_ticks.specs.declared.row.What.{What}
 use Rattle.mcs_mail.specs.declared.mail.Mail.{Mail}
 use Rattle.mcs_core.specs.Core.{Core}
-use Rattle.mcs_core.specs.Run.{stamped}
-use Rattle.mcs_core.specs.Turn.{Turn}
+use Rattle.mcs_core.specs.Turn.{stamped, Turn}
 use Rattle.mcs_core.specs.declared.log.Here.{Here}
 use Rattle.mcs_core.specs.declared.log.Log.{Log}
 
