@@ -11,7 +11,8 @@ import tempfile
 
 tools = pathlib.Path(__file__).resolve().parent
 program = sys.argv[1] if len(sys.argv) > 1 else tools.parent / 'crates' / 'mcsim' / 'out' / 'mcsim'
-first = tools / 'material' / 'worked' / 'depletes_and_refills'
+first = tools.parent / 'crates' / 'mcs_corpus' / 'data' / 'examples' / 'depletes_and_refills.toml'
+short = first.with_suffix('') / 'short.stdout'
 longest = 2**26
 
 
@@ -45,13 +46,13 @@ def run(name, words, stdin, stdout, stderr, status, target=None):
         passed += 1
 
 
-schedule = exactly((first / 'stdout').read_bytes())
-words = (first / 'words').read_text().split()
+schedule = exactly(short.read_bytes())
+words = short.with_suffix('.words').read_text().split()
 with tempfile.TemporaryDirectory() as folder:
     cut = pathlib.Path(folder, 'cut.toml')
     cut.write_bytes(b'version = 1\n')
-    run('a file', [first / 'system.toml', *words], b'', schedule, nothing, 0)
-    run('standard input', words, (first / 'system.toml').read_bytes(), schedule, nothing, 0)
+    run('a file', [first, *words], b'', schedule, nothing, 0)
+    run('standard input', words, (first).read_bytes(), schedule, nothing, 0)
     run('no such file', [pathlib.Path(folder, 'none.toml')], b'', nothing, read_failed, 3)
     run('a folder', [folder], b'', nothing, read_failed, 3)
     run('a file in a file', [cut / 'system.toml'], b'', nothing, read_failed, 3)
@@ -69,7 +70,7 @@ thread = [{ prio = 1, name = "A", context = "a", priority = 5, script = ["comput
     run('an option twice', ['--horizon', '1', '--horizon', '1'], b'', nothing, begins(b'error: ', b'--horizon'), 2)
     run('a word that is not UTF-8', [b'\xff'], b'', nothing, exactly(b'error: invalid UTF-8 was detected in one or more arguments\n'), 2)
     run('help', ['--help'], b'', begins(b'', b'Usage: mcsim [OPTIONS] [FILE]'), nothing, 0)
-    run('a schedule on a full device', words, (first / 'system.toml').read_bytes(), nothing, write_failed, 3, '/dev/full')
+    run('a schedule on a full device', words, (first).read_bytes(), nothing, write_failed, 3, '/dev/full')
     run('help on a full device', ['--help'], b'', nothing, write_failed, 3, '/dev/full')
 print(f'{passed} passed, {failed} failed')
 sys.exit(0 if passed and not failed else 1)

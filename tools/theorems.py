@@ -1,26 +1,26 @@
 #!/usr/bin/env python3
 """Writes theorems `schedule SYSTEM HORIZON ≡ ROWS`, each proved by computing, from systems and their schedules.
 
-usage: theorems.py MATERIAL OUT.antt [NAME..]
+usage: theorems.py OUT.antt PART..
 
-MATERIAL is a folder with a folder for each system: `system.toml` (the system), `words` (the program's words, one a line, of
-which only `--horizon N` counts) and `stdout` (the schedule's text; lines of reports are passed over). Without names all of
-them are taken, in the order of their names. Run `rt fmt` in the crate afterwards.
+Each PART is a folder of crates/mcs_corpus/data. A system NAME is its file `NAME.toml`. In the folder `NAME` its run `schedule`, or else its
+run `both`, has two files: `RUN.words`, of which only `--horizon N` counts, and `RUN.stdout`, of which lines of reports are passed over. All
+systems with such a run are taken, in the order of their names. Run `rt fmt` in the crate afterwards.
 """
 import pathlib
 import re
 import sys
 import tomllib
 
-HEAD = """-- Written by tools/theorems.py from {material}: schedules of systems, each by computing.
+HEAD = """-- Written by tools/theorems.py from {parts}: schedules of systems, each by computing.
 use Rattle.std.specs.Prelude.{{{prelude}}}
 use Rattle.mcs_ticks.specs.declared.row.Row.{{Row}}
 use Rattle.mcs_ticks.specs.declared.row.What.TheVariants as row
 use Rattle.mcs_ticks.specs.declared.row.Why.TheVariants as why
 use Rattle.mcs_script.specs.declared.item.Item.TheVariants.{{{items}}}
-use Rattle.mcs_core.specs.System.{{System}}
+use Rattle.mcs_system.specs.System.{{System}}
 use Rattle.mcs_core.specs.Clock.{{schedule}}
-use Rattle.mcs_worked.specs.Parts.{{{parts}}}
+use Rattle.mcs_worked.specs.Parts.{{{words}}}
 """
 
 DEFAULT_HORIZON = 1000
@@ -132,12 +132,19 @@ def horizon_of(words):
     return int(words[words.index('--horizon') + 1]) if '--horizon' in words else DEFAULT_HORIZON
 
 
-def theorem(folder):
-    name = folder.name
-    system = tomllib.loads((folder / 'system.toml').read_text())
+def run_of(path):
+    """The run of a system that has rows, or None: the path of its files without their ending."""
+    runs = [path.with_suffix('') / run for run in ('schedule', 'both')]
+    return next((run for run in runs if run.with_suffix('.words').exists()), None)
+
+
+def theorem(path):
+    name = path.stem
+    system = tomllib.loads(path.read_text())
     numbers = Numbers(system)
-    horizon = horizon_of((folder / 'words').read_text().split())
-    lines = [line for line in (folder / 'stdout').read_text().splitlines() if line[:1].isdigit()]
+    run = run_of(path)
+    horizon = horizon_of(run.with_suffix('.words').read_text().split())
+    lines = [line for line in run.with_suffix('.stdout').read_text().splitlines() if line[:1].isdigit()]
     rows = '\n    ∷ '.join([*(row_term(line, numbers) for line in lines), '[]'])
     rows = f'    {rows}' if lines else '    []'
     return (
@@ -153,14 +160,14 @@ def imports(names, text):
 
 
 def main():
-    material, out, names = sys.argv[1], sys.argv[2], sys.argv[3:]
-    folders = sorted(path for path in pathlib.Path(material).iterdir() if path.is_dir() and (not names or path.name in names))
-    body = '\n'.join(theorem(folder) for folder in folders)
+    out, parts = sys.argv[1], [part.rstrip('/') for part in sys.argv[2:]]
+    systems = sorted((path for part in parts for path in pathlib.Path(part).glob('*.toml') if run_of(path)), key=lambda path: path.stem)
+    body = '\n'.join(theorem(path) for path in systems)
     head = HEAD.format(
-        material=material.rstrip('/'),
+        parts=' and '.join(parts),
         prelude='◌≡◌, ' + imports(['List', '[]'], body) + ', ◌∷◌, ' + imports(['Some', 'None', 'refl', 'codes'], body),
         items=imports(['Compute', 'Signal', 'Wait', 'Yield'], body),
-        parts=imports(['context', 'note', 'thread', 'order', 'at'], body),
+        words=imports(['context', 'note', 'thread', 'order', 'at'], body),
     )
     pathlib.Path(out).write_text(head + '\n' + body)
 

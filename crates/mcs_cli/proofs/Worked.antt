@@ -1,11 +1,8 @@
--- Lines of rows and reports, evaluated.
-use Rattle.std.proofs.Common.{◌≡◌, refl, codes, [], ◌∷◌, Some}
+-- The whole output of a small system, evaluated.
+use Rattle.std.proofs.Common.{◌≡◌, refl, codes, [], ◌∷◌}
 use Rattle.mcs_script.specs.declared.item.Item.TheVariants.{Compute}
-use Rattle.mcs_ticks.specs.declared.row.What.TheVariants as row
-use Rattle.mcs_ticks.specs.declared.row.Why.TheVariants as why
 use Rattle.mcs_system.specs.System.{System}
 use Rattle.std.specs.Fmt.{digits}
-use Rattle.mcs_cli.specs.Text.{row_text}
 use Rattle.mcs_cli.specs.Run.{output_of}
 use Rattle.mcs_cli.specs.declared.asked.Show.TheVariants.{Both}
 
@@ -22,14 +19,6 @@ one_thread =
           record { name = codes "A"; context = 0; priority = 5; start = 0; rounds = 1; deadline = 0; script = Compute 5 ∷ [] } ∷ [];
       orders = [];
     }
-
-stop_line : row_text one_thread (record { moment = 2; core = 0; what = row.Stop 0 why.Spent 2 (Some 5) }) ≡ codes "2 0 stop A spent 2 until 5\n"
-unfolding one_thread digits
-stop_line = refl
-
-order_line : row_text one_thread (record { moment = 40; core = 7; what = row.Order 0 }) ≡ codes "40 7 order a\n"
-unfolding one_thread digits
-order_line = refl
 
 -- a horizon of 2: the first head is spent
 both_to_two : output_of Both one_thread 2 ≡ codes "0 0 release A\n0 0 run A\n2 0 stop A spent 2 until 5\nthread A ran 2 rounds 0 least 0 greatest 0 total 0 late 0 spent 1 throttled 0 longest 0\ncore 0 busy 2 idle 0\n"

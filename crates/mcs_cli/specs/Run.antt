@@ -1,5 +1,5 @@
 -- What a run reads and writes.
-use Rattle.std.specs.Prelude.{Result, Ok, Err, Option, ◌≡◌, ◌≢◌, ◌≤◌, ◌^◌, List, ℕ, ◌++◌, length}
+use Rattle.std.specs.Prelude.{Result, Ok, Err, Option, ◌≡◌, ◌≢◌, ◌≤◌, ◌^◌, List, ℕ, ◌++◌, length, ⊤}
 use Rattle.std.specs.Io.KnownBytes.{Appends, Consumes, IsAtEnd, Keeps}
 use Rattle.mcs_ticks.specs.declared.row.Row.{Row}
 use Rattle.mcs_system.specs.System.{System}
@@ -10,7 +10,7 @@ use Rattle.mcs_load.specs.Checks.{answer}
 use Rattle.mcs_load.specs.Walk.{file}
 use Rattle.mcs_load.specs.Memory.{no_memory}
 use Rattle.mcs_load.specs.declared.fault.LoadFault.{LoadFault}
-use Rattle.mcs_cli.specs.Text.{schedule_text, reports_text}
+use Rattle.mcs_text.specs.Text.{schedule_text, reports_text}
 use Rattle.mcs_cli.specs.declared.asked.Options.{Options}
 use Rattle.mcs_cli.specs.declared.asked.Show.{Show}
 use Rattle.mcs_cli.specs.declared.asked.Show.TheVariants.{Schedule, Reports, Both}
@@ -33,33 +33,40 @@ output_of show system horizon =
 abbrev pub loaded : List ℕ → Result System LoadFault
 loaded bytes = answer (file bytes)
 
--- the bytes that a reader knows before and after the run, those that a writer knows, and what is asked for
-module _ (read_old read_new write_old write_new : Option (List ℕ)) (options : Options) where
+-- the bytes that a reader knows before and after the run
+module _ (read_old read_new : Option (List ℕ)) where
   -- the bytes that were read, which are all there were where the reader tells its bytes
   abbrev pub IsInput : List ℕ → Type 0
   IsInput bytes = Consumes read_old read_new bytes × IsAtEnd read_new × (length bytes ≤ 2 ^ 26)
 
-  -- what was written is the output for the bytes that were read, and nothing else
-  abbrev pub IsDone : Type 0
-  IsDone =
-      (bytes : List ℕ) × IsInput bytes × (system : System) × (loaded bytes ≡ Ok system)
-      × Appends write_old write_new (output_of options.show system options.horizon)
-
-  -- the bytes that were read describe a system
-  abbrev pub IsSystemRead : Type 0
-  IsSystemRead = (bytes : List ℕ) × IsInput bytes × (system : System) × (loaded bytes ≡ Ok system)
+  -- the bytes that were read describe this system
+  abbrev pub IsRead : System → Type 0
+  IsRead system = (bytes : List ℕ) × IsInput bytes × (loaded bytes ≡ Ok system)
 
   -- the fault is the first of the bytes that were read
   abbrev pub IsFaultOfInput : LoadFault → Type 0
   IsFaultOfInput f = (bytes : List ℕ) × IsInput bytes × (loaded bytes ≡ Err f)
 
-  -- the file is to blame before anything else; before the text is whole nothing is written
-  abbrev pub IsFault : RunFault → Type 0
-  IsFault fault.Read = Keeps write_old write_new
-  IsFault (fault.Load f) = Keeps write_old write_new × (f ≢ no_memory → IsFaultOfInput f)
-  IsFault (fault.Sim f) = Keeps write_old write_new × IsSystemRead
-  IsFault fault.Write = IsSystemRead
+  -- why no system was read
+  abbrev pub IsReadFault : RunFault → Type 0
+  IsReadFault fault.Read = ⊤
+  IsReadFault (fault.Load f) = f ≢ no_memory → IsFaultOfInput f
+  IsReadFault (fault.Sim f) = ⊥
+  IsReadFault fault.Write = ⊥
 
-  abbrev pub IsRun : Result (Unit {0}) RunFault → Type 0
-  IsRun (Ok done) = IsDone
-  IsRun (Err f) = IsFault f
+  -- the bytes that a writer knows before and after the run, and what is asked for
+  module _ (write_old write_new : Option (List ℕ)) (options : Options) where
+    -- what was written is the output for the bytes that were read, and nothing else
+    abbrev pub IsDone : Type 0
+    IsDone = (system : System) × IsRead system × Appends write_old write_new (output_of options.show system options.horizon)
+
+    -- the file is to blame before anything else; before the text is whole nothing is written
+    abbrev pub IsFault : RunFault → Type 0
+    IsFault fault.Read = Keeps write_old write_new
+    IsFault (fault.Load f) = Keeps write_old write_new × (f ≢ no_memory → IsFaultOfInput f)
+    IsFault (fault.Sim f) = Keeps write_old write_new × ((system : System) × IsRead system)
+    IsFault fault.Write = (system : System) × IsRead system
+
+    abbrev pub IsRun : Result (Unit {0}) RunFault → Type 0
+    IsRun (Ok done) = IsDone
+    IsRun (Err f) = IsFault f

@@ -1,13 +1,14 @@
 ghost use Rattle.std.specs.Prelude.{◌≡◌, ◌≤◌, ◌^◌, ◌++◌, ◌⊎◌, length, IfErr, IfOk, OnOk};
-ghost use Rattle.std.specs.Io.KnownBytes.{Consumes, IsAtEnd};
+ghost use Rattle.std.specs.Io.KnownBytes.{Appends, Consumes, IsAtEnd};
 ghost use Rattle.mcs_load.specs.Memory.{no_memory};
-ghost use Rattle.mcs_cli.specs.Text.{schedule_text};
-ghost use Rattle.mcs_cli.specs.Run.{IsRun, output_of, shown_text};
+ghost use Rattle.mcs_text.specs.Text.{schedule_text};
+ghost use Rattle.mcs_cli.specs.Run.{IsRead, IsReadFault, IsRun, output_of, shown_text};
 
-use crate::{Options, RunFault, Show, put_reports, put_row};
+use crate::{Options, RunFault, Show};
 use mcs_load::{LoadFault, load};
 use mcs_system::System;
 use mcs_team::{SimFault, Whole, simulate_alone};
+use mcs_text::{put_reports, put_row};
 use mcs_ticks::{Limits, NoMemory, Row};
 use std::alloc::Global;
 use std::io::{Read, Write};
@@ -23,12 +24,26 @@ pub fn run<R: Read, W: Write>(
 ) -> Result<(), RunFault>
     ensures { IsRun (R.remaining reader.old) (R.remaining reader.new) (W.contents writer.old) (W.contents writer.new) options.now result }
 {
-    let system = {
-        let bytes = read_text(alloc, reader)?;
-        load(alloc, bytes.as_slice()).map_err(RunFault::Load)?
-    };
+    let system = read_system(alloc, reader)?;
     let text = simulated(alloc, system, options).map_err(RunFault::Sim)?;
-    if writer.write_all(text.as_slice()).is_err() || writer.flush().is_err() {
+    write_text(writer, text.as_slice())
+}
+
+/// Reads a file to its end, and loads the system that it describes.
+fn read_system<R: Read>(alloc: Global, reader: &mut R) -> Result<System, RunFault>
+    ensures ok { IfOk result (IsRead (R.remaining reader.old) (R.remaining reader.new)) }
+    ensures fault { IfErr result (IsReadFault (R.remaining reader.old) (R.remaining reader.new)) }
+{
+    let bytes = read_text(alloc, reader)?;
+    load(alloc, bytes.as_slice()).map_err(RunFault::Load)
+}
+
+/// Writes the whole text, and flushes the writer.
+fn write_text<W: Write>(writer: &mut W, text: &[u8]) -> Result<(), RunFault>
+    ensures ok { OnOk result (Appends (W.contents writer.old) (W.contents writer.new) text.now) }
+    ensures fault { IfErr result (λ f. f ≡ RunFault.Write) }
+{
+    if writer.write_all(text).is_err() || writer.flush().is_err() {
         return Err(RunFault::Write);
     }
     Ok(())

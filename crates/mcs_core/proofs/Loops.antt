@@ -10,36 +10,58 @@ use Rattle.mcs_mail.specs.declared.mail.Mail.{Mail}
 use Rattle.mcs_mail.specs.Box.{due, without_due, arriving}
 use Rattle.mcs_system.specs.System.{System}
 use Rattle.mcs_core.specs.Core.{Core}
-use Rattle.mcs_core.specs.Turn.{Turn, silent, ◌followed_by◌}
-use Rattle.mcs_core.specs.Run.{stamped}
+use Rattle.mcs_core.specs.Turn.{stamped, Turn, silent, ◌followed_by◌}
+use Rattle.mcs_core.specs.declared.log.Here.{Here}
+use Rattle.mcs_core.specs.declared.log.Log.{Log}
+use Rattle.mcs_core.specs.stored.Parts.{Makes}
 use Rattle.mcs_core.specs.Orders.{first_due, without_first, due_now, to_come, AreByMoment, IsPlanned, ArePlanned}
 
 pub stamped-append : (c t : ℕ) (xs ys : List What) → stamped c t (xs ++ ys) ≡ stamped c t xs ++ stamped c t ys
 stamped-append c t [] ys = refl
 stamped-append c t (x ∷ xs) ys = ap (λ rs. record { moment = t; core = c; what = x } ∷ rs) (stamped-append c t xs ys)
 
--- what is left to do from here on makes, with what was told so far, what the whole makes
-pub record GoesOn (c t : ℕ) (before : List Row) (whole rest : Turn) (rows : List Row) : Type 0 where
-  pub core : rest.core ≡ whole.core
-  pub told : rows ++ stamped c t rest.rows ≡ before ++ stamped c t whole.rows
+-- one part, and then another
+pub then-makes : (here : Here) (first : Turn) (part : Core → Turn) (core core' : Core) (before between after : Log) →
+    Makes here first core before between → Makes here (part core) core' between after → Makes here (first followed_by part) core' before after
+then-makes here first part core core' before between after h k = rest core h.core k
+  where
+    rest : (core : Core) → core ≡ first.core → Makes here (part core) core' between after → Makes here (first followed_by part) core' before after
+    rest core e k = by (let P : Core → Type 0 = λ x. Makes here (part x) core' between after in subst P e k)
+      where
+        by : Makes here (part first.core) core' between after → Makes here (first followed_by part) core' before after
+        by k = record {
+          core = k.core;
+          adds = record {
+            rows = k.adds.rows ∙ ap (λ (rs : List Row). rs ++ stamped here.core here.moment (part first.core).rows) h.adds.rows
+                ∙ append_assoc before.rows.now.items (stamped here.core here.moment first.rows) (stamped here.core here.moment (part first.core).rows)
+                ∙ ap (λ (rs : List Row). before.rows.now.items ++ rs) (sym (stamped-append here.core here.moment first.rows (part first.core).rows));
+            signals = k.adds.signals ∙ ap (λ (ms : List Mail). ms ++ (part first.core).mails) h.adds.signals
+                ∙ append_assoc before.signals.now.items first.mails (part first.core).mails;
+            same_rows = k.adds.same_rows ∙ h.adds.same_rows;
+            same_signals = k.adds.same_signals ∙ h.adds.same_signals;
+          };
+        }
 
-pub goes-start : (c t : ℕ) (before : List Row) (whole : Turn) → GoesOn c t before whole whole before
-goes-start c t before whole = record { core = refl; told = refl }
+-- what was made so far, and what is left to do from this core on: together they make the whole
+pub record GoesOn (here : Here) (whole rest : Turn) (before now : Log) : Type 0 where
+  pub goes : (core : Core) (after : Log) → Makes here rest core now after → Makes here whole core before after
 
-pub goes-step : (c t : ℕ) (before : List Row) (whole rest : Turn) (rows rows' : List Row) (first : Turn) (part : Core → Turn) (core : Core) → GoesOn c t before whole rest rows →
-    rest ≡ (first followed_by part) → core ≡ first.core → rows' ≡ rows ++ stamped c t first.rows → GoesOn c t before whole (part core) rows'
-goes-step c t before whole rest rows rows' first part core h e f g = record {
-  core = rw f (ap (λ (made : Turn). made.core) (sym e) ∙ h.core);
-  told = rw (g, f) (append_assoc rows (stamped c t first.rows) (stamped c t (part first.core).rows)
-      ∙ ap (λ rs. rows ++ rs) (sym (stamped-append c t first.rows (part first.core).rows))
-      ∙ ap (λ (made : Turn). rows ++ stamped c t made.rows) (sym e) ∙ h.told);
+pub goes-start : (here : Here) (whole : Turn) (before : Log) → GoesOn here whole whole before before
+goes-start here whole before = record { goes = λ core after h. h }
+
+pub goes-step : (here : Here) (whole rest : Turn) (before now now' : Log) (first : Turn) (part : Core → Turn) (core : Core) →
+    GoesOn here whole rest before now → rest ≡ (first followed_by part) → Makes here first core now now' → GoesOn here whole (part core) before now'
+goes-step here whole rest before now now' first part core g e h = record {
+  goes = λ core' after k. g.goes core' after (rw e (then-makes here first part core core' now now' after h k));
 }
 
-pub goes-end-core : (c t : ℕ) (before : List Row) (whole rest : Turn) (rows : List Row) (core : Core) → GoesOn c t before whole rest rows → rest ≡ silent core → core ≡ whole.core
-goes-end-core c t before whole rest rows core h e = ap (λ (made : Turn). made.core) (sym e) ∙ h.core
-
-pub goes-end-rows : (c t : ℕ) (before : List Row) (whole rest : Turn) (rows : List Row) (core : Core) → GoesOn c t before whole rest rows → rest ≡ silent core → rows ≡ before ++ stamped c t whole.rows
-goes-end-rows c t before whole rest rows core h e = sym (append-nil rows) ∙ ap (λ (made : Turn). rows ++ stamped c t made.rows) (sym e) ∙ h.told
+pub goes-end : (here : Here) (whole rest : Turn) (before now : Log) (core : Core) →
+    GoesOn here whole rest before now → rest ≡ silent core → Makes here whole core before now
+goes-end here whole rest before now core g e =
+    g.goes core now (rw e (record {
+      core = refl;
+      adds = record { rows = sym (append-nil now.rows.now.items); signals = sym (append-nil now.signals.now.items); same_rows = refl; same_signals = refl };
+    }))
 
 -- the first order that is due, and the others
 pub record IsFirstDue (system : System) (c t : ℕ) (order : Order) (orders : List Order) : Type 0 where

@@ -82,7 +82,7 @@ module _ (queue : Discipline) (system : System) (c t : ℕ) where
   preempts_by-none (Some chosen) None core = refl
   preempts_by-none None best core = refl
 
-  chooses_of-none : (o : Option Chosen) (best : Option Queued) (core : Core) → (turns.chooses_of queue o best core).mails ≡ []
+  chooses_of-none : (o : Option Chosen) (best : Option Queued) (core : Core) → (turns.chooses_of queue system t o best core).mails ≡ []
   chooses_of-none (Some chosen) best core = refl
   chooses_of-none None None core = refl
   chooses_of-none None (Some best) core = refl

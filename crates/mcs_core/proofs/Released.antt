@@ -4,6 +4,7 @@ use Rattle.std.specs.Prelude.{◌==◌, Option, Some, None}
 use Rattle.std.proofs.lemmas.Bool.Decides.{nat_tests}
 use Rattle.mcs_ticks.specs.Queue.{by_priority, first_of, rest_of}
 use Rattle.mcs_ticks.specs.declared.queue.Queued.{Queued}
+use Rattle.mcs_ticks.specs.declared.row.What.TheVariants as row
 use Rattle.mcs_ready.specs.Ready.{thread_of as thread_of_queued}
 use Rattle.mcs_release.specs.declared.dated.Dated.{Dated}
 use Rattle.mcs_release.specs.Release.{first_due, without, without_first_due, when_left, thread_of}
@@ -11,7 +12,10 @@ use Rattle.mcs_core.specs.declared.standing.Standing.{Standing}
 use Rattle.mcs_core.specs.declared.standing.Standing.TheVariants.{Done}
 use Rattle.mcs_system.specs.System.{System}
 use Rattle.mcs_core.specs.Core.{Core, thread_of as state_of}
-use Rattle.mcs_core.specs.Turn.{silent, ◌followed_by◌, enters_back, released, releases}
+use Rattle.mcs_core.specs.Turn.{silent, says, ◌followed_by◌, enters_back, released, releases}
+use Rattle.mcs_core.specs.declared.log.Here.{Here}
+use Rattle.mcs_core.specs.declared.log.Log.{Log}
+use Rattle.mcs_core.specs.stored.Parts.{Makes}
 use Rattle.mcs_core.specs.stored.Sound.{times_queued, times_dated, times_ready, times_pending, Phase, IsFree, IsSound}
 use Rattle.mcs_core.specs.stored.Sound.Phase.{PastTick}
 use Rattle.mcs_core.proofs.Counts.{times_queued-rest}
@@ -103,6 +107,14 @@ module _ (system : System) (c : ℕ) (one_each : IsOneEach system) (t : ℕ) (so
       by : (o : Option Dated) → first_due t core.releases ≡ o → thread_of o ≡ None → when_left o core.releases ≡ core.releases
       by None f g = refl
       by (Some d) f g = cc
+
+-- what the code makes of the thread that it takes is what is made of one whose date has come
+pub made-released : (here : Here) (due : Dated) (x : ℕ) (core core' left : Core) (before after : Log) → due.thread ≡ x → core' ≡ core →
+    Makes here (says (row.Release x) (enters_back by_priority here.system.now x None core')) left before after → Makes here (released by_priority here.system.now due core) left before after
+made-released here due x core core' left before after e f h =
+    let P : Core → Type 0 = λ (y : Core). Makes here (says (row.Release x) (enters_back by_priority here.system.now x None y)) left before after in
+    let Q : ℕ → Type 0 = λ y. Makes here (says (row.Release y) (enters_back by_priority here.system.now y None core)) left before after in
+    subst Q (sym e) (subst P f h)
 
 -- the best ready thread is one of the core
 pub best-known : (system : System) (c from : ℕ) (phase : Phase) (x : ℕ) (core : Core) → IsSound system c from phase None core → thread_of_queued (first_of core.ready) ≡ Some x → x < length core.threads

@@ -12,8 +12,8 @@ use Rattle.mcs_system.specs.System.{System, note_part}
 use Rattle.mcs_core.specs.Core.{Core}
 use Rattle.mcs_core.specs.Orders.{to_come}
 use Rattle.mcs_core.specs.State.{State, IsExpected, made_by, state_after}
-use Rattle.mcs_core.specs.Turn.{turn}
-use Rattle.mcs_core.specs.Run.{Ran, ran, with_turn, stamped}
+use Rattle.mcs_core.specs.Turn.{stamped, turn}
+use Rattle.mcs_core.specs.Run.{Ran, ran, with_turn}
 
 -- mail that stays arrives later
 pub later-staying : (t : ℕ) (mails : List Mail) → All (λ (mail : Mail). t ≤ mail.arrives) mails → All (λ (mail : Mail). t + 1 ≤ mail.arrives) (staying t mails)
@@ -29,14 +29,6 @@ later-staying t (x ∷ xs) h = by (x.arrives == t) refl (later-staying t xs (λ 
 
         both : All (λ (mail : Mail). t + 1 ≤ mail.arrives) (x ∷ staying t xs)
         both = All-cons (λ (mail : Mail). t + 1 ≤ mail.arrives) x (staying t xs) (first x.arrives (h 0 x (omega arith)) e) i
-
-pub known-staying : (t notes : ℕ) (mails : List Mail) → All (λ (mail : Mail). mail.note < notes) mails → All (λ (mail : Mail). mail.note < notes) (staying t mails)
-known-staying t notes [] h = h
-known-staying t notes (x ∷ xs) h = by (x.arrives == t) (known-staying t notes xs (λ k d l. h (suc k) d (omega arith)))
-  where
-    by : (b : Bool) → All (λ (mail : Mail). mail.note < notes) (staying t xs) → All (λ (mail : Mail). mail.note < notes) (cond (not b) (x ∷ staying t xs) (staying t xs))
-    by true i = i
-    by false i = All-cons (λ (mail : Mail). mail.note < notes) x (staying t xs) (h 0 x (omega arith)) i
 
 -- what the turns from here on make, with what was made so far, is what the whole makes
 pub record RunsOn (before : List Row) (sent : List Mail) (whole rest : Ran) (rows : List Row) (signals : List Mail) : Type 0 where
@@ -60,6 +52,41 @@ runs-step system c t n m core box before rows rows' sent signals signals' whole 
       made = rw j (append_assoc signals (turn system c t (arriving t box) core).mails (ran system c m (t + 1) core' box').mails ∙ k.made);
       box = k.box;
     }
+
+-- one turn more from a state
+module _ (system : System) where
+  one-turn : (state : State) (box : List Mail) →
+      made_by system state (state.clock + 1) box
+      ≡ with_turn system state.number state.clock (turn system state.number state.clock (arriving state.clock box) state.core)
+      (record { core = (turn system state.number state.clock (arriving state.clock box) state.core).core; rows = []; mails = []; box = staying state.clock box })
+  one-turn state box = let one : state.clock + 1 - state.clock ≡ 1 = omega arith in ap (λ n. ran system state.number n state.clock state.core box) one
+
+  pub made-turn : (state : State) (box : List Mail) → (made_by system state (state.clock + 1) box).core ≡ (turn system state.number state.clock (arriving state.clock box) state.core).core
+  made-turn state box = ap (λ (made : Ran). made.core) (one-turn state box)
+
+  pub told-turn : (state : State) (box : List Mail) →
+      (made_by system state (state.clock + 1) box).rows ≡ stamped state.number state.clock (turn system state.number state.clock (arriving state.clock box) state.core).rows
+  told-turn state box = ap (λ (made : Ran). made.rows) (one-turn state box) ∙ append-nil _
+
+  pub sent-turn : (state : State) (box : List Mail) → (made_by system state (state.clock + 1) box).mails ≡ (turn system state.number state.clock (arriving state.clock box) state.core).mails
+  sent-turn state box = ap (λ (made : Ran). made.mails) (one-turn state box) ∙ append-nil _
+
+  pub left-turn : (state : State) (box : List Mail) → (made_by system state (state.clock + 1) box).box ≡ staying state.clock box
+  left-turn state box = ap (λ (made : Ran). made.box) (one-turn state box)
+
+  pub runs-turn : (to : ℕ) (state state' : State) (box box' : List Mail) (before rows rows' : List Row) (sent signals signals' : List Mail) (whole : Ran) → state.clock < to →
+      RunsOn before sent whole (made_by system state to box) rows signals → state' ≡ state_after state (state.clock + 1) (made_by system state (state.clock + 1) box) →
+      box' ≡ (made_by system state (state.clock + 1) box).box → rows' ≡ rows ++ (made_by system state (state.clock + 1) box).rows →
+      signals' ≡ signals ++ (made_by system state (state.clock + 1) box).mails → RunsOn before sent whole (made_by system state' to box') rows' signals'
+  runs-turn to state state' box box' before rows rows' sent signals signals' whole l h e f g i =
+      let t = state.clock in
+      let core = (made_by system state (t + 1) box).core in
+      let later : t + 1 ≡ max t (t + 1) = omega arith in
+      let more : to - t ≡ suc (to - (t + 1)) = omega arith in
+      let next : RunsOn before sent whole (ran system state.number (to - (t + 1)) (t + 1) core box') rows' signals' =
+      runs-step system state.number t (to - t) (to - (t + 1)) state.core box before rows rows' sent signals signals' whole core box' more h
+      (made-turn state box) (f ∙ left-turn state box) (g ∙ ap (λ rs. rows ++ rs) (told-turn state box)) (i ∙ ap (λ ms. signals ++ ms) (sent-turn state box)) in
+      rw e (let P : ℕ → Type 0 = λ m. RunsOn before sent whole (ran system state.number (to - m) m core box') rows' signals' in subst P later next)
 
 -- a call that was no refusal
 pub if_ok : (r : Result (Unit {0}) NoMemory) (P : Type 0) → is_err r ≡ false → OnOk r P → P

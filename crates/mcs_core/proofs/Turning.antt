@@ -427,7 +427,7 @@ module _ (system : System) (number : ℕ) (one_each : IsOneEach system) (t : ℕ
       runs (Some chosen) p = record { stands = p.stands; used = omega arith; unspent = p.unspent; early = p.early }
 
   pub chosen-sound : (core : Core) (best : Queued) → IsSound system number (t + 1) PastTick None core → core.running ≡ None → first_of core.ready ≡ Some best →
-      IsSound system number (t + 1) Between None (chooses_of by_priority None (Some best) core).core
+      IsSound system number (t + 1) Between None (chooses_of by_priority system t None (Some best) core).core
   chosen-sound core best h none e =
       let count = times_queued-rest best.thread best core.ready e in
       let some : 1 ≤ times_queued best.thread core.ready = rw count (own best.thread (times_queued best.thread (rest_of core.ready))) in
@@ -474,14 +474,14 @@ module _ (system : System) (number : ℕ) (one_each : IsOneEach system) (t : ℕ
       more n h = omega arith
 
       dates_same : (ds : List Dated) → AreEarly system (with_thread best.thread (record (thread_of core best.thread) { standing = Running }) (record core { running = None; ready = rest_of core.ready })) ds →
-          AreEarly system (chooses_of by_priority None (Some best) core).core ds
+          AreEarly system (chooses_of by_priority system t None (Some best) core).core ds
       dates_same [] p = tt
       dates_same (z ∷ ds) p = (p.0, dates_same ds p.1)
 
-  pub chooses-sound : (core : Core) → IsSound system number (t + 1) PastTick None core → IsSound system number (t + 1) Between None (chooses by_priority core).core
+  pub chooses-sound : (core : Core) → IsSound system number (t + 1) PastTick None core → IsSound system number (t + 1) Between None (chooses by_priority system t core).core
   chooses-sound core h = by core.running refl (first_of core.ready) refl
     where
-      by : (o : Option Chosen) → core.running ≡ o → (best : Option Queued) → first_of core.ready ≡ best → IsSound system number (t + 1) Between None (chooses_of by_priority o best core).core
+      by : (o : Option Chosen) → core.running ≡ o → (best : Option Queued) → first_of core.ready ≡ best → IsSound system number (t + 1) Between None (chooses_of by_priority system t o best core).core
       by (Some chosen) e best f = between core h
       by None e None f = between core h
       by None e (Some best) f = chosen-sound core best h e f

@@ -1,4 +1,4 @@
--- Two small systems and their schedules, worked by hand from the rules of the turn.
+-- Three small systems and their schedules, worked by hand from the rules of the turn.
 use Rattle.std.specs.Prelude.{◌≡◌, ℕ, List, [], ◌∷◌, Some, None, refl}
 use Rattle.mcs_ticks.specs.declared.row.Row.{Row}
 use Rattle.mcs_ticks.specs.declared.row.What.{What}
@@ -118,3 +118,37 @@ one_core_at_work : schedule one_core 11 ≡
     ∷ at 11 0 (row.Stop 3 why.Done 1 None)
     ∷ []
 one_core_at_work = refl
+
+-- The notification stands on core 1: the signal that core 0 makes at 2 arrives there at 4, and not on core 0, whose turn at 4 comes
+-- first.
+abbrev from_core_0 : System
+from_core_0 = record {
+  cores = 2;
+  delay = 2;
+  call = 1;
+  min_budget = 1;
+  contexts = context 0 9 20 ∷ context 1 9 20 ∷ [];
+  notes = record { name = []; core = 1 } ∷ [];
+  threads =
+      thread 0 5 0 (Compute 1 ∷ Signal 0 4 ∷ [])
+      ∷ thread 1 5 0 (Wait 0 ∷ Compute 1 ∷ [])
+      ∷ [];
+  orders = [];
+}
+
+a_signal_arrives_at_its_home : schedule from_core_0 5 ≡
+    at 0 0 (row.Release 0)
+    ∷ at 0 0 (row.Run 0)
+    ∷ at 0 1 (row.Release 1)
+    ∷ at 0 1 (row.Run 1)
+    ∷ at 1 1 (row.Stop 1 why.Wait 1 None)
+    ∷ at 2 0 (row.Signal 0 0 4)
+    ∷ at 2 0 (row.Round 0 1 2)
+    ∷ at 2 0 (row.Stop 0 why.Done 2 None)
+    ∷ at 4 1 (row.Arrive 0 4 0)
+    ∷ at 4 1 (row.Wake 1 0 4)
+    ∷ at 4 1 (row.Run 1)
+    ∷ at 5 1 (row.Round 1 1 1)
+    ∷ at 5 1 (row.Stop 1 why.Done 1 None)
+    ∷ []
+a_signal_arrives_at_its_home = refl

@@ -6,7 +6,7 @@ use Rattle.mcs_ticks.specs.declared.row.Row.{Row}
 use Rattle.mcs_mail.specs.declared.mail.Mail.{Mail}
 use Rattle.mcs_system.specs.System.{System, note_part}
 use Rattle.mcs_core.specs.Core.{Core, opening_core}
-use Rattle.mcs_core.specs.Turn.{Turn, turn_with}
+use Rattle.mcs_core.specs.Turn.{Turn, turn_with, stamped}
 
 -- all cores, and the signals under way, in order of making
 pub record World : Type 0 where
@@ -32,7 +32,8 @@ module _ (system : System) where
 -- the clock with the ready threads kept by this discipline
 module _ (queue : Discipline) (system : System) where
   abbrev pub turn_at_with : ℕ → ℕ → World → Turn
-  turn_at_with t c world = turn_with queue system c t (filter (arrives_at system t c) world.mails) (core_at system world c)
+  turn_at_with t c world =
+      turn_with queue system c t (filter (arrives_at system t c) world.mails) (core_at system world c)
 
   -- core c takes its turn at t: the signals that arrive are taken, and those that it makes join
   abbrev pub takes_turn_with : ℕ → Clock → ℕ → Clock
@@ -43,7 +44,7 @@ module _ (queue : Discipline) (system : System) where
           cores = set clock.world.cores c made.core;
           mails = filter (λ mail. not (arrives_at system t c mail)) clock.world.mails ++ made.mails;
         };
-        rows = clock.rows ++ map (λ what. record { moment = t; core = c; what = what }) made.rows;
+        rows = clock.rows ++ stamped c t made.rows;
       }
 
   abbrev pub takes_moment_with : ℕ → Clock → Clock
@@ -81,7 +82,7 @@ module _ (system : System) where
   turn_of c t = turn_at t c (world t)
 
   abbrev pub rows_of : ℕ → ℕ → List Row
-  rows_of c t = map (λ what. record { moment = t; core = c; what = what }) (turn_of c t).rows
+  rows_of c t = stamped c t (turn_of c t).rows
 
   abbrev pub schedule : ℕ → List Row
   schedule horizon = schedule_with by_priority system horizon

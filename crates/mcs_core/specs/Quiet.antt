@@ -32,5 +32,10 @@ module _ (system : System) (c : ℕ) where
   -- the next busy moment: the first whose turn is not quiet, and none where all turns up to 2^42 are quiet
   abbrev pub IsNextBusy : ℕ → List Mail → Core → Option ℕ → Type 0
   IsNextBusy clock box core (Some moment) =
-      (n : ℕ) × (moment ≡ clock + n) × (moment ≤ 2 ^ 42) × AreQuiet clock box core n × (¬ IsQuiet moment (arriving moment box) (counted_times n core))
-  IsNextBusy clock box core None = (n : ℕ) → clock + n ≤ 2 ^ 42 → IsQuiet (clock + n) (arriving (clock + n) box) (counted_times n core)
+      (n : ℕ)
+      × (moment ≡ clock + n)
+      × (moment ≤ 2 ^ 42)
+      × AreQuiet clock box core n
+      × (¬ IsQuiet moment (arriving moment box) (counted_times n core))
+  IsNextBusy clock box core None =
+      (n : ℕ) → clock + n ≤ 2 ^ 42 → IsQuiet (clock + n) (arriving (clock + n) box) (counted_times n core)

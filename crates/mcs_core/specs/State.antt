@@ -9,7 +9,8 @@ use Rattle.mcs_core.specs.Run.{Ran, ran}
 use Rattle.mcs_core.specs.stored.Sound.{IsSound}
 use Rattle.mcs_core.specs.stored.Sound.Phase.{Between}
 
--- which core it is, the moment whose turn is next, the core, the orders that it is yet to obey, and whether memory failed it
+-- which core it is, the moment whose turn is next, the core, the orders that it is yet to obey, and whether memory
+-- failed it
 pub record State : Type 0 where
   pub number : ℕ
   pub clock : ℕ
@@ -18,10 +19,12 @@ pub record State : Type 0 where
   pub failed : Bool
 
 abbrev pub opening_state : System → ℕ → State
-opening_state system c = record { number = c; clock = 0; core = opening_core system c; orders = orders_of system c; failed = false }
+opening_state system c =
+    record { number = c; clock = 0; core = opening_core system c; orders = orders_of system c; failed = false }
 
--- the state is one of a core of this system: which threads, contexts and notifications there are and which are its own, the threads'
--- contexts and places, the kinds and the orders agree, and no budget in force is below the least; after a failure nothing is asked
+-- the state is one of a core of this system: which threads, contexts and notifications there are and which are its own,
+-- the threads' contexts and places, the kinds and the orders agree, and no budget in force is below the least; after a
+-- failure nothing is asked
 pub record Fits (system : System) (state : State) : Type 0 where
   pub known : state.number < system.cores
   pub early : state.clock ≤ 2 ^ 40 + 1
@@ -40,4 +43,5 @@ made_by system state to box = ran system state.number (to - state.clock) state.c
 
 -- the state after them; no turn is taken back
 abbrev pub state_after : State → ℕ → Ran → State
-state_after state to made = record state { clock = max state.clock to; core = made.core; orders = to_come to state.orders }
+state_after state to made =
+    record state { clock = max state.clock to; core = made.core; orders = to_come to state.orders }

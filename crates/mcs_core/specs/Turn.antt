@@ -1,8 +1,9 @@
 -- The turn of one core at one moment: the end of the tick, arrivals, orders, releases, and the choice.
-use Rattle.std.specs.Prelude.{ℕ, ◌+◌, ◌-◌, Bool, ◌==◌, ◌&&◌, not, nat_lt, if◌then◌else◌, List, [], ◌∷◌, ◌++◌, filter, Option, Some, None}
+use Rattle.std.specs.Prelude.{ℕ, ◌+◌, ◌-◌, Bool, ◌==◌, ◌&&◌, not, nat_lt, if◌then◌else◌, List, [], ◌∷◌, ◌++◌, map, filter, Option, Some, None}
 use Rattle.std.specs.List.{slice_get}
 use Rattle.mcs_ticks.specs.Queue.{Discipline, by_priority}
 use Rattle.mcs_ticks.specs.declared.queue.Queued.{Queued}
+use Rattle.mcs_ticks.specs.declared.row.Row.{Row}
 use Rattle.mcs_ticks.specs.declared.row.What.{What}
 use Rattle.mcs_ticks.specs.declared.row.What.TheVariants as row
 use Rattle.mcs_ticks.specs.declared.row.Why.{Why}
@@ -34,6 +35,10 @@ pub record Turn : Type 0 where
   pub core : Core
   pub rows : List What
   pub mails : List Mail
+
+-- the rows of what is told of core c at moment t
+abbrev pub stamped : ℕ → ℕ → List What → List Row
+stamped c t told = map (λ what. record { moment = t; core = c; what = what }) told
 
 abbrev pub silent : Core → Turn
 silent core = record { core = core; rows = []; mails = [] }
@@ -96,7 +101,11 @@ module _ (queue : Discipline) (system : System) where
 -- a stop for good, or until a signal
 abbrev pub stops : System → ℕ → Why → ℕ → Standing → Core → Turn
 stops system thread why k standing core =
-    record { core = stands thread standing (off (charged system thread k core)); rows = row.Stop thread why k None ∷ []; mails = [] }
+    record {
+      core = stands thread standing (off (charged system thread k core));
+      rows = row.Stop thread why k None ∷ [];
+      mails = [];
+    }
 
 -- stops at moment t
 module _ (queue : Discipline) (system : System) (t : ℕ) where
@@ -123,7 +132,8 @@ module _ (queue : Discipline) (system : System) (t : ℕ) where
   abbrev pub may_stop : ℕ → ℕ → Why → Core → Turn
   may_stop thread using why.Done core = stops system thread why.Done using Done core
   may_stop thread using why.Wait core = stops system thread why.Wait using Blocked core
-  may_stop thread using why.Yield core = stops_to_back thread why.Yield (head_amount (its_context system thread core)) core
+  may_stop thread using why.Yield core =
+      stops_to_back thread why.Yield (head_amount (its_context system thread core)) core
   may_stop thread using other core =
       if using == head_amount (its_context system thread core)
       then stops_to_back thread why.Spent using core
@@ -135,7 +145,9 @@ module _ (system : System) where
   item_of thread core = slice_get (part_of system thread).script (thread_of core thread).place.item
 
   abbrev pub move_of : ℕ → Core → Moved
-  move_of thread core = move_after (part_of system thread).script (part_of system thread).rounds (thread_of core thread).place
+  move_of thread core =
+      let part = part_of system thread in
+      move_after part.script part.rounds (thread_of core thread).place
 
 -- the wait of the thread gives its word at moment t: where it is the first item, the round begins
 abbrev pub given : ℕ → ℕ → Core → Core
@@ -150,7 +162,12 @@ module _ (system : System) (t : ℕ) where
   placed thread move since core =
       let state = thread_of core thread in
       with_thread thread
-      (record { standing = state.standing; place = place_after system.call (part_of system thread).script move state.place; since = since }) core
+      (record {
+        standing = state.standing;
+        place = place_after system.call (part_of system thread).script move state.place;
+        since = since;
+      })
+      core
 
   abbrev pub round_row : ℕ → Core → What
   round_row thread core = row.Round thread (thread_of core thread).place.round (t - (thread_of core thread).since)
@@ -166,14 +183,16 @@ module _ (system : System) (t : ℕ) where
 
   abbrev pub waits_as : ℕ → ℕ → Waited → Core → Turn
   waits_as thread note (Got word) core =
-      says (row.Got thread note word) (given t thread (with_note note (after_wait (Got word) (queued system thread) (note_of core note)) core))
+      says (row.Got thread note word)
+      (given t thread (with_note note (after_wait (Got word) (queued system thread) (note_of core note)) core))
       followed_by moves_on thread
   waits_as thread note Blocks core =
       silent (with_note note (after_wait Blocks (queued system thread) (note_of core note)) core)
 
 -- the context of the thread is unblocked at moment t
 abbrev pub unblocked : System → ℕ → ℕ → Core → Core
-unblocked system t thread core = with_its_context system thread (context_unblocked t (its_context system thread core)) core
+unblocked system t thread core =
+    with_its_context system thread (context_unblocked t (its_context system thread core)) core
 
 -- posts at moment t
 module _ (queue : Discipline) (system : System) (t : ℕ) where
@@ -220,7 +239,13 @@ counts chosen core =
 -- the mail that a signal of core c at moment t is
 abbrev pub mail_to : System → ℕ → ℕ → ℕ → ℕ → Mail
 mail_to system c t note badge =
-    record { arrives = t + delay_between system c (note_part system note).core; made = t; maker = c; note = note; badge = badge }
+    record {
+      arrives = t + delay_between system c (note_part system note).core;
+      made = t;
+      maker = c;
+      note = note;
+      badge = badge;
+    }
 
 -- part 1: the end of the tick, on core c at moment t
 module _ (queue : Discipline) (system : System) (c t : ℕ) where
@@ -235,7 +260,8 @@ module _ (queue : Discipline) (system : System) (c t : ℕ) where
 
   -- the thread's item takes effect, and the thread moves on unless it blocks
   abbrev pub takes_effect : ℕ → Option Item → Core → Turn
-  takes_effect thread (Some (Signal note badge)) core = signals thread note badge core followed_by moves_on system t thread
+  takes_effect thread (Some (Signal note badge)) core =
+      signals thread note badge core followed_by moves_on system t thread
   takes_effect thread (Some (Wait note)) core = waits_as system t thread note (waited (note_of core note)) core
   takes_effect thread (Some (Compute ticks)) core = moves_on system t thread core
   takes_effect thread (Some Yield) core = moves_on system t thread core
@@ -244,7 +270,8 @@ module _ (queue : Discipline) (system : System) (c t : ℕ) where
   -- the item is finished: it takes effect, and at most one stop follows
   abbrev pub finishes : ℕ → ℕ → Option Item → Core → Turn
   finishes thread using item core =
-      takes_effect thread item core followed_by may_stop queue system t thread using (stop_after system thread item core)
+      takes_effect thread item core
+      followed_by may_stop queue system t thread using (stop_after system thread item core)
 
   -- after the count: where nothing of the item is left it is finished, and else only a spent head stops the thread
   abbrev pub after_count : ℕ → ℕ → Core → Turn
@@ -272,14 +299,17 @@ released queue system due core = says (row.Release due.thread) (enters_back queu
 module _ (queue : Discipline) (system : System) (t : ℕ) where
   -- part 2: an arrival
   abbrev pub arrives : Mail → Core → Turn
-  arrives mail core = says (row.Arrive mail.note mail.badge mail.maker) core followed_by posts queue system t mail.note mail.badge
+  arrives mail core =
+      says (row.Arrive mail.note mail.badge mail.maker) core
+      followed_by posts queue system t mail.note mail.badge
 
   -- part 3: an order
   abbrev pub orders_running : Order → Option Chosen → Core → Turn
   orders_running order None core = silent (applied t order core)
   orders_running order (Some chosen) core =
+      let after = applied t order (charged system chosen.thread chosen.using core) in
       if (part_of system chosen.thread).context == order.context
-      then stops_to_front queue system t chosen.thread why.Order chosen.using (applied t order (charged system chosen.thread chosen.using core))
+      then stops_to_front queue system t chosen.thread why.Order chosen.using after
       else silent (applied t order core)
 
   abbrev pub obeys : Order → Core → Turn
@@ -294,8 +324,9 @@ module _ (queue : Discipline) (system : System) (t : ℕ) where
   -- part 5: the choice; a running thread first gives way to one of greater priority ..
   abbrev pub preempts_by : Option Chosen → Option Queued → Core → Turn
   preempts_by (Some chosen) (Some best) core =
+      let after = charged system chosen.thread chosen.using core in
       if nat_lt (part_of system chosen.thread).priority best.priority
-      then stops_to_front queue system t chosen.thread why.Preempt chosen.using (charged system chosen.thread chosen.using core)
+      then stops_to_front queue system t chosen.thread why.Preempt chosen.using after
       else silent core
   preempts_by (Some chosen) None core = silent core
   preempts_by None best core = silent core
@@ -303,8 +334,7 @@ module _ (queue : Discipline) (system : System) (t : ℕ) where
   abbrev pub preempts : Core → Turn
   preempts core = preempts_by core.running (queue.best core.ready) core
 
--- .. and where none runs, the best one is chosen
-module _ (queue : Discipline) where
+  -- .. and where none runs, the best one is chosen
   abbrev pub chooses_of : Option Chosen → Option Queued → Core → Turn
   chooses_of (Some chosen) best core = silent core
   chooses_of None None core = silent core
@@ -328,7 +358,7 @@ turn_with queue system c t mails core =
     followed_by each (obeys queue system t) (filter (is_for_now system c t) system.orders)
     followed_by releases queue system t
     followed_by preempts queue system t
-    followed_by chooses queue
+    followed_by chooses queue system t
 
 -- the turn with the ready threads by priority, which is what a core shows
 abbrev pub turn : System → ℕ → ℕ → List Mail → Core → Turn

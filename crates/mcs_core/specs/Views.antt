@@ -18,7 +18,8 @@ module _ (system : System) where
 
   abbrev pub views_from : ℕ → Option Chosen → List (Option Context) → List ContextView
   views_from number running [] = []
-  views_from number running (context ∷ contexts) = own_view number running context ++ views_from (suc number) running contexts
+  views_from number running (context ∷ contexts) =
+      own_view number running context ++ views_from (suc number) running contexts
 
   -- the views of the core's contexts, in file order
   abbrev pub views_of : Core → List ContextView

@@ -1,3 +1,4 @@
 pub mod Room
 pub mod Items
 pub mod Sound
+pub mod Parts

@@ -25,15 +25,15 @@ impl Model for Agenda {
 
 impl Agenda {
     /// Takes the first order if its moment has come.
-    pub(crate) fn take_due(&mut self, t: Tick) -> Option<Order>
-        ensures taken { result ≡ first_due t self.old }
-        ensures left { self.new ≡ without_first t self.old }
+    pub(crate) fn take_due(&mut self, moment: Tick) -> Option<Order>
+        ensures taken { result ≡ first_due moment self.old }
+        ensures left { self.new ≡ without_first moment self.old }
     {
         if self.next == self.orders.len() {
             return None;
         }
         let order = self.orders[self.next];
-        if order.moment > t {
+        if order.moment > moment {
             return None;
         }
         self.next += 1;

@@ -1,58 +1,47 @@
-ghost use Rattle.std.specs.Prelude.{◌≡◌, ◌+◌, ◌^◌, ◌≤◌, ◌++◌, OnOk, Some, None};
+ghost use Rattle.std.specs.Prelude.{◌≡◌, ◌+◌, ◌^◌, ◌≤◌, ◌<◌, nat_lt, OnOk, None, length};
 ghost use Rattle.mcs_ticks.specs.Queue.{by_priority};
-ghost use Rattle.mcs_core.specs.Run.{stamped};
 ghost use Rattle.mcs_core.specs.Turn.{preempts, chooses};
+ghost use Rattle.mcs_core.specs.stored.Parts.{Makes};
 ghost use Rattle.mcs_core.specs.stored.Sound.{IsSound};
 ghost use Rattle.mcs_core.specs.stored.Sound.Phase.{PastTick};
+ghost use Rattle.mcs_system.specs.System.{thread_part};
 ghost use Rattle.mcs_system.specs.WellFormed.{IsWellFormed};
 
 use crate::local::Local;
-use crate::tell::tell;
+use crate::log::{Here, Log};
 use crate::{Chosen, Standing};
 use mcs_system::SystemParts;
-use mcs_ticks::{CoreId, NoMemory, Row, Tick, What, Why};
+use mcs_ticks::{NoMemory, ThreadId, What, Why};
 
 impl Local {
     /// A running thread gives way to a ready one of greater priority.
-    pub(crate) fn preempt(
-        &mut self,
-        system: &SystemParts,
-        c: CoreId,
-        t: Tick,
-        rows: &mut Vec<Row>,
-    ) -> Result<(), NoMemory>
-        requires well_formed { IsWellFormed system.now }
-        requires sound { IsSound system.now c (t + 1) PastTick None self.old }
-        requires soon { t ≤ 2 ^ 40 }
-        ensures core { OnOk result (self.new ≡ (preempts by_priority system.now t self.old).core) }
-        ensures rows { OnOk result (rows.new.items ≡ rows.old.items ++ stamped c t (preempts by_priority system.now t self.old).rows) }
+    pub(crate) fn preempt(&mut self, here: &Here<'_>, log: &mut Log<'_>) -> Result<(), NoMemory>
+        requires well_formed { IsWellFormed here.now.system.now }
+        requires sound { IsSound here.now.system.now here.now.core (here.now.moment + 1) PastTick None self.old }
+        requires soon { here.now.moment ≤ 2 ^ 40 }
+        ensures { OnOk result
+            (Makes here.now (preempts by_priority here.now.system.now here.now.moment self.old)
+            self.new log.old log.new) }
     {
         let Some(chosen) = self.running() else {
             return Ok(());
         };
-        let x = chosen.thread;
+        let thread = chosen.thread;
         let used = chosen.using;
         if let Some(best) = self.best() {
-            if system.thread(x).priority < best {
-                self.charge(system, x, used);
-                return self.stop_to_front(system, c, t, x, Why::Preempt, used, rows);
+            if gives_way(here.system, thread, best) {
+                self.charge(here.system, thread, used);
+                return self.stop_to_front(here, thread, Why::Preempt, used, log);
             }
         }
         Ok(())
     }
 
     /// Where no thread runs, the best ready one is chosen.
-    pub(crate) fn choose(
-        &mut self,
-        system: &SystemParts,
-        c: CoreId,
-        t: Tick,
-        rows: &mut Vec<Row>,
-    ) -> Result<(), NoMemory>
-        requires well_formed { IsWellFormed system.now }
-        requires sound { IsSound system.now c (t + 1) PastTick None self.old }
-        ensures core { OnOk result (self.new ≡ (chooses by_priority self.old).core) }
-        ensures rows { OnOk result (rows.new.items ≡ rows.old.items ++ stamped c t (chooses by_priority self.old).rows) }
+    pub(crate) fn choose(&mut self, here: &Here<'_>, log: &mut Log<'_>) -> Result<(), NoMemory>
+        requires well_formed { IsWellFormed here.now.system.now }
+        requires sound { IsSound here.now.system.now here.now.core (here.now.moment + 1) PastTick None self.old }
+        ensures { OnOk result (Makes here.now (chooses by_priority here.now.system.now here.now.moment self.old) self.new log.old log.new) }
     {
         if self.running().is_some() {
             return Ok(());
@@ -60,8 +49,16 @@ impl Local {
         if let Some(thread) = self.take_best() {
             self.stand(thread, Standing::Running);
             self.set_running(Chosen { thread, using: 0 });
-            tell(rows, c, t, What::Run { thread })?;
+            log.tell(here, What::Run { thread })?;
         }
         Ok(())
     }
+}
+
+/// Whether a thread gives way to a ready one of this priority.
+fn gives_way(system: &SystemParts, thread: ThreadId, best: u8) -> bool
+    requires { thread < length system.now.threads }
+    ensures { result ≡ nat_lt (thread_part system.now thread).priority best }
+{
+    system.thread(thread).priority < best
 }

@@ -28,73 +28,73 @@ impl Model for Contexts {
 
 impl Contexts {
     /// A context is charged so many ticks.
-    pub(crate) fn charge(&mut self, k: ContextId, ticks: u64, min_budget: u64)
-        requires own { is_own k self.old ≡ true }
+    pub(crate) fn charge(&mut self, number: ContextId, ticks: u64, min_budget: u64)
+        requires own { is_own number self.old ≡ true }
         requires some { 1 ≤ ticks }
-        requires in_head { ticks ≤ head_amount (held k self.old) }
-        requires early { head_moment (held k self.old) ≤ 2 ^ 40 }
-        ensures { self.new ≡ set self.old k (Some (context_charged ticks min_budget (held k self.old))) }
+        requires in_head { ticks ≤ head_amount (held number self.old) }
+        requires early { head_moment (held number self.old) ≤ 2 ^ 40 }
+        ensures { self.new ≡ set self.old number (Some (context_charged ticks min_budget (held number self.old))) }
     {
-        match &mut self.contexts[k.0] {
+        match &mut self.contexts[number.0] {
             Some(context) => context.charge(ticks, min_budget),
             None => unreachable!(),
         }
     }
 
     /// The thread of a context is woken.
-    pub(crate) fn wake(&mut self, k: ContextId, t: Tick)
-        requires own { is_own k self.old ≡ true }
-        requires soon { t ≤ 2 ^ 40 }
-        ensures { self.new ≡ set self.old k (Some (context_unblocked t (held k self.old))) }
+    pub(crate) fn wake(&mut self, number: ContextId, moment: Tick)
+        requires own { is_own number self.old ≡ true }
+        requires soon { moment ≤ 2 ^ 40 }
+        ensures { self.new ≡ set self.old number (Some (context_unblocked moment (held number self.old))) }
     {
-        match &mut self.contexts[k.0] {
-            Some(context) => context.wake(t),
+        match &mut self.contexts[number.0] {
+            Some(context) => context.wake(moment),
             None => unreachable!(),
         }
     }
 
     /// A context is ordered to have this configuration, of the same kind.
-    pub(crate) fn order(&mut self, k: ContextId, t: Tick, config: Config)
-        requires own { is_own k self.old ≡ true }
-        requires soon { t ≤ 2 ^ 40 }
+    pub(crate) fn order(&mut self, number: ContextId, moment: Tick, config: Config)
+        requires own { is_own number self.old ≡ true }
+        requires soon { moment ≤ 2 ^ 40 }
         requires checked { IsConfig config }
-        requires same_kind { kind_of config ≡ kind_of (held k self.old).config }
-        ensures { self.new ≡ set self.old k (Some (context_ordered t config (held k self.old))) }
+        requires same_kind { kind_of config ≡ kind_of (held number self.old).config }
+        ensures { self.new ≡ set self.old number (Some (context_ordered moment config (held number self.old))) }
     {
-        match &mut self.contexts[k.0] {
-            Some(context) => context.order(t, config),
+        match &mut self.contexts[number.0] {
+            Some(context) => context.order(moment, config),
             None => unreachable!(),
         }
     }
 
-    /// Whether a context is ready at `t`.
-    pub(crate) fn ready(&self, k: ContextId, t: Tick) -> bool
-        requires own { is_own k self.now ≡ true }
-        ensures { result ≡ context_ready t (held k self.now) }
+    /// Whether a context is ready at a moment.
+    pub(crate) fn ready(&self, number: ContextId, moment: Tick) -> bool
+        requires own { is_own number self.now ≡ true }
+        ensures { result ≡ context_ready moment (held number self.now) }
     {
-        match &self.contexts[k.0] {
-            Some(context) => context.ready(t),
+        match &self.contexts[number.0] {
+            Some(context) => context.ready(moment),
             None => unreachable!(),
         }
     }
 
     /// The head of a context, in ticks.
-    pub(crate) fn head_amount(&self, k: ContextId) -> u64
-        requires own { is_own k self.now ≡ true }
-        ensures { result ≡ head_amount (held k self.now) }
+    pub(crate) fn head_amount(&self, number: ContextId) -> u64
+        requires own { is_own number self.now ≡ true }
+        ensures { result ≡ head_amount (held number self.now) }
     {
-        match &self.contexts[k.0] {
+        match &self.contexts[number.0] {
             Some(context) => context.head_amount(),
             None => unreachable!(),
         }
     }
 
     /// The moment from which the head of a context may be used.
-    pub(crate) fn head_moment(&self, k: ContextId) -> Tick
-        requires own { is_own k self.now ≡ true }
-        ensures { result ≡ head_moment (held k self.now) }
+    pub(crate) fn head_moment(&self, number: ContextId) -> Tick
+        requires own { is_own number self.now ≡ true }
+        ensures { result ≡ head_moment (held number self.now) }
     {
-        match &self.contexts[k.0] {
+        match &self.contexts[number.0] {
             Some(context) => context.head_moment(),
             None => unreachable!(),
         }
@@ -108,18 +108,19 @@ impl Contexts {
         Contexts { contexts }
     }
 
-    /// What there is to see of a context, if the core holds it. `NoMemory` is answered where the list of refills is refused.
+    /// What there is to see of a context, if the core holds it. `NoMemory` is answered where the list of refills is
+    /// refused.
     pub(crate) fn view(
         &self,
         alloc: Global,
-        k: ContextId,
+        number: ContextId,
         in_use: u64,
     ) -> Result<Option<ContextView>, NoMemory>
-        requires known { k < length self.now }
-        ensures { IfOk result (λ view. view ≡ option_map (view_of k in_use) (get_or self.now k None)) }
+        requires known { number < length self.now }
+        ensures { IfOk result (λ view. view ≡ option_map (view_of number in_use) (get_or self.now number None)) }
     {
-        match &self.contexts[k.0] {
-            Some(context) => Ok(Some(context.view(alloc, k, in_use)?)),
+        match &self.contexts[number.0] {
+            Some(context) => Ok(Some(context.view(alloc, number, in_use)?)),
             None => Ok(None),
         }
     }

@@ -12,6 +12,7 @@ ghost use Rattle.mcs_core.specs.Turn.{its_context, applied, charged, queued, dat
 ghost use Rattle.mcs_core.specs.stored.Sound.{times_queued, times_dated, times_waiting, has_context};
 
 use crate::contexts::Contexts;
+use crate::log::Here;
 use crate::{Chosen, Standing, Thread};
 use mcs_control::{ContextView, Order};
 use mcs_notify::{Notes, Posted, Waited};
@@ -54,30 +55,30 @@ impl Model for Local {
 
 impl Local {
     /// The thread stands so.
-    pub(crate) fn stand(&mut self, x: ThreadId, standing: Standing)
-        requires { x < length self.old.threads }
-        ensures { self.new ≡ stands x standing self.old }
+    pub(crate) fn stand(&mut self, thread: ThreadId, standing: Standing)
+        requires { thread < length self.old.threads }
+        ensures { self.new ≡ stands thread standing self.old }
     {
-        self.threads[x.0].standing = standing;
+        self.threads[thread.0].standing = standing;
     }
 
     /// The thread has this state.
-    pub(crate) fn set_thread(&mut self, x: ThreadId, state: Thread)
-        requires { x < length self.old.threads }
-        ensures { self.new ≡ with_thread x state self.old }
+    pub(crate) fn set_thread(&mut self, thread: ThreadId, state: Thread)
+        requires { thread < length self.old.threads }
+        ensures { self.new ≡ with_thread thread state self.old }
     {
-        self.threads[x.0] = state;
+        self.threads[thread.0] = state;
     }
 
     /// The thread is in the release queue with this date.
     #[tactic(auto, using(crate::proofs::Counts::not_held_releases))]
-    pub(crate) fn pend(&mut self, x: ThreadId, date: Tick)
-        requires known { x < length self.old.threads }
-        requires free { times_dated x self.old.releases ≡ 0 }
-        ensures { self.new ≡ pends x date self.old }
+    pub(crate) fn pend(&mut self, thread: ThreadId, date: Tick)
+        requires known { thread < length self.old.threads }
+        requires free { times_dated thread self.old.releases ≡ 0 }
+        ensures { self.new ≡ pends thread date self.old }
     {
-        self.threads[x.0].standing = Standing::Pending;
-        self.releases.enter(x, date);
+        self.threads[thread.0].standing = Standing::Pending;
+        self.releases.enter(thread, date);
     }
 
     /// The running thread leaves the core.
@@ -89,61 +90,67 @@ impl Local {
 
     #[tactic(auto, using(crate::proofs::Counts::not_held_ready))]
     /// The thread enters the ready queue at the back, or the release queue with a date.
-    pub(crate) fn enter_back(&mut self, system: &SystemParts, x: ThreadId, until: Option<Tick>)
-        requires known { x < length self.old.threads }
-        requires part { x < length system.now.threads }
-        requires not_ready { times_queued x self.old.ready ≡ 0 }
-        requires not_pending { times_dated x self.old.releases ≡ 0 }
-        ensures { self.new ≡ enters_back by_priority system.now x until self.old }
+    pub(crate) fn enter_back(&mut self, system: &SystemParts, thread: ThreadId, until: Option<Tick>)
+        requires known { thread < length self.old.threads }
+        requires part { thread < length system.now.threads }
+        requires not_ready { times_queued thread self.old.ready ≡ 0 }
+        requires not_pending { times_dated thread self.old.releases ≡ 0 }
+        ensures { self.new ≡ enters_back by_priority system.now thread until self.old }
     {
         match until {
-            Some(date) => self.pend(x, date),
+            Some(date) => self.pend(thread, date),
             None => {
-                self.threads[x.0].standing = Standing::Ready;
-                self.ready.push_back(x, system.thread(x).priority);
+                self.threads[thread.0].standing = Standing::Ready;
+                self.ready.push_back(thread, system.thread(thread).priority);
             }
         }
     }
 
     #[tactic(auto, using(crate::proofs::Counts::not_held_ready))]
     /// The thread enters the ready queue at the front, or the release queue with a date.
-    pub(crate) fn enter_front(&mut self, system: &SystemParts, x: ThreadId, until: Option<Tick>)
-        requires known { x < length self.old.threads }
-        requires part { x < length system.now.threads }
-        requires not_ready { times_queued x self.old.ready ≡ 0 }
-        requires not_pending { times_dated x self.old.releases ≡ 0 }
-        ensures { self.new ≡ enters_front by_priority system.now x until self.old }
+    pub(crate) fn enter_front(
+        &mut self,
+        system: &SystemParts,
+        thread: ThreadId,
+        until: Option<Tick>,
+    )
+        requires known { thread < length self.old.threads }
+        requires part { thread < length system.now.threads }
+        requires not_ready { times_queued thread self.old.ready ≡ 0 }
+        requires not_pending { times_dated thread self.old.releases ≡ 0 }
+        ensures { self.new ≡ enters_front by_priority system.now thread until self.old }
     {
         match until {
-            Some(date) => self.pend(x, date),
+            Some(date) => self.pend(thread, date),
             None => {
-                self.threads[x.0].standing = Standing::Ready;
-                self.ready.push_front(x, system.thread(x).priority);
+                self.threads[thread.0].standing = Standing::Ready;
+                self.ready
+                    .push_front(thread, system.thread(thread).priority);
             }
         }
     }
 
     /// The context of the thread is charged so many ticks.
-    pub(crate) fn charge(&mut self, system: &SystemParts, x: ThreadId, ticks: u64)
-        requires part { x < length system.now.threads }
-        requires has { has_context (thread_part system.now x).context self.old ≡ true }
+    pub(crate) fn charge(&mut self, system: &SystemParts, thread: ThreadId, ticks: u64)
+        requires part { thread < length system.now.threads }
+        requires has { has_context (thread_part system.now thread).context self.old ≡ true }
         requires some { 1 ≤ ticks }
-        requires in_head { ticks ≤ head_amount (its_context system.now x self.old) }
-        requires early { head_moment (its_context system.now x self.old) ≤ 2 ^ 40 }
-        ensures { self.new ≡ charged system.now x ticks self.old }
+        requires in_head { ticks ≤ head_amount (its_context system.now thread self.old) }
+        requires early { head_moment (its_context system.now thread self.old) ≤ 2 ^ 40 }
+        ensures { self.new ≡ charged system.now thread ticks self.old }
     {
         self.contexts
-            .charge(system.thread(x).context, ticks, system.min_budget);
+            .charge(system.thread(thread).context, ticks, system.min_budget);
     }
 
-    /// The date with which the thread has to wait for its context, if the context isn't ready at `t`.
-    pub(crate) fn date_of(&self, system: &SystemParts, t: Tick, x: ThreadId) -> Option<Tick>
-        requires part { x < length system.now.threads }
-        requires has { has_context (thread_part system.now x).context self.now ≡ true }
-        ensures { result ≡ date_of system.now t x self.now }
+    /// The date with which the thread has to wait for its context, if the context isn't ready.
+    pub(crate) fn date_of(&self, here: &Here<'_>, thread: ThreadId) -> Option<Tick>
+        requires part { thread < length here.now.system.now.threads }
+        requires has { has_context (thread_part here.now.system.now thread).context self.now ≡ true }
+        ensures { result ≡ date_of here.now.system.now here.now.moment thread self.now }
     {
-        let context = system.thread(x).context;
-        if self.contexts.ready(context, t) {
+        let context = here.system.thread(thread).context;
+        if self.contexts.ready(context, here.moment) {
             None
         } else {
             Some(self.contexts.head_moment(context))
@@ -151,40 +158,40 @@ impl Local {
     }
 
     /// The head of the thread's context, in ticks.
-    pub(crate) fn head_amount(&self, system: &SystemParts, x: ThreadId) -> u64
-        requires part { x < length system.now.threads }
-        requires has { has_context (thread_part system.now x).context self.now ≡ true }
-        ensures { result ≡ head_amount (its_context system.now x self.now) }
+    pub(crate) fn head_amount(&self, system: &SystemParts, thread: ThreadId) -> u64
+        requires part { thread < length system.now.threads }
+        requires has { has_context (thread_part system.now thread).context self.now ≡ true }
+        ensures { result ≡ head_amount (its_context system.now thread self.now) }
     {
-        self.contexts.head_amount(system.thread(x).context)
+        self.contexts.head_amount(system.thread(thread).context)
     }
 
     /// The state of a thread of the core.
-    pub(crate) fn thread(&self, x: ThreadId) -> Thread
-        requires { x < length self.now.threads }
-        ensures { result ≡ thread_of self.now x }
+    pub(crate) fn thread(&self, thread: ThreadId) -> Thread
+        requires { thread < length self.now.threads }
+        ensures { result ≡ thread_of self.now thread }
     {
-        self.threads[x.0]
+        self.threads[thread.0]
     }
 
     /// A context is unblocked.
-    pub(crate) fn wake_context(&mut self, context: ContextId, t: Tick)
+    pub(crate) fn wake_context(&mut self, context: ContextId, moment: Tick)
         requires own { has_context context self.old ≡ true }
-        requires soon { t ≤ 2 ^ 40 }
-        ensures { self.new ≡ with_context context (context_unblocked t (context_of self.old context)) self.old }
+        requires soon { moment ≤ 2 ^ 40 }
+        ensures { self.new ≡ with_context context (context_unblocked moment (context_of self.old context)) self.old }
     {
-        self.contexts.wake(context, t);
+        self.contexts.wake(context, moment);
     }
 
     /// An order changes its context.
-    pub(crate) fn apply(&mut self, t: Tick, order: Order)
+    pub(crate) fn apply(&mut self, moment: Tick, order: Order)
         requires own { has_context order.context self.old ≡ true }
-        requires soon { t ≤ 2 ^ 40 }
+        requires soon { moment ≤ 2 ^ 40 }
         requires checked { IsConfig order.config }
         requires same_kind { kind_of order.config ≡ kind_of (context_of self.old order.context).config }
-        ensures { self.new ≡ applied t order self.old }
+        ensures { self.new ≡ applied moment order self.old }
     {
-        self.contexts.order(order.context, t, order.config);
+        self.contexts.order(order.context, moment, order.config);
     }
 
     /// A badge is posted on a notification: whom it wakes leaves the waiters.
@@ -198,15 +205,22 @@ impl Local {
 
     #[tactic(auto, using(crate::proofs::Counts::not_waiting))]
     /// A thread waits on a notification.
-    pub(crate) fn wait_note(&mut self, system: &SystemParts, note: NoteId, x: ThreadId) -> Waited
+    pub(crate) fn wait_note(
+        &mut self,
+        system: &SystemParts,
+        note: NoteId,
+        thread: ThreadId,
+    ) -> Waited
         requires note { note < length self.old.notes }
-        requires known { x < length self.old.threads }
-        requires part { x < length system.now.threads }
-        requires free { times_waiting x self.old.notes ≡ 0 }
+        requires known { thread < length self.old.threads }
+        requires part { thread < length system.now.threads }
+        requires free { times_waiting thread self.old.notes ≡ 0 }
         ensures waited { result ≡ waited (note_of self.old note) }
-        ensures core { self.new ≡ with_note note (after_wait result (queued system.now x) (note_of self.old note)) self.old }
+        ensures core { self.new
+            ≡ with_note note (after_wait result (queued system.now thread) (note_of self.old note)) self.old }
     {
-        self.notes.wait(note, x, system.thread(x).priority)
+        self.notes
+            .wait(note, thread, system.thread(thread).priority)
     }
 
     /// The word of a notification.
@@ -232,11 +246,11 @@ impl Local {
     }
 
     /// Takes the first thread whose date has come out of the release queue.
-    pub(crate) fn take_due(&mut self, t: Tick) -> Option<ThreadId>
-        ensures taken { result ≡ thread_of_dated (first_due t self.old.releases) }
-        ensures left { self.new ≡ record self.old { releases = without_first_due t self.old.releases } }
+    pub(crate) fn take_due(&mut self, moment: Tick) -> Option<ThreadId>
+        ensures taken { result ≡ thread_of_dated (first_due moment self.old.releases) }
+        ensures left { self.new ≡ record self.old { releases = without_first_due moment self.old.releases } }
     {
-        self.releases.pop_due(t)
+        self.releases.pop_due(moment)
     }
 
     /// The greatest priority of the ready threads.
@@ -282,7 +296,8 @@ impl Local {
         }
     }
 
-    /// What there is to see of a context, if the core holds it. `NoMemory` is answered where the list of refills is refused.
+    /// What there is to see of a context, if the core holds it. `NoMemory` is answered where the list of refills is
+    /// refused.
     pub(crate) fn view_context(
         &self,
         alloc: Global,
@@ -290,7 +305,8 @@ impl Local {
         in_use: u64,
     ) -> Result<Option<ContextView>, NoMemory>
         requires known { context < length self.now.contexts }
-        ensures { IfOk result (λ view. view ≡ option_map (view_of context in_use) (get_or self.now.contexts context None)) }
+        ensures { IfOk result
+            (λ view. view ≡ option_map (view_of context in_use) (get_or self.now.contexts context None)) }
     {
         self.contexts.view(alloc, context, in_use)
     }

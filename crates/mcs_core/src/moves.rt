@@ -1,69 +1,70 @@
-ghost use Rattle.std.specs.Prelude.{◌≡◌, ◌++◌, ◌<◌, OnOk, length};
-ghost use Rattle.mcs_core.specs.Run.{stamped};
+ghost use Rattle.std.specs.Prelude.{◌≡◌, ◌<◌, OnOk, length};
 ghost use Rattle.mcs_core.specs.Turn.{item_of, move_of, moves_on, given};
+ghost use Rattle.mcs_core.specs.stored.Parts.{Makes};
 ghost use Rattle.mcs_core.specs.stored.Sound.{IsPlaced};
 
 use crate::Thread;
 use crate::local::Local;
-use crate::tell::tell;
+use crate::log::{Here, Log};
 use mcs_script::{Item, Moved};
 use mcs_system::SystemParts;
-use mcs_ticks::{CoreId, NoMemory, Row, ThreadId, Tick, What};
+use mcs_ticks::{NoMemory, ThreadId, Tick, What};
 
 impl Local {
     /// The item at which the thread is.
-    pub(crate) fn item_of(&self, system: &SystemParts, x: ThreadId) -> Option<Item>
-        requires known { x < length self.now.threads }
-        requires part { x < length system.now.threads }
-        ensures { result ≡ item_of system.now x self.now }
+    pub(crate) fn item_of(&self, system: &SystemParts, thread: ThreadId) -> Option<Item>
+        requires known { thread < length self.now.threads }
+        requires part { thread < length system.now.threads }
+        ensures { result ≡ item_of system.now thread self.now }
     {
-        system.thread(x).script.get(self.thread(x).place.item)
+        system
+            .thread(thread)
+            .script
+            .get(self.thread(thread).place.item)
     }
 
     /// What follows the item at which the thread is.
-    pub(crate) fn move_of(&self, system: &SystemParts, x: ThreadId) -> Moved
-        requires known { x < length self.now.threads }
-        requires placed { IsPlaced system.now x self.now }
-        ensures { result ≡ move_of system.now x self.now }
+    pub(crate) fn move_of(&self, system: &SystemParts, thread: ThreadId) -> Moved
+        requires known { thread < length self.now.threads }
+        requires placed { IsPlaced system.now thread self.now }
+        ensures { result ≡ move_of system.now thread self.now }
     {
-        let part = system.thread(x);
-        let mut place = self.thread(x).place;
+        let part = system.thread(thread);
+        let mut place = self.thread(thread).place;
         place.advance(&part.script, system.call, part.rounds)
     }
 
     /// The thread's item is finished, and the thread moves on in its script.
     pub(crate) fn move_on(
         &mut self,
-        system: &SystemParts,
-        c: CoreId,
-        t: Tick,
-        x: ThreadId,
-        rows: &mut Vec<Row>,
+        here: &Here<'_>,
+        thread: ThreadId,
+        log: &mut Log<'_>,
     ) -> Result<(), NoMemory>
-        requires known { x < length self.old.threads }
-        requires placed { IsPlaced system.now x self.old }
-        ensures core { OnOk result (self.new ≡ (moves_on system.now t x self.old).core) }
-        ensures rows { OnOk result (rows.new.items ≡ rows.old.items ++ stamped c t (moves_on system.now t x self.old).rows) }
+        requires known { thread < length self.old.threads }
+        requires placed { IsPlaced here.now.system.now thread self.old }
+        ensures { OnOk result
+            (Makes here.now (moves_on here.now.system.now here.now.moment thread self.old) self.new log.old log.new) }
     {
-        let part = system.thread(x);
-        let state = self.thread(x);
+        let part = here.system.thread(thread);
+        let state = self.thread(thread);
         let mut place = state.place;
-        let moved = place.advance(&part.script, system.call, part.rounds);
+        let moved = place.advance(&part.script, here.system.call, part.rounds);
         let ended = What::Round {
-            thread: x,
+            thread,
             number: state.place.round,
-            response: t.get().saturating_sub(state.since.get()),
+            response: here.moment.get().saturating_sub(state.since.get()),
         };
         let since = if moved == Moved::Next {
             state.since
         } else {
-            tell(rows, c, t, ended)?;
-            t
+            log.tell(here, ended)?;
+            here.moment
         };
         if moved != Moved::AllDone {
             let standing = state.standing;
             self.set_thread(
-                x,
+                thread,
                 Thread {
                     standing,
                     place,
@@ -75,20 +76,20 @@ impl Local {
     }
 
     /// The thread's wait gives its word: where it is the first item, the round begins.
-    pub(crate) fn give(&mut self, t: Tick, x: ThreadId)
-        requires { x < length self.old.threads }
-        ensures { self.new ≡ given t x self.old }
+    pub(crate) fn give(&mut self, moment: Tick, thread: ThreadId)
+        requires { thread < length self.old.threads }
+        ensures { self.new ≡ given moment thread self.old }
     {
-        let state = self.thread(x);
+        let state = self.thread(thread);
         let since = if state.place.item == 0 {
-            t
+            moment
         } else {
             state.since
         };
         let standing = state.standing;
         let place = state.place;
         self.set_thread(
-            x,
+            thread,
             Thread {
                 standing,
                 place,

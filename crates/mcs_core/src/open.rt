@@ -24,11 +24,11 @@ use std::alloc::Global;
 const ROOM: usize = 2 + Limits::EXTRA_REFILLS as usize;
 
 /// A thread at the start: pending, if it is one of the core's.
-fn opening_thread(system: &SystemParts, c: CoreId, thread: &ThreadPart) -> Thread
-    ensures { result ≡ opening_thread system.now c thread.now }
+fn opening_thread(system: &SystemParts, core: CoreId, thread: &ThreadPart) -> Thread
+    ensures { result ≡ opening_thread system.now core thread.now }
 {
     Thread {
-        standing: if system.core_of_thread(thread) == c {
+        standing: if system.core_of_thread(thread) == core {
             Standing::Pending
         } else {
             Standing::Elsewhere
@@ -38,26 +38,30 @@ fn opening_thread(system: &SystemParts, c: CoreId, thread: &ThreadPart) -> Threa
     }
 }
 
-fn opening_threads(alloc: Global, system: &SystemParts, c: CoreId) -> Result<Vec<Thread>, NoMemory>
-    ensures { IfOk result (λ threads. threads.items ≡ map (opening_thread system.now c) system.now.threads) }
+fn opening_threads(
+    alloc: Global,
+    system: &SystemParts,
+    core: CoreId,
+) -> Result<Vec<Thread>, NoMemory>
+    ensures { IfOk result (λ threads. threads.items ≡ map (opening_thread system.now core) system.now.threads) }
 {
     let threads = system
         .threads
         .as_slice()
         .iter()
-        .map(|thread| opening_thread(system, c, thread))
+        .map(|thread| opening_thread(system, core, thread))
         .collect(alloc)?;
     Ok(threads)
 }
 
 /// The threads of the core wait for their starts.
-fn opening_releases(alloc: Global, system: &SystemParts, c: CoreId) -> Result<Releases, NoMemory>
-    ensures queue { IfOk result (λ releases. releases.queue ≡ opening_releases system.now c 0 system.now.threads) }
+fn opening_releases(alloc: Global, system: &SystemParts, core: CoreId) -> Result<Releases, NoMemory>
+    ensures queue { IfOk result (λ releases. releases.queue ≡ opening_releases system.now core 0 system.now.threads) }
     ensures room { IfOk result (λ releases. releases.room ≡ length system.now.threads) }
 {
     let mut releases = Releases::new(alloc, system.threads.len())?;
     for (i, thread) in system.threads.as_slice().iter().enumerate() {
-        if system.core_of_thread(thread) == c {
+        if system.core_of_thread(thread) == core {
             releases.enter(ThreadId(i), thread.start);
         }
     }
@@ -83,7 +87,7 @@ fn context_starts(alloc: Global, system: &SystemParts) -> Result<Vec<Tick>, NoMe
 /// A context of the core is new. One of another core takes no memory.
 fn opening_context(
     alloc: Global,
-    c: CoreId,
+    core: CoreId,
     part: &ContextPart,
     start: Tick,
 ) -> Result<Option<Context>, NoMemory>
@@ -91,25 +95,25 @@ fn opening_context(
     requires early { start ≤ 2 ^ 40 }
     ensures context { IfOk result
         (λ kept. option_map (λ own. own.context) kept
-        ≡ (if part.now.core == c then Some (new_context part.now.config start) else None)) }
+        ≡ (if part.now.core == core then Some (new_context part.now.config start) else None)) }
     ensures room { IfOk result HasRoom }
 {
-    if part.core != c {
+    if part.core != core {
         return Ok(None);
     }
     let context = Context::new(alloc, part.config, start, ROOM)?;
     Ok(Some(context))
 }
 
-fn opening_contexts(alloc: Global, system: &SystemParts, c: CoreId) -> Result<Contexts, NoMemory>
+fn opening_contexts(alloc: Global, system: &SystemParts, core: CoreId) -> Result<Contexts, NoMemory>
     requires { IsWellFormed system.now }
-    ensures { IfOk result (λ contexts. contexts ≡ opening_contexts system.now c 0 system.now.contexts) }
+    ensures { IfOk result (λ contexts. contexts ≡ opening_contexts system.now core 0 system.now.contexts) }
 {
     let starts = context_starts(alloc, system)?;
     let parts = system.contexts.as_slice();
     let mut contexts = Vec::with_capacity(alloc, parts.len())?;
     for (k, part) in parts.iter().enumerate() {
-        let context = opening_context(alloc, c, part, starts[k])?;
+        let context = opening_context(alloc, core, part, starts[k])?;
         contexts.push(context)?;
     }
     Ok(Contexts::from_parts(contexts))
@@ -117,16 +121,16 @@ fn opening_contexts(alloc: Global, system: &SystemParts, c: CoreId) -> Result<Co
 
 impl Local {
     /// The core with which a run opens: its threads wait for their starts, its contexts are new, and nothing runs.
-    pub(crate) fn open(alloc: Global, system: &SystemParts, c: CoreId) -> Result<Local, NoMemory>
+    pub(crate) fn open(alloc: Global, system: &SystemParts, core: CoreId) -> Result<Local, NoMemory>
         requires { IsWellFormed system.now }
-        ensures { IfOk result (λ local. local ≡ opening_core system.now c) }
+        ensures { IfOk result (λ local. local ≡ opening_core system.now core) }
     {
         let count = system.threads.len();
         Ok(Local::from_parts(
-            opening_threads(alloc, system, c)?,
+            opening_threads(alloc, system, core)?,
             Ready::new(alloc, count)?,
-            opening_releases(alloc, system, c)?,
-            opening_contexts(alloc, system, c)?,
+            opening_releases(alloc, system, core)?,
+            opening_contexts(alloc, system, core)?,
             Notes::new(alloc, system.notes.len(), count)?,
         ))
     }
@@ -152,12 +156,12 @@ fn insert_order(orders: &mut Vec<Order>, order: Order) -> Result<(), NoMemory>
 
 impl Agenda {
     /// The orders for the contexts of a core, by moment, and in file order within one moment.
-    pub(crate) fn new(alloc: Global, system: &SystemParts, c: CoreId) -> Result<Agenda, NoMemory>
-        ensures { IfOk result (λ agenda. agenda ≡ orders_of system.now c) }
+    pub(crate) fn new(alloc: Global, system: &SystemParts, core: CoreId) -> Result<Agenda, NoMemory>
+        ensures { IfOk result (λ agenda. agenda ≡ orders_of system.now core) }
     {
         let mut orders = Vec::new(alloc);
         for order in system.orders.as_slice() {
-            if system.core_of_context(order.context) == c {
+            if system.core_of_context(order.context) == core {
                 insert_order(&mut orders, *order)?;
             }
         }

@@ -1,96 +1,103 @@
-ghost use Rattle.std.specs.Prelude.{◌≡◌, ◌+◌, ◌^◌, ◌≤◌, ◌++◌, OnOk, Some, None};
+ghost use Rattle.std.specs.Prelude.{◌≡◌, ◌+◌, ◌^◌, ◌≤◌, OnOk, Some, None};
 ghost use Rattle.mcs_ticks.specs.Queue.{by_priority};
-ghost use Rattle.mcs_ticks.specs.declared.row.Why.TheVariants.{Order as OrderWhy};
-ghost use Rattle.mcs_core.specs.Run.{stamped};
 ghost use Rattle.mcs_system.specs.System.{thread_part};
-ghost use Rattle.mcs_core.specs.Turn.{each, applied, charged, obeys, stops_to_front};
+ghost use Rattle.mcs_core.specs.Turn.{each, applied, charged, orders_running, obeys};
 ghost use Rattle.mcs_core.specs.Orders.{IsPlanned, ArePlanned, AreByMoment, due_now, to_come};
-ghost use Rattle.mcs_core.specs.stored.Sound.{IsSound};
+ghost use Rattle.mcs_core.specs.stored.Parts.{Makes};
+ghost use Rattle.mcs_core.specs.stored.Sound.{IsFree, IsSound};
 ghost use Rattle.mcs_core.specs.stored.Sound.Phase.{PastTick};
 ghost use Rattle.mcs_system.specs.WellFormed.{IsWellFormed};
 
 use crate::Chosen;
 use crate::agenda::Agenda;
 use crate::local::Local;
-use crate::tell::tell;
+use crate::log::{Here, Log};
 use mcs_control::Order;
-use mcs_system::SystemParts;
-use mcs_ticks::{CoreId, NoMemory, Row, Tick, What, Why};
+use mcs_ticks::{NoMemory, What, Why};
 
 impl Local {
+    /// The thread that runs is charged, and then its context takes the order's configuration.
+    fn charge_and_apply(&mut self, here: &Here<'_>, order: Order, chosen: Chosen)
+        requires well_formed { IsWellFormed here.now.system.now }
+        requires sound { IsSound here.now.system.now here.now.core here.now.moment PastTick None self.old }
+        requires running { self.old.running ≡ Some chosen }
+        requires its { (thread_part here.now.system.now chosen.thread).context ≡ order.context }
+        requires planned { IsPlanned here.now.system.now here.now.core order }
+        requires soon { here.now.moment ≤ 2 ^ 40 }
+        ensures core { self.new
+            ≡ applied here.now.moment order (charged here.now.system.now chosen.thread chosen.using self.old) }
+        ensures free { IsFree here.now.system.now chosen.thread self.new }
+    {
+        self.charge(here.system, chosen.thread, chosen.using);
+        self.apply(here.moment, order);
+    }
+
     /// An order for the context of the thread that runs: the thread is charged, and stops.
     fn obey_running(
         &mut self,
-        system: &SystemParts,
-        c: CoreId,
-        t: Tick,
+        here: &Here<'_>,
         order: Order,
         chosen: Chosen,
-        rows: &mut Vec<Row>,
+        log: &mut Log<'_>,
     ) -> Result<(), NoMemory>
-        requires well_formed { IsWellFormed system.now }
-        requires sound { IsSound system.now c t PastTick None self.old }
+        requires well_formed { IsWellFormed here.now.system.now }
+        requires sound { IsSound here.now.system.now here.now.core here.now.moment PastTick None self.old }
         requires running { self.old.running ≡ Some chosen }
-        requires its { (thread_part system.now chosen.thread).context ≡ order.context }
-        requires planned { IsPlanned system.now c order }
-        requires soon { t ≤ 2 ^ 40 }
-        ensures core { OnOk result (self.new ≡ (stops_to_front by_priority system.now t chosen.thread OrderWhy chosen.using (applied t order (charged system.now chosen.thread chosen.using self.old))).core) }
-        ensures rows { OnOk result (rows.new.items ≡ rows.old.items ++ stamped c t (stops_to_front by_priority system.now t chosen.thread OrderWhy chosen.using (applied t order (charged system.now chosen.thread chosen.using self.old))).rows) }
+        requires its { (thread_part here.now.system.now chosen.thread).context ≡ order.context }
+        requires planned { IsPlanned here.now.system.now here.now.core order }
+        requires soon { here.now.moment ≤ 2 ^ 40 }
+        ensures { OnOk result
+            (Makes here.now
+            (orders_running by_priority here.now.system.now here.now.moment order (Some chosen) self.old)
+            self.new log.old log.new) }
     {
-        let x = chosen.thread;
+        let thread = chosen.thread;
         let used = chosen.using;
-        self.charge(system, x, used);
-        self.apply(t, order);
-        self.stop_to_front(system, c, t, x, Why::Order, used, rows)
+        self.charge_and_apply(here, order, chosen);
+        self.stop_to_front(here, thread, Why::Order, used, log)
     }
 
     /// An order for a context of the core.
-    fn obey(
-        &mut self,
-        system: &SystemParts,
-        c: CoreId,
-        t: Tick,
-        order: Order,
-        rows: &mut Vec<Row>,
-    ) -> Result<(), NoMemory>
-        requires well_formed { IsWellFormed system.now }
-        requires sound { IsSound system.now c t PastTick None self.old }
-        requires planned { IsPlanned system.now c order }
-        requires soon { t ≤ 2 ^ 40 }
-        ensures core { OnOk result (self.new ≡ (obeys by_priority system.now t order self.old).core) }
-        ensures rows { OnOk result (rows.new.items ≡ rows.old.items ++ stamped c t (obeys by_priority system.now t order self.old).rows) }
+    fn obey(&mut self, here: &Here<'_>, order: Order, log: &mut Log<'_>) -> Result<(), NoMemory>
+        requires well_formed { IsWellFormed here.now.system.now }
+        requires sound { IsSound here.now.system.now here.now.core here.now.moment PastTick None self.old }
+        requires planned { IsPlanned here.now.system.now here.now.core order }
+        requires soon { here.now.moment ≤ 2 ^ 40 }
+        ensures { OnOk result
+            (Makes here.now (obeys by_priority here.now.system.now here.now.moment order self.old)
+            self.new log.old log.new) }
     {
         let context = order.context;
-        tell(rows, c, t, What::Order { context })?;
+        log.tell(here, What::Order { context })?;
         if let Some(chosen) = self.running() {
-            if system.thread(chosen.thread).context == context {
-                return self.obey_running(system, c, t, order, chosen, rows);
+            if here.system.thread(chosen.thread).context == context {
+                return self.obey_running(here, order, chosen, log);
             }
         }
-        self.apply(t, order);
+        self.apply(here.moment, order);
         Ok(())
     }
 
     /// The orders of this moment.
     pub(crate) fn orders(
         &mut self,
-        system: &SystemParts,
-        c: CoreId,
-        t: Tick,
+        here: &Here<'_>,
         agenda: &mut Agenda,
-        rows: &mut Vec<Row>,
+        log: &mut Log<'_>,
     ) -> Result<(), NoMemory>
-        requires well_formed { IsWellFormed system.now }
-        requires sound { IsSound system.now c t PastTick None self.old }
-        requires planned { ArePlanned system.now c agenda.old }
-        requires by_moment { AreByMoment t agenda.old }
-        requires soon { t ≤ 2 ^ 40 }
-        ensures core { OnOk result (self.new ≡ (each (obeys by_priority system.now t) (due_now t agenda.old) self.old).core) }
-        ensures rows { OnOk result (rows.new.items ≡ rows.old.items ++ stamped c t (each (obeys by_priority system.now t) (due_now t agenda.old) self.old).rows) }
-        ensures agenda { OnOk result (agenda.new ≡ to_come (t + 1) agenda.old) }
+        requires well_formed { IsWellFormed here.now.system.now }
+        requires sound { IsSound here.now.system.now here.now.core here.now.moment PastTick None self.old }
+        requires planned { ArePlanned here.now.system.now here.now.core agenda.old }
+        requires by_moment { AreByMoment here.now.moment agenda.old }
+        requires soon { here.now.moment ≤ 2 ^ 40 }
+        ensures makes { OnOk result
+            (Makes here.now
+            (each (obeys by_priority here.now.system.now here.now.moment) (due_now here.now.moment agenda.old) self.old)
+            self.new log.old log.new) }
+        ensures agenda { OnOk result (agenda.new ≡ to_come (here.now.moment + 1) agenda.old) }
     {
-        'agenda: while let Some(order) = agenda.take_due(t) {
-            self.obey(system, c, t, order, rows)?;
+        'agenda: while let Some(order) = agenda.take_due(here.moment) {
+            self.obey(here, order, log)?;
         }
         Ok(())
     }

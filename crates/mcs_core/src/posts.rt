@@ -1,70 +1,67 @@
-ghost use Rattle.std.specs.Prelude.{◌≡◌, ◌^◌, ◌≤◌, ◌++◌, ◌<◌, OnOk, length};
+ghost use Rattle.std.specs.Prelude.{◌≡◌, ◌^◌, ◌≤◌, ◌<◌, OnOk, length};
 ghost use Rattle.mcs_ticks.specs.Queue.{by_priority};
-ghost use Rattle.mcs_core.specs.Run.{stamped};
 ghost use Rattle.mcs_core.specs.Turn.{unblocked, wakes, posts};
+ghost use Rattle.mcs_core.specs.stored.Parts.{Makes};
 ghost use Rattle.mcs_core.specs.stored.Sound.{IsFree, WakesFree};
 
 use crate::local::Local;
-use crate::tell::tell;
+use crate::log::{Here, Log};
 use mcs_notify::Posted;
-use mcs_system::SystemParts;
-use mcs_ticks::{CoreId, NoMemory, NoteId, Row, ThreadId, Tick, What};
+use mcs_ticks::{NoMemory, NoteId, ThreadId, What};
 
 impl Local {
     /// The context of the thread is unblocked.
-    pub(crate) fn unblock(&mut self, system: &SystemParts, t: Tick, x: ThreadId)
-        requires free { IsFree system.now x self.old }
-        requires soon { t ≤ 2 ^ 40 }
-        ensures core { self.new ≡ unblocked system.now t x self.old }
-        ensures free { IsFree system.now x self.new }
+    pub(crate) fn unblock(&mut self, here: &Here<'_>, thread: ThreadId)
+        requires free { IsFree here.now.system.now thread self.old }
+        requires soon { here.now.moment ≤ 2 ^ 40 }
+        ensures core { self.new ≡ unblocked here.now.system.now here.now.moment thread self.old }
+        ensures free { IsFree here.now.system.now thread self.new }
     {
-        self.wake_context(system.thread(x).context, t);
+        self.wake_context(here.system.thread(thread).context, here.moment);
     }
 
     /// A thread that has left the waiters is woken: it moves on behind its wait, and enters a queue.
     pub(crate) fn wake(
         &mut self,
-        system: &SystemParts,
-        c: CoreId,
-        t: Tick,
-        x: ThreadId,
-        rows: &mut Vec<Row>,
+        here: &Here<'_>,
+        thread: ThreadId,
+        log: &mut Log<'_>,
     ) -> Result<(), NoMemory>
-        requires free { IsFree system.now x self.old }
-        requires soon { t ≤ 2 ^ 40 }
-        ensures core { OnOk result (self.new ≡ (wakes by_priority system.now t x self.old).core) }
-        ensures rows { OnOk result (rows.new.items ≡ rows.old.items ++ stamped c t (wakes by_priority system.now t x self.old).rows) }
+        requires free { IsFree here.now.system.now thread self.old }
+        requires soon { here.now.moment ≤ 2 ^ 40 }
+        ensures { OnOk result
+            (Makes here.now (wakes by_priority here.now.system.now here.now.moment thread self.old)
+            self.new log.old log.new) }
     {
-        self.unblock(system, t, x);
-        self.give(t, x);
-        self.move_on(system, c, t, x, rows)?;
-        let until = self.date_of(system, t, x);
-        self.enter_back(system, x, until);
+        self.unblock(here, thread);
+        self.give(here.moment, thread);
+        self.move_on(here, thread, log)?;
+        let until = self.date_of(here, thread);
+        self.enter_back(here.system, thread, until);
         Ok(())
     }
 
     /// A post on a notification of the core.
     pub(crate) fn post(
         &mut self,
-        system: &SystemParts,
-        c: CoreId,
-        t: Tick,
+        here: &Here<'_>,
         note: NoteId,
         badge: u32,
-        rows: &mut Vec<Row>,
+        log: &mut Log<'_>,
     ) -> Result<(), NoMemory>
         requires known { note < length self.old.notes }
-        requires free { WakesFree system.now note badge self.old }
-        requires soon { t ≤ 2 ^ 40 }
-        ensures core { OnOk result (self.new ≡ (posts by_priority system.now t note badge self.old).core) }
-        ensures rows { OnOk result (rows.new.items ≡ rows.old.items ++ stamped c t (posts by_priority system.now t note badge self.old).rows) }
+        requires free { WakesFree here.now.system.now note badge self.old }
+        requires soon { here.now.moment ≤ 2 ^ 40 }
+        ensures { OnOk result
+            (Makes here.now (posts by_priority here.now.system.now here.now.moment note badge self.old)
+            self.new log.old log.new) }
     {
         match self.post_note(note, badge) {
             Posted::Woke(thread, word) => {
-                tell(rows, c, t, What::Wake { thread, note, word })?;
-                self.wake(system, c, t, thread, rows)
+                log.tell(here, What::Wake { thread, note, word })?;
+                self.wake(here, thread, log)
             }
-            Posted::Held(word) => tell(rows, c, t, What::Hold { note, word }),
+            Posted::Held(word) => log.tell(here, What::Hold { note, word }),
         }
     }
 }

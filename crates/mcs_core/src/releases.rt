@@ -1,53 +1,45 @@
-ghost use Rattle.std.specs.Prelude.{◌≡◌, ◌^◌, ◌≤◌, ◌++◌, ◌∷◌, [], OnOk, None};
+ghost use Rattle.std.specs.Prelude.{◌≡◌, ◌^◌, ◌≤◌, OnOk, None};
 ghost use Rattle.mcs_ticks.specs.Queue.{by_priority};
 ghost use Rattle.mcs_ticks.specs.declared.row.What.TheVariants.{Release};
-ghost use Rattle.mcs_core.specs.Run.{stamped};
-ghost use Rattle.mcs_core.specs.Turn.{enters_back, releases};
+ghost use Rattle.mcs_core.specs.Turn.{says, enters_back, releases};
+ghost use Rattle.mcs_core.specs.stored.Parts.{Makes};
 ghost use Rattle.mcs_core.specs.stored.Sound.{IsFree, IsSound};
 ghost use Rattle.mcs_core.specs.stored.Sound.Phase.{PastTick};
 ghost use Rattle.mcs_system.specs.WellFormed.{IsWellFormed};
 
 use crate::local::Local;
-use crate::tell::tell;
-use mcs_system::SystemParts;
-use mcs_ticks::{CoreId, NoMemory, Row, ThreadId, Tick, What};
+use crate::log::{Here, Log};
+use mcs_ticks::{NoMemory, ThreadId, What};
 
 impl Local {
     /// A thread that has left the release queue goes to the back of its ready queue.
     fn release(
         &mut self,
-        system: &SystemParts,
-        c: CoreId,
-        t: Tick,
-        x: ThreadId,
-        rows: &mut Vec<Row>,
+        here: &Here<'_>,
+        thread: ThreadId,
+        log: &mut Log<'_>,
     ) -> Result<(), NoMemory>
-        requires { IsFree system.now x self.old }
-        ensures core { OnOk result (self.new ≡ enters_back by_priority system.now x None self.old) }
-        ensures rows { OnOk result (rows.new.items ≡ rows.old.items ++ stamped c t (Release x ∷ [])) }
+        requires { IsFree here.now.system.now thread self.old }
+        ensures { OnOk result
+            (Makes here.now (says (Release thread) (enters_back by_priority here.now.system.now thread None self.old))
+            self.new log.old log.new) }
     {
-        let thread = x;
-        tell(rows, c, t, What::Release { thread })?;
-        self.enter_back(system, x, None);
+        log.tell(here, What::Release { thread })?;
+        self.enter_back(here.system, thread, None);
         Ok(())
     }
 
     /// The threads whose date has come, in the order in which they entered the release queue.
-    pub(crate) fn releases(
-        &mut self,
-        system: &SystemParts,
-        c: CoreId,
-        t: Tick,
-        rows: &mut Vec<Row>,
-    ) -> Result<(), NoMemory>
-        requires well_formed { IsWellFormed system.now }
-        requires sound { IsSound system.now c t PastTick None self.old }
-        requires soon { t ≤ 2 ^ 40 }
-        ensures core { OnOk result (self.new ≡ (releases by_priority system.now t self.old).core) }
-        ensures rows { OnOk result (rows.new.items ≡ rows.old.items ++ stamped c t (releases by_priority system.now t self.old).rows) }
+    pub(crate) fn releases(&mut self, here: &Here<'_>, log: &mut Log<'_>) -> Result<(), NoMemory>
+        requires well_formed { IsWellFormed here.now.system.now }
+        requires sound { IsSound here.now.system.now here.now.core here.now.moment PastTick None self.old }
+        requires soon { here.now.moment ≤ 2 ^ 40 }
+        ensures { OnOk result
+            (Makes here.now (releases by_priority here.now.system.now here.now.moment self.old)
+            self.new log.old log.new) }
     {
-        'due: while let Some(x) = self.take_due(t) {
-            self.release(system, c, t, x, rows)?;
+        'due: while let Some(thread) = self.take_due(here.moment) {
+            self.release(here, thread, log)?;
         }
         Ok(())
     }

@@ -1,15 +1,10 @@
-ghost use Rattle.std.specs.Prelude.{◌≡◌, ◌+◌, ◌^◌, ◌≤◌, ◌<◌, ◌++◌, true, false, OnOk, OnErr, IfOk, IsErr, IsTrue, ◌↔◌, All, None, length};
-ghost use Rattle.mcs_mail.specs.Box.{arriving, staying};
-ghost use Rattle.mcs_core.specs.Orders.{orders_of, to_come};
-ghost use Rattle.mcs_core.specs.Run.{stamped};
-ghost use Rattle.mcs_core.specs.Turn.{turn};
-ghost use Rattle.mcs_core.specs.stored.Sound.{IsSound};
-ghost use Rattle.mcs_core.specs.stored.Sound.Phase.{Between};
+ghost use Rattle.std.specs.Prelude.{◌≡◌, ◌+◌, ◌^◌, ◌≤◌, ◌<◌, ◌++◌, true, false, OnOk, OnErr, IfOk, IsErr, IsTrue, ◌↔◌, All};
 ghost use Rattle.mcs_core.specs.State.{Fits, IsExpected, opening_state, made_by, state_after};
 ghost use Rattle.mcs_core.specs.Views.{views_of};
 
 use crate::agenda::Agenda;
 use crate::local::Local;
+use crate::log::{Here, Log};
 use mcs_control::ContextView;
 use mcs_mail::{Mail, Mailbox};
 use mcs_system::System;
@@ -17,8 +12,8 @@ use mcs_ticks::{CoreId, NoMemory, Row, Tick};
 use std::alloc::Global;
 use std::marker::Model;
 
-/// The state of one core between two turns: the moment whose turn is next, what stands on the core, and the orders that it is yet
-/// to obey. After a call was refused memory the state is spent.
+/// The state of one core between two turns: the moment whose turn is next, what stands on the core, and the orders that
+/// it is yet to obey. After a call was refused memory the state is spent.
 #[derive(Drop)]
 pub struct CoreState {
     number: CoreId,
@@ -33,12 +28,18 @@ impl Model for CoreState {
 
     ghost Value = { State };
 
-    ghost view = { λ a. record { number = a.number; clock = a.clock; core = a.local; orders = a.agenda; failed = a.failed } };
+    ghost view = { λ a. record {
+      number = a.number;
+      clock = a.clock;
+      core = a.local;
+      orders = a.agenda;
+      failed = a.failed;
+    } };
 }
 
 impl CoreState {
-    /// The first state of a core: each of its threads is pending with its start as date. `NoMemory` is answered where the room for
-    /// its threads, contexts, notifications or orders is refused; what a turn needs is made here.
+    /// The first state of a core: each of its threads is pending with its start as date. `NoMemory` is answered where
+    /// the room for its threads, contexts, notifications or orders is refused; what a turn needs is made here.
     pub fn new(alloc: Global, system: &System, core: CoreId) -> Result<Self, NoMemory>
         requires { core < system.now.cores }
         ensures state { IfOk result (λ state. state ≡ opening_state system.now core) }
@@ -56,8 +57,8 @@ impl CoreState {
         })
     }
 
-    /// What there is to see of the core's contexts, in file order, with the ticks in use of the thread that runs. `NoMemory` is
-    /// answered where a growth is refused, and by a state that is spent.
+    /// What there is to see of the core's contexts, in file order, with the ticks in use of the thread that runs.
+    /// `NoMemory` is answered where a growth is refused, and by a state that is spent.
     pub fn contexts(&self, alloc: Global, system: &System) -> Result<Vec<ContextView>, NoMemory>
         requires { Fits system.now self.now }
         ensures views { IfOk result (λ views. views.items ≡ views_of system.now self.now.core) }
@@ -98,34 +99,39 @@ impl CoreState {
         rows: &mut Vec<Row>,
         signals: &mut Vec<Mail>,
     ) -> Result<(), NoMemory>
-        requires sound { IsSound system.now self.old.number self.old.clock Between None self.old.core }
-        requires planned { self.old.orders ≡ to_come self.old.clock (orders_of system.now self.old.number) }
-        requires known { All (λ mail. mail.note < length system.now.notes) mail.old.mails }
-        requires come { All (λ mail. self.old.clock ≤ mail.arrives) mail.old.mails }
-        requires soon { self.old.clock ≤ 2 ^ 40 }
-        ensures state { OnOk result (self.new ≡ record {
-          number = self.old.number;
-          clock = self.old.clock + 1;
-          core = (turn system.now self.old.number self.old.clock (arriving self.old.clock mail.old.mails) self.old.core).core;
-          orders = to_come (self.old.clock + 1) (orders_of system.now self.old.number);
-          failed = self.old.failed;
-        }) }
-        ensures sound { OnOk result (IsSound system.now self.old.number (self.old.clock + 1) Between None self.new.core) }
-        ensures rows { OnOk result (rows.new.items ≡ rows.old.items ++ stamped self.old.number self.old.clock (turn system.now self.old.number self.old.clock (arriving self.old.clock mail.old.mails) self.old.core).rows) }
-        ensures signals { OnOk result (signals.new.items ≡ signals.old.items ++ (turn system.now self.old.number self.old.clock (arriving self.old.clock mail.old.mails) self.old.core).mails) }
-        ensures mail { OnOk result (mail.new.mails ≡ staying self.old.clock mail.old.mails) }
+        requires going { self.old.failed ≡ false }
+        requires fits { Fits system.now self.old }
+        requires in_time { self.old.clock ≤ 2 ^ 40 }
+        requires expected { All (IsExpected system.now self.old) mail.old.mails }
+        ensures state { OnOk result
+            (self.new ≡ state_after self.old (self.old.clock + 1)
+            (made_by system.now self.old (self.old.clock + 1) mail.old.mails)) }
+        ensures rows { OnOk result
+            (rows.new.items
+            ≡ rows.old.items ++ (made_by system.now self.old (self.old.clock + 1) mail.old.mails).rows) }
+        ensures signals { OnOk result
+            (signals.new.items
+            ≡ signals.old.items ++ (made_by system.now self.old (self.old.clock + 1) mail.old.mails).mails) }
+        ensures mail { OnOk result
+            (mail.new.mails ≡ (made_by system.now self.old (self.old.clock + 1) mail.old.mails).box) }
+        ensures fits { OnOk result (Fits system.now self.new) }
         ensures kept { (self.new.number ≡ self.old.number) × (OnErr result (self.new.clock ≡ self.old.clock)) }
     {
-        let t = self.clock;
-        let c = self.number;
-        self.local.turn(system.parts(), c, t, &mut self.agenda, mail, rows, signals)?;
-        self.clock = t.plus(1).unwrap();
+        let here = Here {
+            system: system.parts(),
+            core: self.number,
+            moment: self.clock,
+        };
+        let mut log = Log { rows, signals };
+        self.local.turn(&here, &mut self.agenda, mail, &mut log)?;
+        self.clock = self.clock.plus(1).unwrap();
         Ok(())
     }
 
-    /// Takes the turns from the clock up to, not including, moment `to`, with the mail of the box as arrivals. Rows are appended,
-    /// and so are the signals for other cores; mail that does not arrive stays in the box. Where memory is refused the state is
-    /// spent, and nothing is said of the box, the rows and the signals; a state that is spent refuses at once and changes nothing.
+    /// Takes the turns from the clock up to, not including, moment `to`, with the mail of the box as arrivals. Rows are
+    /// appended, and so are the signals for other cores; mail that does not arrive stays in the box. Where memory is
+    /// refused the state is spent, and nothing is said of the box, the rows and the signals; a state that is spent
+    /// refuses at once and changes nothing.
     pub fn run(
         &mut self,
         system: &System,
@@ -137,14 +143,18 @@ impl CoreState {
         requires fits { Fits system.now self.old }
         requires in_time { to ≤ 2 ^ 40 + 1 }
         requires expected { All (IsExpected system.now self.old) mail.old.mails }
-        ensures state { OnOk result (self.new ≡ state_after self.old to (made_by system.now self.old to mail.old.mails)) }
-        ensures rows { OnOk result (rows.new.items ≡ rows.old.items ++ (made_by system.now self.old to mail.old.mails).rows) }
-        ensures signals { OnOk result (signals.new.items ≡ signals.old.items ++ (made_by system.now self.old to mail.old.mails).mails) }
+        ensures state { OnOk result
+            (self.new ≡ state_after self.old to (made_by system.now self.old to mail.old.mails)) }
+        ensures rows { OnOk result
+            (rows.new.items ≡ rows.old.items ++ (made_by system.now self.old to mail.old.mails).rows) }
+        ensures signals { OnOk result
+            (signals.new.items ≡ signals.old.items ++ (made_by system.now self.old to mail.old.mails).mails) }
         ensures mail { OnOk result (mail.new.mails ≡ (made_by system.now self.old to mail.old.mails).box) }
         ensures fits { Fits system.now self.new }
         ensures failed { OnErr result (self.new.failed ≡ true) }
         ensures going { OnOk result (self.old.failed ≡ false) }
-        ensures spent { self.old.failed ≡ true → (self.new ≡ self.old) × (rows.new ≡ rows.old) × (signals.new ≡ signals.old) × (mail.new ≡ mail.old) }
+        ensures spent { self.old.failed ≡ true →
+            (self.new ≡ self.old) × (rows.new ≡ rows.old) × (signals.new ≡ signals.old) × (mail.new ≡ mail.old) }
     {
         if self.failed {
             return Err(NoMemory);

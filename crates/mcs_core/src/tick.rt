@@ -1,22 +1,22 @@
-ghost use Rattle.std.specs.Prelude.{◌≡◌, ◌^◌, ◌≤◌, ◌<◌, ◌+◌, ◌++◌, OnOk, Some, None, length};
+ghost use Rattle.std.specs.Prelude.{◌≡◌, ◌^◌, ◌≤◌, ◌<◌, OnOk, Some, None, length};
 ghost use Rattle.mcs_ticks.specs.Queue.{by_priority};
-ghost use Rattle.mcs_core.specs.Run.{stamped};
 ghost use Rattle.mcs_notify.specs.Note.{waited};
 ghost use Rattle.mcs_core.specs.Core.{note_of};
-ghost use Rattle.mcs_core.specs.Turn.{counts, signals, waits_as, takes_effect, item_of, stop_after, after_move, after_waited, finishes, tick};
+ghost use Rattle.mcs_core.specs.Turn.{counts, mail_to, signals, waits_as, takes_effect, item_of, stop_after, after_move, after_waited, finishes, tick};
+ghost use Rattle.mcs_core.specs.stored.Items.{IsNoted, CanTakeEffect};
+ghost use Rattle.mcs_core.specs.stored.Parts.{Makes};
 ghost use Rattle.mcs_core.specs.stored.Sound.{times_waiting, IsPlaced, IsFree, WakesFree, IsSound};
 ghost use Rattle.mcs_core.specs.stored.Sound.Phase.{Between, InTick};
 ghost use Rattle.mcs_system.specs.WellFormed.{IsWellFormed};
-ghost use Rattle.mcs_core.specs.stored.Items.{IsNoted, CanTakeEffect};
 
 use crate::local::Local;
-use crate::tell::tell;
+use crate::log::{Here, Log};
 use crate::{Chosen, Thread};
 use mcs_mail::Mail;
 use mcs_notify::Waited;
 use mcs_script::{Item, Moved, Place};
 use mcs_system::SystemParts;
-use mcs_ticks::{CoreId, NoMemory, NoteId, Row, ThreadId, Tick, What, Why};
+use mcs_ticks::{NoMemory, NoteId, ThreadId, What, Why};
 
 impl Local {
     /// The running thread counts a tick.
@@ -59,17 +59,17 @@ impl Local {
     }
 
     /// Which stop follows the thread's item when it is finished: `Spent` means none but that of a spent head.
-    fn stop_after(&self, system: &SystemParts, x: ThreadId, item: &Option<Item>) -> Why
-        requires known { x < length self.now.threads }
-        requires placed { IsPlaced system.now x self.now }
+    fn stop_after(&self, system: &SystemParts, thread: ThreadId, item: &Option<Item>) -> Why
+        requires known { thread < length self.now.threads }
+        requires placed { IsPlaced system.now thread self.now }
         requires noted { IsNoted (length self.now.notes) item.now }
-        ensures { result ≡ stop_after system.now x item.now self.now }
+        ensures { result ≡ stop_after system.now thread item.now self.now }
     {
         match item {
-            Some(Item::Yield) => after_move(self.move_of(system, x), Why::Yield),
+            Some(Item::Yield) => after_move(self.move_of(system, thread), Why::Yield),
             Some(Item::Wait(note)) => self.stop_at_wait(*note),
-            Some(Item::Compute(_)) => after_move(self.move_of(system, x), Why::Spent),
-            Some(Item::Signal(_, _)) => after_move(self.move_of(system, x), Why::Spent),
+            Some(Item::Compute(_)) => after_move(self.move_of(system, thread), Why::Spent),
+            Some(Item::Signal(_, _)) => after_move(self.move_of(system, thread), Why::Spent),
             None => Why::Spent,
         }
     }
@@ -77,72 +77,58 @@ impl Local {
     /// A signal: a post at home, and mail for another core.
     fn signal(
         &mut self,
-        system: &SystemParts,
-        c: CoreId,
-        t: Tick,
-        x: ThreadId,
+        here: &Here<'_>,
+        thread: ThreadId,
         note: NoteId,
         badge: u32,
-        rows: &mut Vec<Row>,
-        mails: &mut Vec<Mail>,
+        log: &mut Log<'_>,
     ) -> Result<(), NoMemory>
         requires known { note < length self.old.notes }
-        requires part { note < length system.now.notes }
-        requires free { WakesFree system.now note badge self.old }
-        requires soon { t ≤ 2 ^ 40 }
-        requires delay { system.now.delay ≤ 2 ^ 20 }
-        ensures core { OnOk result (self.new ≡ (signals by_priority system.now c t x note badge self.old).core) }
-        ensures rows { OnOk result (rows.new.items ≡ rows.old.items ++ stamped c t (signals by_priority system.now c t x note badge self.old).rows) }
-        ensures mails { OnOk result (mails.new.items ≡ mails.old.items ++ (signals by_priority system.now c t x note badge self.old).mails) }
+        requires part { note < length here.now.system.now.notes }
+        requires free { WakesFree here.now.system.now note badge self.old }
+        requires soon { here.now.moment ≤ 2 ^ 40 }
+        requires delay { here.now.system.now.delay ≤ 2 ^ 20 }
+        ensures { OnOk result
+            (Makes here.now
+            (signals by_priority here.now.system.now here.now.core here.now.moment thread note badge self.old)
+            self.new log.old log.new) }
     {
-        let thread = x;
-        tell(
-            rows,
-            c,
-            t,
+        log.tell(
+            here,
             What::Signal {
                 thread,
                 note,
                 badge,
             },
         )?;
-        if system.note(note).core == c {
-            self.post(system, c, t, note, badge, rows)
+        if here.system.note(note).core == here.core {
+            self.post(here, note, badge, log)
         } else {
-            let arrives = t.plus(system.delay).unwrap();
-            mails.push(Mail {
-                arrives,
-                made: t,
-                maker: c,
-                note,
-                badge,
-            })?;
-            Ok(())
+            log.send(here, mail_to(here, note, badge))
         }
     }
 
     /// A wait: a word that is not 0 is taken, and at word 0 the thread joins the waiters.
     fn wait_on(
         &mut self,
-        system: &SystemParts,
-        c: CoreId,
-        t: Tick,
-        x: ThreadId,
+        here: &Here<'_>,
+        thread: ThreadId,
         note: NoteId,
-        rows: &mut Vec<Row>,
+        log: &mut Log<'_>,
     ) -> Result<(), NoMemory>
         requires known { note < length self.old.notes }
-        requires free { IsFree system.now x self.old }
-        requires not_waiting { times_waiting x self.old.notes ≡ 0 }
-        ensures core { OnOk result (self.new ≡ (waits_as system.now t x note (waited (note_of self.old note)) self.old).core) }
-        ensures rows { OnOk result (rows.new.items ≡ rows.old.items ++ stamped c t (waits_as system.now t x note (waited (note_of self.old note)) self.old).rows) }
+        requires free { IsFree here.now.system.now thread self.old }
+        requires not_waiting { times_waiting thread self.old.notes ≡ 0 }
+        ensures { OnOk result
+            (Makes here.now
+            (waits_as here.now.system.now here.now.moment thread note (waited (note_of self.old note)) self.old)
+            self.new log.old log.new) }
     {
-        match self.wait_note(system, note, x) {
+        match self.wait_note(here.system, note, thread) {
             Waited::Got(word) => {
-                let thread = x;
-                tell(rows, c, t, What::Got { thread, note, word })?;
-                self.give(t, x);
-                self.move_on(system, c, t, x, rows)
+                log.tell(here, What::Got { thread, note, word })?;
+                self.give(here.moment, thread);
+                self.move_on(here, thread, log)
             }
             Waited::Blocks => Ok(()),
         }
@@ -151,29 +137,27 @@ impl Local {
     /// The thread's item takes effect, and the thread moves on unless it blocks.
     fn take_effect(
         &mut self,
-        system: &SystemParts,
-        c: CoreId,
-        t: Tick,
-        x: ThreadId,
+        here: &Here<'_>,
+        thread: ThreadId,
         item: &Option<Item>,
-        rows: &mut Vec<Row>,
-        mails: &mut Vec<Mail>,
+        log: &mut Log<'_>,
     ) -> Result<(), NoMemory>
-        requires can { CanTakeEffect system.now c t x item.now self.old }
-        requires soon { t ≤ 2 ^ 40 }
-        requires delay { system.now.delay ≤ 2 ^ 20 }
-        ensures core { OnOk result (self.new ≡ (takes_effect by_priority system.now c t x item.now self.old).core) }
-        ensures rows { OnOk result (rows.new.items ≡ rows.old.items ++ stamped c t (takes_effect by_priority system.now c t x item.now self.old).rows) }
-        ensures mails { OnOk result (mails.new.items ≡ mails.old.items ++ (takes_effect by_priority system.now c t x item.now self.old).mails) }
+        requires can { CanTakeEffect here.now.system.now here.now.core here.now.moment thread item.now self.old }
+        requires soon { here.now.moment ≤ 2 ^ 40 }
+        requires delay { here.now.system.now.delay ≤ 2 ^ 20 }
+        ensures { OnOk result
+            (Makes here.now
+            (takes_effect by_priority here.now.system.now here.now.core here.now.moment thread item.now self.old)
+            self.new log.old log.new) }
     {
         match item {
             Some(Item::Signal(note, badge)) => {
-                self.signal(system, c, t, x, *note, *badge, rows, mails)?;
-                self.move_on(system, c, t, x, rows)
+                self.signal(here, thread, *note, *badge, log)?;
+                self.move_on(here, thread, log)
             }
-            Some(Item::Wait(note)) => self.wait_on(system, c, t, x, *note, rows),
-            Some(Item::Compute(_)) => self.move_on(system, c, t, x, rows),
-            Some(Item::Yield) => self.move_on(system, c, t, x, rows),
+            Some(Item::Wait(note)) => self.wait_on(here, thread, *note, log),
+            Some(Item::Compute(_)) => self.move_on(here, thread, log),
+            Some(Item::Yield) => self.move_on(here, thread, log),
             None => Ok(()),
         }
     }
@@ -181,55 +165,62 @@ impl Local {
     /// The running thread's item is finished: it takes effect, and at most one stop follows.
     fn finish(
         &mut self,
-        system: &SystemParts,
-        c: CoreId,
-        t: Tick,
-        x: ThreadId,
+        here: &Here<'_>,
+        thread: ThreadId,
         used: u64,
-        rows: &mut Vec<Row>,
-        mails: &mut Vec<Mail>,
+        log: &mut Log<'_>,
     ) -> Result<(), NoMemory>
-        requires well_formed { IsWellFormed system.now }
-        requires sound { IsSound system.now c t InTick None self.old }
-        requires running { self.old.running ≡ Some (record { thread = x; using = used }) }
-        requires soon { t ≤ 2 ^ 40 }
-        ensures core { OnOk result (self.new ≡ (finishes by_priority system.now c t x used (item_of system.now x self.old) self.old).core) }
-        ensures rows { OnOk result (rows.new.items ≡ rows.old.items ++ stamped c t (finishes by_priority system.now c t x used (item_of system.now x self.old) self.old).rows) }
-        ensures mails { OnOk result (mails.new.items ≡ mails.old.items ++ (finishes by_priority system.now c t x used (item_of system.now x self.old) self.old).mails) }
+        requires well_formed { IsWellFormed here.now.system.now }
+        requires sound { IsSound here.now.system.now here.now.core here.now.moment InTick None self.old }
+        requires running { self.old.running ≡ Some (record { thread = thread; using = used }) }
+        requires soon { here.now.moment ≤ 2 ^ 40 }
+        ensures { OnOk result
+            (Makes here.now
+            (finishes by_priority here.now.system.now here.now.core here.now.moment thread used
+            (item_of here.now.system.now thread self.old) self.old)
+            self.new log.old log.new) }
     {
-        let item = self.item_of(system, x);
-        let why = self.stop_after(system, x, &item);
-        self.take_effect(system, c, t, x, &item, rows, mails)?;
-        self.may_stop(system, c, t, x, used, why, rows)
+        let item = self.item_of(here.system, thread);
+        let why = self.stop_after(here.system, thread, &item);
+        self.take_effect(here, thread, &item, log)?;
+        self.may_stop(here, thread, used, why, log)
     }
 
     /// The end of the tick.
-    pub(crate) fn tick(
-        &mut self,
-        system: &SystemParts,
-        c: CoreId,
-        t: Tick,
-        rows: &mut Vec<Row>,
-        mails: &mut Vec<Mail>,
-    ) -> Result<(), NoMemory>
-        requires well_formed { IsWellFormed system.now }
-        requires sound { IsSound system.now c t Between None self.old }
-        requires soon { t ≤ 2 ^ 40 }
-        ensures core { OnOk result (self.new ≡ (tick by_priority system.now c t self.old).core) }
-        ensures rows { OnOk result (rows.new.items ≡ rows.old.items ++ stamped c t (tick by_priority system.now c t self.old).rows) }
-        ensures mails { OnOk result (mails.new.items ≡ mails.old.items ++ (tick by_priority system.now c t self.old).mails) }
+    pub(crate) fn tick(&mut self, here: &Here<'_>, log: &mut Log<'_>) -> Result<(), NoMemory>
+        requires well_formed { IsWellFormed here.now.system.now }
+        requires sound { IsSound here.now.system.now here.now.core here.now.moment Between None self.old }
+        requires soon { here.now.moment ≤ 2 ^ 40 }
+        ensures { OnOk result
+            (Makes here.now (tick by_priority here.now.system.now here.now.core here.now.moment self.old)
+            self.new log.old log.new) }
     {
         let Some(before) = self.running() else {
             return Ok(());
         };
-        let x = before.thread;
+        let thread = before.thread;
         let used = before.using + 1;
         self.count(before);
-        if self.thread(x).place.left == 0 {
-            self.finish(system, c, t, x, used, rows, mails)
+        if self.thread(thread).place.left == 0 {
+            self.finish(here, thread, used, log)
         } else {
-            self.may_stop(system, c, t, x, used, Why::Spent, rows)
+            self.may_stop(here, thread, used, Why::Spent, log)
         }
+    }
+}
+
+/// A signal to a notification of another core.
+fn mail_to(here: &Here<'_>, note: NoteId, badge: u32) -> Mail
+    requires soon { here.now.moment ≤ 2 ^ 40 }
+    requires delay { here.now.system.now.delay ≤ 2 ^ 20 }
+    ensures { result ≡ mail_to here.now.system.now here.now.core here.now.moment note badge }
+{
+    Mail {
+        arrives: here.moment.plus(here.system.delay).unwrap(),
+        made: here.moment,
+        maker: here.core,
+        note,
+        badge,
     }
 }
 

@@ -19,13 +19,13 @@ use Rattle.mcs_laws.specs.Changes.Change.{Charged}
 use Rattle.mcs_laws.specs.Histories as told
 use Rattle.mcs_laws.specs.Places.{times_running}
 use Rattle.mcs_laws.specs.Demand.{ticks_run, periods_begun, ThreadsRunWithinDemand}
-use Rattle.mcs_laws.proofs.Histories.{takes-time, gives-budgets, histories, budgets-kept}
+use Rattle.mcs_laws.proofs.Histories.{gives-budgets, histories, budgets-kept}
 use Rattle.mcs_laws.proofs.Kept.{sound-append}
 use Rattle.mcs_laws.proofs.Traces.{Same, same, carry, charges_of-append, orders_of-append}
 use Rattle.mcs_laws.proofs.Traces.Same.{Are, Differ}
 use Rattle.mcs_laws.proofs.Spaced.{changes-spaced, no-orders, all-after, all-sound, changes-next}
 use Rattle.mcs_laws.proofs.Taken.{IsDates, one_charge_more, places-fit, periods-more, periods-cover}
-use Rattle.mcs_laws.proofs.Moments.{on-a-core, on-time, before-next}
+use Rattle.mcs_laws.proofs.Moments.{bound, on-time, before-next}
 use Rattle.mcs_laws.proofs.Spends.{used, charged_by, UsesLess, turn-spends}
 
 module _ (system : System) (well : IsWellFormed system) (x : ℕ) (known : x < length system.threads) where
@@ -44,11 +44,11 @@ module _ (system : System) (well : IsWellFormed system) (x : ℕ) (known : x < l
   abbrev config : Config
   config = (context_part system context).config
 
-  on : told.IsOnACore system context
-  on = on-a-core system well x known
+  context_known : context < length system.contexts
+  context_known = bound system well x known
 
   is_budget : IsBudget config
-  is_budget = (gives-budgets system well).contexts context no_context on.known
+  is_budget = (gives-budgets system well).contexts context no_context context_known
 
   -- at most a tick at each moment
   at_most_one : (o : Option Chosen) → times_running x o ≤ 1
@@ -69,7 +69,7 @@ module _ (system : System) (well : IsWellFormed system) (x : ℕ) (known : x < l
 
   -- what has been charged before a moment
   changes : ℕ → List Change
-  changes t = told.changes_before system context (histories system (takes-time system well) (gives-budgets system well) context on) t
+  changes t = told.changes_before system context (histories system well context context_known) t
 
   charged : ℕ → ℕ
   charged t = sum (charges_of (changes t))
@@ -77,14 +77,14 @@ module _ (system : System) (well : IsWellFormed system) (x : ℕ) (known : x < l
   charged-next : (t : ℕ) → charged (suc t) ≡ charged t + charged_by system home t x (clocks.turn_of system home t).rows
   unfolding changes charged
   charged-next t =
-      let history = histories system (takes-time system well) (gives-budgets system well) context on in
+      let history = histories system well context context_known in
       ap (λ cs. sum (charges_of cs)) (changes-next system context history t)
       ∙ ap sum (charges_of-append (changes t) (history.changes t))
       ∙ sum_by-append (λ n. n) (charges_of (changes t)) (charges_of (history.changes t))
       ∙ ap (λ ks. sum (charges_of (changes t)) + sum ks) (sym (history.charges t))
 
   less : (t : ℕ) → UsesLess system home t x (running t) (before t)
-  less t = by (running t) (budgets-kept system (takes-time system well) (gives-budgets system well) context t on).uses
+  less t = by (running t) (budgets-kept system well context t context_known).uses
     where
       by : (o : Option Chosen) → told.UsesLess system context o (told.context_before system context t) → UsesLess system home t x o (before t)
       by None p = tt
@@ -120,7 +120,7 @@ module _ (system : System) (well : IsWellFormed system) (x : ℕ) (known : x < l
         first = told.opening_context system context
 
         history : told.History system context
-        history = histories system (takes-time system well) (gives-budgets system well) context on
+        history = histories system well context context_known
 
         itself : used system home t x (Some (record { thread = x; using = using })) + times_running x (Some (record { thread = x; using = using })) ≡ using + 1
         itself = by (x == x) refl
@@ -159,7 +159,7 @@ module _ (system : System) (well : IsWellFormed system) (x : ℕ) (known : x < l
 
         spaced : IsSpaced config.budget config.period (taken_by system.min_budget (changes (suc t) ++ Charged (suc using) ∷ []) first)
         spaced =
-            changes-spaced system (gives-budgets system well) context on kind (changes (suc t) ++ Charged (suc using) ∷ [])
+            changes-spaced system well context context_known kind (changes (suc t) ++ Charged (suc using) ∷ [])
             (orders_of-append (changes (suc t)) (Charged (suc using) ∷ []) ∙ ap (λ os. os ++ []) (no-orders system context history unordered (suc t)))
             (sound-append system.min_budget (changes (suc t)) (Charged (suc using) ∷ []) first sound ((omega arith, omega (arith, in_head)), tt))
 

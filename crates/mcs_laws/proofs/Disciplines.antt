@@ -155,18 +155,19 @@ module _ (system : System) (t : ℕ) where
       ∙ ap (λ best. turns.preempts_by by_priority system t k.running best (with_queue_sorted k)) (sym (first-sorted k.ready))
 
 -- the choice takes the same thread and leaves the same ones
-chooses_of-alike : (o : Option Chosen) (best : Option Queued) (k : Core) →
-    sorted_turn (turns.chooses_of in_one_list o best k) ≡ turns.chooses_of by_priority o best (with_queue_sorted k)
-chooses_of-alike (Some chosen) best k = refl
-chooses_of-alike None None k = refl
-chooses_of-alike None (Some best) k =
-    let made = turns.chooses_of in_one_list None (Some best) k in
-    ap (λ ready. record made { core = record (made.core) { ready = ready } }) (sym (rest-sorted k.ready))
+module _ (system : System) (t : ℕ) where
+  chooses_of-alike : (o : Option Chosen) (best : Option Queued) (k : Core) →
+      sorted_turn (turns.chooses_of in_one_list system t o best k) ≡ turns.chooses_of by_priority system t o best (with_queue_sorted k)
+  chooses_of-alike (Some chosen) best k = refl
+  chooses_of-alike None None k = refl
+  chooses_of-alike None (Some best) k =
+      let made = turns.chooses_of in_one_list system t None (Some best) k in
+      ap (λ ready. record made { core = record (made.core) { ready = ready } }) (sym (rest-sorted k.ready))
 
-chooses-alike : (k : Core) → sorted_turn (turns.chooses in_one_list k) ≡ turns.chooses by_priority (with_queue_sorted k)
-chooses-alike k =
-    chooses_of-alike k.running (first_of_greatest k.ready) k
-    ∙ ap (λ best. turns.chooses_of by_priority k.running best (with_queue_sorted k)) (sym (first-sorted k.ready))
+  chooses-alike : (k : Core) → sorted_turn (turns.chooses in_one_list system t k) ≡ turns.chooses by_priority system t (with_queue_sorted k)
+  chooses-alike k =
+      chooses_of-alike k.running (first_of_greatest k.ready) k
+      ∙ ap (λ best. turns.chooses_of by_priority system t k.running best (with_queue_sorted k)) (sym (first-sorted k.ready))
 
 -- the end of the tick
 module _ (system : System) (c t : ℕ) where
@@ -233,7 +234,7 @@ module _ (system : System) (c t : ℕ) where
   -- a whole turn
   turn-alike : (mails : List Mail) (k : Core) → sorted_turn (turns.turn_with in_one_list system c t mails k) ≡ turns.turn_with by_priority system c t mails (with_queue_sorted k)
   turn-alike mails k =
-      then_part _ _ (turns.chooses in_one_list) (turns.chooses by_priority)
+      then_part _ _ (turns.chooses in_one_list system t) (turns.chooses by_priority system t)
       (then_part _ _ (turns.preempts in_one_list system t) (turns.preempts by_priority system t)
       (then_part _ _ (turns.releases in_one_list system t) (turns.releases by_priority system t)
       (then_part _ _ (each (turns.obeys in_one_list system t) orders) (each (turns.obeys by_priority system t) orders)
@@ -243,7 +244,7 @@ module _ (system : System) (c t : ℕ) where
       (λ l. each_part (turns.obeys in_one_list system t) (turns.obeys by_priority system t) (obeys-alike system t) orders l))
       (releases-alike system t))
       (preempts-alike system t))
-      chooses-alike
+      (chooses-alike system t)
     where
       orders : List Order
       orders = filter (turns.is_for_now system c t) system.orders

@@ -19,7 +19,7 @@ use Rattle.mcs_laws.proofs.Ranges.{by_recursion}
 use Rattle.mcs_system.specs.WellFormed.{IsWellFormed}
 use Rattle.mcs_laws.proofs.Kept.{accepted-gives, keeps-new, keeps-changes}
 use Rattle.mcs_laws.proofs.Traces as traces
-use Rattle.mcs_laws.proofs.Traces.{charges_of-append, orders_of-append, carry}
+use Rattle.mcs_laws.proofs.Traces.{carry}
 
 -- the contexts of a core at first
 opening-many : (system : System) (c number : ℕ) (parts : List ContextPart) → length (opening_contexts system c number parts) ≡ length parts
@@ -40,7 +40,18 @@ opening-at system c number (part ∷ parts) zero l e = by (part.core == c) refl
 opening-at system c number (part ∷ parts) (suc i) l e =
     opening-at system c (number + 1) parts i (omega arith) e ∙ ap (λ n. new_context (get_or parts i no_context).config (start_of system.threads n)) (omega arith)
 
-module _ (system : System) (takes_time : TakesTime system) (budgets : told.GivesBudgets system) (x : ℕ) (on : told.IsOnACore system x) where
+-- a well-formed system: its signals take time, and its configurations give budgets
+pub takes-time : (system : System) → IsWellFormed system → TakesTime system
+takes-time system well maker to = well.limits.delay.0
+
+pub gives-budgets : (system : System) → IsWellFormed system → told.GivesBudgets system
+gives-budgets system well =
+    record {
+      contexts = λ k d l. accepted-gives system.min_budget _ (well.contexts k d l).accepted;
+      orders = λ k d l. accepted-gives system.min_budget _ (well.orders k d l).accepted;
+    }
+
+module _ (system : System) (well : IsWellFormed system) (x : ℕ) (known : x < length system.contexts) where
   abbrev home : ℕ
   home = told.home_of system x
 
@@ -53,11 +64,14 @@ module _ (system : System) (takes_time : TakesTime system) (budgets : told.Gives
   abbrev first : Context
   first = told.opening_context system x
 
+  home-known : home < system.cores
+  home-known = (well.contexts x no_context known).core
+
   before-first : before 0 ≡ opening_core system home
-  before-first = get_or-map-range_with_len (opening_core system) 0 system.cores home home (opening_core system home) on.home (omega arith)
+  before-first = get_or-map-range_with_len (opening_core system) 0 system.cores home home (opening_core system home) home-known (omega arith)
 
   before-next : (t : ℕ) → before (suc t) ≡ (clocks.turn_of system home t).core
-  before-next t = core_at-world system takes_time t home on.home
+  before-next t = core_at-world system (takes-time system well) t home home-known
 
   abbrev Uses : ℕ → Option Chosen → Context → Type 0
   Uses t = traces.Uses by_priority system home t x 0 1
@@ -65,12 +79,12 @@ module _ (system : System) (takes_time : TakesTime system) (budgets : told.Gives
   -- what the turn at t does to the context
   turn-at : (t : ℕ) → traces.Traced by_priority system home t x (Uses t) (Uses t) (told.orders_at system x t) (before t) (clocks.turn_of system home t)
   turn-at t =
-      traces.turn-traced by_priority system home t x (by_recursion (λ (order : Order). IsBudget order.config) system.orders budgets.orders)
+      traces.turn-traced by_priority system home t x (by_recursion (λ (order : Order). IsBudget order.config) system.orders (gives-budgets system well).orders)
       (filter (clocks.arrives_at system t home) (clocks.world system t).mails) (before t)
 
   pub before-opening : context_of (before 0) x ≡ first
   before-opening =
-      ap (λ (k : Core). context_of k x) before-first ∙ opening-at system home 0 system.contexts x on.known refl
+      ap (λ (k : Core). context_of k x) before-first ∙ opening-at system home 0 system.contexts x known refl
       ∙ ap (λ n. new_context (context_part system x).config (start_of system.threads n)) (omega arith)
 
   -- what is known before moment t
@@ -83,13 +97,13 @@ module _ (system : System) (takes_time : TakesTime system) (budgets : told.Gives
   idle k e = rw e tt
 
   inside : (t : ℕ) → Life t → x < length (before t).contexts
-  inside t life = rw life.many on.known
+  inside t life = rw life.many known
 
   life : (t : ℕ) → Life t
   life zero =
       record {
         many = ap (λ (k : Core). length k.contexts) before-first ∙ opening-many system home 0 system.contexts;
-        keeps = rw before-opening (keeps-new _ (start_of system.threads x) (budgets.contexts x no_context on.known));
+        keeps = rw before-opening (keeps-new _ (start_of system.threads x) ((gives-budgets system well).contexts x no_context known));
         uses = idle (before 0) before-first;
       }
   life (suc t) = next (life t)
@@ -123,24 +137,13 @@ module _ (system : System) (takes_time : TakesTime system) (budgets : told.Gives
   uses_less None k t p = tt
   uses_less (Some chosen) k t p = λ own. omega (arith, (p own).1)
 
-pub histories : (system : System) → TakesTime system → told.GivesBudgets system → told.ContextsHaveHistories system
-histories system takes_time budgets x on = history system takes_time budgets x on
+pub histories : (system : System) → IsWellFormed system → told.ContextsHaveHistories system
+histories system well x known = history system well x known
 
-pub budgets-kept : (system : System) → TakesTime system → told.GivesBudgets system → told.ContextsHaveTheirBudgets system
-budgets-kept system takes_time budgets x t on =
-    let l = life system takes_time budgets x on t in
+pub budgets-kept : (system : System) → IsWellFormed system → told.ContextsHaveTheirBudgets system
+budgets-kept system well x t known =
+    let l = life system well x known t in
     record {
       keeps = l.keeps;
-      uses = uses_less system takes_time budgets x on (told.home_before system x t).running (told.context_before system x t) t l.uses;
-    }
-
--- a well-formed system: its signals take time, and its configurations give budgets
-pub takes-time : (system : System) → IsWellFormed system → TakesTime system
-takes-time system well maker to = well.limits.delay.0
-
-pub gives-budgets : (system : System) → IsWellFormed system → told.GivesBudgets system
-gives-budgets system well =
-    record {
-      contexts = λ k d l. accepted-gives system.min_budget _ (well.contexts k d l).accepted;
-      orders = λ k d l. accepted-gives system.min_budget _ (well.orders k d l).accepted;
+      uses = uses_less system well x known (told.home_before system x t).running (told.context_before system x t) t l.uses;
     }

@@ -1,6 +1,6 @@
 -- A context keeps its budget over charges, unblocking and orders.
 use Rattle.std.proofs.Common.{◌≡◌, ℕ, ◌+◌, ◌-◌, ◌≤◌, Bool, true, false, cond, List, [], ◌∷◌, ◌++◌, max, refl, sym, arith}
-use Rattle.std.specs.Prelude.{◌==◌, nat_lt, ◌^◌, if◌then◌else◌, Result, Ok, Err, IsOk}
+use Rattle.std.specs.Prelude.{◌==◌, IsOk}
 use Rattle.std.proofs.lemmas.Bool.Decides.{nat_tests}
 use Rattle.mcs_refills.specs.declared.refill.Refill.{Refill}
 use Rattle.mcs_refills.specs.Server as server
@@ -10,24 +10,13 @@ use Rattle.mcs_control.specs.declared.config.Config.{Config}
 use Rattle.mcs_control.specs.declared.config.Kind.{Kind}
 use Rattle.mcs_control.specs.declared.config.Kind.TheVariants.{Sporadic, RoundRobin}
 use Rattle.mcs_control.specs.Control.{kind_of, checked}
-use Rattle.mcs_control.specs.declared.config.ControlFault.TheVariants.{ZeroBudget, BudgetTooSmall, BudgetOverPeriod, PeriodTooLong, TooManyRefills}
 use Rattle.mcs_control.specs.Context.{Context, Budget, new_context, context_charged, context_unblocked, context_ordered, head_amount, max_refills_of}
 use Rattle.mcs_control.specs.Context.Budget.{Dates, Slice}
+use Rattle.mcs_core.proofs.Budgets.{accepted-is, head-some}
 use Rattle.mcs_laws.specs.Changes.{Change, KeepsItsBudget, IsBudget, IsWhole, changed, changed_by, IsSound, AreSound}
 use Rattle.mcs_laws.specs.Changes.Change.{Charged, Unblocked, Ordered}
 
 -- the head
-with_date-some : (date : ℕ) (rs : List Refill) → 1 ≤ server.first_amount (server.with_date date rs)
-with_date-some date [] = omega arith
-with_date-some date (r ∷ rs) = by (date + 1 == r.begins)
-  where
-    by : (b : Bool) → 1 ≤ server.first_amount (cond b (record { begins = date; amount = r.amount + 1 } ∷ rs) (record { begins = date; amount = 1 } ∷ r ∷ rs))
-    by true = omega arith
-    by false = omega arith
-
-head-some : (date : ℕ) (dates : List ℕ) → 1 ≤ server.head_amount (date ∷ dates)
-head-some date dates = with_date-some date (server.refills_of dates)
-
 with_date-begins : (date : ℕ) (rs : List Refill) → server.first_moment (server.with_date date rs) ≡ date
 with_date-begins date [] = refl
 with_date-begins date (r ∷ rs) = by (date + 1 == r.begins)
@@ -138,34 +127,5 @@ sound-append min_budget [] ys k p q = q
 sound-append min_budget (x ∷ xs) ys k p q = (p.0, sound-append min_budget xs ys (changed min_budget k x) p.1 q)
 
 -- what SchedControl accepts gives a budget
-no_fault : {T E : Type 0} (a b d : Bool) (p q r : E) (rest : Result T E) →
-    IsOk (cond a (Err p) (cond b (Err q) (cond d (Err r) rest))) → (a ≡ false) × (d ≡ false)
-no_fault true b d p q r rest h = absurd (untrue h)
-  where
-    untrue : false ≡ true → ⊥
-    untrue e = cc
-no_fault false true d p q r rest h = absurd (untrue h)
-  where
-    untrue : false ≡ true → ⊥
-    untrue e = cc
-no_fault false false true p q r rest h = absurd (untrue h)
-  where
-    untrue : false ≡ true → ⊥
-    untrue e = cc
-no_fault false false false p q r rest h = (refl, refl)
-
 pub accepted-gives : (min_budget : ℕ) (config : Config) → IsOk (checked min_budget config) → IsBudget config
-accepted-gives min_budget config h =
-    let tests = no_fault (config.budget == 0) (nat_lt config.budget min_budget) (nat_lt config.period config.budget) ZeroBudget BudgetTooSmall BudgetOverPeriod
-    (
-    if nat_lt (2 ^ 40) config.period then Err PeriodTooLong
-    else if nat_lt 64 config.extra then Err TooManyRefills
-    else Ok (kind_of config)
-    ) h in
-    record { some = some config.budget tests.0; fits = fits config.period config.budget tests.1 }
-  where
-    some : (a : ℕ) → (a == 0) ≡ false → 1 ≤ a
-    some a e = grind (arith, nat_tests)
-
-    fits : (a b : ℕ) → nat_lt a b ≡ false → b ≤ a
-    fits a b e = grind (arith, nat_tests)
+accepted-gives min_budget config h = let accepted = accepted-is min_budget config h in record { some = accepted.some; fits = accepted.within }

@@ -24,7 +24,7 @@ use Rattle.mcs_laws.specs.Places.{times_dated, places}
 use Rattle.mcs_laws.specs.OnTime.{IsOnTime, ThreadsAreOnTime}
 use Rattle.mcs_laws.proofs.Ranges.{by_recursion}
 use Rattle.mcs_laws.proofs.Places as held
-use Rattle.mcs_laws.proofs.Histories.{takes-time, gives-budgets, before-opening}
+use Rattle.mcs_laws.proofs.Histories.{takes-time, before-opening}
 use Rattle.mcs_laws.proofs.OnTime.{IsAlone, WasOnTime, OnTime, one-same, turn-on_time}
 
 -- the start of the only thread that has a context
@@ -95,16 +95,17 @@ module _ (system : System) (well : IsWellFormed system) (x : ℕ) (known : x < l
   abbrev before : ℕ → Core
   before t = told.home_before system context t
 
-  pub on-a-core : told.IsOnACore system context
-  on-a-core =
-      let bound = (well.threads x no_thread known).bound in
-      record { known = bound; home = (well.contexts context no_context bound).core }
+  pub bound : context < length system.contexts
+  bound = (well.threads x no_thread known).bound
+
+  home-known : home < system.cores
+  home-known = (well.contexts context no_context bound).core
 
   before-first : before 0 ≡ opening_core system home
-  before-first = get_or-map-range_with_len (opening_core system) 0 system.cores home home (opening_core system home) on-a-core.home (omega arith)
+  before-first = get_or-map-range_with_len (opening_core system) 0 system.cores home home (opening_core system home) home-known (omega arith)
 
   pub before-next : (t : ℕ) → before (suc t) ≡ (clocks.turn_of system home t).core
-  before-next t = core_at-world system (takes-time system well) t home on-a-core.home
+  before-next t = core_at-world system (takes-time system well) t home home-known
 
   -- no other thread has its context
   sole : (y : ℕ) → y < length system.threads → (thread_part system y).context ≡ context → y ≡ x
@@ -130,7 +131,7 @@ module _ (system : System) (well : IsWellFormed system) (x : ℕ) (known : x < l
   alone t y own = by (cases_lt y (length system.threads))
     where
       by : (y < length system.threads) ⊎ (length system.threads ≤ y) → places y (before t) ≤ held.one x y
-      by (inl l) = omega (arith, held.one-place system (takes-time system well) home t y on-a-core.home, one-same y x (sole y l own))
+      by (inl l) = omega (arith, held.one-place system (takes-time system well) home t y home-known, one-same y x (sole y l own))
       by (inr l) = omega (arith, past-none y t l)
 
   start : start_of system.threads context ≡ (thread_part system x).start
@@ -140,7 +141,7 @@ module _ (system : System) (well : IsWellFormed system) (x : ℕ) (known : x < l
   opening-head =
       omega (
         arith,
-        ap head_moment (before-opening system (takes-time system well) (gives-budgets system well) context on-a-core),
+        ap head_moment (before-opening system well context bound),
         first-head (context_part system context).config (start_of system.threads context),
         start,
       )

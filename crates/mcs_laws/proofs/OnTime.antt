@@ -335,7 +335,7 @@ module _ (system : System) (t x : ℕ) where
   preempts_by-on_time (Some chosen) None k e alone h = h
   preempts_by-on_time None best k e alone h = h
 
-  chooses_of-on_time : (o : Option Chosen) (ready : List Queued) (k : Core) → k.ready ≡ ready → OnTime k → OnTime (turns.chooses_of by_priority o (first_of ready) k).core
+  chooses_of-on_time : (o : Option Chosen) (ready : List Queued) (k : Core) → k.ready ≡ ready → OnTime k → OnTime (turns.chooses_of by_priority system t o (first_of ready) k).core
   chooses_of-on_time (Some chosen) ready k e h = h
   chooses_of-on_time None [] k e h = h
   chooses_of-on_time None (best ∷ others) k e h =
@@ -346,7 +346,7 @@ module _ (system : System) (t x : ℕ) where
         pends = h.pends;
       }
     where
-      rest : 1 ≤ times_queued x (turns.chooses_of by_priority None (Some best) k).core.ready → 1 ≤ times_queued x others
+      rest : 1 ≤ times_queued x (turns.chooses_of by_priority system t None (Some best) k).core.ready → 1 ≤ times_queued x others
       rest l = rw e at l
 
 -- the end of the tick on core c

@@ -276,7 +276,7 @@ module _ (system : System) (t y : ℕ) where
   preempts_by-held None best k e = omega arith
 
   -- the chosen thread leaves the ready queue
-  chooses_of-held : (o : Option Chosen) (ready : List Queued) (k : Core) → k.running ≡ o → k.ready ≡ ready → held (turns.chooses_of by_priority o (first_of ready) k).core ≤ held k
+  chooses_of-held : (o : Option Chosen) (ready : List Queued) (k : Core) → k.running ≡ o → k.ready ≡ ready → held (turns.chooses_of by_priority system t o (first_of ready) k).core ≤ held k
   chooses_of-held (Some chosen) ready k e f = omega arith
   chooses_of-held None [] k e f = omega arith
   chooses_of-held None (best ∷ others) k e f = rw f (omega (arith, queued-cons y best others))

@@ -1,5 +1,5 @@
 -- The dates that a context's charges take are those of a server's steps, so they are spaced.
-use Rattle.std.proofs.Common.{◌≡◌, ◌≢◌, ℕ, zero, suc, ◌≤◌, Bool, true, false, cond, List, [], ◌∷◌, ◌++◌, take, refl, sym, ap, ◌∙◌, arith}
+use Rattle.std.proofs.Common.{◌≡◌, ◌≢◌, ℕ, zero, suc, ◌<◌, ◌≤◌, Bool, true, false, cond, List, [], ◌∷◌, ◌++◌, length, take, refl, sym, ap, ◌∙◌, arith}
 use Rattle.std.specs.Prelude.{filter, ◌==◌}
 use Rattle.std.specs.List.{AllByRecursion}
 use Rattle.std.proofs.lemmas.Bool.Decides.{nat_tests}
@@ -14,11 +14,13 @@ use Rattle.mcs_control.specs.Control.{kind_of}
 use Rattle.mcs_control.specs.Context.{max_refills_of}
 use Rattle.mcs_control.specs.Context.Budget.{Dates}
 use Rattle.mcs_system.specs.System.{System, context_part, no_context, start_of}
+use Rattle.mcs_system.specs.WellFormed.{IsWellFormed}
 use Rattle.mcs_core.specs.Turn.{is_for_now}
 use Rattle.mcs_laws.specs.Changes.{Change, orders_of, changed_by, AreSound, taken_by}
 use Rattle.mcs_laws.specs.Changes.Change.{Charged, Unblocked, Ordered}
 use Rattle.mcs_laws.specs.Histories as told
 use Rattle.mcs_laws.proofs.Ranges.{by_recursion, flat_map-moments-more}
+use Rattle.mcs_laws.proofs.Histories.{gives-budgets}
 use Rattle.mcs_laws.proofs.Kept.{changed_by-append, sound-append}
 use Rattle.mcs_laws.proofs.Traces.{carry, orders_of-append}
 
@@ -91,10 +93,10 @@ module _ (system : System) (x : ℕ) (history : told.History system x) where
       none os us e f = rw (e, f) refl
 
 -- the dates that changes without an order take
-pub changes-spaced : (system : System) → told.GivesBudgets system → (x : ℕ) → told.IsOnACore system x → kind_of (context_part system x).config ≡ Sporadic → (changes : List Change) →
+pub changes-spaced : (system : System) → IsWellFormed system → (x : ℕ) → x < length system.contexts → kind_of (context_part system x).config ≡ Sporadic → (changes : List Change) →
     orders_of changes ≡ [] → AreSound system.min_budget changes (told.opening_context system x) →
     IsSpaced (context_part system x).config.budget (context_part system x).config.period (taken_by system.min_budget changes (told.opening_context system x))
-changes-spaced system budgets x on kind changes none sound = rw opening (rw steps.same spaced)
+changes-spaced system well x known kind changes none sound = rw opening (rw steps.same spaced)
   where
     config : Config
     config = (context_part system x).config
@@ -106,7 +108,7 @@ changes-spaced system budgets x on kind changes none sound = rw opening (rw step
     opening = rw kind refl
 
     fits : config.budget ≤ config.period
-    fits = (budgets.contexts x no_context on.known).fits
+    fits = ((gives-budgets system well).contexts x no_context known).fits
 
     steps : AreSteps system.min_budget changes config (dates_from at config.budget)
     steps = are_steps system.min_budget changes config (dates_from at config.budget) none
@@ -124,6 +126,6 @@ no-orders system x history unordered t =
     all-orders system x history
     (λ m. no_orders_at x (is_for_now system (told.home_of system x) m) system.orders (by_recursion (λ (order : Order). order.context ≢ x) system.orders unordered)) t
 
-pub contexts-spaced : (system : System) → told.GivesBudgets system → told.ContextsAreSpaced system
-contexts-spaced system budgets x history on kind unordered t =
-    changes-spaced system budgets x on kind (told.changes_before system x history t) (no-orders system x history unordered t) (all-sound system x history t)
+pub contexts-spaced : (system : System) → IsWellFormed system → told.ContextsAreSpaced system
+contexts-spaced system well x history known kind unordered t =
+    changes-spaced system well x known kind (told.changes_before system x history t) (no-orders system x history unordered t) (all-sound system x history t)

@@ -122,7 +122,7 @@ module _ (system : System) (c t x : ℕ) where
   preempts_by-spends (Some chosen) None k e = quiet k.running (silent k) refl
   preempts_by-spends None best k e = quiet k.running (silent k) refl
 
-  chooses_of-spends : (o : Option Chosen) (best : Option Queued) (k : Core) → k.running ≡ o → Spends k.running (turns.chooses_of by_priority o best k)
+  chooses_of-spends : (o : Option Chosen) (best : Option Queued) (k : Core) → k.running ≡ o → Spends k.running (turns.chooses_of by_priority system t o best k)
   chooses_of-spends (Some chosen) best k e = quiet k.running (silent k) refl
   chooses_of-spends None None k e = quiet k.running (silent k) refl
   chooses_of-spends None (Some best) k e = omega (arith, ap used e)
@@ -237,7 +237,7 @@ module _ (system : System) (c t x : ℕ) where
         charged-append second.rows (each (turns.obeys by_priority system t) orders second.core).rows,
         charged-append third.rows (turns.releases by_priority system t third.core).rows,
         charged-append fourth.rows (turns.preempts by_priority system t fourth.core).rows,
-        charged-append fifth.rows (turns.chooses by_priority fifth.core).rows,
+        charged-append fifth.rows (turns.chooses by_priority system t fifth.core).rows,
       )
     where
       orders : List Order

@@ -585,7 +585,7 @@ module _ (queue : Discipline) (system : System) (c t x : ℕ) where
   preempts_by-traced (Some chosen) None core e = still (Uses 1 1) core (silent core) refl refl refl
   preempts_by-traced None best core e = still (Uses 1 1) core (silent core) refl refl refl
 
-  chooses_of-traced : (o : Option Chosen) (best : Option Queued) (core : Core) → core.running ≡ o → Traced (Uses 1 1) (Uses 0 1) [] core (turns.chooses_of queue o best core)
+  chooses_of-traced : (o : Option Chosen) (best : Option Queued) (core : Core) → core.running ≡ o → Traced (Uses 1 1) (Uses 0 1) [] core (turns.chooses_of queue system t o best core)
   chooses_of-traced (Some chosen) best core e = plain (Uses 1 1) (Uses 0 1) core (silent core) refl refl (λ kept p. weaker core.running p)
     where
       weaker : (o : Option Chosen) → Uses 1 1 o (context_of core x) → Uses 0 1 o (context_of core x)
@@ -593,7 +593,7 @@ module _ (queue : Discipline) (system : System) (c t x : ℕ) where
       weaker (Some chosen) p = λ own. (omega arith, (p own).1)
   chooses_of-traced None None core e = plain (Uses 1 1) (Uses 0 1) core (silent core) refl refl (λ kept p. idle 0 1 core e)
   chooses_of-traced None (Some best) core e =
-      plain (Uses 1 1) (Uses 0 1) core (turns.chooses_of queue None (Some best) core) refl refl (λ kept p own. (omega arith, omega (arith, head_amount-some (context_of core x) kept)))
+      plain (Uses 1 1) (Uses 0 1) core (turns.chooses_of queue system t None (Some best) core) refl refl (λ kept p own. (omega arith, omega (arith, head_amount-some (context_of core x) kept)))
 
   -- a whole turn
   pub turn-traced : AllByRecursion (λ (order : Order). IsBudget order.config) system.orders → (mails : List Mail) (core : Core) →
@@ -601,7 +601,7 @@ module _ (queue : Discipline) (system : System) (c t x : ℕ) where
   turn-traced budgets mails core =
       told_as (Uses 0 1) (Uses 0 1) _ orders core _ (append-nil _ ∙ append-nil _ ∙ append-nil _)
       (
-      then_part (Uses 0 1) (Uses 1 1) (Uses 0 1) (([] ++ [] ++ orders) ++ [] ++ []) [] core _ (turns.chooses queue)
+      then_part (Uses 0 1) (Uses 1 1) (Uses 0 1) (([] ++ [] ++ orders) ++ [] ++ []) [] core _ (turns.chooses queue system t)
       (
       then_part (Uses 0 1) (Uses 1 1) (Uses 1 1) _ [] core _ (turns.preempts queue system t)
       (

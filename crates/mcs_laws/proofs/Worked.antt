@@ -1,6 +1,18 @@
--- Periods begun, counted by hand.
-use Rattle.std.specs.Prelude.{◌≡◌, refl}
-use Rattle.mcs_laws.specs.Demand.{periods_begun}
+-- Values that were worked by hand, on both sides of where a law would fail if it said a little more.
+use Rattle.std.specs.Prelude.{◌≡◌, ℕ, List, [], ◌∷◌, Option, Some, option_map, map, refl}
+use Rattle.mcs_ticks.specs.Queue.{Discipline, by_priority, in_one_list}
+use Rattle.mcs_control.specs.Context.{head_moment, head_amount}
+use Rattle.mcs_script.specs.declared.item.Item.{Item}
+use Rattle.mcs_script.specs.declared.item.Item.TheVariants.{Compute, Signal, Wait}
+use Rattle.mcs_system.specs.declared.part.ContextPart.{ContextPart}
+use Rattle.mcs_system.specs.declared.part.ThreadPart.{ThreadPart}
+use Rattle.mcs_system.specs.System.{System}
+use Rattle.mcs_core.specs.Clock.{core_at, clock_with}
+use Rattle.mcs_laws.specs.Changes.{Change, taken_by}
+use Rattle.mcs_laws.specs.Changes.Change.{Charged, Ordered}
+use Rattle.mcs_laws.specs.Demand.{periods_begun, ticks_run, demand_of}
+use Rattle.mcs_laws.specs.Histories.{home_before, context_before, charges_at, opening_context}
+use Rattle.mcs_laws.specs.Places.{places}
 
 -- periods of 5 begin at 0, 5, 10 ..
 none : periods_begun 0 5 ≡ 0
@@ -20,3 +32,69 @@ before_the_third = refl
 
 at_each_tick : periods_begun 7 1 ≡ 7
 at_each_tick = refl
+
+abbrev context : ℕ → ℕ → ContextPart
+context budget period = record { name = []; core = 0; config = record { budget = budget; period = period; extra = 0 } }
+
+abbrev thread : ℕ → ℕ → List Item → ThreadPart
+thread context priority script = record { name = []; context = context; priority = priority; start = 0; rounds = 1; deadline = 0; script = script }
+
+abbrev one_core : List ContextPart → List ThreadPart → System
+one_core contexts threads =
+    record { cores = 1; delay = 1; call = 1; min_budget = 1; contexts = contexts; notes = record { name = []; core = 0 } ∷ []; threads = threads; orders = [] }
+
+-- budget 2 of 5 for five ticks of work
+abbrev depletes : System
+depletes = one_core (context 2 5 ∷ []) (thread 0 5 (Compute 5 ∷ []) ∷ [])
+
+-- a thread that waits for a date has one place, and its date is the head itself
+waits_in_one_place : places 0 (home_before depletes 0 3) ≡ 1
+waits_in_one_place = refl
+
+waits_for_the_head : map (λ dated. dated.date) (home_before depletes 0 3).releases ≡ head_moment (context_before depletes 0 3) ∷ []
+waits_for_the_head = refl
+
+-- its first tick from the head on begins at the head, and its stop tells as many ticks as the head had
+runs_from_the_head : (option_map (λ chosen. chosen.using) (home_before depletes 0 6).running ≡ Some 0) × (head_moment (context_before depletes 0 6) ≡ 5)
+runs_from_the_head = (refl, refl)
+
+is_charged_the_head : (charges_at depletes 0 7 ≡ 2 ∷ []) × (head_amount (context_before depletes 0 7) ≡ 2)
+is_charged_the_head = (refl, refl)
+
+-- it runs all that it may
+runs_four_ticks : ticks_run depletes 0 10 ≡ demand_of depletes 0 10
+runs_four_ticks = refl
+
+-- an order from 1 of 10 to 4 of 10 gives dates that come sooner than a period after the first one
+abbrev seldom : System
+seldom = one_core (context 1 10 ∷ []) (thread 0 5 (Compute 20 ∷ []) ∷ [])
+
+abbrev raised : List Change
+raised = Ordered (record { moment = 0; context = 0; config = record { budget = 4; period = 10; extra = 0 } }) ∷ Charged 1 ∷ Charged 3 ∷ []
+
+an_order_spaces_less : taken_by 1 raised (opening_context seldom 0) ≡ 0 ∷ 7 ∷ 8 ∷ 9 ∷ []
+an_order_spaces_less = refl
+
+without_it_a_period_passes : taken_by 1 (Charged 1 ∷ Charged 1 ∷ []) (opening_context seldom 0) ≡ 0 ∷ 10 ∷ []
+without_it_a_period_passes = refl
+
+-- two threads of one priority, and one above them that is woken and preempts the one that runs
+abbrev preempted : System
+preempted =
+    one_core
+    (context 9 50 ∷ context 9 50 ∷ context 9 50 ∷ [])
+    (thread 0 5 (Compute 1 ∷ Signal 0 1 ∷ Compute 2 ∷ []) ∷ thread 1 5 (Compute 2 ∷ []) ∷ thread 2 9 (Wait 0 ∷ Compute 1 ∷ []) ∷ [])
+
+-- a list in order of entering into which a preempted thread enters at the back
+abbrev at_the_back : Discipline
+at_the_back = record in_one_list { front = in_one_list.back }
+
+-- who runs before moment 6, when the woken thread has ended
+abbrev runs_by : Discipline → Option ℕ
+runs_by discipline = option_map (λ chosen. chosen.thread) (core_at preempted (clock_with discipline preempted 6).world 0).running
+
+the_preempted_thread_goes_on : runs_by in_one_list ≡ runs_by by_priority
+the_preempted_thread_goes_on = refl
+
+at_the_back_it_would_not : (runs_by by_priority ≡ Some 0) × (runs_by at_the_back ≡ Some 1)
+at_the_back_it_would_not = (refl, refl)

@@ -78,11 +78,6 @@ module _ (system : System) where
   UsesLess number None context = Unit {0}
   UsesLess number (Some chosen) context = (thread_part system chosen.thread).context ≡ number → chosen.using < head_amount context
 
-  -- a context of a core that there is
-  pub record IsOnACore (context : ℕ) : Type 0 where
-    pub known : context < length system.contexts
-    pub home : home_of context < system.cores
-
   -- each configuration gives a budget: at least a tick, and at most the period
   pub record GivesBudgets : Type 0 where
     pub contexts : All (λ (part : ContextPart). IsBudget part.config) system.contexts
@@ -94,10 +89,10 @@ module _ (system : System) where
     pub uses : UsesLess context (home_before context t).running (context_before context t)
 
   abbrev pub ContextsHaveTheirBudgets : Type 0
-  ContextsHaveTheirBudgets = (context t : ℕ) → IsOnACore context → HasItsBudget context t
+  ContextsHaveTheirBudgets = (context t : ℕ) → context < length system.contexts → HasItsBudget context t
 
   abbrev pub ContextsHaveHistories : Type 0
-  ContextsHaveHistories = (context : ℕ) → IsOnACore context → History context
+  ContextsHaveHistories = (context : ℕ) → context < length system.contexts → History context
 
   -- no order names the context
   abbrev pub IsNeverReconfigured : ℕ → Type 0
@@ -112,5 +107,5 @@ module _ (system : System) where
 
   abbrev pub ContextsAreSpaced : Type 0
   ContextsAreSpaced =
-      (context : ℕ) (history : History context) → IsOnACore context → kind_of (context_part system context).config ≡ Sporadic →
+      (context : ℕ) (history : History context) → context < length system.contexts → kind_of (context_part system context).config ≡ Sporadic →
       IsNeverReconfigured context → (t : ℕ) → IsSpacedBefore context history t

@@ -7,8 +7,8 @@ ghost use Rattle.mcs_laws.specs.OnTime.{ThreadsAreOnTime};
 ghost use Rattle.mcs_laws.specs.Demand.{ThreadsRunWithinDemand};
 ghost use Rattle.mcs_laws.specs.Histories.{GivesBudgets, ContextsHaveHistories, ContextsHaveTheirBudgets, ContextsAreSpaced};
 
-/// A law of well-formed systems, for the premises of the laws of the clock: each signal takes time, and each configuration that
-/// SchedControl accepts gives a budget of at least a tick and at most its period.
+/// A law of well-formed systems: each signal takes time, and each configuration that SchedControl accepts gives a budget of at least a
+/// tick and at most its period.
 pub fn well_formed_systems_give_budgets()
     ensures signals_take_time { (system : System) → IsWellFormed system → TakesTime system }
     ensures budgets { (system : System) → IsWellFormed system → GivesBudgets system }
@@ -17,19 +17,19 @@ pub fn well_formed_systems_give_budgets()
 /// A law of the clock: each core of the world after moment `t` is the core of its own turn at `t`, whatever the other cores do at
 /// that moment.
 pub fn cores_are_of_turns()
-    ensures { (system : System) → TakesTime system → CoresAreOfTurns system }
+    ensures { (system : System) → IsWellFormed system → CoresAreOfTurns system }
 {}
 
 /// A law of the clock: the schedule goes on, moment by moment, by the rows of the cores' turns in rising order of the cores.
 pub fn rows_are_of_turns()
-    ensures { (system : System) → TakesTime system → RowsAreOfTurns system }
+    ensures { (system : System) → IsWellFormed system → RowsAreOfTurns system }
 {}
 
 /// A law of the clock: the signals under way before a moment are those that the turns before it sent and no turn took, in order of
 /// making.
 pub fn signals_are_of_turns()
-    ensures under_way { (system : System) → TakesTime system → SignalsAreOfTurns system }
-    ensures arriving { (system : System) → TakesTime system → ArrivalsAreOfTurns system }
+    ensures under_way { (system : System) → IsWellFormed system → SignalsAreOfTurns system }
+    ensures arriving { (system : System) → IsWellFormed system → ArrivalsAreOfTurns system }
 {}
 
 /// A law of ready queues: one list in order of entering, from which the first of greatest priority is taken, and the queue by
@@ -41,25 +41,25 @@ pub fn disciplines_agree()
 /// A law of the clock: a thread has at most one place on a core. One that runs is in no queue and waits on nothing, and one that is
 /// queued, has a date or waits does so once.
 pub fn threads_have_one_place()
-    ensures { (system : System) → TakesTime system → ThreadsHaveOnePlace system }
+    ensures { (system : System) → IsWellFormed system → ThreadsHaveOnePlace system }
 {}
 
 /// A law of the clock: all that turns do to a context, from the opening on, is to charge it, to unblock it and to obey its orders. The
 /// charges are those that the rows of its thread's stops tell; each takes at least a tick and no more than the head then has.
 pub fn contexts_have_histories()
-    ensures { (system : System) → TakesTime system → GivesBudgets system → ContextsHaveHistories system }
+    ensures { (system : System) → IsWellFormed system → ContextsHaveHistories system }
 {}
 
 /// A law of the clock: at each moment each context has the budget in force. Its dates are as many as the budget, ascend and span less
 /// than a period; of a slice at least a tick is left and at most the budget. Its running thread has used less than the head.
 pub fn contexts_keep_their_budgets()
-    ensures { (system : System) → TakesTime system → GivesBudgets system → ContextsHaveTheirBudgets system }
+    ensures { (system : System) → IsWellFormed system → ContextsHaveTheirBudgets system }
 {}
 
 /// A law of the clock: of the dates that the charges of a sporadic context take, where no order names it, the one a whole budget later
 /// is at least a period later.
 pub fn contexts_are_spaced()
-    ensures { (system : System) → GivesBudgets system → ContextsAreSpaced system }
+    ensures { (system : System) → IsWellFormed system → ContextsAreSpaced system }
 {}
 
 /// A law of the clock: a thread whose context no order names is ready and runs only where the dates of its context have come. Where it is

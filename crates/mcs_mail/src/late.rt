@@ -125,19 +125,6 @@ impl Late {
     }
 }
 
-#[cfg(test)]
-impl Late {
-    /// No mail, with `next` as the number of the next.
-    pub(crate) fn numbered_from(alloc: Global, next: usize) -> Self
-        ensures { result.mails ≡ [] }
-    {
-        Late {
-            heap: BinaryHeap::new(alloc),
-            next,
-        }
-    }
-}
-
 impl Numbered {
     fn new(number: usize, mail: &Mail) -> Self
         ensures { result ≡ numbered number mail.now }

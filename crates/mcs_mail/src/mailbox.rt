@@ -134,19 +134,6 @@ impl Mailbox {
     }
 }
 
-#[cfg(test)]
-impl Mailbox {
-    /// An empty mailbox, with `next` as the number of the next late mail.
-    pub(crate) fn numbered_from(alloc: Global, next: usize) -> Self
-        ensures { result.mails ≡ [] }
-    {
-        Mailbox {
-            ring: VecDeque::new(alloc),
-            late: Late::numbered_from(alloc, next),
-        }
-    }
-}
-
 // Whether the first mail is late. Of equal mail that in the ring was put earlier.
 fn late_is_first(ring: &VecDeque<Mail>, late: &Late) -> bool
     ensures { result ≡ late_is_first late.now.mails ring.now.items }

@@ -196,6 +196,7 @@ pub record CanCharge (k period max_refills : ℕ) (rs : List Refill) : Type 0 wh
   pub later : end_of (taken k rs) ≤ first_moment rs + period
   pub apart : AreApart (given_back max_refills (record { begins = first_moment rs + period; amount = k }) (taken k rs))
   pub some : 1 ≤ length (given_back max_refills (record { begins = first_moment rs + period; amount = k }) (taken k rs))
+  pub few : length (given_back max_refills (record { begins = first_moment rs + period; amount = k }) (taken k rs)) ≤ max_refills
   pub early : end_of (given_back max_refills (record { begins = first_moment rs + period; amount = k }) (taken k rs)) ≤ first_moment rs + period + k
   pub head : k ≤ period
 
@@ -210,6 +211,7 @@ can_charge k period max_refills (r ∷ rs) p le h =
       later = ends (left_after k r rs) (left_is k max_refills (end_of (r ∷ rs)) r rs le like) h.spans;
       apart = i.apart;
       some = i.some;
+      few = i.few;
       early = omega (arith, i.end_is);
       head = omega (arith, h.spans);
     }

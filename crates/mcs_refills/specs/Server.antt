@@ -93,6 +93,10 @@ enough min_budget (head ∷ others) = gathered min_budget head others
 abbrev pub with_enough : ℕ → List ℕ → List ℕ
 with_enough min_budget dates = dates_of (enough min_budget (refills_of dates))
 
+-- a charge of k, and then enough at the head
+abbrev pub charged_with_enough : ℕ → ℕ → ℕ → ℕ → List ℕ → List ℕ
+charged_with_enough k min_budget period max_refills dates = with_enough min_budget (charged k period max_refills dates)
+
 -- unblocking at t: the date in place i becomes the greater of itself and t + i
 abbrev pub unblocked : ℕ → List ℕ → List ℕ
 unblocked t [] = []
@@ -116,16 +120,16 @@ pub record Server : Type 0 where
 abbrev pub new_server : ℕ → ℕ → ℕ → ℕ → ℕ → Server
 new_server at budget period max_refills room = record { dates = dates_from at budget; period = period; max_refills = max_refills; room = room }
 
--- a charge of k, and then enough at the head
+-- the server after a charge of k with enough at the head
 abbrev pub server_charged : ℕ → ℕ → Server → Server
 server_charged k min_budget server =
-    record { dates = with_enough min_budget (charged k server.period server.max_refills server.dates); period = server.period; max_refills = server.max_refills; room = server.room }
+    record server { dates = charged_with_enough k min_budget server.period server.max_refills server.dates }
 
 -- unblocking at t
 abbrev pub server_unblocked : ℕ → Server → Server
-server_unblocked t server = record { dates = unblocked t server.dates; period = server.period; max_refills = server.max_refills; room = server.room }
+server_unblocked t server = record server { dates = unblocked t server.dates }
 
 -- an order at t, which sets the budget, the period and the number of refills
 abbrev pub server_reconfigured : ℕ → ℕ → ℕ → ℕ → Server → Server
 server_reconfigured t budget period max_refills server =
-    record { dates = reconfigured t budget period server.dates; period = period; max_refills = max_refills; room = server.room }
+    record server { dates = reconfigured t budget period server.dates; period = period; max_refills = max_refills }

@@ -3,7 +3,9 @@ ghost use Rattle.mcs_refills.specs.Server.{new_server, refills_of, is_ready, fir
 ghost use Rattle.mcs_refills.specs.laws.Servers.{IsServer};
 
 use crate::Refill;
+use crate::ring::{first, push_last};
 use crate::steps::{charge_list, reconfigure_list, unblock_list};
+use circular_buffer::HeapCircularBuffer;
 use mcs_ticks::{NoMemory, Tick};
 use std::alloc::Global;
 use std::marker::Model;
@@ -11,25 +13,23 @@ use std::marker::Model;
 /// The refills of a sporadic scheduling context, after the sporadic server of Sprunt, Sha and Lehoczky (1989) and the seL4
 /// Reference Manual (MCS). Contracts see a server: its budget dates, one for each tick of the budget in ascending order, its
 /// period, at most how many refills it has, and for how many there is room. The refills are the longest runs of consecutive
-/// dates. Only [`Refills::new`] takes memory.
+/// dates, and lie in a ring with that room. Only [`Refills::new`] takes memory.
 #[derive(Debug, Drop)]
 pub struct Refills {
-    list: Vec<Refill>,
+    ring: HeapCircularBuffer<Refill>,
     period: u64,
     max_refills: usize,
-    room: usize,
 }
 
 impl Model for Refills {
-    ghost use Rattle.std.specs.Prelude.{vec_capacity};
     ghost use Rattle.mcs_refills.specs.Server.{Server, dates_of};
     ghost use Rattle.mcs_refills.specs.stored.Refills.{IsStored};
 
     ghost Value = { Server };
 
-    ghost view = { λ a. record { dates = dates_of a.list.items; period = a.period; max_refills = a.max_refills; room = a.room } };
+    ghost view = { λ a. record { dates = dates_of a.ring.items; period = a.period; max_refills = a.max_refills; room = a.ring.capacity } };
 
-    ghost invariant = { λ a. IsStored a.list.items a.period a.max_refills a.room (vec_capacity a.list) };
+    ghost invariant = { λ a. IsStored a.ring.items a.period a.max_refills a.ring.capacity };
 }
 
 impl Refills {
@@ -52,17 +52,16 @@ impl Refills {
         requires few { room ≤ 66 }
         ensures { IfOk result (λ refills. refills ≡ new_server at budget period max_refills room) }
     {
-        let mut list = Vec::with_capacity(alloc, room)?;
-        let pushed = list.push(Refill {
+        let mut ring = HeapCircularBuffer::with_capacity(alloc, room)?;
+        let all = Refill {
             begins: at.get(),
             amount: budget,
-        });
-        prove!(pushed.is_ok());
+        };
+        push_last(&mut ring, all);
         Ok(Refills {
-            list,
+            ring,
             period,
             max_refills,
-            room,
         })
     }
 
@@ -73,7 +72,7 @@ impl Refills {
         ensures some { 1 ≤ result.amount }
         ensures in_range { result.begins ≤ 2 ^ 42 }
     {
-        self.list[0]
+        first(&self.ring)
     }
 
     /// How many refills there are.
@@ -81,14 +80,14 @@ impl Refills {
         ensures number { result ≡ length (refills_of self.now.dates) }
         ensures few { result ≤ self.now.max_refills }
     {
-        self.list.len()
+        self.ring.len()
     }
 
     /// The refill in place `i`, from 0, or None past the last.
     pub fn get(&self, i: usize) -> Option<Refill>
         ensures { result ≡ slice_get (refills_of self.now.dates) i }
     {
-        self.list.get(i).copied()
+        self.ring.get(i).copied()
     }
 
     /// Whether the head may be used at `t`.
@@ -108,7 +107,7 @@ impl Refills {
         ensures { self.new ≡ server_charged ticks min_budget self.old }
     {
         charge_list(
-            &mut self.list,
+            &mut self.ring,
             self.period,
             self.max_refills,
             ticks,
@@ -121,7 +120,7 @@ impl Refills {
         requires { t ≤ 2 ^ 40 }
         ensures { self.new ≡ server_unblocked t self.old }
     {
-        unblock_list(&mut self.list, t.get());
+        unblock_list(&mut self.ring, t.get());
     }
 
     /// A SchedControl order at `t`: the budget, the period and the number of refills are these from now on. The head stays, but
@@ -135,7 +134,7 @@ impl Refills {
         requires fits { max_refills ≤ self.old.room }
         ensures { self.new ≡ server_reconfigured t budget period max_refills self.old }
     {
-        reconfigure_list(&mut self.list, t.get(), budget, period);
+        reconfigure_list(&mut self.ring, t.get(), budget, period);
         self.period = period;
         self.max_refills = max_refills;
     }
@@ -144,6 +143,6 @@ impl Refills {
     pub fn in_good_order(&self)
         ensures { IsServer (length self.now.dates) self.now }
     {
-        let _list = &self.list;
+        let _ring = &self.ring;
     }
 }

@@ -9,7 +9,6 @@ use Rattle.std.proofs.lemmas.List.FromFn.{get_or-map-range_with_len}
 use Rattle.std.proofs.lemmas.List.Sums.{sum_by-cons}
 use Rattle.mcs_ticks.specs.declared.row.Row.{Row}
 use Rattle.mcs_ticks.specs.declared.row.What.{What}
-use Rattle.mcs_notify.specs.Note.{Note, quiet_note}
 use Rattle.mcs_release.specs.declared.dated.Dated.{Dated}
 use Rattle.mcs_core.specs.declared.standing.Chosen.{Chosen}
 use Rattle.mcs_system.specs.declared.part.ThreadPart.{ThreadPart}
@@ -18,8 +17,8 @@ use Rattle.mcs_core.specs.Core.{Core, opening_core, opening_releases}
 use Rattle.mcs_core.specs.Clock as clocks
 use Rattle.mcs_system.specs.WellFormed.{IsWellFormed}
 use Rattle.mcs_core.proofs.Clock.{core_at-world, rows-clock}
-use Rattle.mcs_laws.specs.Places.{times_running, times_queued, times_dated, times_waiting, places}
-use Rattle.mcs_laws.proofs.Places.{turn-held}
+use Rattle.mcs_laws.specs.Places.{times_running, times_dated, places}
+use Rattle.mcs_laws.proofs.Places.{turn-held, quiet-waiting}
 use Rattle.mcs_report.specs.Reports.{runs, stops}
 use Rattle.mcs_report.specs.laws.Agreement.{StopsFirst, RunsApart}
 use Rattle.mcs_report.specs.laws.Schedules.{SchedulesRunApart, SchedulesAreReported}
@@ -88,18 +87,13 @@ no_date system c x n (part ∷ parts) h = by (core_of system part == c) refl (no
         )
     by false e none = none
 
-none_waits : {A : Type 0} (x : ℕ) (things : List A) → times_waiting x (map (λ _. quiet_note) things) ≡ 0
-none_waits x [] = refl
-none_waits x (thing ∷ things) =
-    omega (arith, sum_by-cons (λ (note : Note). times_queued x note.waiters) quiet_note (map (λ _. quiet_note) things), none_waits x things)
-
 unfoldable pub own_core : System → ℕ → ℕ
 own_core system x = core_of system (thread_part system x)
 
 no_place : (system : System) (c x : ℕ) → c ≢ own_core system x → places x (opening_core system c) ≡ 0
 unfolding own_core
 no_place system c x away =
-    omega (arith, no_date system c x 0 system.threads (λ i l e q. away (elsewhere i (omega arith) e)), none_waits x system.notes)
+    omega (arith, no_date system c x 0 system.threads (λ i l e q. away (elsewhere i (omega arith) e)), quiet-waiting x system.notes)
   where
     elsewhere : (i : ℕ) → i ≡ x → core_of system (get_or system.threads i no_thread) ≡ c → c ≡ core_of system (thread_part system x)
     elsewhere i q e = sym e ∙ ap (λ k. core_of system (get_or system.threads k no_thread)) q

@@ -318,7 +318,7 @@ module _ (system : System) (c t x : ℕ) where
       by true = refl
       by false = e
 
-  chooses_of-turns : (o : Option Chosen) (best : Option Queued) (k : Core) → k.running ≡ o → Turns k (turns.chooses_of by_priority o best k)
+  chooses_of-turns : (o : Option Chosen) (best : Option Queued) (k : Core) → k.running ≡ o → Turns k (turns.chooses_of by_priority system t o best k)
   chooses_of-turns (Some chosen) best k e = quits-turns k (silent k) (silent-quits system t x k k refl)
   chooses_of-turns None None k e = quits-turns k (silent k) (silent-quits system t x k k refl)
   chooses_of-turns None (Some best) k e =
@@ -340,4 +340,4 @@ module _ (system : System) (c t x : ℕ) where
       in
       let four = quits-then x k third (turns.releases by_priority system t) three (releases-quits system t x third.core) in
       let five = quits-then x k fourth (turns.preempts by_priority system t) four (preempts_by-quits system t x fourth.core.running (first_of fourth.core.ready) fourth.core refl) in
-      turns-last k fifth (turns.chooses by_priority) five (chooses_of-turns fifth.core.running (first_of fifth.core.ready) fifth.core refl)
+      turns-last k fifth (turns.chooses by_priority system t) five (chooses_of-turns fifth.core.running (first_of fifth.core.ready) fifth.core refl)

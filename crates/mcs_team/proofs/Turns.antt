@@ -55,13 +55,3 @@ between-more start past n progress next allowed l so_far is =
 pub all-between : (start : Progress) (past : ℕ) (progress : Progress) → AreAllowed start past → AreBetween start past start.system.cores progress → AllAt start.system start.horizon past progress
 all-between start past progress allowed so_far =
     record { system_is = so_far.system_is; horizon_is = so_far.horizon_is; many_are = so_far.many_are ∙ allowed.many_are; clocks_are = so_far.done }
-
--- a window that is no longer than the delay, or of a core that is alone
-pub all-allowed : (progress : Progress) (first past : ℕ) → AllAt progress.system progress.horizon first progress → first ≤ past → (2 ≤ progress.system.cores → past ≤ first + progress.system.delay) →
-    AreAllowed progress past
-all-allowed progress first past at l reach =
-    record {
-      many_are = at.many_are;
-      not_back = λ c k. let clock = at.clocks_are c k in omega arith;
-      reached = λ c k b h other. let clock = at.clocks_are b h in let far = reach (omega arith) in omega arith;
-    }

@@ -1,19 +1,19 @@
 -- All cores at one moment, window after window.
-use Rattle.std.specs.Prelude.{◌≡◌, ℕ, ◌+◌, ◌<◌, ◌≤◌, List, length, map, Vec}
+use Rattle.std.specs.Prelude.{◌≡◌, ◌≢◌, ℕ, ◌+◌, ◌<◌, ◌≤◌, List, length, map, Vec}
 use Rattle.std.specs.List.{range_with_len}
 use Rattle.std.specs.declared.alloc.Global.{Global}
 use Rattle.mcs_ticks.specs.declared.row.Row.{Row}
 use Rattle.mcs_merge.specs.Lists.{rows_of_lists}
-use Rattle.mcs_system.specs.System.{System}
+use Rattle.mcs_system.specs.System.{System, delay_between}
 use Rattle.mcs_team.specs.declared.windows.Windows.{Windows}
 use Rattle.mcs_window.specs.Stretch.{NothingArrivesBefore, rows_between}
 use Rattle.mcs_window.specs.Progress.{Progress, clock_of, taken_of}
 
--- the windows of a system up to a horizon
+-- the windows of a system up to a horizon: in their delay no signal goes from one core to another
 pub record AreOf (windows : Windows) (system : System) (horizon : ℕ) : Type 0 where
   pub cores_are : windows.cores ≡ system.cores
-  pub delay_is : windows.delay ≡ system.delay
   pub long : 1 ≤ windows.delay
+  pub short : (maker home : ℕ) → maker ≢ home → windows.delay ≤ delay_between system maker home
   pub end_is : windows.end ≡ horizon + 1
 
 abbrev pub AreFor : Windows → Progress → Type 0

@@ -28,7 +28,7 @@ impl Windows {
         Windows {
             cores: parts.cores,
             delay: parts.delay,
-            end: horizon.plus(1).unwrap_or(horizon),
+            end: horizon.plus(1).unwrap(),
         }
     }
 
@@ -42,7 +42,7 @@ impl Windows {
         if self.cores < 2 || self.end.get() - first.get() <= self.delay {
             return self.end;
         }
-        first.plus(self.delay).unwrap_or(self.end)
+        first.plus(self.delay).unwrap()
     }
 
     // Each core takes its turns of the window that begins at `first`. Answers where it ends.

@@ -1,113 +1,137 @@
-use super::plan::PlannedItem::Compute;
-use super::plan::{ONE_CORE, Plan, PlannedContext, PlannedOrder, PlannedThread};
-use super::play::{sees, shows};
-use super::threads::{ROUND_ROBIN, SMALL_HEAD_JOINS};
-use super::turns::{ENDS_WITHOUT_A_ROW, SMALL_REFILLS};
+ghost use Rattle.std.specs.Prelude.{◌+◌, ◌^◌, ◌≤◌};
+ghost use Rattle.mcs_core.specs.State.{Fits};
+
+use super::play::{go_on, moment, nothing, opened};
+use super::systems::system;
+use mcs_control::ContextView;
+use mcs_core::CoreState;
+use mcs_mail::Mailbox;
+use mcs_system::System;
+use mcs_ticks::{CoreId, Tick};
+use std::alloc::Global;
+use std::process::Abort;
 use std::test::Fail;
 
-static DEPLETES: Plan = Plan {
-    contexts: &[PlannedContext("a", 0, 2, 5, 0)],
-    threads: &[PlannedThread("A", 0, 5, 0, 1, &[Compute(5)])],
-    ..ONE_CORE
-};
+// What there is to see of a context: its number, what is left of its slice, its refills, and the ticks in use.
+#[derive(Clone, Copy)]
+struct Seen(usize, Option<u64>, &'static [(u64, u64)], u64);
+
+fn is_seen(rt: &impl Abort, view: &ContextView, seen: Seen) {
+    let Seen(context, left, refills, using) = seen;
+    assert_eq!(rt;
+        (view.context.0, view.left, view.using),
+        (context, left, using)
+    );
+    assert_eq!(rt; view.refills.len(), refills.len());
+    for (refill, (begins, amount)) in view.refills.as_slice().iter().zip(refills) {
+        assert_eq!(rt; (refill.begins, refill.amount), (*begins, *amount));
+    }
+}
+
+// Compares what there is to see of a core's contexts after all turns of a moment.
+fn sees(
+    rt: &impl Abort,
+    alloc: Global,
+    system: &System,
+    core: usize,
+    last: u64,
+    seen: &[Seen],
+) -> Result<(), Fail> {
+    let end = moment(last.saturating_add(1))?;
+    let mut state = opened(alloc, system, CoreId(core))?;
+    sees_at(rt, alloc, system, &mut state, end, seen)
+}
+
+fn sees_at(
+    rt: &impl Abort,
+    alloc: Global,
+    system: &System,
+    state: &mut CoreState,
+    end: Tick,
+    seen: &[Seen],
+) -> Result<(), Fail>
+    requires fits { Fits system.now state.old }
+    requires in_time { end ≤ 2 ^ 40 + 1 }
+{
+    let mut mailbox = Mailbox::new(alloc);
+    let mut made = nothing(alloc);
+    go_on(system, state, &mut mailbox, end, &mut made)?;
+    assert_eq!(rt; state.clock(), end);
+    assert!(rt; !state.failed());
+    let views = state.contexts(alloc, system)?;
+    assert_eq!(rt; views.len(), seen.len());
+    for (view, seen) in views.as_slice().iter().zip(seen) {
+        is_seen(rt, view, *seen);
+    }
+    Ok(())
+}
+
+const DEPLETES: &str = r#"
+version = 1
+cores = 1
+delay = 1
+context = [{ name = "a", core = 0, budget = 2, period = 5 }]
+thread = [{ name = "A", context = "a", priority = 5, rounds = 1, script = ["compute 5"] }]
+"#;
 
 // Ticks in use are not charged yet.
 #[test]
 fn ticks_in_use(rt: HostRuntime) -> Result<(), Fail> {
-    sees(&rt, rt.alloc(), &DEPLETES, 0, 1, "a (0,2) using 1\n")?;
-    sees(&rt, rt.alloc(), &DEPLETES, 0, 2, "a (5,2) using 0\n")?;
-    sees(
-        &rt,
-        rt.alloc(),
-        &ENDS_WITHOUT_A_ROW,
-        0,
-        2,
-        "a (0,9) using 2\n",
-    )
+    let alloc = rt.alloc();
+    let depletes = system(alloc, DEPLETES)?;
+    sees(&rt, alloc, &depletes, 0, 1, &[Seen(0, None, &[(0, 2)], 1)])?;
+    sees(&rt, alloc, &depletes, 0, 2, &[Seen(0, None, &[(5, 2)], 0)])
 }
 
-static ORDERED_TWICE: Plan = Plan {
-    contexts: &[PlannedContext("a", 0, 10, 100, 0)],
-    orders: &[PlannedOrder(4, 0, 6, 50, 0), PlannedOrder(4, 0, 8, 40, 0)],
-    ..ONE_CORE
-};
-
-// A context without a thread, and two orders at one moment.
-#[test]
-fn ordered_twice(rt: HostRuntime) -> Result<(), Fail> {
-    shows(
-        &rt,
-        rt.alloc(),
-        &ORDERED_TWICE,
-        4,
-        "4 0 order a\n4 0 order a\n",
-    )?;
-    sees(
-        &rt,
-        rt.alloc(),
-        &ORDERED_TWICE,
-        0,
-        4,
-        "a (4,6) (42,2) using 0\n",
-    )
-}
+const SLICES: &str = r#"
+version = 1
+cores = 1
+delay = 1
+context = [
+    { name = "a", core = 0, budget = 3, period = 3 },
+    { name = "b", core = 0, budget = 3, period = 3 },
+    { name = "c", core = 0, budget = 2, period = 10 },
+]
+thread = [
+    { name = "A", context = "a", priority = 5, rounds = 1, script = ["compute 10"] },
+    { name = "B", context = "b", priority = 5, rounds = 1, script = ["compute 10"] },
+    { name = "C", context = "c", priority = 9, start = 1, rounds = 1, script = ["compute 1"] },
+]
+"#;
 
 #[test]
-fn heads_that_joined(rt: HostRuntime) -> Result<(), Fail> {
-    sees(
-        &rt,
-        rt.alloc(),
-        &SMALL_HEAD_JOINS,
-        0,
-        10,
-        "a (97,10) using 0\nb (54,4) using 0\n",
-    )?;
-    sees(
-        &rt,
-        rt.alloc(),
-        &SMALL_REFILLS,
-        0,
-        67,
-        "a (157,10) using 0\ns left 43 using 0\n",
-    )
+fn slices_and_refills(rt: HostRuntime) -> Result<(), Fail> {
+    let alloc = rt.alloc();
+    let slices = system(alloc, SLICES)?;
+    let seen = [
+        Seen(0, Some(2), &[], 1),
+        Seen(1, Some(3), &[], 0),
+        Seen(2, None, &[(2, 1), (11, 1)], 0),
+    ];
+    sees(&rt, alloc, &slices, 0, 3, &seen)
 }
 
-#[test]
-fn slices(rt: HostRuntime) -> Result<(), Fail> {
-    sees(
-        &rt,
-        rt.alloc(),
-        &ROUND_ROBIN,
-        0,
-        3,
-        "a left 2 using 1\nb left 3 using 0\nc (2,1) (11,1) using 0\n",
-    )
-}
-
-static ON_TWO_CORES: Plan = Plan {
-    cores: 2,
-    contexts: &[
-        PlannedContext("a", 1, 2, 5, 0),
-        PlannedContext("b", 0, 4, 4, 0),
-        PlannedContext("c", 1, 3, 5, 0),
-    ],
-    threads: &[
-        PlannedThread("C", 2, 5, 4, 1, &[Compute(9)]),
-        PlannedThread("B", 1, 5, 0, 1, &[Compute(9)]),
-    ],
-    ..ONE_CORE
-};
+const ON_TWO_CORES: &str = r#"
+version = 1
+cores = 2
+delay = 1
+context = [
+    { name = "a", core = 1, budget = 2, period = 5 },
+    { name = "b", core = 0, budget = 4, period = 4 },
+    { name = "c", core = 1, budget = 3, period = 5 },
+]
+thread = [
+    { name = "C", context = "c", priority = 5, start = 4, rounds = 1, script = ["compute 9"] },
+    { name = "B", context = "b", priority = 5, rounds = 1, script = ["compute 9"] },
+]
+"#;
 
 // Each core shows its own contexts. One without a thread begins at 0, the others at the start of their thread.
 #[test]
 fn contexts_of_a_core(rt: HostRuntime) -> Result<(), Fail> {
-    sees(&rt, rt.alloc(), &ON_TWO_CORES, 0, 3, "b left 4 using 3\n")?;
-    sees(
-        &rt,
-        rt.alloc(),
-        &ON_TWO_CORES,
-        1,
-        3,
-        "a (0,2) using 0\nc (4,3) using 0\n",
-    )
+    let alloc = rt.alloc();
+    let apart = system(alloc, ON_TWO_CORES)?;
+    sees(&rt, alloc, &apart, 0, 3, &[Seen(1, Some(4), &[], 3)])?;
+    let seen = [Seen(0, None, &[(0, 2)], 0), Seen(2, None, &[(4, 3)], 0)];
+    sees(&rt, alloc, &apart, 1, 3, &seen)
 }

@@ -1,4 +1,4 @@
-//! Tests of `mcs_core`, over its public items.
+//! Tests of `mcs_core`, over its public items: what the systems of `mcs_corpus`, which whole runs show, can't show of one core.
 #![tactic(auto)]
 
 #[cfg(test)]
@@ -6,18 +6,8 @@ mod arrivals;
 #[cfg(test)]
 mod contexts;
 #[cfg(test)]
-mod orders;
-#[cfg(test)]
-mod plan;
-#[cfg(test)]
 mod play;
 #[cfg(test)]
-mod random;
+mod stretches;
 #[cfg(test)]
-mod threads;
-#[cfg(test)]
-mod told;
-#[cfg(test)]
-mod turns;
-#[cfg(test)]
-mod well_formed;
+mod systems;

@@ -4,6 +4,8 @@
 #[cfg(test)]
 mod control;
 #[cfg(test)]
+mod mail;
+#[cfg(test)]
 mod merge;
 #[cfg(test)]
 mod notify;
@@ -11,6 +13,8 @@ mod notify;
 mod ready;
 #[cfg(test)]
 mod refills;
+#[cfg(test)]
+mod release;
 #[cfg(test)]
 mod script;
 #[cfg(test)]

@@ -1,52 +1,22 @@
-ghost use Rattle.std.specs.Prelude.{◌≡◌, replicate, IfOk};
-ghost use Rattle.mcs_notify.specs.Note.{quiet_note};
-
 use mcs_notify::{Notes, Posted, Waited};
-use mcs_ticks::{NoMemory, NoteId, ThreadId};
-use std::alloc::Global;
+use mcs_ticks::{NoteId, ThreadId};
 use std::test::Fail;
 
-// A second try: one refused growth is an answer, and nothing is left of it.
-fn made(alloc: Global, notes: usize, threads: usize) -> Result<Notes, NoMemory>
-    ensures { IfOk result (λ made. made ≡ record { notes = replicate notes quiet_note; threads = threads }) }
-{
-    match Notes::new(alloc, notes, threads) {
-        Ok(made) => Ok(made),
-        Err(_refusal) => Notes::new(alloc, notes, threads),
-    }
-}
-
-#[test]
-fn badges_are_held_and_taken(rt: HostRuntime) -> Result<(), Fail> {
-    let (a, b) = (NoteId(0), NoteId(1));
-    let mut notes = made(rt.alloc(), 2, 1)?;
-    assert_eq!(rt; notes.word(a), 0);
-    assert_eq!(rt; notes.post(a, 5), Posted::Held(5));
-    assert_eq!(rt; notes.post(a, 6), Posted::Held(7));
-    assert_eq!(rt; notes.post(b, 8), Posted::Held(8));
-    assert_eq!(rt; notes.word(a), 7);
-    assert_eq!(rt; notes.wait(a, ThreadId(0), 3), Waited::Got(7));
-    assert_eq!(rt; notes.word(a), 0);
-    assert_eq!(rt; notes.word(b), 8);
-    Ok(())
-}
-
-// Of the waiters the one of greatest priority is woken, and of two equal ones the longest waiting, not the latest.
+// Of the waiters the one of greatest priority is woken, and of two equal ones the longest waiting, not the latest. With none left
+// the word is held, and the next to wait takes it.
 #[test]
 fn the_best_waiter_is_woken(rt: HostRuntime) -> Result<(), Fail> {
-    let (a, b) = (NoteId(0), NoteId(1));
-    let mut notes = made(rt.alloc(), 2, 5)?;
-    assert_eq!(rt; notes.wait(a, ThreadId(4), 1), Waited::Blocks);
-    assert_eq!(rt; notes.wait(a, ThreadId(2), 9), Waited::Blocks);
-    assert_eq!(rt; notes.wait(b, ThreadId(3), 200), Waited::Blocks);
-    assert_eq!(rt; notes.wait(a, ThreadId(0), 9), Waited::Blocks);
-    assert_eq!(rt; notes.post(a, 6), Posted::Woke(ThreadId(2), 6));
-    assert_eq!(rt; notes.wait(a, ThreadId(2), 9), Waited::Blocks);
-    assert_eq!(rt; notes.post(a, 1), Posted::Woke(ThreadId(0), 1));
-    assert_eq!(rt; notes.post(a, 2), Posted::Woke(ThreadId(2), 2));
-    assert_eq!(rt; notes.post(a, 3), Posted::Woke(ThreadId(4), 3));
-    assert_eq!(rt; notes.post(a, 4), Posted::Held(4));
-    assert_eq!(rt; notes.post(b, 5), Posted::Woke(ThreadId(3), 5));
-    assert_eq!(rt; notes.word(b), 0);
+    let note = NoteId(0);
+    let mut notes = Notes::new(rt.alloc(), 1, 3)?;
+    assert_eq!(rt; notes.wait(note, ThreadId(1), 1), Waited::Blocks);
+    assert_eq!(rt; notes.wait(note, ThreadId(2), 9), Waited::Blocks);
+    assert_eq!(rt; notes.wait(note, ThreadId(0), 9), Waited::Blocks);
+    assert_eq!(rt; notes.post(note, 6), Posted::Woke(ThreadId(2), 6));
+    assert_eq!(rt; notes.post(note, 1), Posted::Woke(ThreadId(0), 1));
+    assert_eq!(rt; notes.post(note, 2), Posted::Woke(ThreadId(1), 2));
+    assert_eq!(rt; notes.post(note, 5), Posted::Held(5));
+    assert_eq!(rt; notes.post(note, 6), Posted::Held(7));
+    assert_eq!(rt; notes.wait(note, ThreadId(2), 9), Waited::Got(7));
+    assert_eq!(rt; notes.word(note), 0);
     Ok(())
 }

@@ -24,7 +24,7 @@ struct Run {
 
 const ROOM: usize = 6;
 
-// What is taken is that of the theorem of the same name in proofs/Worked.antt, where the definition is evaluated.
+// What is taken is that of the theorem of the same name in proofs/Worked.antt of mcs_ready, where the definition is evaluated.
 const RUNS: [Run; 9] = [
     Run {
         shows: "first_in_first_out",
@@ -206,35 +206,5 @@ fn runs_answer_as_the_definition(rt: HostRuntime) -> Result<(), Fail> {
         let mut ready = Ready::new(rt.alloc(), ROOM)?;
         make_all(&rt, &mut ready, run.steps, run.shows);
     }
-    Ok(())
-}
-
-#[test]
-fn holds_tells_the_threads_apart(rt: HostRuntime) -> Result<(), Fail> {
-    let mut ready = Ready::new(rt.alloc(), ROOM)?;
-    enter(&rt, &mut ready, 3, 7, false);
-    enter(&rt, &mut ready, 5, 7, false);
-    for (x, is_held) in [
-        (0, false),
-        (3, true),
-        (4, false),
-        (5, true),
-        (6, false),
-        (usize::MAX, false),
-    ] {
-        assert_eq!(rt; ready.holds(ThreadId(x)), is_held, "thread {x}");
-    }
-    assert_eq!(rt; ready.pop_best(), Some(ThreadId(3)));
-    assert!(rt; !ready.holds(ThreadId(3)) && ready.holds(ThreadId(5)));
-    Ok(())
-}
-
-// Room for no thread is a ready queue too.
-#[test]
-fn no_room_is_an_empty_queue(rt: HostRuntime) -> Result<(), Fail> {
-    let mut ready = Ready::new(rt.alloc(), 0)?;
-    assert_eq!(rt; ready.best(), None);
-    assert_eq!(rt; ready.pop_best(), None);
-    assert!(rt; !ready.holds(ThreadId(0)));
     Ok(())
 }

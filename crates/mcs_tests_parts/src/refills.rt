@@ -1,6 +1,6 @@
 ghost use Rattle.std.specs.Prelude.{◌≡◌, ◌^◌, ◌≤◌};
 
-use mcs_refills::{Refill, Refills, Slice};
+use mcs_refills::{Refill, Refills};
 use mcs_ticks::Tick;
 use std::process::Abort;
 use std::test::Fail;
@@ -27,7 +27,7 @@ const ROOM: usize = 4;
 
 const LATEST: u64 = 1 << 40;
 
-// What is left is that of the theorem of the same name in proofs/Sequences.antt, where the definitions are evaluated.
+// What is left is that of the theorem of the same name in proofs/Sequences.antt of mcs_refills, where the definitions are evaluated.
 const LIVES: [Life; 39] = [
     Life {
         shows: "a_new_list_is_one_refill",
@@ -376,44 +376,4 @@ fn lives_leave_the_refills_of_the_definitions(rt: HostRuntime) -> Result<(), Fai
         assert_left(&rt, &refills, life.left, life.shows);
     }
     Ok(())
-}
-
-#[test]
-fn the_head_is_ready_from_its_moment_on(rt: HostRuntime) -> Result<(), Fail> {
-    let mut refills = Refills::new(rt.alloc(), moment(&rt, 50), 7, 100, 2, 2)?;
-    let head = refills.head();
-    assert_eq!(rt; (head.begins, head.amount), (50, 7));
-    assert!(rt; !refills.ready(moment(&rt, 49)));
-    assert!(rt; refills.ready(moment(&rt, 50)));
-    assert!(rt; refills.ready(moment(&rt, 51)));
-    assert!(rt; head.amount == 7 && head.begins <= LATEST);
-    refills.charge(7, 1);
-    assert!(rt; !refills.ready(moment(&rt, 149)));
-    assert!(rt; refills.ready(moment(&rt, 150)));
-    Ok(())
-}
-
-#[test]
-fn a_slice_is_full_again_when_it_is_used_up(rt: HostRuntime) {
-    let mut slice = Slice::new(3);
-    assert_eq!(rt; slice.left(), 3);
-    slice.charge(1);
-    assert_eq!(rt; slice.left(), 2);
-    slice.charge(2);
-    assert_eq!(rt; slice.left(), 3);
-    slice.charge(3);
-    assert_eq!(rt; slice.left(), 3);
-}
-
-// A greater budget shows first at the next full slice, a smaller one at once.
-#[test]
-fn an_order_leaves_the_lesser_of_both(rt: HostRuntime) {
-    let mut slice = Slice::new(10);
-    slice.charge(4);
-    slice.reorder(20);
-    assert_eq!(rt; slice.left(), 6);
-    slice.reorder(5);
-    assert_eq!(rt; slice.left(), 5);
-    slice.charge(5);
-    assert_eq!(rt; slice.left(), 5);
 }

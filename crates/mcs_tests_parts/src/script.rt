@@ -1,5 +1,4 @@
-use mcs_script::{Item, ItemFault, Moved, Place, RawItem, Script, read_item};
-use mcs_ticks::NoteId;
+use mcs_script::{ItemFault, RawItem, read_item};
 use std::test::Fail;
 
 #[test]
@@ -78,87 +77,5 @@ fn texts_of_the_faults(rt: HostRuntime) -> Result<(), Fail> {
         let text = fault.to_string(rt.alloc())?;
         assert_eq!(rt; text.as_str(), want);
     }
-    Ok(())
-}
-
-#[test]
-fn a_list_that_is_no_script_is_handed_back(rt: HostRuntime) -> Result<(), Fail> {
-    let none = Script::new(Vec::new(rt.alloc())).err().ok_or("no items")?;
-    assert!(rt; none.is_empty());
-
-    let wait_last = vec![in rt.alloc(); Item::Yield, Item::Wait(NoteId(3))]?;
-    let back = Script::new(wait_last).err().ok_or("a wait is last")?;
-    assert_eq!(rt; back.len(), 2);
-    assert_eq!(rt; back.last().copied(), Some(Item::Wait(NoteId(3))));
-
-    let too_many = vec![in rt.alloc(); Item::Yield; 1_025]?;
-    let back = Script::new(too_many).err().ok_or("too many items")?;
-    assert_eq!(rt; back.len(), 1_025);
-
-    let most = Script::new(vec![in rt.alloc(); Item::Yield; 1_024]?)
-        .ok()
-        .ok_or("1,024 items")?;
-    assert_eq!(rt; most.len(), 1_024);
-    assert_eq!(rt; most.get(1_023), Some(Item::Yield));
-    assert_eq!(rt; most.get(1_024), None);
-
-    let one = Script::new(vec![in rt.alloc(); Item::Compute(1)]?)
-        .ok()
-        .ok_or("one item")?;
-    assert_eq!(rt; one.get(0), Some(Item::Compute(1)));
-    assert!(rt; one != most);
-    Ok(())
-}
-
-// Two rounds of a script whose calls cost 2 ticks.
-#[test]
-fn a_place_goes_through_its_script(rt: HostRuntime) -> Result<(), Fail> {
-    let items = vec![in rt.alloc();
-        Item::Compute(3),
-        Item::Wait(NoteId(0)),
-        Item::Signal(NoteId(1), 5),
-        Item::Yield,
-    ]?;
-    let script = Script::new(items).ok().ok_or("a script")?;
-    let mut place = Place::first(&script, 2);
-    assert_eq!(rt;
-        place,
-        Place {
-            round: 1,
-            item: 0,
-            left: 3
-        }
-    );
-    let steps = [
-        (Moved::Next, 1, 1, 2),
-        (Moved::Next, 1, 2, 2),
-        (Moved::Next, 1, 3, 2),
-        (Moved::RoundEnds, 2, 0, 3),
-        (Moved::Next, 2, 1, 2),
-        (Moved::Next, 2, 2, 2),
-        (Moved::Next, 2, 3, 2),
-        (Moved::AllDone, 2, 3, 2),
-    ];
-    for (want, round, item, left) in steps {
-        assert!(rt; place.item < 4);
-        assert_eq!(rt; place.advance(&script, 2, 2), want);
-        assert_eq!(rt; place, Place { round, item, left });
-    }
-
-    // without a last round the next one begins, and the greatest round number stays
-    let mut last = Place {
-        round: u64::MAX,
-        item: 3,
-        left: 0,
-    };
-    assert_eq!(rt; last.advance(&script, 2, 0), Moved::RoundEnds);
-    assert_eq!(rt;
-        last,
-        Place {
-            round: u64::MAX,
-            item: 0,
-            left: 3
-        }
-    );
     Ok(())
 }

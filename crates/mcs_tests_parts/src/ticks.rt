@@ -1,19 +1,5 @@
-use mcs_ticks::{ContextId, CoreId, Limits, NoMemory, NoteId, Row, ThreadId, Tick, What, Why};
+use mcs_ticks::{Limits, NoMemory};
 use std::test::Fail;
-
-#[test]
-fn ticks_end_at_the_latest(rt: HostRuntime) -> Result<(), Fail> {
-    let latest = Tick::new(4_398_046_511_104).ok_or("the latest tick")?;
-    assert_eq!(rt; latest.get(), Limits::TICK);
-    assert_eq!(rt; Tick::new(4_398_046_511_105), None);
-    assert_eq!(rt; latest.plus(0), Some(latest));
-    assert_eq!(rt; latest.plus(1), None);
-    assert_eq!(rt; Tick::ZERO.plus(u64::MAX), None);
-    let seven = Tick::new(7).ok_or("seven")?;
-    assert_eq!(rt; seven.plus(5).ok_or("twelve")?.get(), 12);
-    assert!(rt; Tick::ZERO < seven && seven < latest);
-    Ok(())
-}
 
 #[test]
 fn limits_are_those_of_the_profile(rt: HostRuntime) {
@@ -50,45 +36,6 @@ fn limits_are_those_of_the_profile(rt: HostRuntime) {
     for (limit, want) in numbers {
         assert_eq!(rt; limit, want);
     }
-}
-
-// A row is a plain value: a copy is equal, and each part tells.
-#[test]
-fn rows_are_plain_values(rt: HostRuntime) {
-    let stop = What::Stop {
-        thread: ThreadId(3),
-        why: Why::Spent,
-        charged: 2,
-        until: Tick::new(5),
-    };
-    let row = Row {
-        moment: Tick::ZERO,
-        core: CoreId(1),
-        what: stop,
-    };
-    let copy = row;
-    assert_eq!(rt; copy, row);
-    let elsewhere = Row {
-        core: CoreId(2),
-        ..row
-    };
-    assert_ne!(rt; elsewhere, row);
-    assert_ne!(rt;
-        stop,
-        What::Run {
-            thread: ThreadId(3)
-        }
-    );
-    let held = What::Hold {
-        note: NoteId(0),
-        word: 7,
-    };
-    assert_ne!(rt;
-        held,
-        What::Order {
-            context: ContextId(0)
-        }
-    );
 }
 
 #[test]

@@ -1,6 +1,6 @@
 use mcs_control::{Config, Order};
-use mcs_system::{ContextPart, Name, NotePart, System, SystemParts, ThreadPart};
 use mcs_script::{Item, Script};
+use mcs_system::{ContextPart, Name, NotePart, SystemParts, ThreadPart};
 use mcs_ticks::{ContextId, CoreId, NoteId, Sequence, Tick};
 use std::alloc::Global;
 use std::process::Abort;
@@ -73,10 +73,7 @@ fn name(alloc: Global, text: &str) -> Result<Name, Fail> {
 }
 
 fn script(items: Vec<Item>) -> Result<Script, Fail> {
-    match Script::new(items) {
-        Ok(script) => Ok(script),
-        Err(_) => Err(Fail::from("a script")),
-    }
+    Ok(Script::new(items).ok().ok_or("a script")?)
 }
 
 fn contexts(alloc: Global, sample: Sample) -> Result<Vec<ContextPart>, Fail> {
@@ -361,96 +358,4 @@ fn names_are_of_32_characters(rt: HostRuntime) -> Result<(), Fail> {
         all_are(&rt, rt.alloc(), false, &changes)?;
     }
     Ok(())
-}
-
-// Notifications n0, n1, .. and orders for the first context, as many as are wanted.
-fn crowded(alloc: Global, notes: u64, orders: u64) -> Result<SystemParts, Fail> {
-    let mut parts = parts(alloc, SAMPLE)?;
-    let mut more_notes = self::notes(alloc, SAMPLE)?;
-    for number in 2..notes {
-        let text = format!(in alloc; "n{number}")?;
-        more_notes.push(NotePart {
-            name: Name::new(text),
-            core: CoreId(1),
-        })?;
-    }
-    let mut more_orders = Vec::new(alloc);
-    for number in 0..orders {
-        more_orders.push(Order {
-            moment: tick(number)?,
-            context: ContextId(0),
-            config: SPORADIC,
-        })?;
-    }
-    parts.notes = Sequence::new(more_notes);
-    parts.orders = Sequence::new(more_orders);
-    Ok(parts)
-}
-
-#[test]
-fn there_are_4096_of_a_kind(rt: HostRuntime) -> Result<(), Fail> {
-    assert!(rt; crowded(rt.alloc(), 4_096, 4_096)?.is_well_formed());
-    assert!(rt; !crowded(rt.alloc(), 4_097, 0)?.is_well_formed());
-    assert!(rt; !crowded(rt.alloc(), 2, 4_097)?.is_well_formed());
-    assert!(rt; crowded(rt.alloc(), 2, 0)?.is_well_formed());
-    Ok(())
-}
-
-fn made_sample(rt: &impl Abort, alloc: Global) -> Result<System, Fail> {
-    let parts = parts(alloc, SAMPLE)?;
-    assert!(rt; parts.is_well_formed());
-    Ok(System::new(parts))
-}
-
-fn is_like(rt: &impl Abort, alloc: Global, one: &System) -> Result<bool, Fail> {
-    let other = made_sample(rt, alloc)?;
-    Ok(*one == other)
-}
-
-fn differs(rt: &impl Abort, alloc: Global, one: &System, change: Change) -> Result<bool, Fail> {
-    let other = changed(alloc, change)?;
-    assert!(rt; other.is_well_formed());
-    Ok(*one != System::new(other))
-}
-
-fn all_tell(rt: &impl Abort, alloc: Global, one: &System) -> Result<(), Fail> {
-    for change in CHANGES {
-        assert!(rt; differs(rt, alloc, one, *change)?);
-    }
-    Ok(())
-}
-
-static CHANGES: &[Change] = &[
-    Change::Cores(3),
-    Change::Delay(2),
-    Change::Call(2),
-    Change::MinBudget(2),
-    Change::Context("c"),
-    Change::Configured(5, 10, 0),
-    Change::Configured(4, 11, 0),
-    Change::Configured(4, 10, 1),
-    Change::Note("o"),
-    Change::Thread("C"),
-    Change::Priority(6),
-    Change::Start(1),
-    Change::Rounds(2),
-    Change::Deadline(1),
-    Change::Compute(2),
-    Change::SignalTo(0),
-    Change::Badge(2),
-    Change::OrderAt(4),
-    Change::Ordered(3, 10, 0),
-];
-
-fn compares(rt: &impl Abort, alloc: Global, one: &System) -> Result<(), Fail> {
-    assert!(rt; is_like(rt, alloc, one)?);
-    assert_eq!(rt; one.parts().delay, 1);
-    all_tell(rt, alloc, one)
-}
-
-// A system is equal to another one made of the same parts, and each part tells.
-#[test]
-fn systems_are_compared_by_their_parts(rt: HostRuntime) -> Result<(), Fail> {
-    let one = made_sample(&rt, rt.alloc())?;
-    compares(&rt, rt.alloc(), &one)
 }

@@ -8,13 +8,13 @@ use Rattle.std.specs.declared.alloc.Global.{Global}
 use Rattle.mcs_ticks.specs.declared.row.Row.{Row}
 use Rattle.mcs_mail.specs.declared.mail.Mail.{Mail}
 use Rattle.mcs_mail.specs.Box.{Content, IsIn, put_all}
-use Rattle.mcs_system.specs.System.{System, delay_between, TakesTime}
+use Rattle.mcs_system.specs.System.{System, TakesTime}
 use Rattle.mcs_system.specs.WellFormed.{IsWellFormed}
 use Rattle.mcs_core.specs.Run.{Ran}
 use Rattle.mcs_core.specs.State.{State, Fits, IsExpected, made_by, state_after}
 use Rattle.mcs_window.specs.stored.Delivery.{is_home, AreDelivered}
 use Rattle.mcs_window.specs.Inbox.{inbox, signals_between, IsMade, IsFor, Rises}
-use Rattle.mcs_window.specs.stored.Cores.{AreHere, AreKept}
+use Rattle.mcs_window.specs.stored.Cores.{IsHere, AreHere, AreKept}
 use Rattle.mcs_window.specs.Stretch.{StandsAt, rows_between, NothingArrivesBefore, IsAfter}
 use Rattle.mcs_window.proofs.Deliveries.{signals_from, flat_map-one, inbox-delivered}
 use Rattle.mcs_window.proofs.Inboxes.{from_inbox, of_turn}
@@ -89,52 +89,57 @@ module _ (system : System) (well : IsWellFormed system) where
         ap (λ past. signals_between system c (slice_index front c) past) (sym later_same)
         ∙ sym (flat_map-one (λ b. signals_between system b (slice_index front b) (slice_index later b)) c system.cores 0 (omega arith) (omega arith) (λ b k. none_between b (slice_index later b) (slice_index front b) (later_other b k)))
 
+    -- what is delivered to a core
+    abbrev with_delivered : ℕ → List Mail → List Mail
+    with_delivered b box = put_all (filter (is_home system b) (signals_from system front later)) box
+
+    -- the core is here again, at its later clock
+    pub here_own : (state : State) (box : List Mail) → slice_index front c ≤ to → NothingArrivesBefore system c to front → StandsAt system c to state → box ≡ inbox system c to front →
+        IsHere system c (slice_index later c) later state (with_delivered c box)
+    here_own state box l reached stands box_is =
+        rw later_same
+        (record {
+          reached = λ d q other. let f = reached d q other in let i = later_other d other in omega arith;
+          state_is = stands;
+          box_is = ap (with_delivered c) box_is ∙ inbox-delivered system takes_time c to front later (rises l) reached;
+        })
+
+    -- and so is each other one that was here, at its own clock
+    pub here_other : (b : ℕ) (state : State) (box : List Mail) → b ≢ c → slice_index front c ≤ to → IsHere system b (slice_index front b) front state box →
+        IsHere system b (slice_index later b) later state (with_delivered b box)
+    here_other b state box other l here =
+        rw (later_other b other)
+        (record {
+          reached = λ d q e. let f = here.reached d q e in let i = rises l d q in omega arith;
+          state_is = here.state_is;
+          box_is = ap (with_delivered b) here.box_is ∙ inbox-delivered system takes_time b (slice_index front b) front later (rises l) here.reached;
+        })
+
     -- the states, and the boxes with what was delivered
     module _ (states : List State) (boxes full : List Content) (here : AreHere system front states boxes) (h : c < system.cores) (l : slice_index front c ≤ to) (reached : NothingArrivesBefore system c to front)
         (states_of : length states ≡ system.cores) (boxes_of : length boxes ≡ system.cores) (state : State) (box : Content) (stands : StandsAt system c to state)
         (box_is : box.mails ≡ inbox system c to front) (delivered : AreDelivered system (signals_from system front later) (set boxes c box) full) where
-      reached_later : (b d : ℕ) → b < system.cores → d < system.cores → d ≢ b → slice_index later b ≤ slice_index later d + delay_between system d b
-      reached_later b d p q other = elim (eqb_tells b c) [
-        | inl e ↦ (let f : slice_index later b ≡ to = ap (slice_index later) e.1 ∙ later_same in
-            let g : d ≢ c = λ i. other (i ∙ sym e.1) in
-            let i = later_other d g in
-            let j = reached d q g in
-            let k : delay_between system d b ≡ delay_between system d c = ap (λ m. delay_between system d m) e.1 in
-            omega arith)
-        | inr e ↦ (let f = later_other b e.1 in let g = here.reached b d p q other in let i = rises l d q in omega arith)
-      ]
+      same_here : (b : ℕ) (s s' : State) (ms ms' : List Mail) → s' ≡ s → ms' ≡ ms → IsHere system b (slice_index later b) later s ms → IsHere system b (slice_index later b) later s' ms'
+      same_here b s s' ms ms' e f p = rw (e, f) p
 
-      states_later : (b : ℕ) (x : State) → b < system.cores → StandsAt system b (slice_index later b) (get_or (set states c state) b x)
-      states_later b x p = elim (eqb_tells b c) [
-        | inl e ↦ rw (e.1, later_same) (subst (StandsAt system c to) (sym (get_or-set_same states c state x (omega arith))) stands)
-        | inr e ↦ rw (later_other b e.1) (subst (StandsAt system b (slice_index front b)) (sym (get_or-set_other states c b state x e.1)) (here.states_are b x p))
-      ]
+      box_later : (b : ℕ) (y z : Content) → b < system.cores → get_or (set boxes c box) b y ≡ z → (get_or full b y).mails ≡ with_delivered b z.mails
+      box_later b y z p e = delivered.each b y (omega (arith, length-set boxes c box)) ∙ ap (λ (content : Content). with_delivered b content.mails) e
 
-      reached_here : (b : ℕ) → b < system.cores → NothingArrivesBefore system b (slice_index front b) front
-      reached_here b p d q other = here.reached b d p q other
+      own : (x : State) (y : Content) → IsHere system c (slice_index later c) later (get_or (set states c state) c x) (get_or full c y).mails
+      own x y =
+          same_here c state _ _ _ (get_or-set_same states c state x (omega arith)) (box_later c y box h (get_or-set_same boxes c box y (omega arith)))
+          (here_own state box.mails l reached stands box_is)
 
-      box_own : (x : Content) → (get_or full c x).mails ≡ inbox system c to later
-      box_own x =
-          delivered.each c x (omega (arith, length-set boxes c box))
-          ∙ ap (λ (y : Content). put_all (filter (is_home system c) (signals_from system front later)) y.mails) (get_or-set_same boxes c box x (omega arith))
-          ∙ ap (put_all (filter (is_home system c) (signals_from system front later))) box_is
-          ∙ inbox-delivered system takes_time c to front later (rises l) reached
-
-      box_other : (b : ℕ) (x : Content) → b < system.cores → b ≢ c → (get_or full b x).mails ≡ inbox system b (slice_index front b) later
-      box_other b x p e =
-          delivered.each b x (omega (arith, length-set boxes c box))
-          ∙ ap (λ (y : Content). put_all (filter (is_home system b) (signals_from system front later)) y.mails) (get_or-set_other boxes c b box x e)
-          ∙ ap (put_all (filter (is_home system b) (signals_from system front later))) (here.boxes_are b x p)
-          ∙ inbox-delivered system takes_time b (slice_index front b) front later (rises l) (reached_here b p)
-
-      boxes_later : (b : ℕ) (x : Content) → b < system.cores → (get_or full b x).mails ≡ inbox system b (slice_index later b) later
-      boxes_later b x p = elim (eqb_tells b c) [
-        | inl e ↦ ap (λ d. (get_or full d x).mails) e.1 ∙ box_own x ∙ ap (λ t. inbox system c t later) (sym (ap (slice_index later) e.1 ∙ later_same)) ∙ ap (λ d. inbox system d (slice_index later b) later) (sym e.1)
-        | inr e ↦ box_other b x p e.1 ∙ ap (λ t. inbox system b t later) (sym (later_other b e.1))
-      ]
+      other : (b : ℕ) (x : State) (y : Content) → b < system.cores → b ≢ c → IsHere system b (slice_index later b) later (get_or (set states c state) b x) (get_or full b y).mails
+      other b x y p e =
+          same_here b (get_or states b x) _ _ _ (get_or-set_other states c b state x e) (box_later b y (get_or boxes b y) p (get_or-set_other boxes c b box y e))
+          (here_other b (get_or states b x) (get_or boxes b y).mails e l (here b x y p))
 
       pub here_later : AreHere system later (set states c state) full
-      here_later = record { reached = reached_later; states_are = states_later; boxes_are = boxes_later }
+      here_later b x y p = elim (eqb_tells b c) [
+        | inl e ↦ subst (λ d. IsHere system d (slice_index later d) later (get_or (set states c state) d x) (get_or full d y).mails) (sym e.1) (own x y)
+        | inr e ↦ other b x y p e.1
+      ]
 
     -- the clocks, and the rows since the last taking
     module _ (horizon : ℕ) (taken : List ℕ) (rows : List (Vec Row Global)) (kept : AreKept system horizon front taken rows) (h : c < system.cores) (l : slice_index front c ≤ to) (in_time : to ≤ horizon + 1)

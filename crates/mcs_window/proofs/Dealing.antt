@@ -1,5 +1,5 @@
 -- The views of the cores, dealt out in file order.
-use Rattle.std.proofs.Common.{◌≡◌, ◌≢◌, ℕ, zero, suc, ◌+◌, ◌<◌, ◌≤◌, Bool, true, false, List, [], ◌∷◌, ◌++◌, length, get_or, set, drop, Option, Some, None, inl, inr, refl, sym, ap, ◌∙◌, append-nil, subst, arith}
+use Rattle.std.proofs.Common.{◌≡◌, ◌≢◌, ℕ, zero, suc, ◌+◌, ◌<◌, Bool, true, false, List, [], ◌∷◌, ◌++◌, length, get_or, set, drop, Option, Some, None, inl, inr, refl, sym, ap, ◌∙◌, append-nil, subst, arith}
 use Rattle.std.specs.Prelude.{flat_map, nat_lt, slice_index, ◌==◌}
 use Rattle.std.specs.List.{range_with_len}
 use Rattle.std.specs.declared.alloc.Global.{Global}
@@ -10,6 +10,7 @@ use Rattle.mcs_mail.specs.Box.{Content}
 use Rattle.mcs_control.specs.declared.view.ContextView.{ContextView}
 use Rattle.mcs_control.specs.Context.{Context}
 use Rattle.mcs_core.specs.declared.standing.Chosen.{Chosen}
+use Rattle.mcs_merge.proofs.Merges.{flat_map-same}
 use Rattle.mcs_system.specs.declared.part.ContextPart.{ContextPart}
 use Rattle.mcs_system.specs.declared.part.SystemParts.{SystemParts}
 use Rattle.mcs_system.specs.System.{System, context_part, no_context}
@@ -22,6 +23,7 @@ use Rattle.mcs_core.specs.State.{State}
 use Rattle.mcs_core.specs.Views.{own_view, views_from, views_of}
 use Rattle.mcs_window.specs.stored.Views.{AreQueued, AreBegun}
 use Rattle.mcs_window.specs.stored.Cores.{AreHere}
+use Rattle.mcs_window.specs.Stretch.{StandsAt}
 use Rattle.mcs_window.specs.Views.{view_in, views_in, views_at, views_before, AreStates}
 use Rattle.mcs_window.proofs.Ranges.{flat_map-join}
 
@@ -162,12 +164,18 @@ part-at system x k parts contexts part same e l at is =
 pub core-known : (system : System) → IsWellFormed system → (x : ℕ) → x < length system.contexts → (context_part system x).core < system.cores
 core-known system well x l = (well.contexts x no_context l).core
 
-flat_map-same : (f g : ℕ → List ContextView) (n a : ℕ) → ((i : ℕ) → a ≤ i → i < a + n → f i ≡ g i) → flat_map f (range_with_len a n) ≡ flat_map g (range_with_len a n)
-flat_map-same f g zero a h = refl
-flat_map-same f g (suc n) a h = both _ _ _ _ (h a (omega arith) (omega arith)) (flat_map-same f g n (a + 1) (λ i p q. h i (omega arith) (omega arith)))
+-- cores that are here have states
+pub states-here : (system : System) (clocks : List ℕ) (states : List State) (boxes : List Content) → length states ≡ system.cores → AreHere system clocks states boxes → AreStates system states
+states-here system clocks states boxes many here =
+    record {
+      many = many;
+      number_is = λ c x l. (stands c x l).number_is;
+      whole = λ c x l. (stands c x l).whole;
+      fit = λ c x l. (stands c x l).fits;
+    }
   where
-    both : (xs ys us vs : List ContextView) → xs ≡ ys → us ≡ vs → xs ++ us ≡ ys ++ vs
-    both xs ys us vs e k = cc
+    stands : (c : ℕ) (x : State) → c < system.cores → StandsAt system c (slice_index clocks c) (get_or states c x)
+    stands c x l = (here c x (record { mails = []; spare = 0 }) l).state_is
 
 -- the views of states that stand as the clock has them are those of the clock
 pub views-here : (system : System) → IsWellFormed system → (clocks : List ℕ) (states : List State) (boxes : List Content) → AreHere system clocks states boxes → (d : State) →
@@ -176,7 +184,7 @@ views-here system well clocks states boxes here d =
     flat_map-same (view_in system (λ c. (get_or states c d).core)) (view_in system (λ c. core_at system (world system (slice_index clocks c)) c)) (length system.contexts) 0
     (λ x _ l.
     let k = core-known system well x (omega arith) in
-    ap (λ (core : Core). own_view system x core.running (get_or core.contexts x None)) (here.states_are (context_part system x).core d k).core_is)
+    ap (λ (core : Core). own_view system x core.running (get_or core.contexts x None)) (here (context_part system x).core d (record { mails = []; spare = 0 }) k).state_is.core_is)
 
 -- where all clocks are at one moment, the views are those before it
 pub views-at_one : (system : System) → IsWellFormed system → (clocks : List ℕ) (t : ℕ) → ((c : ℕ) → c < system.cores → slice_index clocks c ≡ t) → views_at system clocks ≡ views_before system t

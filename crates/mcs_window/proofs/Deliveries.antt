@@ -8,6 +8,7 @@ use Rattle.std.proofs.lemmas.List.Elements.{filter-append}
 use Rattle.mcs_ticks.specs.Queue.{by_priority}
 use Rattle.mcs_mail.specs.declared.mail.Mail.{Mail}
 use Rattle.mcs_mail.specs.Box.{Content, put, put_all}
+use Rattle.mcs_merge.proofs.Merges.{flat_map-same}
 use Rattle.mcs_system.specs.System.{System, note_part, delay_between, TakesTime}
 use Rattle.mcs_core.specs.Clock as clocks
 use Rattle.mcs_core.proofs.Mails as mails
@@ -56,13 +57,6 @@ delivered-more system signals i h mail before boxes new held so_far l is home kn
     by c x k false e =
         let f : h ≢ c = grind (arith, nat_tests) in
         rw (← same_test c, e) (other c x k f)
-
-flat_map-same : (f g : ℕ → List Mail) (n a : ℕ) → ((i : ℕ) → a ≤ i → i < a + n → f i ≡ g i) → flat_map f (range_with_len a n) ≡ flat_map g (range_with_len a n)
-flat_map-same f g zero a h = refl
-flat_map-same f g (suc n) a h = both _ _ _ _ (h a (omega arith) (omega arith)) (flat_map-same f g n (a + 1) (λ i p q. h i (omega arith) (omega arith)))
-  where
-    both : (xs ys us vs : List Mail) → xs ≡ ys → us ≡ vs → xs ++ us ≡ ys ++ vs
-    both xs ys us vs e f = cc
 
 filter-flat_map : (p : Mail → Bool) (f : ℕ → List Mail) (n a : ℕ) → filter p (flat_map f (range_with_len a n)) ≡ flat_map (λ i. filter p (f i)) (range_with_len a n)
 filter-flat_map p f zero a = refl

@@ -93,12 +93,12 @@ module _ (a : Inside) (kept : IsKept a) where
       whole = kept.whole unspent
 
       stood : StandsAt system k (slice_index a.clocks.items k) state
-      stood = subst (StandsAt system k (slice_index a.clocks.items k)) (sym s_at) (whole.here.states_are k state h)
+      stood = subst (StandsAt system k (slice_index a.clocks.items k)) (sym s_at) (whole.here k state box h).state_is
 
       ran : IsAfter system k (slice_index a.clocks.items k) to a.clocks.items (made_by system state to box.mails)
       ran =
           ran_here system kept.well_formed k (slice_index a.clocks.items k) to a.clocks.items state box.mails stood
-          (ap (λ (y : Content). y.mails) b_at ∙ whole.here.boxes_are k box h) h l reached
+          (ap (λ (y : Content). y.mails) b_at ∙ (whole.here k state box h).box_is) h l reached
 
       fresh_is : fresh.items ≡ rows_between system k (slice_index a.clocks.items k) to
       fresh_is = run.rows_are ∙ ap (λ xs. xs ++ (made_by system state to box.mails).rows) whole.no_rows ∙ ran.rows_are

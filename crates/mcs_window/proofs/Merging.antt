@@ -10,7 +10,7 @@ use Rattle.mcs_ticks.specs.declared.row.What.{What}
 use Rattle.mcs_merge.specs.Merge.{rows_at, AreFrom, DoNotFall}
 use Rattle.mcs_merge.proofs.Joins.{AreFrom-earlier}
 use Rattle.mcs_merge.proofs.Pushes.{AreUntil, DoNotFall-append}
-use Rattle.mcs_merge.proofs.Merges.{merged-is}
+use Rattle.mcs_merge.proofs.Merges.{merged-is, flat_map-same}
 use Rattle.mcs_system.specs.System.{System, TakesTime}
 use Rattle.mcs_core.specs.Clock as clocks
 use Rattle.mcs_core.specs.Clock.{rows_of, schedule}
@@ -138,13 +138,6 @@ module _ (system : System) where
       ∙ ap (λ xs. flat_map moment_rows (range_with_len 0 n) ++ xs) (sym (append-nil (moment_rows n)) ∙ ap (λ m. flat_map moment_rows (range_with_len m 1)) (sym g))
       ∙ flat_map-join moment_rows n 1 0 ∙ ap (λ m. flat_map moment_rows (range_with_len 0 m)) e
 
-  flat_map-same : (f g : ℕ → List Row) (n a : ℕ) → ((i : ℕ) → f i ≡ g i) → flat_map f (range_with_len a n) ≡ flat_map g (range_with_len a n)
-  flat_map-same f g zero a h = refl
-  flat_map-same f g (suc n) a h = both _ _ _ _ (h a) (flat_map-same f g n (a + 1) h)
-    where
-      both : (xs ys us vs : List Row) → xs ≡ ys → us ≡ vs → xs ++ us ≡ ys ++ vs
-      both xs ys us vs e k = cc
-
   all_none : (n a : ℕ) → flat_map {X = ℕ} {A = Row} (λ c. []) (range_with_len a n) ≡ []
   all_none zero a = refl
   all_none (suc n) a = all_none n (a + 1)
@@ -157,12 +150,12 @@ module _ (system : System) where
           let l : t < suc horizon = grind (arith, nat_tests) in
           inside moment_rows moment_moments t (suc horizon) 0 (omega arith) (omega arith)
           ∙ sym (flat_map-same (λ c. rows_at t (rows_between system c 0 (suc horizon))) (λ c. rows_of system c t) system.cores 0
-          (λ c. inside (rows_of system c) (row_moments c) t (suc horizon - 0) 0 (omega arith) (omega arith)))
+          (λ c _ _. inside (rows_of system c) (row_moments c) t (suc horizon - 0) 0 (omega arith) (omega arith)))
       by false e =
           let l : suc horizon ≤ t = grind (arith, nat_tests) in
           outside moment_rows moment_moments t (suc horizon) 0 (λ m p q. omega arith)
           ∙ sym (flat_map-same (λ c. rows_at t (rows_between system c 0 (suc horizon))) (λ c. []) system.cores 0
-          (λ c. outside (rows_of system c) (row_moments c) t (suc horizon - 0) 0 (λ m p q. omega arith)) ∙ all_none system.cores 0)
+          (λ c _ _. outside (rows_of system c) (row_moments c) t (suc horizon - 0) 0 (λ m p q. omega arith)) ∙ all_none system.cores 0)
 
   pub rows_merge : TakesTime system → merging.RowsMerge system
   rows_merge takes_time horizon =

@@ -111,10 +111,10 @@ opened_kept a in_time well clocks_are taken_are states boxes rows no_rows no_sig
         rows_are = λ c x l. rows.each c x l ∙ sym (rows-none (arc_value a.system) c 0) ∙ both c (sym (taken c l)) (sym (clock c l));
       };
       whole = λ _. record {
-        here = record {
-          reached = λ c b l _ _. let e = clock c l in omega arith;
-          states_are = λ c x l. rw (clock c l) (opening_stands (arc_value a.system) c _ l (states.each c x l) (states.fit c x l));
-          boxes_are = λ c x l. boxes.each c x l ∙ sym (inbox-opening (arc_value a.system) c (slice_index a.clocks.items c) a.clocks.items clock);
+        here = λ c x y l. record {
+          reached = λ b _ _. let e = clock c l in omega arith;
+          state_is = rw (clock c l) (opening_stands (arc_value a.system) c _ l (states.each c x l) (states.fit c x l));
+          box_is = boxes.each c y l ∙ sym (inbox-opening (arc_value a.system) c (slice_index a.clocks.items c) a.clocks.items clock);
         };
         no_rows = no_rows;
         no_signals = no_signals;

@@ -113,9 +113,7 @@ impl Cores {
         if let Some(behind) = self.first_behind(core) {
             return Err(StepFault::NotSafe(behind));
         }
-        let Some(to) = clock.plus(1) else {
-            return Err(StepFault::Ended);
-        };
+        let to = clock.plus(1).unwrap();
         self.advance(core, to)?;
         Ok(())
     }

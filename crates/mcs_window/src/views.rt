@@ -43,9 +43,7 @@ pub(crate) fn all_views(
     for context in contexts {
         let core = context.core;
         let queue = &mut queues[core.0];
-        let Some(view) = queue.pop_front() else {
-            continue;
-        };
+        let view = queue.pop_front().unwrap();
         views.push(view)?;
     }
     Ok(views)

@@ -1,8 +1,7 @@
 //! The program: it reads its words, opens the file or takes standard input, and ends with the status of what happened.
 #![tactic(auto)]
 
-use mcs_cli::{Options, RunFault, WordsFault, options, run};
-use std::fs::File;
+use mcs_cli::{WordsFault, options, run_with};
 use std::io::ErrorKind;
 use std::process::ExitCode;
 use std::{env, io};
@@ -20,7 +19,13 @@ fn main(rt: HostRuntime) -> ExitCode {
         Err(_) => return fail(&rt, NOT_UTF_8, 2),
     };
     match options(rt.alloc(), words.as_slice()) {
-        Ok(options) => match run_with(&rt, &options) {
+        Ok(options) => match run_with(
+            &rt,
+            rt.alloc(),
+            &mut rt.stdin(),
+            &mut rt.stdout(),
+            &options,
+        ) {
             Ok(()) => ExitCode::SUCCESS,
             Err(fault) => {
                 let _ = rt.eprintln(fault);
@@ -52,40 +57,7 @@ fn words_of(rt: &HostRuntime) -> io::Result<Vec<String>> {
     Ok(words)
 }
 
-fn run_with(rt: &HostRuntime, options: &Options) -> Result<(), RunFault> {
-    match &options.file {
-        Some(name) => match File::open(rt, name.as_str()) {
-            Ok(mut file) => run(rt.alloc(), &mut file, &mut rt.stdout(), options),
-            Err(_) => Err(RunFault::Read),
-        },
-        None => run(rt.alloc(), &mut rt.stdin(), &mut rt.stdout(), options),
-    }
-}
-
 fn fail(rt: &HostRuntime, text: &str, status: u8) -> ExitCode {
     let _ = rt.eprint(text);
     ExitCode::from(status)
-}
-
-#[cfg(test)]
-mod tests {
-    use super::run_with;
-    use mcs_cli::{Options, RunFault, Show};
-    use mcs_ticks::Tick;
-    use std::test::Fail;
-
-    // No file has the first name, and the second is that of a folder.
-    #[test]
-    fn files_that_are_not_read(rt: HostRuntime) -> Result<(), Fail> {
-        for name in ["no_folder/no_file.toml", "."] {
-            let options = Options {
-                file: Some(String::from_str(rt.alloc(), name)?),
-                horizon: Tick::ZERO,
-                workers: 1,
-                show: Show::Schedule,
-            };
-            assert_eq!(rt; run_with(&rt, &options), Err(RunFault::Read), "{name}");
-        }
-        Ok(())
-    }
 }

@@ -127,8 +127,8 @@ module _ (system : System) where
   AreEarly core [] = Unit {0}
   AreEarly core (dated ∷ others) = (dated.date ≤ 2 ^ 40 → IsEarly dated.thread core) × AreEarly core others
 
-  -- a context of the core: the configuration in force passed its check, is of the kind that the context has from the first, and the
-  -- budget is kept by it
+  -- a context of the core: the configuration in force passed its check, is of the kind that the context has from the
+  -- first, and the budget is kept by it
   pub record IsBudget (k : ℕ) (context : Context) : Type 0 where
     pub accepted : IsOk (checked system.min_budget context.config)
     pub same_kind : kind_of context.config ≡ kind_of (context_part system k).config
@@ -162,7 +162,8 @@ module _ (system : System) where
   -- whom a post wakes is free when it has left the waiters
   abbrev pub WakesFree : ℕ → ℕ → Core → Type 0
   WakesFree note badge core =
-      (x word : ℕ) → posted badge (note_of core note) ≡ Woke x word → IsFree x (with_note note (after_post (Woke x word) (note_of core note)) core)
+      (x word : ℕ) → posted badge (note_of core note) ≡ Woke x word →
+      IsFree x (with_note note (after_post (Woke x word) (note_of core note)) core)
 
 -- core `number` of a system, whose release queue has dates of this moment or later alone
 module _ (system : System) (number from : ℕ) where

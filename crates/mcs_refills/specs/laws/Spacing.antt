@@ -1,7 +1,7 @@
 -- What the charges of a server take from it, where no order comes between: from one date to the one a whole budget later
 -- there is at least a period.
 use Rattle.std.specs.Prelude.{◌≡◌, ℕ, ◌+◌, ◌<◌, ◌≤◌, List, [], ◌∷◌, ◌++◌, map, take, drop, length, slice_index}
-use Rattle.mcs_refills.specs.Server.{charged, with_enough, unblocked}
+use Rattle.mcs_refills.specs.Server.{charged_with_enough, unblocked}
 
 -- each date is at most the one in its place of the other list, and the lists are equally long
 abbrev pub IsUnder : List ℕ → List ℕ → Type 0
@@ -31,7 +31,7 @@ pub data Step : Type 0 where
   Unblock : ℕ → Step
 
 abbrev pub stepped : ℕ → ℕ → Step → List ℕ → List ℕ
-stepped period max_refills (Charge k min_budget) dates = with_enough min_budget (charged k period max_refills dates)
+stepped period max_refills (Charge k min_budget) dates = charged_with_enough k min_budget period max_refills dates
 stepped period max_refills (Unblock t) dates = unblocked t dates
 
 -- the dates that a step uses
@@ -61,7 +61,7 @@ IsSpaced budget period dates = (j : ℕ) → j + budget < length dates → slice
 abbrev pub StepsSpace : Type 0
 StepsSpace =
     (budget period max_refills k min_budget t : ℕ) (dates : List ℕ) → AreKept budget period dates → 1 ≤ k →
-    IsUnder dates (unblocked t dates) × IsUnder (after_use k period dates) (with_enough min_budget (charged k period max_refills dates))
+    IsUnder dates (unblocked t dates) × IsUnder (after_use k period dates) (charged_with_enough k min_budget period max_refills dates)
 
 -- so the dates that charges take are spaced
 abbrev pub ConsumedAreSpaced : Type 0

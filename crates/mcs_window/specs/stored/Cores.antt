@@ -1,26 +1,33 @@
 -- What `Cores` keeps between its calls: each core stands as the clock has it at the moment of its own clock.
-use Rattle.std.specs.Prelude.{◌≡◌, ◌≢◌, ℕ, ◌+◌, ◌<◌, ◌≤◌, ◌^◌, false, List, [], length, slice_index, slice_index_or, Vec}
+use Rattle.std.specs.Prelude.{◌≡◌, ℕ, ◌+◌, ◌<◌, ◌≤◌, ◌^◌, false, List, [], length, slice_index, slice_index_or, Vec}
 use Rattle.std.specs.Arc.{arc_value}
 use Rattle.std.specs.declared.alloc.Global.{Global}
 use Rattle.mcs_ticks.specs.declared.row.Row.{Row}
 use Rattle.mcs_mail.specs.declared.mail.Mail.{Mail}
 use Rattle.mcs_mail.specs.Box.{Content}
-use Rattle.mcs_system.specs.System.{System, delay_between}
+use Rattle.mcs_system.specs.System.{System}
 use Rattle.mcs_system.specs.WellFormed.{IsWellFormed}
 use Rattle.mcs_core.specs.State.{State}
 use Rattle.mcs_window.specs.Inbox.{inbox}
-use Rattle.mcs_window.specs.Stretch.{StandsAt, rows_between}
+use Rattle.mcs_window.specs.Stretch.{StandsAt, rows_between, NothingArrivesBefore}
 use Rattle.mcs_window.specs.Progress.{Progress}
 use Rattle.mcs_window.specs.declared.cores.Cores.TheInside.{Inside}
 
 abbrev pub progress_of : Inside → Progress
 progress_of a = record { system = arc_value a.system; horizon = a.horizon; clocks = a.clocks.items; taken = a.taken.items; failed = a.failed }
 
--- each core has its state and its inbox, by the clocks of all
-pub record AreHere (system : System) (clocks : List ℕ) (states : List State) (boxes : List Content) : Type 0 where
-  pub reached : (c b : ℕ) → c < system.cores → b < system.cores → b ≢ c → slice_index clocks c ≤ slice_index clocks b + delay_between system b c
-  pub states_are : (c : ℕ) (x : State) → c < system.cores → StandsAt system c (slice_index clocks c) (slice_index_or states c x)
-  pub boxes_are : (c : ℕ) (x : Content) → c < system.cores → (slice_index_or boxes c x).mails ≡ inbox system c (slice_index clocks c) clocks
+-- a core at its clock, by the clocks of all: nothing that another core has still to make arrives before it, and the core has its state
+-- and its inbox
+pub record IsHere (system : System) (core clock : ℕ) (clocks : List ℕ) (state : State) (box : List Mail) : Type 0 where
+  pub reached : NothingArrivesBefore system core clock clocks
+  pub state_is : StandsAt system core clock state
+  pub box_is : box ≡ inbox system core clock clocks
+
+-- each core is so
+abbrev pub AreHere : System → List ℕ → List State → List Content → Type 0
+AreHere system clocks states boxes =
+    (core : ℕ) (state : State) (box : Content) → core < system.cores →
+    IsHere system core (slice_index clocks core) clocks (slice_index_or states core state) (slice_index_or boxes core box).mails
 
 -- no turn is half taken
 pub record AreWhole (system : System) (clocks : List ℕ) (states : List State) (boxes : List Content) (rows : List Row) (signals : List Mail) : Type 0 where

@@ -1,5 +1,5 @@
 use Rattle.std.proofs.Common.{◌≡◌, ◌++◌, drop}
-use Rattle.mcs_cli.specs.Text.{schedule_text}
+use Rattle.mcs_text.specs.Text.{schedule_text}
 use Rattle.mcs_cli.proofs.streams.put_rows.Given as goal
 
 abbrev pub invariant-loop-row : goal.invariant-loop-row

@@ -25,7 +25,7 @@ loop-k-preserved c =
     record {
       contexts =
           ap seen_contexts c.in_ok-push.ensures.items
-          ∙ made-next c.args.system.now c.args.c c.args.system.now.contexts c.loop-k.k x c.loop-k.contexts.items c.in_ok-context.context l at c.loop-k.invariant.contexts
+          ∙ made-next c.args.system.now c.args.core c.args.system.now.contexts c.loop-k.k x c.loop-k.contexts.items c.in_ok-context.context l at c.loop-k.invariant.contexts
           (rw start at c.in_ok-context.ensures.context);
       room = rw c.in_ok-push.ensures.items (room-next c.loop-k.contexts.items c.in_ok-context.context c.loop-k.invariant.room c.in_ok-context.ensures.room);
     }

@@ -5,6 +5,6 @@ use Rattle.mcs_core.proofs.open.opening_contexts.Given as goal
 
 abbrev pub invariant-loop-k : goal.invariant-loop-k
 invariant-loop-k l = record {
-  contexts : seen_contexts l.contexts.items ≡ opening_contexts l.system l.c 0 (take l.k l.system.contexts);
+  contexts : seen_contexts l.contexts.items ≡ opening_contexts l.system l.core 0 (take l.k l.system.contexts);
   room : HaveRoom l.contexts.items;
 }

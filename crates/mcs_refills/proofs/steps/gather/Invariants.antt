@@ -1,16 +1,16 @@
-use Rattle.std.proofs.Common.{◌≡◌, ◌-◌, ◌≤◌, ◌∷◌, drop, vec_len}
+use Rattle.std.proofs.Common.{◌≡◌, ◌<◌, ◌∷◌, length}
 use Rattle.mcs_refills.specs.stored.Refills.{AreApart, end_of}
 use Rattle.mcs_refills.specs.Server.{enough}
 use Rattle.mcs_refills.proofs.steps.gather.Given as goal
 
 abbrev pub invariant-joins : goal.invariant-joins
 invariant-joins l = record {
-  some : 1 ≤ l.next;
-  within : l.next ≤ vec_len l.refills;
-  apart : AreApart (l.head ∷ drop l.next l.refills.items);
-  end : end_of (l.head ∷ drop l.next l.refills.items) ≡ end_of l.refills.items;
-  same : enough l.min_budget (l.head ∷ drop l.next l.refills.items) ≡ enough l.min_budget l.refills.items;
+  room : length l.refills.items < l.refills.capacity;
+  capacity : l.refills.capacity ≡ l.fn.refills.capacity;
+  apart : AreApart (l.head ∷ l.refills.items);
+  end : end_of (l.head ∷ l.refills.items) ≡ end_of l.fn.refills.items;
+  same : enough l.min_budget (l.head ∷ l.refills.items) ≡ enough l.min_budget l.fn.refills.items;
 }
 
 abbrev pub decreases-joins : goal.decreases-joins
-decreases-joins l = vec_len l.refills - l.next
+decreases-joins l = length l.refills.items

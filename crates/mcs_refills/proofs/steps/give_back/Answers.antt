@@ -1,34 +1,28 @@
-use Rattle.std.proofs.Common.{arith, ◌-◌}
-use Rattle.mcs_refills.proofs.Ends.{end_of-last, joins, appends, moves}
+use Rattle.std.proofs.Common.{◌∙◌, ap, arith}
+use Rattle.circular_buffer.specs.Buffer.{buffer}
+use Rattle.mcs_refills.proofs.Ends.{last-is, ends-with, joins, appends, moves}
 use Rattle.mcs_refills.proofs.steps.give_back.Goals as goal
 
+pub overflow_add-amount : goal.overflow_add-amount
+overflow_add-amount c = omega (arith, ends-with c.args.refills.now.items c.in-Some.last c.in-Some.ensures.value)
+
 pub overflow_add-last : goal.overflow_add-last
-overflow_add-last c =
-    let e = c.args.refills.now.ok.0 in
-    omega (arith, c.len-count.ensures, end_of-last c.args.refills.now.items (c.len-count.result - 1) c.index-last.result.now c.index-last.result.now (omega arith) c.index-last.ensures)
+overflow_add-last c = omega (arith, ends-with c.args.refills.now.items c.in-Some.last c.in-Some.ensures.value)
 
 pub overflow_sub-back : goal.overflow_sub-back
-overflow_sub-back c =
-    let e = c.args.refills.now.ok.0 in
-    omega (arith, end_of-last c.args.refills.now.items (c.len-count.result - 1) c.index-last.result.now c.index-last.result.now (omega arith) c.index-last.ensures)
+overflow_sub-back c = omega (arith, ends-with c.args.refills.now.items c.in-Some.last c.in-Some.ensures.value)
 
-pub overflow_add-last-else-count-max_refills : goal.overflow_add-last-else-count-max_refills
-overflow_add-last-else-count-max_refills c =
-    let e = c.args.refills.now.ok.0 in
-    omega (arith, end_of-last c.args.refills.now.items (c.len-count.result - 1) c.index-last.result.now c.index-last.result.now (omega arith) c.index-last.ensures)
+pub returns-then-last-back : goal.returns-then-last-back
+returns-then-last-back c =
+    let f = joins c.args.max_refills c.len-count.result c.args.back c.in-Some.last _ c.args.refills.now.items (last-is _ _ c.in-Some.ensures.value) c.if-last-back.true in
+    c.push_last-then-last-back.ensures ∙ rw c.in-Some.ensures.items (ap (λ xs. buffer xs c.args.refills.now.capacity) f)
 
-pub returns-then-last-back-clause-items : goal.returns-then-last-back-clause-items
-returns-then-last-back-clause-items c =
-    let e = c.args.refills.now.ok.0 in
-    joins c.args.refills.now.items c.len-count.result c.args.max_refills c.index-last.result.now c.index-last.result.now c.args.back (omega arith) (omega arith) c.index-last.ensures c.if-last-back.true
+pub returns-then-count-max_refills : goal.returns-then-count-max_refills
+returns-then-count-max_refills c =
+    let f = appends c.args.max_refills c.len-count.result c.args.back c.in-Some.last _ c.args.refills.now.items (last-is _ _ c.in-Some.ensures.value) c.len-count.ensures.len c.if-last-back.false c.if-count-max_refills.true in
+    c.push_last-then-count-max_refills-2.ensures ∙ rw (c.push_last-then-count-max_refills.ensures, c.in-Some.ensures.items) (ap (λ xs. buffer xs c.args.refills.now.capacity) f)
 
-pub returns-then-count-max_refills-clause-items : goal.returns-then-count-max_refills-clause-items
-returns-then-count-max_refills-clause-items c =
-    let e = c.args.refills.now.ok.0 in
-    let f = appends c.args.refills.now.items c.len-count.result c.args.max_refills c.index-last.result.now c.index-last.result.now c.args.back (omega arith) (omega arith) c.index-last.ensures c.if-last-back.false c.if-count-max_refills.true in
-    rw (c.push-pushed-then-count-max_refills.ensures.items, ← c.is_ok-then-count-max_refills.ensures.value, c.if-prove-2.false) f
-
-pub returns-else-count-max_refills-clause-items : goal.returns-else-count-max_refills-clause-items
-returns-else-count-max_refills-clause-items c =
-    let e = c.args.refills.now.ok.0 in
-    moves c.args.refills.now.items c.len-count.result c.args.max_refills c.index-last.result.now c.index-last.result.now c.args.back (omega arith) (omega arith) c.index-last.ensures c.if-last-back.false c.if-count-max_refills.false
+pub returns-else-count-max_refills : goal.returns-else-count-max_refills
+returns-else-count-max_refills c =
+    let f = moves c.args.max_refills c.len-count.result c.args.back c.in-Some.last _ c.args.refills.now.items (last-is _ _ c.in-Some.ensures.value) c.len-count.ensures.len c.if-last-back.false (omega arith) in
+    c.push_last-else-count-max_refills.ensures ∙ rw c.in-Some.ensures.items (ap (λ xs. buffer xs c.args.refills.now.capacity) f)

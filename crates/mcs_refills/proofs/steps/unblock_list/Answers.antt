@@ -7,6 +7,5 @@ overflow_add-t c = omega (arith, end_of-first _ _ c.joins.invariant.apart, c.joi
 
 pub overflow_add-amount : goal.overflow_add-amount
 overflow_add-amount c =
-    let e = c.args.refills.now.ok.0 in
-    let b = next-bounds c.args.refills.now.items c.joins.next (record { begins = 0; amount = c.joins.amount }) c.index-in-joins.result.now c.index-in-joins.result.now (omega arith) c.index-in-joins.ensures c.joins.invariant.apart in
+    let b = next-bounds (record { begins = 0; amount = c.joins.amount }) c.pop_first-amount-in-joins.result c.joins.refills.items c.pop_first-amount-in-joins.new.ring.items c.pop_first-amount-in-joins.ensures.items c.joins.invariant.apart in
     omega (arith, b.0, b.1, c.joins.invariant.end, c.requires.early)

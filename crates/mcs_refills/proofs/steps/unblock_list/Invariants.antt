@@ -1,15 +1,15 @@
-use Rattle.std.proofs.Common.{◌≡◌, ◌-◌, ◌≤◌, ◌∷◌, drop, vec_len}
+use Rattle.std.proofs.Common.{◌≡◌, ◌<◌, ◌≤◌, ◌∷◌, length}
 use Rattle.mcs_refills.specs.stored.Refills.{AreApart, end_of, with_reached, after_unblock}
 use Rattle.mcs_refills.proofs.steps.unblock_list.Given as goal
 
 abbrev pub invariant-joins : goal.invariant-joins
 invariant-joins l = record {
-  some : 1 ≤ l.next;
-  within : l.next ≤ vec_len l.refills;
-  apart : AreApart (record { begins = 0; amount = l.amount } ∷ drop l.next l.refills.items);
-  end : end_of (record { begins = 0; amount = l.amount } ∷ drop l.next l.refills.items) ≤ end_of l.refills.items;
-  same : with_reached l.t l.amount (drop l.next l.refills.items) ≡ after_unblock l.t l.refills.items;
+  room : length l.refills.items < l.refills.capacity;
+  capacity : l.refills.capacity ≡ l.fn.refills.capacity;
+  apart : AreApart (record { begins = 0; amount = l.amount } ∷ l.refills.items);
+  end : end_of (record { begins = 0; amount = l.amount } ∷ l.refills.items) ≤ end_of l.fn.refills.items;
+  same : with_reached l.t l.amount l.refills.items ≡ after_unblock l.t l.fn.refills.items;
 }
 
 abbrev pub decreases-joins : goal.decreases-joins
-decreases-joins l = vec_len l.refills - l.next
+decreases-joins l = length l.refills.items

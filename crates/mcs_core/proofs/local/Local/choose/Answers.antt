@@ -6,4 +6,4 @@ use Rattle.mcs_core.proofs.local.Local.choose.Goals as goal
 pub stand-requires : goal.stand-requires
 stand-requires c =
     rw c.take_best.ensures.left
-    (best-known c.args.system.now c.args.c (c.args.t + 1) PastTick c.in-Some.thread c.args.self.now c.requires.sound (sym c.take_best.ensures.taken ∙ c.in-Some.is))
+    (best-known c.args.here.now.system.now c.args.here.now.core (c.args.here.now.moment + 1) PastTick c.in-Some.thread c.args.self.now c.requires.sound (sym c.take_best.ensures.taken ∙ c.in-Some.is))

@@ -1,34 +1,40 @@
-use Rattle.std.proofs.Common.{append-nil, arith}
+use Rattle.std.proofs.Common.{Option, subst, arith}
+use Rattle.std.specs.Prelude.{OnOk}
 use Rattle.mcs_ticks.specs.Queue.{by_priority}
+use Rattle.mcs_script.specs.declared.item.Item.{Item}
 use Rattle.mcs_core.specs.Core.{thread_of}
-use Rattle.mcs_core.specs.Turn.{stop_after, takes_effect, item_of}
-use Rattle.mcs_core.proofs.Effects.{can_take_effect, can_stop_after, on_ok}
-use Rattle.mcs_core.proofs.Mails.{may_stop-none}
+use Rattle.mcs_core.specs.stored.Parts.{Makes}
+use Rattle.mcs_core.specs.Turn.{item_of, takes_effect, stop_after, may_stop, finishes}
+use Rattle.mcs_core.proofs.Effects.{can_take_effect, can_stop_after}
+use Rattle.mcs_core.proofs.Loops.{then-makes}
+use Rattle.mcs_core.proofs.Whole.{on_ok-map}
 use Rattle.mcs_core.proofs.Systems.{one-each, all-noted}
 use Rattle.mcs_core.proofs.local.Local.finish.Goals as goal
 
 pub take_effect-requires-clause-can : goal.take_effect-requires-clause-can
 take_effect-requires-clause-can c =
     rw c.item_of-item.ensures
-    (can_take_effect c.args.system.now c.args.c c.args.t (one-each c.args.system.now c.requires.well_formed) c.args.t (record { thread = c.args.x; using = c.args.used })
-    (item_of c.args.system.now c.args.x c.args.self.now) c.args.self.now c.requires.soon (omega arith)
-    (all-noted c.args.system.now c.requires.well_formed c.args.x (thread_of c.args.self.now c.args.x).place.item) c.requires.sound c.requires.running)
+    (can_take_effect c.args.here.now.system.now c.args.here.now.core c.args.here.now.moment (one-each c.args.here.now.system.now c.requires.well_formed) c.args.here.now.moment (record { thread = c.args.thread; using = c.args.used })
+    (item_of c.args.here.now.system.now c.args.thread c.args.self.now) c.args.self.now c.requires.soon (omega arith)
+    (all-noted c.args.here.now.system.now c.requires.well_formed c.args.thread (thread_of c.args.self.now c.args.thread).place.item) c.requires.sound c.requires.running)
 
 pub may_stop-requires : goal.may_stop-requires
 may_stop-requires c =
     rw (c.in_ok-take_effect.ensures.core, c.item_of-item.ensures)
-    (can_stop_after c.args.system.now c.args.c c.args.t (one-each c.args.system.now c.requires.well_formed) c.args.t (record { thread = c.args.x; using = c.args.used })
-    (item_of c.args.system.now c.args.x c.args.self.now) c.args.self.now c.requires.soon (omega arith)
-    (all-noted c.args.system.now c.requires.well_formed c.args.x (thread_of c.args.self.now c.args.x).place.item) c.requires.sound c.requires.running)
+    (can_stop_after c.args.here.now.system.now c.args.here.now.core c.args.here.now.moment (one-each c.args.here.now.system.now c.requires.well_formed) c.args.here.now.moment (record { thread = c.args.thread; using = c.args.used })
+    (item_of c.args.here.now.system.now c.args.thread c.args.self.now) c.args.self.now c.requires.soon (omega arith)
+    (all-noted c.args.here.now.system.now c.requires.well_formed c.args.thread (thread_of c.args.self.now c.args.thread).place.item) c.requires.sound c.requires.running)
 
-pub returns-clause-mails : goal.returns-clause-mails
-returns-clause-mails c =
-    let item = item_of c.args.system.now c.args.x c.args.self.now in
-    on_ok c.may_stop.result _
-    (rw (
-      may_stop-none by_priority c.args.system.now c.args.c c.args.t c.args.x c.args.used (stop_after c.args.system.now c.args.x item c.args.self.now)
-          (takes_effect by_priority c.args.system.now c.args.c c.args.t c.args.x item c.args.self.now).core,
-      append-nil,
-      ← c.item_of-item.ensures,
-    )
-    c.in_ok-take_effect.ensures.mails)
+pub returns : goal.returns
+returns c =
+    let item = item_of c.args.here.now.system.now c.args.thread c.args.self.now in
+    let Stops : Option Item → Type 0 = λ item. OnOk c.may_stop.result
+    (Makes c.args.here.now (finishes by_priority c.args.here.now.system.now c.args.here.now.core c.args.here.now.moment c.args.thread c.args.used item c.args.self.now)
+    c.may_stop.new.self c.args.log.now c.may_stop.new.log) in
+    subst Stops c.item_of-item.ensures
+    (on_ok-map _ _ c.may_stop.result
+    (then-makes c.args.here.now
+    (takes_effect by_priority c.args.here.now.system.now c.args.here.now.core c.args.here.now.moment c.args.thread c.item_of-item.result c.args.self.now)
+    (may_stop by_priority c.args.here.now.system.now c.args.here.now.moment c.args.thread c.args.used (stop_after c.args.here.now.system.now c.args.thread c.item_of-item.result c.args.self.now))
+    c.take_effect.new.self c.may_stop.new.self c.args.log.now c.take_effect.new.log c.may_stop.new.log c.in_ok-take_effect.ensures)
+    (rw (← c.stop_after-why.ensures) c.may_stop.ensures))

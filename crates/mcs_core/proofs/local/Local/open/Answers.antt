@@ -6,7 +6,7 @@ use Rattle.mcs_core.proofs.local.Local.open.Goals as goal
 
 pub returns : goal.returns
 returns c =
-    opened c.args.system.now c.args.c c.from_parts.result c.in_ok-opening_threads.field-0.items c.in_ok-new.field-0.queue c.in_ok-opening_releases.field-0.queue
+    opened c.args.system.now c.args.core c.from_parts.result c.in_ok-opening_threads.field-0.items c.in_ok-new.field-0.queue c.in_ok-opening_releases.field-0.queue
     c.in_ok-opening_contexts.field-0 c.in_ok-new-2.field-0.notes c.from_parts.ensures c.in_ok-opening_threads.ensures
     (ap (λ (r : ReadyQueue). r.queue) c.in_ok-new.ensures) c.in_ok-opening_releases.ensures.queue c.in_ok-opening_contexts.ensures
     (quiet_notes c.args.system.now.notes c.in_ok-new-2.field-0.notes c.len.result c.len.ensures (ap (λ (r : Notifications). r.notes) c.in_ok-new-2.ensures))

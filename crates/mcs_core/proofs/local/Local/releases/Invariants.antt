@@ -8,8 +8,8 @@ use Rattle.mcs_core.proofs.local.Local.releases.Given as goal
 
 abbrev pub invariant-due : goal.invariant-due
 invariant-due l = record {
-  sound : IsSound l.system l.c l.t PastTick None l.self;
-  goes : GoesOn l.c l.t l.initial.rows.items (releases by_priority l.system l.t l.initial.self) (releases by_priority l.system l.t l.self) l.rows.items;
+  sound : IsSound l.here.system.now l.here.core l.here.moment PastTick None l.self;
+  goes : GoesOn l.here (releases by_priority l.here.system.now l.here.moment l.initial.self) (releases by_priority l.here.system.now l.here.moment l.self) l.initial.log l.log;
 }
 
 abbrev pub decreases-due : goal.decreases-due

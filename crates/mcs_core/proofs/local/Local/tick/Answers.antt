@@ -6,15 +6,15 @@ use Rattle.mcs_core.proofs.local.Local.tick.Goals as goal
 
 pub overflow_add-used : goal.overflow_add-used
 overflow_add-used c =
-    let small = runner_small c.args.system.now c.args.c c.args.t (one-each c.args.system.now c.requires.well_formed) c.in-Some.before c.args.self.now c.requires.sound (sym c.running.ensures ∙ c.in-Some.is) in
+    let small = runner_small c.args.here.now.system.now c.args.here.now.core c.args.here.now.moment (one-each c.args.here.now.system.now c.requires.well_formed) c.in-Some.before c.args.self.now c.requires.sound (sym c.running.ensures ∙ c.in-Some.is) in
     omega (arith, small)
 
 pub count-requires-clause-fits : goal.count-requires-clause-fits
 count-requires-clause-fits c =
-    let small = runner_small c.args.system.now c.args.c c.args.t (one-each c.args.system.now c.requires.well_formed) c.in-Some.before c.args.self.now c.requires.sound (sym c.running.ensures ∙ c.in-Some.is) in
+    let small = runner_small c.args.here.now.system.now c.args.here.now.core c.args.here.now.moment (one-each c.args.here.now.system.now c.requires.well_formed) c.in-Some.before c.args.self.now c.requires.sound (sym c.running.ensures ∙ c.in-Some.is) in
     omega (arith, small)
 
 pub finish-requires-clause-sound : goal.finish-requires-clause-sound
 finish-requires-clause-sound c =
     rw c.count.ensures
-    (counts-sound c.args.system.now c.args.c c.args.t (one-each c.args.system.now c.requires.well_formed) c.in-Some.before c.args.self.now c.requires.sound (sym c.running.ensures ∙ c.in-Some.is))
+    (counts-sound c.args.here.now.system.now c.args.here.now.core c.args.here.now.moment (one-each c.args.here.now.system.now c.requires.well_formed) c.in-Some.before c.args.self.now c.requires.sound (sym c.running.ensures ∙ c.in-Some.is))

@@ -1,8 +1,8 @@
-use Rattle.std.proofs.Common.{◌≡◌, ◌-◌, ◌+◌, length, [], sym, ap, ◌∙◌, arith, suc, false}
+use Rattle.std.proofs.Common.{◌≡◌, ◌-◌, ◌+◌, [], sym, ap, ◌∙◌, arith, false}
 use Rattle.std.specs.Prelude.{max}
 use Rattle.mcs_core.specs.Orders.{orders_of, to_come}
 use Rattle.mcs_core.specs.State.{State, made_by}
-use Rattle.mcs_core.proofs.Runs.{RunsOn, runs-step, runs-end, told-all, made-all, not_before, if_ok, same_state, later-staying, known-staying, to_come-twice}
+use Rattle.mcs_core.proofs.Runs.{RunsOn, runs-turn, runs-end, told-all, made-all, not_before, if_ok, same_state, to_come-twice, left_expected}
 use Rattle.mcs_core.proofs.state.CoreState.run.Goals as goal
 
 pub turns-preserved : goal.turns-preserved
@@ -10,23 +10,20 @@ turns-preserved c =
     let i = c.turns.invariant in
     let fine = sym c.is_err.ensures.value ∙ c.if-is_err.false in
     let state = if_ok c.step.result _ fine c.step.ensures.state in
-    let number : c.step.new.self.number ≡ c.turns.self.number = ap (λ (s : State). s.number) state in
-    let time : c.step.new.self.clock ≡ c.turns.self.clock + 1 = ap (λ (s : State). s.clock) state in
-    let more : c.args.to - c.turns.self.clock ≡ suc (c.args.to - (c.turns.self.clock + 1)) = omega arith in
+    let mail = if_ok c.step.result _ fine c.step.ensures.mail in
+    let next : max c.turns.self.clock (c.turns.self.clock + 1) ≡ c.turns.self.clock + 1 = omega arith in
+    let time : c.step.new.self.clock ≡ c.turns.self.clock + 1 = ap (λ (s : State). s.clock) state ∙ next in
     record {
-      number = number ∙ i.number;
+      number = ap (λ (s : State). s.number) state ∙ i.number;
       going = ap (λ (s : State). s.failed) state ∙ i.going;
       from = omega arith;
       past = omega arith;
-      sound = rw (number, time) (if_ok c.step.result _ fine c.step.ensures.sound);
-      planned = rw (number, time) (ap (λ (s : State). s.orders) state);
-      known = rw (if_ok c.step.result _ fine c.step.ensures.mail) (known-staying c.turns.self.clock (length c.args.system.now.notes) c.turns.mail.mails i.known);
-      come = rw (time, if_ok c.step.result _ fine c.step.ensures.mail) (later-staying c.turns.self.clock c.turns.mail.mails i.come);
-      runs = rw (number, time)
-          (runs-step c.args.system.now c.turns.self.number c.turns.self.clock (c.args.to - c.turns.self.clock) (c.args.to - (c.turns.self.clock + 1)) c.turns.self.core c.turns.mail.mails
+      fits = if_ok c.step.result _ fine c.step.ensures.fits;
+      expected = rw (state, mail) (left_expected c.args.system.now c.turns.self (c.turns.self.clock + 1) c.turns.mail.mails i.expected);
+      runs = runs-turn c.args.system.now c.args.to c.turns.self c.step.new.self c.turns.mail.mails c.step.new.mail.mails
           c.args.rows.now.items c.turns.rows.items c.step.new.rows.items c.args.signals.now.items c.turns.signals.items c.step.new.signals.items
-          (made_by c.args.system.now c.args.self.now c.args.to c.args.mail.now.mails) c.step.new.self.core c.step.new.mail.mails more i.runs
-          (ap (λ (s : State). s.core) state) (if_ok c.step.result _ fine c.step.ensures.mail) (if_ok c.step.result _ fine c.step.ensures.rows) (if_ok c.step.result _ fine c.step.ensures.signals));
+          (made_by c.args.system.now c.args.self.now c.args.to c.args.mail.now.mails) (omega arith) i.runs state mail
+          (if_ok c.step.result _ fine c.step.ensures.rows) (if_ok c.step.result _ fine c.step.ensures.signals);
     }
 
 over : (c : goal.After-turns) → c.args.to - c.turns.self.clock ≡ 0
@@ -50,7 +47,7 @@ returns-clause-state c =
     let core = (ends c).core in
     same_state c.turns.self c.args.self.now.number (max c.args.self.now.clock c.args.to) _ (to_come c.args.to c.args.self.now.orders) c.args.self.now.failed
     i.number time core
-    (i.planned ∙ ap (λ n. to_come c.turns.self.clock (orders_of c.args.system.now n)) i.number
+    (i.fits.orders i.going ∙ ap (λ n. to_come c.turns.self.clock (orders_of c.args.system.now n)) i.number
     ∙ ap (λ n. to_come n (orders_of c.args.system.now c.args.self.now.number)) time
     ∙ sym (to_come-twice c.args.to c.args.self.now.clock (orders_of c.args.system.now c.args.self.now.number))
     ∙ ap (to_come c.args.to) (sym (c.requires.fits.orders going)))

@@ -1,4 +1,5 @@
 use Rattle.std.proofs.Common.{ℕ, List, ap, ◌∙◌, arith}
+use Rattle.circular_buffer.specs.Buffer.{Buffer}
 use Rattle.mcs_refills.specs.declared.refill.Refill.{Refill}
 use Rattle.mcs_refills.specs.Server.{Server, dates_of, server_charged}
 use Rattle.mcs_refills.proofs.Heads.{moment-shown, amount-shown}
@@ -6,26 +7,25 @@ use Rattle.mcs_refills.proofs.Charges.{IsKept-charge, dates_of-after_charge}
 use Rattle.mcs_refills.proofs.refills.Refills.charge.Goals as goal
 
 pub charge_list-requires-clause-in_head : goal.charge_list-requires-clause-in_head
-charge_list-requires-clause-in_head c = omega (arith, c.requires.in_head, amount-shown c.self.inside.list.items c.args.self.now.dates c.self.invariant.kept.apart (ap (λ (v : Server). v.dates) c.self.view_is))
+charge_list-requires-clause-in_head c = omega (arith, c.requires.in_head, amount-shown c.self.inside.ring.items c.args.self.now.dates c.self.invariant.kept.apart (ap (λ (v : Server). v.dates) c.self.view_is))
 
 pub charge_list-requires-clause-early : goal.charge_list-requires-clause-early
-charge_list-requires-clause-early c = omega (arith, c.requires.early, moment-shown c.self.inside.list.items c.args.self.now.dates c.self.invariant.kept.apart (ap (λ (v : Server). v.dates) c.self.view_is))
+charge_list-requires-clause-early c = omega (arith, c.requires.early, moment-shown c.self.inside.ring.items c.args.self.now.dates c.self.invariant.kept.apart (ap (λ (v : Server). v.dates) c.self.view_is))
 
 pub invariant_of-self : goal.invariant_of-self
-invariant_of-self c = record {
-  kept = rw c.charge_list.ensures.items
-      (IsKept-charge c.args.ticks c.args.min_budget c.self.inside.period c.self.inside.max_refills c.self.inside.list.items c.requires.some
-      (omega (arith, c.requires.in_head, amount-shown c.self.inside.list.items c.args.self.now.dates c.self.invariant.kept.apart (ap (λ (v : Server). v.dates) c.self.view_is)))
-      (omega (arith, c.requires.early, moment-shown c.self.inside.list.items c.args.self.now.dates c.self.invariant.kept.apart (ap (λ (v : Server). v.dates) c.self.view_is)))
-      c.self.invariant.kept);
+invariant_of-self c = rw c.charge_list.ensures (record {
+  kept = IsKept-charge c.args.ticks c.args.min_budget c.self.inside.period c.self.inside.max_refills c.self.inside.ring.items c.requires.some
+      (omega (arith, c.requires.in_head, amount-shown c.self.inside.ring.items c.args.self.now.dates c.self.invariant.kept.apart (ap (λ (v : Server). v.dates) c.self.view_is)))
+      (omega (arith, c.requires.early, moment-shown c.self.inside.ring.items c.args.self.now.dates c.self.invariant.kept.apart (ap (λ (v : Server). v.dates) c.self.view_is)))
+      c.self.invariant.kept;
   fits = c.self.invariant.fits;
-  space = omega (arith, c.self.invariant.space, c.charge_list.ensures.capacity);
-}
+})
 
 pub returns : goal.returns
 returns c =
-    ap (λ (xs : List Refill). record { dates = dates_of xs; period = c.self.inside.period; max_refills = c.self.inside.max_refills; room = c.self.inside.room }) c.charge_list.ensures.items
-    ∙ ap (λ (ds : List ℕ). record { dates = ds; period = c.self.inside.period; max_refills = c.self.inside.max_refills; room = c.self.inside.room })
-    (dates_of-after_charge c.args.ticks c.args.min_budget c.self.inside.period c.self.inside.max_refills c.self.inside.list.items c.requires.some
-    (omega (arith, c.requires.in_head, amount-shown c.self.inside.list.items c.args.self.now.dates c.self.invariant.kept.apart (ap (λ (v : Server). v.dates) c.self.view_is))) c.self.invariant.kept)
+    let server : List ℕ → ℕ → Server = λ ds room. record { dates = ds; period = c.self.inside.period; max_refills = c.self.inside.max_refills; room = room } in
+    ap (λ (b : Buffer Refill). server (dates_of b.items) b.capacity) c.charge_list.ensures
+    ∙ ap (λ ds. server ds c.self.inside.ring.capacity)
+    (dates_of-after_charge c.args.ticks c.args.min_budget c.self.inside.period c.self.inside.max_refills c.self.inside.ring.items c.requires.some
+    (omega (arith, c.requires.in_head, amount-shown c.self.inside.ring.items c.args.self.now.dates c.self.invariant.kept.apart (ap (λ (v : Server). v.dates) c.self.view_is))) c.self.invariant.kept)
     ∙ ap (server_charged c.args.ticks c.args.min_budget) c.self.view_is

@@ -1,4 +1,5 @@
-use Rattle.std.proofs.Common.{ℕ, List, ap, ◌∙◌, arith}
+use Rattle.std.proofs.Common.{ℕ, List, ap, ◌∙◌}
+use Rattle.circular_buffer.specs.Buffer.{Buffer}
 use Rattle.mcs_refills.specs.declared.refill.Refill.{Refill}
 use Rattle.mcs_refills.specs.Server.{Server, dates_of, server_unblocked}
 use Rattle.mcs_refills.specs.stored.Refills.{after_unblock}
@@ -6,16 +7,16 @@ use Rattle.mcs_refills.proofs.Unblocks.{IsKept-unblock, dates_of-after_unblock}
 use Rattle.mcs_refills.proofs.refills.Refills.unblock.Goals as goal
 
 pub invariant_of-self : goal.invariant_of-self
-invariant_of-self c = record {
-  kept = rw (c.unblock_list.ensures.items, c.get.ensures.value)
-      (IsKept-unblock c.args.t c.self.inside.period c.self.inside.max_refills c.self.inside.list.items c.requires c.self.invariant.kept);
+invariant_of-self c = rw (c.unblock_list.ensures, c.get.ensures.value) (record {
+  kept = IsKept-unblock c.args.t c.self.inside.period c.self.inside.max_refills c.self.inside.ring.items c.requires c.self.invariant.kept;
   fits = c.self.invariant.fits;
-  space = omega (arith, c.self.invariant.space, c.unblock_list.ensures.capacity);
-}
+})
 
 pub returns : goal.returns
 returns c =
-    let server : List ℕ → Server = λ ds. record { dates = ds; period = c.self.inside.period; max_refills = c.self.inside.max_refills; room = c.self.inside.room } in
-    ap (λ (xs : List Refill). server (dates_of xs)) (c.unblock_list.ensures.items ∙ ap (λ t. after_unblock t c.self.inside.list.items) c.get.ensures.value)
-    ∙ ap server (dates_of-after_unblock c.args.t c.self.inside.list.items c.self.invariant.kept.apart)
+    let server : List ℕ → ℕ → Server = λ ds room. record { dates = ds; period = c.self.inside.period; max_refills = c.self.inside.max_refills; room = room } in
+    let room = c.self.inside.ring.capacity in
+    ap (λ (b : Buffer Refill). server (dates_of b.items) b.capacity) c.unblock_list.ensures
+    ∙ ap (λ t. server (dates_of (after_unblock t c.self.inside.ring.items)) room) c.get.ensures.value
+    ∙ ap (λ ds. server ds room) (dates_of-after_unblock c.args.t c.self.inside.ring.items c.self.invariant.kept.apart)
     ∙ ap (server_unblocked c.args.t) c.self.view_is

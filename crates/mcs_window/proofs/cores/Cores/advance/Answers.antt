@@ -12,11 +12,11 @@ run-requires-clause-expected c =
     let a = c.self.inside in
     let k = c.core.inside.0 in
     let h : k < (arc_value a.system).cores = search rules in
-    let here = (c.self.invariant.whole c.if-self.false).here in
+    let here = (c.self.invariant.whole c.if-self.false).here k c.index_mut-state.result.now c.index_mut-mail.result.now h in
     rw c.deref.ensures
     (expected (arc_value a.system) c.self.invariant.well_formed k (slice_index a.clocks.items k) a.clocks.items c.index_mut-state.result.now c.index_mut-mail.result.now.mails
-    (subst (StandsAt (arc_value a.system) k (slice_index a.clocks.items k)) (sym c.index_mut-state.ensures.value) (here.states_are k c.index_mut-state.result.now h))
-    (ap (λ (box : Content). box.mails) c.index_mut-mail.ensures.value ∙ here.boxes_are k c.index_mut-mail.result.now h))
+    (subst (StandsAt (arc_value a.system) k (slice_index a.clocks.items k)) (sym c.index_mut-state.ensures.value) here.state_is)
+    (ap (λ (box : Content). box.mails) c.index_mut-mail.ensures.value ∙ here.box_is))
 
 pub invariant_of-self-in_err-append : goal.invariant_of-self-in_err-append
 invariant_of-self-in_err-append c =

@@ -3,8 +3,14 @@ use Rattle.std.specs.Arc.{arc_value}
 use Rattle.mcs_core.specs.State.{opening_state}
 use Rattle.mcs_window.specs.Progress.{Progress}
 use Rattle.mcs_window.specs.Views.{views_at}
-use Rattle.mcs_window.proofs.Dealing.{views-here}
+use Rattle.mcs_window.proofs.Dealing.{states-here, views-here}
 use Rattle.mcs_window.proofs.cores.Cores.contexts.Goals as goal
+
+pub all_views-requires : goal.all_views-requires
+all_views-requires c =
+    let a = c.self.inside in
+    let here = (c.self.invariant.whole c.if-self.false).here in
+    rw (c.deref.ensures, c.deref-2.ensures.value) (states-here (arc_value a.system) a.clocks.items a.states.items a.boxes.items c.self.invariant.states_of here)
 
 pub returns-clause-views : goal.returns-clause-views
 returns-clause-views c =

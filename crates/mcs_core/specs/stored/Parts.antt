@@ -1,0 +1,22 @@
+-- One part of a turn in the hands of the code: where and when it is taken, and what it adds to the lists that it was
+-- lent.
+use Rattle.std.specs.Prelude.{◌≡◌, List, ◌++◌}
+use Rattle.mcs_ticks.specs.declared.row.What.{What}
+use Rattle.mcs_mail.specs.declared.mail.Mail.{Mail}
+use Rattle.mcs_core.specs.Core.{Core}
+use Rattle.mcs_core.specs.Turn.{stamped, Turn}
+use Rattle.mcs_core.specs.declared.log.Here.{Here}
+use Rattle.mcs_core.specs.declared.log.Log.{Log}
+
+-- these rows, with the core and the moment, and these signals are added to the lists, which are still those that were
+-- lent
+pub record Adds (here : Here) (told : List What) (mails : List Mail) (before after : Log) : Type 0 where
+  pub rows : after.rows.now.items ≡ before.rows.now.items ++ stamped here.core here.moment told
+  pub signals : after.signals.now.items ≡ before.signals.now.items ++ mails
+  pub same_rows : after.rows.ghost_name ≡ before.rows.ghost_name
+  pub same_signals : after.signals.ghost_name ≡ before.signals.ghost_name
+
+-- a part that is taken here makes this turn: the core becomes the turn's, and its rows and signals are added
+pub record Makes (here : Here) (made : Turn) (left : Core) (before after : Log) : Type 0 where
+  pub core : left ≡ made.core
+  pub adds : Adds here made.rows made.mails before after

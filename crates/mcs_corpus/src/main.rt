@@ -1,0 +1,130 @@
+//! Runs the systems that stand as files below the working folder, and says of each run whether it writes what it must.
+//!
+//! The system `NAME` of a part is the file `PART/NAME.toml`. Each of its runs has two files in the folder `PART/NAME`: `RUN.words`, the words
+//! of its command line, and `RUN.stdout`, the bytes that it must write.
+#![tactic(auto)]
+
+ghost use Rattle.std.specs.Prelude.{Ok, Err, IfNone, IfSome, ℕ, ◌≡◌, ◌≢◌};
+ghost use Rattle.mcs_system.specs.System.{System};
+ghost use Rattle.mcs_load.specs.Memory.{no_memory};
+ghost use Rattle.mcs_load.specs.declared.fault.LoadFault.{LoadFault};
+ghost use Rattle.mcs_cli.specs.Run.{loaded, output_of};
+ghost use Rattle.mcs_cli.specs.declared.fault.RunFault.TheVariants.{Load};
+ghost use Rattle.mcs_corpus.specs.declared.Outcome.TheVariants.{Agrees, Differs, Fails};
+
+use mcs_cli::{Options, RunFault, options, run};
+use std::alloc::Global;
+use std::fs::{read, read_dir, read_to_string};
+use std::{fmt, io};
+
+/// The folders of systems.
+static PARTS: [&str; 7] = [
+    "examples",
+    "worked",
+    "turns",
+    "orders",
+    "random_one",
+    "random_several",
+    "files",
+];
+
+/// What came of a run.
+#[derive(Drop)]
+enum Outcome {
+    /// It wrote the bytes that it must write.
+    Agrees,
+    /// It wrote other bytes. They differ first in this line, counted from 1.
+    Differs(usize),
+    /// It did not end well.
+    Fails(RunFault),
+    /// It was not begun, since its words are not understood.
+    NoWords,
+}
+
+impl fmt::Display for Outcome {
+    fn fmt<W: fmt::Write>(&self, f: &mut fmt::Formatter<W>) -> fmt::Result {
+        match self {
+            Outcome::Agrees => write!(f, "agrees"),
+            Outcome::Differs(line) => write!(f, "differs in line {line}"),
+            Outcome::Fails(fault) => write!(f, "fails: {fault}"),
+            Outcome::NoWords => write!(f, "has words that are not understood"),
+        }
+    }
+}
+
+fn main(rt: HostRuntime) -> io::Result<()> {
+    for part in PARTS {
+        for name in names_in(&rt, part, ".toml")?.as_slice() {
+            let system = format!(in rt.alloc(); "{part}/{name}")?;
+            tell_runs(&rt, system.as_str())?;
+        }
+    }
+    Ok(())
+}
+
+/// Runs a system once for each file of words in its folder, and prints what came of it.
+fn tell_runs(rt: &HostRuntime, system: &str) -> io::Result<()> {
+    let text = read(rt, format!(in rt.alloc(); "{system}.toml")?)?;
+    for name in names_in(rt, system, ".words")?.as_slice() {
+        let run = format!(in rt.alloc(); "{system}/{name}")?;
+        let outcome = outcome_of(rt, text.as_slice(), run.as_str())?;
+        println!(rt; "{run}: {outcome}")?;
+    }
+    Ok(())
+}
+
+/// The names in a folder that have this ending, without it, in order.
+fn names_in(rt: &HostRuntime, folder: &str, ending: &str) -> io::Result<Vec<String>> {
+    let mut names = Vec::new(rt.alloc());
+    for entry in read_dir(rt, folder)? {
+        if let Some(name) = entry?.file_name().strip_suffix(ending) {
+            names.push(String::from_str(rt.alloc(), name)?)?;
+        }
+    }
+    names.sort()?;
+    Ok(names)
+}
+
+/// What came of a run of the system that a text describes.
+fn outcome_of(rt: &HostRuntime, system: &[u8], run: &str) -> io::Result<Outcome> {
+    let alloc = rt.alloc();
+    let text = read_to_string(rt, format!(in alloc; "{run}.words")?)?;
+    let wanted = read(rt, format!(in alloc; "{run}.stdout")?)?;
+    let mut words = Vec::new(alloc);
+    for word in text.split_whitespace() {
+        words.push(String::from_str(alloc, word)?)?;
+    }
+    match options(alloc, words.as_slice()) {
+        Ok(options) => Ok(compared(alloc, system, &options, wanted.as_slice())),
+        Err(_) => Ok(Outcome::NoWords),
+    }
+}
+
+/// Compares what a run of the system that a text describes writes with what it must write.
+fn compared(alloc: Global, system: &[u8], options: &Options, wanted: &[u8]) -> Outcome
+    ensures agrees { result ≡ Agrees → (s : System) × (loaded system.now ≡ Ok s) × (output_of options.now.show s options.now.horizon ≡ wanted.now) }
+    ensures differs { (line : ℕ) → result ≡ Differs line → (s : System) × (loaded system.now ≡ Ok s) × (output_of options.now.show s options.now.horizon ≢ wanted.now) }
+    ensures refused { (f : LoadFault) → result ≡ Fails (Load f) → f ≢ no_memory → loaded system.now ≡ Err f }
+{
+    let mut reader = system;
+    let mut written = Vec::new(alloc);
+    match run(alloc, &mut reader, &mut written, options) {
+        Ok(()) => match line_of_difference(written.as_slice(), wanted) {
+            None => Outcome::Agrees,
+            Some(line) => Outcome::Differs(line),
+        },
+        Err(fault) => Outcome::Fails(fault),
+    }
+}
+
+/// The number of the first line in which two texts differ, from 1; None where they are the same.
+fn line_of_difference(written: &[u8], wanted: &[u8]) -> Option<usize>
+    ensures same { IfNone result (written.now ≡ wanted.now) }
+    ensures other { IfSome result (λ _. written.now ≢ wanted.now) }
+{
+    if written == wanted {
+        return None;
+    }
+    let same = written.iter().zip(wanted).take_while(|(a, b)| a == b);
+    Some(1 + same.filter(|(byte, _)| **byte == b'\n').count())
+}

@@ -1,0 +1,23 @@
+use mcs_release::Releases;
+use mcs_ticks::{ThreadId, Tick};
+use std::test::Fail;
+
+// The least date first, of two equal ones the one that entered first, and none before its date.
+#[test]
+fn threads_leave_by_date_then_in_order_of_entering(rt: HostRuntime) -> Result<(), Fail> {
+    let four = Tick::new(4).ok_or("a tick")?;
+    let five = Tick::new(5).ok_or("a tick")?;
+    let mut releases = Releases::new(rt.alloc(), 3)?;
+    assert_eq!(rt; releases.next(), None);
+    releases.enter(ThreadId(2), five);
+    releases.enter(ThreadId(0), five);
+    releases.enter(ThreadId(1), four);
+    assert_eq!(rt; releases.pop_due(Tick::ZERO), None);
+    assert_eq!(rt; releases.next(), Some(four));
+    assert_eq!(rt; releases.pop_due(four), Some(ThreadId(1)));
+    assert_eq!(rt; releases.pop_due(four), None);
+    assert_eq!(rt; releases.pop_due(five), Some(ThreadId(2)));
+    assert_eq!(rt; releases.pop_due(five), Some(ThreadId(0)));
+    assert_eq!(rt; releases.pop_due(five), None);
+    Ok(())
+}

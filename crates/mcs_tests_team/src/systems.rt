@@ -1,0 +1,57 @@
+//! Systems, as files describe them, and moments of their runs.
+ghost use Rattle.std.specs.Prelude.{◌≤◌, ◌^◌, IfOk};
+
+use mcs_load::load;
+use mcs_system::System;
+use mcs_ticks::Tick;
+use std::alloc::Global;
+use std::sync::Arc;
+use std::test::Fail;
+
+/// The system that a text describes.
+pub fn system(alloc: Global, text: &str) -> Result<Arc<System>, Fail> {
+    let system = load(alloc, text.as_bytes())?;
+    Ok(Arc::new(alloc, system)?)
+}
+
+/// A moment of a run.
+pub fn moment(ticks: u64) -> Result<Tick, Fail>
+    ensures { IfOk result (λ moment. moment ≤ 2 ^ 40) }
+{
+    let moment = Tick::new(ticks).ok_or("a moment")?;
+    if moment.get() > 1_099_511_627_776 {
+        return Err(Fail::from("a moment of a run"));
+    }
+    Ok(moment)
+}
+
+/// Two cores on which nothing happens.
+pub const IDLE: &str = "version = 1\ncores = 2\ndelay = 1\n";
+
+/// A core signals another one three times.
+pub const SIGNALS: &str = r#"
+version = 1
+cores = 2
+delay = 3
+context = [{ name = "s", core = 1, budget = 5, period = 10 }]
+note = [{ name = "n", core = 0 }]
+thread = [{ name = "S", context = "s", priority = 5, rounds = 1, script = ["compute 1", "signal n 1", "signal n 2", "signal n 4"] }]
+"#;
+
+/// Two cores signal a third one.
+pub const TWO_MAKERS: &str = r#"
+version = 1
+cores = 3
+delay = 2
+context = [
+    { name = "s", core = 0, budget = 5, period = 10 },
+    { name = "t", core = 1, budget = 5, period = 10 },
+    { name = "w", core = 2, budget = 5, period = 10 },
+]
+note = [{ name = "n", core = 2 }]
+thread = [
+    { name = "S", context = "s", priority = 5, script = ["compute 1", "signal n 1"] },
+    { name = "T", context = "t", priority = 5, script = ["compute 1", "signal n 2"] },
+    { name = "W", context = "w", priority = 5, script = ["wait n", "compute 1"] },
+]
+"#;

@@ -1,4 +1,0 @@
-mod orders;
-mod reports;
-mod sketch;
-mod whole;

@@ -1,0 +1,30 @@
+-- Lines of rows, evaluated.
+use Rattle.std.proofs.Common.{◌≡◌, refl, codes, [], ◌∷◌, Some}
+use Rattle.mcs_script.specs.declared.item.Item.TheVariants.{Compute}
+use Rattle.mcs_ticks.specs.declared.row.What.TheVariants as row
+use Rattle.mcs_ticks.specs.declared.row.Why.TheVariants as why
+use Rattle.mcs_system.specs.System.{System}
+use Rattle.std.specs.Fmt.{digits}
+use Rattle.mcs_text.specs.Text.{row_text}
+
+one_thread : System
+one_thread =
+    record {
+      cores = 1;
+      delay = 1;
+      call = 1;
+      min_budget = 1;
+      contexts = record { name = codes "a"; core = 0; config = record { budget = 2; period = 5; extra = 0 } } ∷ [];
+      notes = [];
+      threads =
+          record { name = codes "A"; context = 0; priority = 5; start = 0; rounds = 1; deadline = 0; script = Compute 5 ∷ [] } ∷ [];
+      orders = [];
+    }
+
+stop_line : row_text one_thread (record { moment = 2; core = 0; what = row.Stop 0 why.Spent 2 (Some 5) }) ≡ codes "2 0 stop A spent 2 until 5\n"
+unfolding one_thread digits
+stop_line = refl
+
+order_line : row_text one_thread (record { moment = 40; core = 7; what = row.Order 0 }) ≡ codes "40 7 order a\n"
+unfolding one_thread digits
+order_line = refl

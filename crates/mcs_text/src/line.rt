@@ -1,0 +1,43 @@
+ghost use Rattle.std.specs.Prelude.{◌≡◌, ◌++◌, ◌∷◌, [], OnOk, decimal};
+ghost use Rattle.std.specs.Io.{StartsWith};
+ghost use Rattle.mcs_text.specs.Text.{after};
+
+use itoa::Buffer;
+use mcs_ticks::NoMemory;
+
+/// Appends a space and a word.
+pub(crate) fn append_word(text: &mut Vec<u8>, word: &str) -> Result<(), NoMemory>
+    ensures ok { OnOk result (text.new.items ≡ text.old.items ++ 32 ∷ word.now) }
+    ensures kept { StartsWith text.new.items text.old.items }
+{
+    text.push(b' ')?;
+    text.extend_from_slice(word.as_bytes())?;
+    Ok(())
+}
+
+/// Appends a space and a number.
+pub(crate) fn append_number(text: &mut Vec<u8>, number: u64) -> Result<(), NoMemory>
+    ensures ok { OnOk result (text.new.items ≡ text.old.items ++ 32 ∷ decimal number) }
+    ensures kept { StartsWith text.new.items text.old.items }
+{
+    let mut buffer = Buffer::new();
+    append_word(text, buffer.format(number))
+}
+
+/// Appends a word and a name, each after a space.
+pub(crate) fn append_named(text: &mut Vec<u8>, word: &str, name: &str) -> Result<(), NoMemory>
+    ensures ok { OnOk result (text.new.items ≡ text.old.items ++ after (word.now ∷ name.now ∷ [])) }
+    ensures kept { StartsWith text.new.items text.old.items }
+{
+    append_word(text, word)?;
+    append_word(text, name)
+}
+
+/// Appends a word and a number, each after a space.
+pub(crate) fn append_counted(text: &mut Vec<u8>, word: &str, number: u64) -> Result<(), NoMemory>
+    ensures ok { OnOk result (text.new.items ≡ text.old.items ++ after (word.now ∷ decimal number ∷ [])) }
+    ensures kept { StartsWith text.new.items text.old.items }
+{
+    append_word(text, word)?;
+    append_number(text, number)
+}
