@@ -42,7 +42,7 @@ budget_charged k min_budget config (Slice left) = Slice (slice_charged k config.
 
 -- charged k ticks
 abbrev pub context_charged : ℕ → ℕ → Context → Context
-context_charged k min_budget context = record { config = context.config; budget = budget_charged k min_budget context.config context.budget }
+context_charged k min_budget context = record context { budget = budget_charged k min_budget context.config context.budget }
 
 abbrev pub budget_unblocked : ℕ → Budget → Budget
 budget_unblocked t (Dates dates) = Dates (server.unblocked t dates)
@@ -50,7 +50,7 @@ budget_unblocked t (Slice left) = Slice left
 
 -- unblocked at t
 abbrev pub context_unblocked : ℕ → Context → Context
-context_unblocked t context = record { config = context.config; budget = budget_unblocked t context.budget }
+context_unblocked t context = record context { budget = budget_unblocked t context.budget }
 
 abbrev pub budget_ordered : ℕ → Config → Budget → Budget
 budget_ordered t config (Dates dates) = Dates (server.reconfigured t config.budget config.period dates)
@@ -58,7 +58,7 @@ budget_ordered t config (Slice left) = Slice (slice_reconfigured config.budget l
 
 -- ordered at t to have another configuration
 abbrev pub context_ordered : ℕ → Config → Context → Context
-context_ordered t config context = record { config = config; budget = budget_ordered t config context.budget }
+context_ordered t config context = record context { config = config; budget = budget_ordered t config context.budget }
 
 abbrev pub budget_ready : ℕ → Budget → Bool
 budget_ready t (Dates dates) = server.is_ready t dates

@@ -5,6 +5,8 @@ pub mod Disciplines
 pub mod Kept
 pub mod Traces
 pub mod Histories
+pub mod InForce
+pub mod Shown
 pub mod Spaced
 pub mod Places
 pub mod OnTime
