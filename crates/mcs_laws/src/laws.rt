@@ -48,7 +48,8 @@ pub fn threads_have_one_place()
 {}
 
 /// A law of the clock: all that turns do to a context, from the opening on, is to charge it, to unblock it and to obey its orders. The
-/// charges are those that the rows of its thread's stops tell; each takes at least a tick and no more than the head then has.
+/// charges are those that the rows of its thread's stops tell; each takes at least a tick and no more than the head then has. It is
+/// unblocked by the wakes of its thread that the rows tell, at their moment, and by nothing else.
 pub fn contexts_have_histories()
     ensures { (system : System) → TakesTime system → GivesBudgets system → ContextsHaveHistories system }
 {}
