@@ -7,6 +7,7 @@ pub mod Traces
 pub mod Histories
 pub mod InForce
 pub mod Shown
+pub mod Slices
 pub mod Spaced
 pub mod Places
 pub mod OnTime

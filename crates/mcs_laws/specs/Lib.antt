@@ -4,6 +4,7 @@ pub mod Changes
 pub mod Histories
 pub mod InForce
 pub mod Shown
+pub mod Slices
 pub mod Places
 pub mod OnTime
 pub mod Demand

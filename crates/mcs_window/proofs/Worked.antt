@@ -1,8 +1,9 @@
 -- The views of a small system, worked by hand.
+use native.Mathlib.Omega.{arith}
 use Rattle.std.specs.Prelude.{◌≡◌, ℕ, [], ◌∷◌, Some, None, refl}
 use Rattle.mcs_control.specs.declared.config.Config.{Config}
 use Rattle.mcs_system.specs.System.{System}
-use Rattle.mcs_window.specs.Views.{views_before}
+use Rattle.mcs_window.specs.Views.{views_before, AreShownBefore}
 
 -- Two cores. The first context of the file is at home on core 1 and has 2 in 5; the second is round robin, on core 0; the third has 4 in
 -- 20, on core 1, and from moment 3 on 6 in 30. No thread is bound to any.
@@ -41,3 +42,9 @@ views_after_the_order :
     ∷ record { context = 2; refills = record { begins = 3; amount = 4 } ∷ record { begins = 31; amount = 2 } ∷ []; left = None; using = 0 }
     ∷ []
 views_after_the_order = refl
+
+-- where a context is left out the views are not those of the system
+a_context_left_out :
+    AreShownBefore mixed 0
+    (record { context = 0; refills = record { begins = 0; amount = 2 } ∷ []; left = None; using = 0 } ∷ record { context = 1; refills = []; left = Some 3; using = 0 } ∷ []) → ⊥
+a_context_left_out h = omega (arith, h.many)
