@@ -1,4 +1,3 @@
 mod faults;
-mod lines;
 mod runs;
 mod words;

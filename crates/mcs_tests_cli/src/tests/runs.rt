@@ -2,8 +2,7 @@ ghost use Rattle.std.specs.Prelude.{◌≡◌, ◌≤◌, ◌^◌};
 ghost use Rattle.std.specs.Io.{ReadsAtMost, WritesAtMost};
 ghost use Rattle.std.specs.Io.KnownBytes.{Keeps, ReadConsumes, WriteAppends};
 
-use mcs_cli::{Options, RunFault, Show, run};
-use mcs_load::FaultKind;
+use mcs_cli::{Options, Show, run, run_with};
 use mcs_ticks::Tick;
 use std::alloc::Global;
 use std::io;
@@ -18,213 +17,61 @@ context = [{ name = \"a\", core = 0, budget = 2, period = 5 }]
 thread = [{ name = \"A\", context = \"a\", priority = 5, rounds = 1, script = [\"compute 5\"] }]
 ";
 
-const TO_TEN: &str = "\
+/// What that system does up to moment 6, and what is reported of it.
+const TO_SIX: &str = "\
 0 0 release A
 0 0 run A
 2 0 stop A spent 2 until 5
 5 0 release A
 5 0 run A
-7 0 stop A spent 2 until 10
-10 0 release A
-10 0 run A
-";
-
-fn asked(horizon: u64, show: Show) -> Options
-    requires { horizon ≤ 2 ^ 40 }
-{
-    Options {
-        file: None,
-        horizon: Tick::new(horizon).unwrap(),
-        workers: 1,
-        show,
-    }
-}
-
-fn written(alloc: Global, file: &str, options: &Options) -> Result<Vec<u8>, RunFault> {
-    let mut bytes = Vec::new(alloc);
-    run(alloc, &mut file.as_bytes(), &mut bytes, options)?;
-    Ok(bytes)
-}
-
-#[test]
-fn depletes_and_refills(rt: HostRuntime) -> Result<(), Fail> {
-    let alloc = rt.alloc();
-    let reports = "\
-thread A ran 4 rounds 0 least 0 greatest 0 total 0 late 0 spent 2 throttled 6 longest 3
-core 0 busy 4 idle 6
-";
-    let whole = format!(in alloc; "{TO_TEN}11 0 round A 1 11\n11 0 stop A done 1\n")?;
-    let both = format!(in alloc; "{TO_TEN}{reports}")?;
-    let runs = [
-        (1000, Show::Schedule, whole.as_str()),
-        (10, Show::Schedule, TO_TEN),
-        (10, Show::Reports, reports),
-        (10, Show::Both, both.as_str()),
-    ];
-    for (horizon, show, want) in runs {
-        let text = written(alloc, SPENT, &asked(horizon, show))?;
-        assert_eq!(rt; text.as_slice(), want.as_bytes());
-    }
-    Ok(())
-}
-
-#[test]
-fn starts_late(rt: HostRuntime) -> Result<(), Fail> {
-    let file = "\
-version = 1
-cores = 1
-delay = 1
-context = [{ name = \"a\", core = 0, budget = 2, period = 5 }]
-thread = [{ name = \"A\", context = \"a\", priority = 5, start = 3, rounds = 1, script = [\"compute 2\"] }]
-";
-    let want = "\
-3 0 release A
-3 0 run A
-5 0 round A 1 2
-5 0 stop A done 2
-";
-    let text = written(rt.alloc(), file, &asked(6, Show::Schedule))?;
-    assert_eq!(rt; text.as_slice(), want.as_bytes());
-    Ok(())
-}
-
-#[test]
-fn idle_cores(rt: HostRuntime) -> Result<(), Fail> {
-    let file = "version = 1\ncores = 2\ndelay = 1\n";
-    let reports = "core 0 busy 0 idle 1\ncore 1 busy 0 idle 1\n";
-    for (show, want) in [
-        (Show::Schedule, ""),
-        (Show::Reports, reports),
-        (Show::Both, reports),
-    ] {
-        let text = written(rt.alloc(), file, &asked(1, show))?;
-        assert_eq!(rt; text.as_slice(), want.as_bytes());
-    }
-    Ok(())
-}
-
-// Systems, the horizon, and what their threads and cores did.
-const REPORTED: [(&str, u64, &str); 4] = [
-    (
-        "\
-version = 1
-cores = 1
-delay = 1
-context = [
-  { name = \"a\", core = 0, budget = 10, period = 100 },
-  { name = \"b\", core = 0, budget = 10, period = 100 },
-  { name = \"c\", core = 0, budget = 5, period = 50 },
-]
-note = [{ name = \"n\", core = 0 }]
-thread = [
-  { name = \"A\", context = \"a\", priority = 5, rounds = 1, script = [\"compute 2\", \"signal n 1\", \"compute 4\"] },
-  { name = \"B\", context = \"b\", priority = 5, rounds = 1, script = [\"compute 2\"] },
-  { name = \"C\", context = \"c\", priority = 9, rounds = 1, script = [\"wait n\", \"compute 1\"] },
-]
-",
-        11,
-        "\
-thread A ran 7 rounds 1 least 9 greatest 9 total 9 late 0 spent 0 throttled 0 longest 0
-thread B ran 2 rounds 1 least 11 greatest 11 total 11 late 0 spent 0 throttled 0 longest 0
-thread C ran 2 rounds 1 least 1 greatest 1 total 1 late 0 spent 0 throttled 0 longest 0
-core 0 busy 11 idle 0
-",
-    ),
-    // the wait after the last stop is cut at the horizon
-    (
-        "\
-version = 1
-cores = 1
-delay = 1
-context = [{ name = \"a\", core = 0, budget = 10, period = 100 }]
-thread = [{ name = \"A\", context = \"a\", priority = 5, rounds = 1, script = [\"compute 20\"] }]
-order = [{ at = 4, core = 0, context = \"a\", budget = 6, period = 50 }]
-",
-        10,
-        "\
-thread A ran 10 rounds 0 least 0 greatest 0 total 0 late 0 spent 1 throttled 0 longest 0
-core 0 busy 10 idle 0
-",
-    ),
-    // the run from 5 is open and counts up to the horizon
-    (
-        SPENT,
-        6,
-        "\
 thread A ran 3 rounds 0 least 0 greatest 0 total 0 late 0 spent 1 throttled 3 longest 3
 core 0 busy 3 idle 3
-",
-    ),
-    // one response of two is late
-    (
-        "\
-version = 1
-cores = 1
-delay = 1
-context = [{ name = \"a\", core = 0, budget = 4, period = 10 }]
-thread = [{ name = \"A\", context = \"a\", priority = 5, rounds = 2, deadline = 9, script = [\"compute 1\", \"yield\"] }]
-",
-        12,
-        "\
-thread A ran 4 rounds 2 least 2 greatest 10 total 12 late 1 spent 0 throttled 0 longest 0
-core 0 busy 4 idle 8
-",
-    ),
-];
+";
 
+fn to_six(file: Option<String>) -> Options {
+    Options {
+        file,
+        horizon: Tick::new(6).unwrap(),
+        workers: 1,
+        show: Show::Both,
+    }
+}
+
+/// What is written where a file is named, or else the input run, and behind it the line of the fault.
+fn written_with(rt: &HostRuntime, file: Option<String>) -> Result<Vec<u8>, Fail> {
+    let alloc = rt.alloc();
+    let mut text = Vec::new(alloc);
+    if let Err(fault) = run_with(rt, alloc, &mut SPENT.as_bytes(), &mut text, &to_six(file)) {
+        text.extend_from_slice(fault.to_string(alloc)?.as_bytes())?;
+    }
+    Ok(text)
+}
+
+// No file has the first name, and the second is that of a folder.
 #[test]
-fn reports_of_runs(rt: HostRuntime) -> Result<(), Fail> {
-    for (file, horizon, want) in REPORTED {
-        let text = written(rt.alloc(), file, &asked(horizon, Show::Reports))?;
-        assert_eq!(rt; text.as_slice(), want.as_bytes());
+fn files_that_are_not_read(rt: HostRuntime) -> Result<(), Fail> {
+    for name in ["no_folder/no_file.toml", "."] {
+        let name = String::from_str(rt.alloc(), name)?;
+        let text = written_with(&rt, Some(name))?;
+        assert_eq!(rt; text.as_slice(), b"mcsim: read failed".as_slice());
     }
     Ok(())
 }
 
 #[test]
-fn first_fault_wins(rt: HostRuntime) -> Result<(), Fail> {
-    let files = [
-        ("", "mcsim: missing key at top version"),
-        ("version = ", "mcsim: not TOML at file"),
-        (
-            "\
-version = 1
-cores = 1
-delay = 1
-context = [
-  { name = \"a\", core = 0, budget = 10, period = 100 },
-  { name = \"a\", core = 0, budget = 10, period = 100 },
-]
-thread = [{ prio = 1, name = \"A\", context = \"a\", priority = 5, script = [\"compute 2\"] }]
-",
-            "mcsim: double name at context 2 name",
-        ),
-        (
-            "\
-version = 1
-cores = 1
-delay = 1
-context = [
-  { name = \"a\", core = 0, budget = 10, period = 100 },
-  { name = \"b\", core = 0, budget = 10, period = 100 },
-]
-thread = [
-  { name = \"A\", context = \"a\", priority = 5, script = [\"yield\"] },
-  { name = \"B\", context = \"b\", priority = 5, script = [\"yield\", \"compute 5\", \"compute 05\"] },
-]
-",
-            "mcsim: bad item: bad number at thread 2 script item 3",
-        ),
-    ];
-    for (file, want) in files {
-        let fault = written(rt.alloc(), file, &asked(1, Show::Schedule))
-            .err()
-            .ok_or(want)?;
-        let text = fault.to_string(rt.alloc())?;
-        assert_eq!(rt; text.as_str(), want);
-        assert_eq!(rt; fault.status(), 1);
-    }
+fn the_input_is_run(rt: HostRuntime) -> Result<(), Fail> {
+    let text = written_with(&rt, None)?;
+    assert_eq!(rt; text.as_slice(), TO_SIX.as_bytes());
     Ok(())
+}
+
+/// What is written of the system that a reader gives, and behind it the line of the fault.
+fn written<R: Read>(alloc: Global, reader: &mut R) -> Result<Vec<u8>, Fail> {
+    let mut text = Vec::new(alloc);
+    if let Err(fault) = run(alloc, reader, &mut text, &to_six(None)) {
+        text.extend_from_slice(fault.to_string(alloc)?.as_bytes())?;
+    }
+    Ok(text)
 }
 
 /// Gives the bytes of a text until a call fails.
@@ -247,38 +94,26 @@ impl<'a> Read for FailingReader<'a> {
 // The text is read in one call, and the next one finds its end.
 #[test]
 fn each_read_fails(rt: HostRuntime) -> Result<(), Fail> {
-    let alloc = rt.alloc();
-    for calls in 0..3 {
+    let failed = "mcsim: read failed";
+    for (calls, want) in [(0, failed), (1, failed), (2, TO_SIX)] {
         let mut reader = FailingReader {
             rest: SPENT.as_bytes(),
             calls,
         };
-        let mut bytes = Vec::new(alloc);
-        let result = run(alloc, &mut reader, &mut bytes, &asked(10, Show::Schedule));
-        if calls < 2 {
-            assert_eq!(rt; result, Err(RunFault::Read), "call {calls}");
-            assert!(rt; bytes.is_empty());
-        } else {
-            result?;
-            assert_eq!(rt; bytes.as_slice(), TO_TEN.as_bytes());
-        }
+        let text = written(rt.alloc(), &mut reader)?;
+        assert_eq!(rt; text.as_slice(), want.as_bytes(), "call {calls}");
     }
     Ok(())
 }
 
 #[test]
 fn the_longest_text_is_read(rt: HostRuntime) -> Result<(), Fail> {
-    let alloc = rt.alloc();
-    for (length, is_read) in [(67_108_864, true), (67_108_865, false)] {
-        let mut reader = io::repeat(0xff).take(length);
-        let mut bytes = Vec::new(alloc);
-        let fault = run(alloc, &mut reader, &mut bytes, &asked(10, Show::Schedule));
-        match fault {
-            Err(RunFault::Load(fault)) => assert!(rt; is_read && fault.kind == FaultKind::NotToml),
-            Err(RunFault::Read) => assert!(rt; !is_read),
-            _ => return Err(Fail::from("these bytes are no text")),
-        }
-        assert!(rt; bytes.is_empty());
+    for (length, want) in [
+        (67_108_864, "mcsim: not TOML at file"),
+        (67_108_865, "mcsim: read failed"),
+    ] {
+        let text = written(rt.alloc(), &mut io::repeat(0xff).take(length))?;
+        assert_eq!(rt; text.as_slice(), want.as_bytes(), "{length} bytes");
     }
     Ok(())
 }
@@ -311,45 +146,58 @@ impl Write for FailingWriter {
     }
 }
 
-// The text has 129 bytes: three writes of at most 64, and the flush.
-#[test]
-fn each_write_fails(rt: HostRuntime) -> Result<(), Fail> {
-    let alloc = rt.alloc();
-    for calls in 0..5 {
-        let mut writer = FailingWriter {
-            bytes: Vec::new(alloc),
-            calls,
-            most: 64,
-        };
-        let result = run(
-            alloc,
-            &mut SPENT.as_bytes(),
-            &mut writer,
-            &asked(10, Show::Schedule),
-        );
-        if calls < 4 {
-            assert_eq!(rt; result, Err(RunFault::Write), "call {calls}");
-            assert!(rt; TO_TEN.as_bytes().starts_with(writer.bytes.as_slice()));
-        } else {
-            result?;
-            assert_eq!(rt; writer.bytes.as_slice(), TO_TEN.as_bytes());
-        }
+/// What a writer kept that takes so many bytes a call until a call fails, and behind it the line of the fault.
+fn kept(alloc: Global, calls: usize, most: usize) -> Result<Vec<u8>, Fail> {
+    let mut writer = FailingWriter {
+        bytes: Vec::new(alloc),
+        calls,
+        most,
+    };
+    let ended = run(alloc, &mut SPENT.as_bytes(), &mut writer, &to_six(None));
+    let mut text = writer.bytes;
+    if let Err(fault) = ended {
+        text.extend_from_slice(fault.to_string(alloc)?.as_bytes())?;
     }
-    Ok(())
+    Ok(text)
 }
 
+// The text has 184 bytes, of which a call takes 163: two writes, and the flush. The last writer takes nothing.
+static KEPT: [(usize, usize, &str); 5] = [
+    (0, 163, "mcsim: write failed"),
+    (
+        1,
+        163,
+        "\
+0 0 release A
+0 0 run A
+2 0 stop A spent 2 until 5
+5 0 release A
+5 0 run A
+thread A ran 3 rounds 0 least 0 greatest 0 total 0 late 0 spent 1 throttled 3 longest 3
+mcsim: write failed",
+    ),
+    (
+        2,
+        163,
+        "\
+0 0 release A
+0 0 run A
+2 0 stop A spent 2 until 5
+5 0 release A
+5 0 run A
+thread A ran 3 rounds 0 least 0 greatest 0 total 0 late 0 spent 1 throttled 3 longest 3
+core 0 busy 3 idle 3
+mcsim: write failed",
+    ),
+    (3, 163, TO_SIX),
+    (9, 0, "mcsim: write failed"),
+];
+
 #[test]
-fn a_writer_that_takes_nothing_fails(rt: HostRuntime) {
-    let mut writer = FailingWriter {
-        bytes: Vec::new(rt.alloc()),
-        calls: 9,
-        most: 0,
-    };
-    let result = run(
-        rt.alloc(),
-        &mut SPENT.as_bytes(),
-        &mut writer,
-        &asked(10, Show::Schedule),
-    );
-    assert_eq!(rt; result, Err(RunFault::Write));
+fn each_write_fails(rt: HostRuntime) -> Result<(), Fail> {
+    for (calls, most, want) in KEPT.as_slice() {
+        let text = kept(rt.alloc(), *calls, *most)?;
+        assert_eq!(rt; text.as_slice(), want.as_bytes(), "call {calls}");
+    }
+    Ok(())
 }

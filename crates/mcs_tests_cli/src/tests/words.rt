@@ -1,107 +1,93 @@
-use mcs_cli::{Options, Show, WordsFault, options};
+use mcs_cli::{WordsFault, options};
 use std::alloc::{AllocError, Global};
 use std::test::Fail;
 
-fn asked(alloc: Global, words: &[&str]) -> Result<Options, WordsFault> {
-    let words = strings(alloc, words)?;
-    options(alloc, words.as_slice())
-}
-
-fn strings(alloc: Global, words: &[&str]) -> Result<Vec<String>, AllocError> {
-    let mut all = Vec::new(alloc);
-    for word in words {
-        all.push(String::from_str(alloc, word)?)?;
+/// What words are answered: the file, the horizon, the workers and what is shown, or the text of their fault.
+fn answer(alloc: Global, words: &[String]) -> Result<String, AllocError> {
+    match options(alloc, words) {
+        Ok(options) => {
+            let file = options.file.as_ref().map_or("", |name| name.as_str());
+            let horizon = options.horizon.get();
+            let workers = options.workers;
+            let show = options.show;
+            format!(in alloc; "{file} {horizon} {workers} {show:?}")
+        }
+        Err(WordsFault::Words(text) | WordsFault::Help(text)) => Ok(text),
+        Err(WordsFault::NoMemory) => String::from_str(alloc, "no memory"),
     }
-    Ok(all)
 }
 
-#[test]
-fn no_words_give_the_defaults(rt: HostRuntime) -> Result<(), Fail> {
-    let options = asked(rt.alloc(), &[]).map_err(|_| "no words")?;
-    assert!(rt; options.file.is_none());
-    assert_eq!(rt; options.horizon.get(), 1000);
-    assert_eq!(rt; options.workers, 1);
-    assert_eq!(rt; options.show, Show::Schedule);
-    Ok(())
+/// What the words of a line, with a space between two of them, are answered.
+fn answer_to(alloc: Global, line: &str) -> Result<String, AllocError> {
+    let mut words = Vec::new(alloc);
+    for word in line.split_whitespace() {
+        words.push(String::from_str(alloc, word)?)?;
+    }
+    answer(alloc, words.as_slice())
 }
+
+static TAKEN: [(&str, &str); 4] = [
+    ("", " 1000 1 Schedule"),
+    (
+        "--show both in.toml --horizon=1099511627776 --workers 64",
+        "in.toml 1099511627776 64 Both",
+    ),
+    ("--show=reports --horizon 0 -- -", "- 0 1 Reports"),
+    ("--show schedule --horizon +7", " 7 1 Schedule"),
+];
 
 #[test]
 fn words_are_taken(rt: HostRuntime) -> Result<(), Fail> {
-    let words = [
-        "--show",
-        "both",
-        "in.toml",
-        "--horizon=1099511627776",
-        "--workers",
-        "64",
-    ];
-    let options = asked(rt.alloc(), &words).map_err(|_| "all words")?;
-    let file = options.file.as_ref().map_or("", |name| name.as_str());
-    assert_eq!(rt; file, "in.toml");
-    assert_eq!(rt; options.horizon.get(), 1_099_511_627_776);
-    assert_eq!(rt; options.workers, 64);
-    assert_eq!(rt; options.show, Show::Both);
-    let options = asked(rt.alloc(), &["--show=reports", "--horizon", "0", "--", "-"]).map_err(
-        |_| "reports",
-    )?;
-    let file = options.file.as_ref().map_or("", |name| name.as_str());
-    assert_eq!(rt; file, "-");
-    assert_eq!(rt; options.horizon.get(), 0);
-    assert_eq!(rt; options.show, Show::Reports);
-    let options = asked(rt.alloc(), &["--show", "schedule", "--horizon", "+7"]).map_err(
-        |_| "schedule",
-    )?;
-    assert_eq!(rt; options.horizon.get(), 7);
-    assert_eq!(rt; options.show, Show::Schedule);
+    for (line, want) in TAKEN.as_slice() {
+        let found = answer_to(rt.alloc(), line)?;
+        assert_eq!(rt; found.as_str(), *want, "{line}");
+    }
     Ok(())
 }
 
 // Each line is not understood, and its text says what is wrong.
+static REFUSED: [(&str, &str); 12] = [
+    ("--workers 65", "65"),
+    ("--workers 0", "0"),
+    ("--workers two", "two"),
+    ("--horizon 1099511627777", "1099511627777"),
+    ("--horizon -1", "-1"),
+    ("--horizon 1.0", "1.0"),
+    ("--horizon", "--horizon"),
+    ("--horizon=1 --horizon=2", "--horizon"),
+    ("--show all", "all"),
+    ("--version", "--version"),
+    ("--seed 1", "--seed"),
+    ("one two", "two"),
+];
+
 #[test]
 fn other_words_are_refused(rt: HostRuntime) -> Result<(), Fail> {
-    let lines: [(&[&str], &str); 12] = [
-        (&["--workers", "65"], "65"),
-        (&["--workers", "0"], "0"),
-        (&["--workers", "two"], "two"),
-        (&["--horizon", "1099511627777"], "1099511627777"),
-        (&["--horizon", "-1"], "-1"),
-        (&["--horizon", "1.0"], "1.0"),
-        (&["--horizon"], "--horizon"),
-        (&["--horizon=1", "--horizon=2"], "--horizon"),
-        (&["--show", "all"], "all"),
-        (&["--version"], "--version"),
-        (&["--seed", "1"], "--seed"),
-        (&["one", "two"], "two"),
-    ];
-    for (words, part) in lines {
-        match asked(rt.alloc(), words) {
-            Err(WordsFault::Words(text)) => {
-                assert!(rt; text.as_str().starts_with("error: "), "{part}");
-                assert!(rt; text.as_str().contains(part), "{part}");
-            }
-            _ => return Err(Fail::from(part)),
-        }
+    for (line, part) in REFUSED.as_slice() {
+        let found = answer_to(rt.alloc(), line)?;
+        assert!(rt; found.as_str().starts_with("error: "), "{line}");
+        assert!(rt; found.as_str().contains(*part), "{line}");
     }
     Ok(())
 }
 
+static HELP: [&str; 8] = [
+    "Usage: mcsim [OPTIONS] [FILE]",
+    "--horizon <N>",
+    "0 to 2^40 [default: 1000]",
+    "--workers <W>",
+    "1 to 64 [default: 1]",
+    "[default: schedule] [possible values: schedule, reports, both]",
+    "mcsim system.toml --horizon 100 --show both",
+    "Exit status:",
+];
+
 #[test]
 fn help_is_given(rt: HostRuntime) -> Result<(), Fail> {
-    for words in [&["--help"] as &[&str], &["-h"], &["in.toml", "--help"]] {
-        let Err(WordsFault::Help(text)) = asked(rt.alloc(), words) else {
-            return Err(Fail::from("no help"));
-        };
-        for part in [
-            "Usage: mcsim [OPTIONS] [FILE]",
-            "--horizon <N>",
-            "0 to 2^40 [default: 1000]",
-            "--workers <W>",
-            "1 to 64 [default: 1]",
-            "[default: schedule] [possible values: schedule, reports, both]",
-            "mcsim system.toml --horizon 100 --show both",
-            "Exit status:",
-        ] {
-            assert!(rt; text.as_str().contains(part), "{part}");
+    for line in ["--help", "-h", "in.toml --help"] {
+        let found = answer_to(rt.alloc(), line)?;
+        for part in HELP.as_slice() {
+            assert!(rt; found.as_str().contains(*part), "{part}");
         }
     }
     Ok(())
