@@ -20,6 +20,8 @@ use Rattle.mcs_script.specs.declared.moved.Moved.{Moved}
 use Rattle.mcs_script.specs.declared.moved.Moved.TheVariants.{Next, RoundEnds, AllDone}
 use Rattle.mcs_release.specs.declared.dated.Dated.{Dated}
 use Rattle.mcs_mail.specs.declared.mail.Mail.{Mail}
+use Rattle.mcs_core.specs.declared.standing.AfterItem.{AfterItem}
+use Rattle.mcs_core.specs.declared.standing.AfterItem.TheVariants as after
 use Rattle.mcs_core.specs.declared.standing.Chosen.{Chosen}
 use Rattle.mcs_core.specs.declared.standing.Standing.TheVariants.{Blocked, Done}
 use Rattle.mcs_system.specs.System.{System, note_part}
@@ -102,7 +104,7 @@ module _ (x : ℕ) where
   by_test P false u v p q = q
 
   -- the running thread stops
-  stop_row : (y k : ℕ) (cause : Why) (date : Option ℕ) (running : Option Chosen) (using : ℕ) → running ≡ Some (record { thread = y; using = using })
+  stop_row : (y k : ℕ) (cause : AfterItem) (date : Option ℕ) (running : Option Chosen) (using : ℕ) → running ≡ Some (record { thread = y; using = using })
       → (after_row (row.Stop y cause k date) (is_open running) ≡ false) × (is_open running ≡ false → stops x (row.Stop y cause k date) ≡ false)
   stop_row y k cause date running using e =
       (ap (λ o. cond (y == x) false (is_open o)) e ∙ by (y == x), λ f. sym (ap is_open e) ∙ f)
@@ -111,7 +113,7 @@ module _ (x : ℕ) where
       by true = refl
       by false = refl
 
-  quits-stop : (y k using : ℕ) (cause : Why) (date : Option ℕ) (from : Core) (turn : Turn) → from.running ≡ Some (record { thread = y; using = using })
+  quits-stop : (y k using : ℕ) (cause : AfterItem) (date : Option ℕ) (from : Core) (turn : Turn) → from.running ≡ Some (record { thread = y; using = using })
       → turn.rows ≡ row.Stop y cause k date ∷ [] → turn.core.running ≡ None → Quits from turn
   quits-stop y k using cause date from turn e rows gone =
       let s = stop_row y k cause date from.running using e in
@@ -166,7 +168,7 @@ module _ (system : System) (t x : ℕ) where
   silent-quits : (k after : Core) → after.running ≡ k.running → Quits x k (silent after)
   silent-quits k after e = plain-quits x k (silent after) record { running = e; rows = tt }
 
-  stops_to_front-quits : (y using k : ℕ) (cause : Why) (from core : Core) → from.running ≡ Some (record { thread = y; using = using })
+  stops_to_front-quits : (y using k : ℕ) (cause : AfterItem) (from core : Core) → from.running ≡ Some (record { thread = y; using = using })
       → Quits x from (turns.stops_to_front by_priority system t y cause k core)
   stops_to_front-quits y using k cause from core e =
       quits-stop x y k using cause (turns.date_of system t y core) from (turns.stops_to_front by_priority system t y cause k core) e refl
@@ -213,7 +215,7 @@ module _ (system : System) (t x : ℕ) where
 
 -- the end of the tick, the choice, and the whole turn
 module _ (system : System) (c t x : ℕ) where
-  stops_to_back-quits : (y using k : ℕ) (cause : Why) (core : Core) → core.running ≡ Some (record { thread = y; using = using })
+  stops_to_back-quits : (y using k : ℕ) (cause : AfterItem) (core : Core) → core.running ≡ Some (record { thread = y; using = using })
       → Quits x core (turns.stops_to_back by_priority system t y cause k core)
   stops_to_back-quits y using k cause core e =
       let after = turns.charged system y k core in
@@ -221,7 +223,7 @@ module _ (system : System) (c t x : ℕ) where
       (enters_back-running system t x y (turns.date_of system t y after) (off after))
 
   spent-quits : (y using : ℕ) (k : Core) → k.running ≡ Some (record { thread = y; using = using })
-      → Quits x k (turns.may_stop by_priority system t y using why.Spent k)
+      → Quits x k (turns.may_stop by_priority system t y using after.GoesOn k)
   spent-quits y using k e =
       by_test x (λ turn. Quits x k turn) (using == head_amount (turns.its_context system y k))
       (turns.stops_to_back by_priority system t y why.Spent using k)
@@ -229,14 +231,12 @@ module _ (system : System) (c t x : ℕ) where
       (stops_to_back-quits y using using why.Spent k e)
       (silent-quits system t x k k refl)
 
-  may_stop-quits : (y using : ℕ) (cause : Why) (k : Core) → k.running ≡ Some (record { thread = y; using = using })
+  may_stop-quits : (y using : ℕ) (cause : AfterItem) (k : Core) → k.running ≡ Some (record { thread = y; using = using })
       → Quits x k (turns.may_stop by_priority system t y using cause k)
-  may_stop-quits y using why.Done k e = quits-stop x y using using why.Done None k (turns.stops system y why.Done using Done k) e refl refl
-  may_stop-quits y using why.Wait k e = quits-stop x y using using why.Wait None k (turns.stops system y why.Wait using Blocked k) e refl refl
-  may_stop-quits y using why.Yield k e = stops_to_back-quits y using (head_amount (turns.its_context system y k)) why.Yield k e
-  may_stop-quits y using why.Spent k e = spent-quits y using k e
-  may_stop-quits y using why.Preempt k e = spent-quits y using k e
-  may_stop-quits y using why.Order k e = spent-quits y using k e
+  may_stop-quits y using after.Ends k e = quits-stop x y using using why.Done None k (turns.stops system y why.Done using Done k) e refl refl
+  may_stop-quits y using after.Blocks k e = quits-stop x y using using why.Wait None k (turns.stops system y why.Wait using Blocked k) e refl refl
+  may_stop-quits y using after.Yields k e = stops_to_back-quits y using (head_amount (turns.its_context system y k)) why.Yield k e
+  may_stop-quits y using after.GoesOn k e = spent-quits y using k e
 
   signals-plain : (y note badge : ℕ) (k : Core) → Plain x k (turns.signals by_priority system c t y note badge k)
   signals-plain y note badge k =
@@ -271,7 +271,7 @@ module _ (system : System) (c t x : ℕ) where
       → Quits x k (turns.finishes by_priority system c t y using item k)
   finishes-quits y using item k e =
       let effect = turns.takes_effect by_priority system c t y item k in
-      let cause = turns.stop_after system y item k in
+      let cause = turns.after_item system y item k in
       let p = effect-plain y item k in
       quits-then x k effect (turns.may_stop by_priority system t y using cause) (plain-quits x k effect p) (may_stop-quits y using cause effect.core (p.running ∙ e))
 
@@ -280,7 +280,7 @@ module _ (system : System) (c t x : ℕ) where
   after_count-quits y using k e =
       by_test x (λ turn. Quits x k turn) ((thread_of k y).place.left == 0)
       (turns.finishes by_priority system c t y using (turns.item_of system y k) k)
-      (turns.may_stop by_priority system t y using why.Spent k)
+      (turns.may_stop by_priority system t y using after.GoesOn k)
       (finishes-quits y using (turns.item_of system y k) k e)
       (spent-quits y using k e)
 
