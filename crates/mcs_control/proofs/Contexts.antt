@@ -42,13 +42,13 @@ module _ (config : Config) where
       by false f = let g : kind.Sporadic ≡ kind.RoundRobin = sym (by_test false f) ∙ e in absurd (cc)
 
 -- a sporadic context's dates are a server's
-abbrev server_of : Config → List ℕ → Server
+abbrev pub server_of : Config → List ℕ → Server
 server_of config dates = record { dates = dates; period = config.period; max_refills = max_refills_of config; room = 0 }
 
 from-server : (config : Config) (dates : List ℕ) → config.budget < config.period → IsServer config.budget (server_of config dates) → IsBudget config (Dates dates)
 from-server config dates l h = (l, h.kept, h.few)
 
-to-server : (config : Config) (dates : List ℕ) → IsBudget config (Dates dates) → IsServer config.budget (server_of config dates)
+pub to-server : (config : Config) (dates : List ℕ) → IsBudget config (Dates dates) → IsServer config.budget (server_of config dates)
 to-server config dates h = record { kept = h.1; few = h.2 }
 
 slice-charged : (k budget left : ℕ) → 1 ≤ left → left ≤ budget → (1 ≤ slice_charged k budget left) × (slice_charged k budget left ≤ budget)

@@ -1,12 +1,15 @@
 -- The definitions at worked values, each way of each choice once.
+use native.Mathlib.Omega.{arith}
 use Rattle.std.specs.Prelude.{◌≡◌, ℕ, true, false, [], ◌∷◌, Some, None, Ok, Err, refl}
 use Rattle.mcs_refills.specs.laws.Spacing.Step.{Charge, Unblock}
 use Rattle.mcs_control.specs.declared.config.Config.{Config}
 use Rattle.mcs_control.specs.declared.config.Kind.TheVariants.{Sporadic, RoundRobin}
+use Rattle.mcs_control.specs.declared.view.ContextView.{ContextView}
 use Rattle.mcs_control.specs.declared.config.ControlFault.TheVariants.{ZeroBudget, BudgetTooSmall, BudgetOverPeriod, PeriodTooLong, TooManyRefills}
 use Rattle.mcs_control.specs.Control.{checked}
 use Rattle.mcs_control.specs.Context.{Context, new_context, context_charged, context_unblocked, context_ordered, context_ready, head_amount, head_moment, view_of}
 use Rattle.mcs_control.specs.laws.Contexts.{consumed_from}
+use Rattle.mcs_control.specs.laws.Shown.{ShowsBudget}
 
 abbrev config : ℕ → ℕ → ℕ → Config
 config budget period extra = record { budget = budget; period = period; extra = extra }
@@ -87,3 +90,25 @@ dates_in_use = refl
 
 slice_has_no_dates : consumed_from (Charge 3 1 ∷ Unblock 50 ∷ Charge 2 1 ∷ []) round_robin ≡ []
 slice_has_no_dates = refl
+
+-- what views show of a budget of 10 in 100 with two refills: 7 ticks from 3 on and 3 from 100 on, of whose head 2 are in use
+abbrev seen : ℕ → ContextView
+seen using = record { context = 0; refills = record { begins = 3; amount = 7 } ∷ record { begins = 100; amount = 3 } ∷ []; left = None; using = using }
+
+budget_is_shown : ShowsBudget (config 10 100 0) (seen 2)
+budget_is_shown = record {
+  refills = record { apart = (omega arith, omega arith, omega arith); all = refl; few = omega arith; short = omega arith };
+  using = omega arith;
+  no_slice = refl;
+}
+
+-- eight ticks in use are more than the head has
+more_than_the_head_in_use : ShowsBudget (config 10 100 0) (seen 8) → ⊥
+more_than_the_head_in_use h = omega (arith, h.using)
+
+-- 7 and 3 ticks are not the budget where that is 11
+another_budget_in_force : ShowsBudget (config 11 100 0) (seen 2) → ⊥
+another_budget_in_force h = omega (arith, h.refills.all)
+
+slice_is_shown : ShowsBudget (config 3 3 0) (record { context = 1; refills = []; left = Some 2; using = 1 })
+slice_is_shown = record { no_refills = refl; left = 2; is = refl; some = omega arith; within = omega arith; using = omega arith }

@@ -1,5 +1,6 @@
 ghost use Rattle.mcs_control.specs.Control.{PassedAreConfigs};
 ghost use Rattle.mcs_control.specs.laws.Contexts.{ContextsAreKept, ConsumedAreSpaced};
+ghost use Rattle.mcs_control.specs.laws.Shown.{ContextsShowTheirBudgets};
 
 /// A law of SchedControl: what passes the check, whatever the least budget, is in range and has the kind that was answered.
 pub fn passed_configs_are_in_range()
@@ -17,4 +18,11 @@ pub fn contexts_are_kept()
 /// a whole budget later is at least a period later.
 pub fn consumed_dates_are_spaced()
     ensures { ConsumedAreSpaced }
+{}
+
+/// A law of views: a context in good order shows its whole budget, the ticks in use among it. A sporadic one shows refills that neither
+/// touch nor overlap, whose amounts sum to the budget, at most as many as it may have, which span at most its period; a round robin one
+/// shows 1 to its budget left.
+pub fn contexts_show_their_budgets()
+    ensures { ContextsShowTheirBudgets }
 {}

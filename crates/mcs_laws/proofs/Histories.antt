@@ -129,7 +129,8 @@ module _ (system : System) (well : IsWellFormed system) (x : ℕ) (known : x < l
         opening = before-opening;
         after = λ t. ap (λ (k : Core). context_of k x) (before-next t) ∙ (turn-at t).after (inside t (life t));
         sound = λ t. (turn-at t).sound (inside t (life t)) (life t).keeps (life t).uses;
-        charges = λ t. (turn-at t).told;
+        charges = λ t. traces.told-charges by_priority system home t x (Uses t) (Uses t) (told.orders_at system x t) (before t) (clocks.turn_of system home t) (turn-at t);
+        unblocks = λ t. traces.told-unblocks by_priority system home t x (Uses t) (Uses t) (told.orders_at system x t) (before t) (clocks.turn_of system home t) (turn-at t);
         orders = λ t. (turn-at t).ordered;
       }
 

@@ -5,6 +5,9 @@ pub mod Disciplines
 pub mod Kept
 pub mod Traces
 pub mod Histories
+pub mod InForce
+pub mod Shown
+pub mod Slices
 pub mod Spaced
 pub mod Places
 pub mod OnTime

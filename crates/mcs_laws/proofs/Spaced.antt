@@ -52,7 +52,7 @@ are_steps least (Unblocked t ∷ changes) config dates e s =
 are_steps least (Ordered order ∷ changes) config dates e s = absurd (no_order order (orders_of changes) e)
 
 -- no order for the context
-no_orders_at : (x : ℕ) (p : Order → Bool) (orders : List Order) → AllByRecursion (λ (order : Order). order.context ≢ x) orders → filter (told.is_order_for x) (filter p orders) ≡ []
+pub no_orders_at : (x : ℕ) (p : Order → Bool) (orders : List Order) → AllByRecursion (λ (order : Order). order.context ≢ x) orders → filter (told.is_order_for x) (filter p orders) ≡ []
 no_orders_at x p [] h = refl
 no_orders_at x p (order ∷ orders) h = by (p order) (no_orders_at x p orders h.1)
   where

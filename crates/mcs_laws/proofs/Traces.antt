@@ -1,6 +1,6 @@
 -- What turns do to a context: charges, which are those that the rows tell, unblocking, and orders.
 use Rattle.std.proofs.Common.{◌≡◌, ◌≢◌, ℕ, ◌+◌, ◌<◌, ◌≤◌, Bool, true, false, not, cond, List, [], ◌∷◌, ◌++◌, length, set, get_or, Option, Some, None, refl, sym, ap, ◌∙◌, append-nil, arith}
-use Rattle.std.specs.Prelude.{filter, ◌==◌, ◌&&◌, nat_lt, unwrap_or}
+use Rattle.std.specs.Prelude.{filter, flat_map, ◌==◌, ◌&&◌, nat_lt, unwrap_or}
 use Rattle.std.specs.List.{AllByRecursion}
 use Rattle.std.proofs.lemmas.Bool.Decides.{nat_tests}
 use Rattle.std.proofs.lemmas.List.{get_or-set_same, get_or-set_other}
@@ -9,6 +9,7 @@ use Rattle.std.proofs.lemmas.List.Elements.{filter-append}
 use Rattle.std.proofs.Math.ListN.{length-set}
 use Rattle.mcs_ticks.specs.Queue.{Discipline}
 use Rattle.mcs_ticks.specs.declared.queue.Queued.{Queued}
+use Rattle.mcs_ticks.specs.declared.row.What.{What}
 use Rattle.mcs_ticks.specs.declared.row.What.TheVariants as row
 use Rattle.mcs_ticks.specs.declared.row.Why.{Why}
 use Rattle.mcs_ticks.specs.declared.row.Why.TheVariants as why
@@ -35,9 +36,9 @@ use Rattle.mcs_core.specs.declared.standing.Standing.{Standing}
 use Rattle.mcs_release.specs.Release.{is_due}
 use Rattle.mcs_core.specs.Turn as turns
 use Rattle.mcs_core.specs.Turn.{Turn, each, silent, says, ◌followed_by◌, is_for_now}
-use Rattle.mcs_laws.specs.Changes.{Change, charges_of, orders_of, IsBudget, KeepsItsBudget, changed_by, AreSound}
+use Rattle.mcs_laws.specs.Changes.{Change, charges_of, unblocks_of, orders_of, IsBudget, KeepsItsBudget, changed_by, AreSound}
 use Rattle.mcs_laws.specs.Changes.Change.{Charged, Unblocked, Ordered}
-use Rattle.mcs_laws.specs.Histories.{charge_told, charges_told, is_order_for}
+use Rattle.mcs_laws.specs.Histories.{charges_told, unblocks_told, is_order_for}
 use Rattle.mcs_laws.proofs.Kept.{head_amount-unblocked, head_amount-some, keeps-changes, changed_by-append, sound-append}
 
 -- whether two numbers are equal
@@ -69,6 +70,98 @@ orders_of-append xs ys = flat_map-append _ xs ys
 pub charges_of-append : (xs ys : List Change) → charges_of (xs ++ ys) ≡ charges_of xs ++ charges_of ys
 charges_of-append xs ys = flat_map-append _ xs ys
 
+pub unblocks_of-append : (xs ys : List Change) → unblocks_of (xs ++ ys) ≡ unblocks_of xs ++ unblocks_of ys
+unblocks_of-append xs ys = flat_map-append _ xs ys
+
+-- the changes but orders
+abbrev deed_of : Change → List Change
+deed_of (Charged k) = Charged k ∷ []
+deed_of (Unblocked t) = Unblocked t ∷ []
+deed_of (Ordered order) = []
+
+abbrev pub deeds_of : List Change → List Change
+deeds_of changes = flat_map deed_of changes
+
+deeds_of-append : (xs ys : List Change) → deeds_of (xs ++ ys) ≡ deeds_of xs ++ deeds_of ys
+deeds_of-append xs ys = flat_map-append deed_of xs ys
+
+-- the charges and the unblocking that rows of moment t tell of a context
+module _ (system : System) (t x : ℕ) where
+  abbrev deed_told : What → List Change
+  deed_told (row.Stop thread why k until) = cond ((thread_part system thread).context == x) (Charged k ∷ []) []
+  deed_told (row.Wake thread note word) = cond ((thread_part system thread).context == x) (Unblocked t ∷ []) []
+  deed_told (row.Release thread) = []
+  deed_told (row.Run thread) = []
+  deed_told (row.Signal thread note badge) = []
+  deed_told (row.Arrive note badge maker) = []
+  deed_told (row.Hold note word) = []
+  deed_told (row.Got thread note word) = []
+  deed_told (row.Round thread number response) = []
+  deed_told (row.Order ordered) = []
+
+  abbrev pub deeds_told : List What → List Change
+  deeds_told rows = flat_map deed_told rows
+
+  charges-told : (rows : List What) → charges_told system x rows ≡ charges_of (deeds_told rows)
+  charges-told [] = refl
+  charges-told (what ∷ rows) = by what (charges-told rows)
+    where
+      by : (what : What) → charges_told system x rows ≡ charges_of (deeds_told rows) → charges_told system x (what ∷ rows) ≡ charges_of (deeds_told (what ∷ rows))
+      by (row.Stop thread why k until) i = charged ((thread_part system thread).context == x)
+        where
+          charged : (b : Bool) → cond b (k ∷ []) [] ++ charges_told system x rows ≡ charges_of (cond b (Charged k ∷ []) [] ++ deeds_told rows)
+          charged true = ap (λ ks. k ∷ ks) i
+          charged false = i
+      by (row.Wake thread note word) i = none ((thread_part system thread).context == x)
+        where
+          none : (b : Bool) → charges_told system x rows ≡ charges_of (cond b (Unblocked t ∷ []) [] ++ deeds_told rows)
+          none true = i
+          none false = i
+      by (row.Release thread) i = i
+      by (row.Run thread) i = i
+      by (row.Signal thread note badge) i = i
+      by (row.Arrive note badge maker) i = i
+      by (row.Hold note word) i = i
+      by (row.Got thread note word) i = i
+      by (row.Round thread number response) i = i
+      by (row.Order ordered) i = i
+
+  unblocks-told : (rows : List What) → unblocks_told system x t rows ≡ unblocks_of (deeds_told rows)
+  unblocks-told [] = refl
+  unblocks-told (what ∷ rows) = by what (unblocks-told rows)
+    where
+      by : (what : What) → unblocks_told system x t rows ≡ unblocks_of (deeds_told rows) → unblocks_told system x t (what ∷ rows) ≡ unblocks_of (deeds_told (what ∷ rows))
+      by (row.Wake thread note word) i = woken ((thread_part system thread).context == x)
+        where
+          woken : (b : Bool) → cond b (t ∷ []) [] ++ unblocks_told system x t rows ≡ unblocks_of (cond b (Unblocked t ∷ []) [] ++ deeds_told rows)
+          woken true = ap (λ ts. t ∷ ts) i
+          woken false = i
+      by (row.Stop thread why k until) i = none ((thread_part system thread).context == x)
+        where
+          none : (b : Bool) → unblocks_told system x t rows ≡ unblocks_of (cond b (Charged k ∷ []) [] ++ deeds_told rows)
+          none true = i
+          none false = i
+      by (row.Release thread) i = i
+      by (row.Run thread) i = i
+      by (row.Signal thread note badge) i = i
+      by (row.Arrive note badge maker) i = i
+      by (row.Hold note word) i = i
+      by (row.Got thread note word) i = i
+      by (row.Round thread number response) i = i
+      by (row.Order ordered) i = i
+
+charges-deeds : (changes : List Change) → charges_of (deeds_of changes) ≡ charges_of changes
+charges-deeds [] = refl
+charges-deeds (Charged k ∷ changes) = ap (λ ks. k ∷ ks) (charges-deeds changes)
+charges-deeds (Unblocked t ∷ changes) = charges-deeds changes
+charges-deeds (Ordered order ∷ changes) = charges-deeds changes
+
+unblocks-deeds : (changes : List Change) → unblocks_of (deeds_of changes) ≡ unblocks_of changes
+unblocks-deeds [] = refl
+unblocks-deeds (Charged k ∷ changes) = unblocks-deeds changes
+unblocks-deeds (Unblocked t ∷ changes) = ap (λ ts. t ∷ ts) (unblocks-deeds changes)
+unblocks-deeds (Ordered order ∷ changes) = unblocks-deeds changes
+
 module _ (queue : Discipline) (system : System) (c t x : ℕ) where
   abbrev least : ℕ
   least = system.min_budget
@@ -90,12 +183,12 @@ module _ (queue : Discipline) (system : System) (c t x : ℕ) where
     pub changes : List Change
     pub many : length made.core.contexts ≡ length core.contexts
     pub after : x < length core.contexts → context_of made.core x ≡ changed_by least changes (context_of core x)
-    pub told : charges_told system x made.rows ≡ charges_of changes
+    pub told : deeds_told system t x made.rows ≡ deeds_of changes
     pub ordered : obeyed ≡ orders_of changes
     pub sound : x < length core.contexts → KeepsItsBudget (context_of core x) → holds P core → AreSound least changes (context_of core x)
     pub runs : x < length core.contexts → KeepsItsBudget (context_of core x) → holds P core → holds Q made.core
 
-  plain : (P Q : Option Chosen → Context → Type 0) (core : Core) (made : Turn) → made.core.contexts ≡ core.contexts → charges_told system x made.rows ≡ [] →
+  plain : (P Q : Option Chosen → Context → Type 0) (core : Core) (made : Turn) → made.core.contexts ≡ core.contexts → deeds_told system t x made.rows ≡ [] →
       (KeepsItsBudget (context_of core x) → holds P core → holds Q made.core) → Traced P Q [] core made
   plain P Q core made e f h =
       record {
@@ -109,7 +202,7 @@ module _ (queue : Discipline) (system : System) (c t x : ℕ) where
       }
 
   -- a part that says nothing of the context and leaves it and the running thread
-  still : (P : Option Chosen → Context → Type 0) (core : Core) (made : Turn) → made.core.contexts ≡ core.contexts → made.core.running ≡ core.running → charges_told system x made.rows ≡ [] → Traced P P [] core made
+  still : (P : Option Chosen → Context → Type 0) (core : Core) (made : Turn) → made.core.contexts ≡ core.contexts → made.core.running ≡ core.running → deeds_told system t x made.rows ≡ [] → Traced P P [] core made
   still P core made e g f = plain P P core made e f (λ k p. both _ _ _ _ (sym g) (sym e) p)
     where
       both : (a b : Option Chosen) (us vs : List (Option Context)) → a ≡ b → us ≡ vs → P a (unwrap_or (get_or us x None) no_server) → P b (unwrap_or (get_or vs x None) no_server)
@@ -123,14 +216,14 @@ module _ (queue : Discipline) (system : System) (c t x : ℕ) where
         changes = f.changes ++ s.changes;
         many = s.many ∙ f.many;
         after = λ l. s.after (within l) ∙ ap (changed_by least s.changes) (f.after l) ∙ sym (changed_by-append least f.changes s.changes (context_of core x));
-        told = flat_map-append (charge_told system x) first.rows (part first.core).rows ∙ both _ _ _ _ f.told s.told ∙ sym (charges_of-append f.changes s.changes);
+        told = flat_map-append (deed_told system t x) first.rows (part first.core).rows ∙ both _ _ _ _ f.told s.told ∙ sym (deeds_of-append f.changes s.changes);
         ordered = joined _ _ _ _ f.ordered s.ordered ∙ sym (orders_of-append f.changes s.changes);
         sound = λ l k p. sound-append least f.changes s.changes (context_of core x) (f.sound l k p)
             (carry (AreSound least s.changes) (context_of first.core x) (changed_by least f.changes (context_of core x)) (f.after l) (s.sound (within l) (kept l k p) (f.runs l k p)));
         runs = λ l k p. s.runs (within l) (kept l k p) (f.runs l k p);
       }
     where
-      both : (xs ys zs ws : List ℕ) → xs ≡ ys → zs ≡ ws → xs ++ zs ≡ ys ++ ws
+      both : (xs ys zs ws : List Change) → xs ≡ ys → zs ≡ ws → xs ++ zs ≡ ys ++ ws
       both xs ys zs ws p q = cc
 
       joined : (xs ys zs ws : List Order) → xs ≡ ys → zs ≡ ws → xs ++ zs ≡ ys ++ ws
@@ -164,8 +257,8 @@ module _ (queue : Discipline) (system : System) (c t x : ℕ) where
       n : ℕ
       n = (thread_part system y).context
 
-      told_is : (b : Bool) → (n == x) ≡ b → charges_told system x made.rows ≡ cond b (k ∷ []) [] ++ []
-      told_is b g = ap (charges_told system x) f ∙ ap (λ u. cond u (k ∷ []) [] ++ []) g
+      told_is : (b : Bool) → (n == x) ≡ b → deeds_told system t x made.rows ≡ cond b (Charged k ∷ []) [] ++ []
+      told_is b g = ap (deeds_told system t x) f ∙ ap (λ u. cond u (Charged k ∷ []) [] ++ []) g
 
       many_is : length made.core.contexts ≡ length core.contexts
       many_is = ap length e ∙ length-set core.contexts n (Some (context_charged k least (turns.its_context system y core)))
@@ -193,9 +286,10 @@ module _ (queue : Discipline) (system : System) (c t x : ℕ) where
         runs = λ l kept p. q;
       }
 
-  -- unblocking, which leaves the running thread as it was
+  -- unblocking, which the wake of a thread tells and which leaves the running thread as it was
   unblocking : (P : Option Chosen → Context → Type 0) → ((o : Option Chosen) (k : Context) → P o k → P o (context_unblocked t k)) → (y : ℕ) (core : Core) (made : Turn) →
-      made.core.contexts ≡ (turns.unblocked system t y core).contexts → made.core.running ≡ core.running → charges_told system x made.rows ≡ [] → Traced P P [] core made
+      made.core.contexts ≡ (turns.unblocked system t y core).contexts → made.core.running ≡ core.running →
+      deeds_told system t x made.rows ≡ cond ((thread_part system y).context == x) (Unblocked t ∷ []) [] ++ [] → Traced P P [] core made
   unblocking P steady y core made e g f = by (same (thread_part system y).context x)
     where
       n : ℕ
@@ -210,6 +304,9 @@ module _ (queue : Discipline) (system : System) (c t x : ℕ) where
       moved : (o u : Option Chosen) (a b : Context) → u ≡ o → b ≡ a → P o a → P u b
       moved o u a b p q r = rw (p, q) r
 
+      told_is : (b : Bool) → (n == x) ≡ b → deeds_told system t x made.rows ≡ cond b (Unblocked t ∷ []) [] ++ []
+      told_is b d = f ∙ ap (λ u. cond u (Unblocked t ∷ []) [] ++ []) d
+
       by : Same n x → Traced P P [] core made
       by (Are d s) =
           let unblocked : x < length core.contexts → context_of made.core x ≡ context_unblocked t (context_of core x) =
@@ -218,7 +315,7 @@ module _ (queue : Discipline) (system : System) (c t x : ℕ) where
             changes = Unblocked t ∷ [];
             many = many_is;
             after = unblocked;
-            told = f;
+            told = told_is true d;
             ordered = refl;
             sound = λ l kept p. (tt, tt);
             runs = λ l kept p. moved core.running made.core.running (context_unblocked t (context_of core x)) (context_of made.core x) g (unblocked l) (steady core.running (context_of core x) p);
@@ -229,7 +326,7 @@ module _ (queue : Discipline) (system : System) (c t x : ℕ) where
             changes = [];
             many = many_is;
             after = λ l. left;
-            told = f;
+            told = told_is false d;
             ordered = refl;
             sound = λ l kept p. tt;
             runs = λ l kept p. moved core.running made.core.running (context_of core x) (context_of made.core x) g left p;
@@ -237,7 +334,7 @@ module _ (queue : Discipline) (system : System) (c t x : ℕ) where
 
   -- an order, of this moment
   ordering : (P Q : Option Chosen → Context → Type 0) (order : Order) (core : Core) (made : Turn) → order.moment ≡ t → IsBudget order.config →
-      made.core.contexts ≡ (turns.applied t order core).contexts → charges_told system x made.rows ≡ [] →
+      made.core.contexts ≡ (turns.applied t order core).contexts → deeds_told system t x made.rows ≡ [] →
       ((order.context ≢ x → context_of made.core x ≡ context_of core x) → holds P core → holds Q made.core) →
       Traced P Q (filter (is_order_for x) (order ∷ [])) core made
   ordering P Q order core made m budget e f h = by (same order.context x)
@@ -280,7 +377,7 @@ module _ (queue : Discipline) (system : System) (c t x : ℕ) where
 
   -- a part that is made otherwise but does the same to the context
   as_made : (P Q R : Option Chosen → Context → Type 0) (os : List Order) (core : Core) (first made : Turn) → made.core.contexts ≡ first.core.contexts →
-      charges_told system x made.rows ≡ charges_told system x first.rows → holds R made.core → Traced P Q os core first → Traced P R os core made
+      deeds_told system t x made.rows ≡ deeds_told system t x first.rows → holds R made.core → Traced P Q os core first → Traced P R os core made
   as_made P Q R os core first made e f r h =
       record {
         changes = h.changes;
@@ -328,24 +425,23 @@ module _ (queue : Discipline) (system : System) (c t x : ℕ) where
     moves_on-traced : (y : ℕ) (core : Core) → Traced P P [] core (turns.moves_on system t y core)
     moves_on-traced y core = moves-traced y (turns.move_of system y core) core
 
-    wakes-traced : (y : ℕ) (core : Core) → Traced P P [] core (turns.wakes queue system t y core)
-    wakes-traced y core =
-        then_part P P P [] [] core (turns.moves_on system t y given) (λ k. silent (turns.enters_back queue system y (turns.date_of system t y k) k))
+    posts_as-traced : (note : ℕ) (p : Posted) (core : Core) → Traced P P [] core (turns.posts_as queue system t note p core)
+    posts_as-traced note (Woke y word) core =
+        then_part P P P [] [] core (says (row.Wake y note word) noted followed_by λ k. turns.moves_on system t y (turns.given t y (turns.unblocked system t y k)))
+        (λ k. silent (turns.enters_back queue system y (turns.date_of system t y k) k))
         (moved (turns.move_of system y given))
         (λ k. still P k _ (enters_back-same y (turns.date_of system t y k) k) (enters_back-running y (turns.date_of system t y k) k) refl)
       where
-        given : Core
-        given = turns.given t y (turns.unblocked system t y core)
+        noted : Core
+        noted = with_note note (after_post (Woke y word) (note_of core note)) core
 
-        moved : (m : Moved) → Traced P P [] core (turns.moves system t y m given)
+        given : Core
+        given = turns.given t y (turns.unblocked system t y noted)
+
+        moved : (m : Moved) → Traced P P [] core (says (row.Wake y note word) noted followed_by λ k. turns.moves system t y m (turns.given t y (turns.unblocked system t y k)))
         moved Next = unblocking P steady y core _ refl refl refl
         moved RoundEnds = unblocking P steady y core _ refl refl refl
         moved AllDone = unblocking P steady y core _ refl refl refl
-
-    posts_as-traced : (note : ℕ) (p : Posted) (core : Core) → Traced P P [] core (turns.posts_as queue system t note p core)
-    posts_as-traced note (Woke y word) core =
-        then_part P P P [] [] core (says (row.Wake y note word) (with_note note (after_post (Woke y word) (note_of core note)) core)) (turns.wakes queue system t y)
-        (still P core _ refl refl refl) (λ k. wakes-traced y k)
     posts_as-traced note (Held word) core = still P core _ refl refl refl
 
     posts-traced : (note badge : ℕ) (core : Core) → Traced P P [] core (turns.posts queue system t note badge core)
@@ -624,3 +720,12 @@ module _ (queue : Discipline) (system : System) (c t x : ℕ) where
     where
       orders : List Order
       orders = filter (is_order_for x) (filter (is_for_now system c t) system.orders)
+
+-- what such changes say of charges and of unblocking
+module _ (queue : Discipline) (system : System) (c t x : ℕ) (P Q : Option Chosen → Context → Type 0) (obeyed : List Order) (core : Core) (made : Turn)
+    (traced : Traced queue system c t x P Q obeyed core made) where
+  pub told-charges : charges_told system x made.rows ≡ charges_of traced.changes
+  told-charges = charges-told system t x made.rows ∙ ap charges_of traced.told ∙ charges-deeds traced.changes
+
+  pub told-unblocks : unblocks_told system x t made.rows ≡ unblocks_of traced.changes
+  told-unblocks = unblocks-told system t x made.rows ∙ ap unblocks_of traced.told ∙ unblocks-deeds traced.changes

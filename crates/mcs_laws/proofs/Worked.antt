@@ -1,6 +1,8 @@
 -- Values that were worked by hand, on both sides of where a law would fail if it said a little more.
 use Rattle.std.specs.Prelude.{◌≡◌, ℕ, List, [], ◌∷◌, Option, Some, option_map, map, refl}
 use Rattle.mcs_ticks.specs.Queue.{Discipline, by_priority, in_one_list}
+use Rattle.mcs_control.specs.declared.config.Config.{Config}
+use Rattle.mcs_control.specs.declared.config.Order.{Order}
 use Rattle.mcs_control.specs.Context.{head_moment, head_amount}
 use Rattle.mcs_script.specs.declared.item.Item.{Item}
 use Rattle.mcs_script.specs.declared.item.Item.TheVariants.{Compute, Signal, Wait}
@@ -12,6 +14,7 @@ use Rattle.mcs_laws.specs.Changes.{Change, taken_by}
 use Rattle.mcs_laws.specs.Changes.Change.{Charged, Ordered}
 use Rattle.mcs_laws.specs.Demand.{periods_begun, ticks_run, demand_of}
 use Rattle.mcs_laws.specs.Histories.{home_before, context_before, charges_at, opening_context}
+use Rattle.mcs_laws.specs.InForce.{config_in_force}
 use Rattle.mcs_laws.specs.Places.{places}
 
 -- periods of 5 begin at 0, 5, 10 ..
@@ -98,3 +101,39 @@ the_preempted_thread_goes_on = refl
 
 at_the_back_it_would_not : (runs_by by_priority ≡ Some 0) × (runs_by at_the_back ≡ Some 1)
 at_the_back_it_would_not = (refl, refl)
+
+-- A context of 10 in 100, which the file first orders to have 4 in 20 from moment 9 on, and then, within moment 4, 6 in 50 and 8 in 40.
+abbrev config : ℕ → ℕ → Config
+config budget period = record { budget = budget; period = period; extra = 0 }
+
+abbrev order : ℕ → ℕ → Config → Order
+order moment context config = record { moment = moment; context = context; config = config }
+
+abbrev ordered : System
+ordered =
+    record {
+      cores = 1;
+      delay = 1;
+      call = 1;
+      min_budget = 1;
+      contexts = record { name = []; core = 0; config = config 10 100 } ∷ record { name = []; core = 0; config = config 5 30 } ∷ [];
+      notes = [];
+      threads = [];
+      orders = order 9 0 (config 4 20) ∷ order 4 0 (config 6 50) ∷ order 2 1 (config 3 30) ∷ order 4 0 (config 8 40) ∷ [];
+    }
+
+-- up to the moment of an order its turn is still to come
+as_in_the_file : config_in_force ordered 0 4 ≡ config 10 100
+as_in_the_file = refl
+
+the_second_of_one_moment : config_in_force ordered 0 5 ≡ config 8 40
+the_second_of_one_moment = refl
+
+until_the_next : config_in_force ordered 0 9 ≡ config 8 40
+until_the_next = refl
+
+the_latest_and_not_the_last_of_the_file : config_in_force ordered 0 10 ≡ config 4 20
+the_latest_and_not_the_last_of_the_file = refl
+
+of_the_other_context : config_in_force ordered 1 10 ≡ config 3 30
+of_the_other_context = refl

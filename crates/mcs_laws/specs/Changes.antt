@@ -12,7 +12,7 @@ pub data Change : Type 0 where
   Unblocked : ℕ → Change
   Ordered : Order → Change
 
--- the charges of changes, and their orders
+-- the charges of changes, the moments at which they unblock, and their orders
 abbrev pub charge_of : Change → List ℕ
 charge_of (Charged k) = k ∷ []
 charge_of (Unblocked t) = []
@@ -20,6 +20,14 @@ charge_of (Ordered order) = []
 
 abbrev pub charges_of : List Change → List ℕ
 charges_of changes = flat_map charge_of changes
+
+abbrev pub unblock_of : Change → List ℕ
+unblock_of (Charged k) = []
+unblock_of (Unblocked t) = t ∷ []
+unblock_of (Ordered order) = []
+
+abbrev pub unblocks_of : List Change → List ℕ
+unblocks_of changes = flat_map unblock_of changes
 
 abbrev pub order_of : Change → List Order
 order_of (Charged k) = []

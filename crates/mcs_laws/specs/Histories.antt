@@ -14,7 +14,7 @@ use Rattle.mcs_system.specs.declared.part.ContextPart.{ContextPart}
 use Rattle.mcs_core.specs.declared.standing.Chosen.{Chosen}
 use Rattle.mcs_core.specs.Turn.{is_for_now}
 use Rattle.mcs_core.specs.Clock.{world, core_at, turn_of}
-use Rattle.mcs_laws.specs.Changes.{Change, charges_of, orders_of, IsBudget, KeepsItsBudget, changed_by, AreSound, taken_by}
+use Rattle.mcs_laws.specs.Changes.{Change, charges_of, unblocks_of, orders_of, IsBudget, KeepsItsBudget, changed_by, AreSound, taken_by}
 
 -- whether the order is for this context
 abbrev pub is_order_for : ℕ → Order → Bool
@@ -37,6 +37,22 @@ module _ (system : System) where
   abbrev pub charges_told : ℕ → List What → List ℕ
   charges_told context rows = flat_map (charge_told context) rows
 
+  -- what a row of moment t tells that the context was unblocked: a wake of its thread unblocks it then
+  abbrev pub unblock_told : ℕ → ℕ → What → List ℕ
+  unblock_told context t (row.Wake thread note word) = if (thread_part system thread).context == context then t ∷ [] else []
+  unblock_told context t (row.Stop thread why k until) = []
+  unblock_told context t (row.Release thread) = []
+  unblock_told context t (row.Run thread) = []
+  unblock_told context t (row.Signal thread note badge) = []
+  unblock_told context t (row.Arrive note badge maker) = []
+  unblock_told context t (row.Hold note word) = []
+  unblock_told context t (row.Got thread note word) = []
+  unblock_told context t (row.Round thread number response) = []
+  unblock_told context t (row.Order ordered) = []
+
+  abbrev pub unblocks_told : ℕ → ℕ → List What → List ℕ
+  unblocks_told context t rows = flat_map (unblock_told context t) rows
+
   -- the core of a context before a moment, and the context itself
   abbrev pub home_of : ℕ → ℕ
   home_of context = (context_part system context).core
@@ -51,6 +67,10 @@ module _ (system : System) where
   abbrev pub charges_at : ℕ → ℕ → List ℕ
   charges_at context t = charges_told context (turn_of system (home_of context) t).rows
 
+  -- the moments at which these rows tell that it was unblocked: t for each wake of its thread
+  abbrev pub unblocks_at : ℕ → ℕ → List ℕ
+  unblocks_at context t = unblocks_told context t (turn_of system (home_of context) t).rows
+
   -- the orders for the context at t, in file order
   abbrev pub orders_at : ℕ → ℕ → List Order
   orders_at context t = filter (is_order_for context) (filter (is_for_now system (home_of context) t) system.orders)
@@ -60,13 +80,14 @@ module _ (system : System) where
   opening_context context = new_context (context_part system context).config (start_of system.threads context)
 
   -- all that turns do to the context, by moment: its charges are those that the rows tell, each of at least a tick and of no more
-  -- than the head then has; its orders are those of the system; and nothing else but unblocking
+  -- than the head then has; it is unblocked by the wakes of its thread, at their moment; and its orders are those of the system
   pub record History (context : ℕ) : Type 0 where
     pub changes : ℕ → List Change
     pub opening : context_before context 0 ≡ opening_context context
     pub after : (t : ℕ) → context_before context (suc t) ≡ changed_by system.min_budget (changes t) (context_before context t)
     pub sound : (t : ℕ) → AreSound system.min_budget (changes t) (context_before context t)
     pub charges : (t : ℕ) → charges_at context t ≡ charges_of (changes t)
+    pub unblocks : (t : ℕ) → unblocks_at context t ≡ unblocks_of (changes t)
     pub orders : (t : ℕ) → orders_at context t ≡ orders_of (changes t)
 
   -- the changes of all turns before a moment

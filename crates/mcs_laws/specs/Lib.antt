@@ -2,6 +2,9 @@ pub mod Turns
 pub mod Disciplines
 pub mod Changes
 pub mod Histories
+pub mod InForce
+pub mod Shown
+pub mod Slices
 pub mod Places
 pub mod OnTime
 pub mod Demand

@@ -5,6 +5,9 @@ ghost use Rattle.mcs_laws.specs.Disciplines.{DisciplinesAgree};
 ghost use Rattle.mcs_laws.specs.Places.{ThreadsHaveOnePlace};
 ghost use Rattle.mcs_laws.specs.OnTime.{ThreadsAreOnTime};
 ghost use Rattle.mcs_laws.specs.Demand.{ThreadsRunWithinDemand};
+ghost use Rattle.mcs_laws.specs.InForce.{ContextsHaveTheBudgetInForce};
+ghost use Rattle.mcs_laws.specs.Shown.{ContextsAreShown};
+ghost use Rattle.mcs_laws.specs.Slices.{SlicesAreCharged, SlicesAreSpent};
 ghost use Rattle.mcs_laws.specs.Histories.{GivesBudgets, ContextsHaveHistories, ContextsHaveTheirBudgets, ContextsAreSpaced};
 
 /// A law of well-formed systems: each signal takes time, and each configuration that SchedControl accepts gives a budget of at least a
@@ -45,7 +48,8 @@ pub fn threads_have_one_place()
 {}
 
 /// A law of the clock: all that turns do to a context, from the opening on, is to charge it, to unblock it and to obey its orders. The
-/// charges are those that the rows of its thread's stops tell; each takes at least a tick and no more than the head then has.
+/// charges are those that the rows of its thread's stops tell; each takes at least a tick and no more than the head then has. It is
+/// unblocked by the wakes of its thread that the rows tell, at their moment, and by nothing else.
 pub fn contexts_have_histories()
     ensures { (system : System) → IsWellFormed system → ContextsHaveHistories system }
 {}
@@ -54,6 +58,26 @@ pub fn contexts_have_histories()
 /// than a period; of a slice at least a tick is left and at most the budget. Its running thread has used less than the head.
 pub fn contexts_keep_their_budgets()
     ensures { (system : System) → IsWellFormed system → ContextsHaveTheirBudgets system }
+{}
+
+/// A law of the clock: at each moment the configuration of a context is that of the last order for it, or else the file's, and the context
+/// is in good order with it. So a sporadic context has as many dates as that budget, in at most `2 + extra` refills, and a round robin one
+/// 1 to that budget left.
+pub fn contexts_have_the_budget_in_force()
+    ensures { (system : System) → IsWellFormed system → ContextsHaveTheBudgetInForce system }
+{}
+
+/// A law of views: at each moment the view of a context shows its whole budget in force, the ticks in use among it, and none in use unless
+/// its thread runs.
+pub fn contexts_are_shown()
+    ensures { (system : System) → IsWellFormed system → ContextsAreShown system }
+{}
+
+/// A law of the clock: where no order names a round robin context, the charges that the rows tell of it and what is left of its slice sum to
+/// its budget for each slice. So from one full slice to the next these charges sum to the budget.
+pub fn slices_are_spent_over_time()
+    ensures charges { (system : System) → IsWellFormed system → SlicesAreCharged system }
+    ensures full_slices { (system : System) → IsWellFormed system → SlicesAreSpent system }
 {}
 
 /// A law of the clock: of the dates that the charges of a sporadic context take, where no order names it, the one a whole budget later

@@ -3,8 +3,8 @@ ghost use Rattle.mcs_notify.specs.stored.Lines.{IsBest, BestLeaves, nth, place_o
 
 use mcs_ticks::ThreadId;
 
-/// The place of a thread: where it waits, its priority, and the thread behind it in its line. It means nothing where the thread
-/// waits nowhere, and the last of a line has no thread behind it.
+/// The place of a thread that waits: its priority, and the thread behind it in its line. The last of a line has none behind it, and
+/// of a thread that waits nowhere the place means nothing.
 #[derive(Clone, Copy, Debug)]
 pub(crate) struct Place {
     behind: ThreadId,

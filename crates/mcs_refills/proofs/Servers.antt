@@ -36,7 +36,7 @@ apart-refills_of low high [] h = tt
 apart-refills_of low high (u ∷ us) h =
     apart-with_date high u (refills_of us) (laid-refills_of (u + 1) high us (omega (arith, h.1)) h.2) (apart-refills_of (u + 1) high us h.2)
 
-laid-ends : (low high : ℕ) (r : Refill) (rs : List Refill) → IsLaid low high (r ∷ rs) → end_of (r ∷ rs) ≤ high
+pub laid-ends : (low high : ℕ) (r : Refill) (rs : List Refill) → IsLaid low high (r ∷ rs) → end_of (r ∷ rs) ≤ high
 laid-ends low high r [] h = h.1
 laid-ends low high r (s ∷ rs) h = laid-ends (r.begins + r.amount) high s rs h.1
 

@@ -10,7 +10,7 @@ more-times : (n m : ℕ) → (n + 1) * m ≡ n * m + m
 more-times n m = rw (add-one n) (suc-mul n m)
 
 -- from any slice on
-spent : (budget : ℕ) (ks : List ℕ) (left : ℕ) → AreWithin ks budget left → sum ks + left_after_all ks budget left ≡ left + times_used_up ks budget left * budget
+pub spent : (budget : ℕ) (ks : List ℕ) (left : ℕ) → AreWithin ks budget left → sum ks + left_after_all ks budget left ≡ left + times_used_up ks budget left * budget
 spent budget [] left h = omega arith
 spent budget (k ∷ ks) left h =
     rw (sum_by-cons (λ x. x) k ks)

@@ -1,8 +1,10 @@
 -- The definitions at worked values, each way of each choice once.
-use Rattle.std.specs.Prelude.{◌≡◌, ℕ, true, false, List, [], ◌∷◌, refl}
+use Rattle.std.specs.Prelude.{◌≡◌, ℕ, ◌<◌, ◌≤◌, true, false, List, [], ◌∷◌, refl}
+use native.Mathlib.Omega.{arith}
 use Rattle.mcs_refills.specs.declared.refill.Refill.{Refill}
 use Rattle.mcs_refills.specs.Server.{dates_of, refills_of, is_ready, charged, with_enough, unblocked, reconfigured}
 use Rattle.mcs_refills.specs.Slice.{slice_charged, slice_reconfigured, times_used_up, left_after_all}
+use Rattle.mcs_refills.specs.laws.Apart.{AreApart, HaveBudget, total_amount, last_end}
 use Rattle.mcs_refills.specs.laws.Spacing.{consumed}
 use Rattle.mcs_refills.specs.laws.Spacing.Step.{Charge, Unblock}
 
@@ -116,3 +118,29 @@ slices_used_up = refl
 
 left_of_the_last_slice : left_after_all (1 ∷ 2 ∷ 3 ∷ 2 ∷ []) 3 3 ≡ 1
 left_of_the_last_slice = refl
+
+-- refills apart: 7 ticks from 3 to 10, and 3 from 100 to 103
+amounts_sum : total_amount (r 3 7 ∷ r 100 3 ∷ []) ≡ 10
+amounts_sum = refl
+
+last_refill_ends : last_end (r 3 7 ∷ r 100 3 ∷ []) ≡ 103
+last_refill_ends = refl
+
+apart_is_a_gap : AreApart (r 3 7 ∷ r 100 3 ∷ []) ≡ ((1 ≤ 7) × (10 < 100) × (1 ≤ 3))
+apart_is_a_gap = refl
+
+-- 7 ticks from 3 on end at 10, where the next refill begins
+touching_refills_are_not_apart : AreApart (r 3 7 ∷ r 10 3 ∷ []) → ⊥
+touching_refills_are_not_apart h = omega (arith, h.1)
+
+-- and past 9
+overlapping_refills_are_not_apart : AreApart (r 3 7 ∷ r 9 3 ∷ []) → ⊥
+overlapping_refills_are_not_apart h = omega (arith, h.1)
+
+-- they span 100 ticks: from 3 to 103
+budget_of_10_in_100 : HaveBudget 10 100 2 (r 3 7 ∷ r 100 3 ∷ [])
+budget_of_10_in_100 = record { apart = (omega arith, omega arith, omega arith); all = refl; few = omega arith; short = omega arith }
+
+-- which is more than a period of 99
+too_long_for_99 : HaveBudget 10 99 2 (r 3 7 ∷ r 100 3 ∷ []) → ⊥
+too_long_for_99 h = omega (arith, h.short)

@@ -6,6 +6,7 @@ ghost use Rattle.mcs_report.specs.laws.Demand.{AreWithinDemand};
 ghost use Rattle.mcs_report.specs.Reports.{reports_of};
 ghost use Rattle.mcs_report.specs.Tally.{added, finished};
 ghost use Rattle.mcs_window.specs.laws.Merging.{rows_of_cores};
+ghost use Rattle.mcs_team.specs.Headline.{Headline};
 ghost use Rattle.mcs_team.specs.Windows.{AllAt, AreUntaken};
 
 use crate::windows::Windows;
@@ -20,13 +21,15 @@ use std::sync::Arc;
 
 /// The whole simulation up to the horizon, at most 2^40, on this thread, with its reports. The cores go in windows of `delay` moments,
 /// and one core alone in one window: no signal of a window arrives before the next. A thread whose context no order names runs at most
-/// its budget for each period that begins before the horizon, the first of them at moment 0.
+/// its budget for each period that begins before the horizon, the first of them at moment 0. At each moment of the run each context has its
+/// whole budget in force, in refills that neither touch nor overlap, or in a slice.
 pub fn simulate_alone(alloc: Global, system: Arc<System>, horizon: Tick) -> Result<Whole, SimFault>
     requires { horizon ≤ 2 ^ 40 }
     ensures rows { IfOk result (λ whole. whole.rows ≡ schedule (arc_value system) horizon) }
     ensures reports { IfOk result
         (λ whole. whole.reports ≡ reports_of (arc_value system) horizon (schedule (arc_value system) horizon)) }
     ensures demand { IfOk result (λ whole. AreWithinDemand (arc_value system) horizon whole.reports) }
+    ensures headline { IfOk result (λ whole. Headline (arc_value system) horizon whole.rows whole.reports) }
 {
     let windows = Windows::of(&system, horizon);
     let tally = Tally::new(alloc, &system, horizon)?;

@@ -1,6 +1,7 @@
-use super::play::{Letter, made_by};
+use super::play::{Letter, Made, made_by};
 use super::systems::{TWO_MAKERS, system};
 use mcs_ticks::{CoreId, NoteId, Row, ThreadId, What, Why};
+use std::alloc::Global;
 use std::process::Abort;
 use std::test::Fail;
 
@@ -59,35 +60,42 @@ const AFTER: [(u64, What); 5] = [
     (4, What::Run { thread: WAITER }),
 ];
 
-fn are(rt: &impl Abort, rows: &[Row], wanted: &[(u64, What)]) {
-    assert_eq!(rt; rows.len(), wanted.len());
-    for (row, (moment, what)) in rows.iter().zip(wanted) {
+fn are(rt: &impl Abort, rows: &[Row], first: &[(u64, What)], then: &[(u64, What)]) {
+    assert_eq!(rt; rows.len(), first.iter().chain(then).count());
+    for (row, (moment, what)) in rows.iter().zip(first.iter().chain(then)) {
         assert_eq!(rt; row.moment.get(), *moment);
         assert!(rt; row.what == *what);
     }
 }
 
+// Runs the core of the waiting thread up to moment 4, with these letters in its box.
+fn makes(
+    rt: &impl Abort,
+    alloc: Global,
+    letters: &[Letter],
+    after: &[(u64, What)],
+    left: usize,
+) -> Result<(), Fail> {
+    let made = made_of(alloc, letters)?;
+    are(rt, made.rows.as_slice(), BEFORE.as_slice(), after);
+    assert_eq!(rt; made.left, left);
+    Ok(())
+}
+
+fn made_of(alloc: Global, letters: &[Letter]) -> Result<Made, Fail> {
+    let makers = system(alloc, TWO_MAKERS)?;
+    made_by(alloc, &makers, 2, letters, 4, 1_000)
+}
+
 // What was made earlier is delivered before what a lower core made. With one delay for all cores no run has two such signals.
 #[test]
 fn made_before_maker(rt: HostRuntime) -> Result<(), Fail> {
-    let alloc = rt.alloc();
-    let makers = system(alloc, TWO_MAKERS)?;
     let letters = [Letter(4, 2, 0, 1), Letter(4, 1, 1, 2)];
-    let made = made_by(alloc, &makers, 2, &letters, 4, 1_000)?;
-    let (before, after) = made.rows.as_slice().split_at_checked(3).ok_or("rows")?;
-    are(&rt, before, BEFORE.as_slice());
-    are(&rt, after, AFTER.as_slice());
-    assert_eq!(rt; made.left, 0);
-    Ok(())
+    makes(&rt, rt.alloc(), &letters, AFTER.as_slice(), 0)
 }
 
 #[test]
 fn signals_beyond_the_horizon_stay(rt: HostRuntime) -> Result<(), Fail> {
-    let alloc = rt.alloc();
-    let makers = system(alloc, TWO_MAKERS)?;
     let letters = [Letter(10, 2, 0, 1), Letter(10, 2, 1, 2)];
-    let made = made_by(alloc, &makers, 2, &letters, 4, 1_000)?;
-    are(&rt, made.rows.as_slice(), BEFORE.as_slice());
-    assert_eq!(rt; made.left, 2);
-    Ok(())
+    makes(&rt, rt.alloc(), &letters, &[], 2)
 }

@@ -1,4 +1,4 @@
-use super::play::{Letter, made_by};
+use super::play::{Letter, Made, made_by};
 use super::systems::{OF_ALL_KINDS, TWO_MAKERS, system};
 use mcs_system::System;
 use std::alloc::Global;
@@ -15,13 +15,28 @@ fn makes_the_same(
 ) -> Result<(), Fail> {
     let whole = made_by(alloc, system, core, letters, 40, 1_000)?;
     assert!(rt; !whole.rows.is_empty());
+    is_made_again(rt, alloc, system, core, letters, &whole)
+}
+
+fn is_made_again(
+    rt: &impl Abort,
+    alloc: Global,
+    system: &System,
+    core: usize,
+    letters: &[Letter],
+    whole: &Made,
+) -> Result<(), Fail> {
     for turns in [1, 3] {
         let parts = made_by(alloc, system, core, letters, 40, turns)?;
-        assert!(rt; parts.rows.as_slice() == whole.rows.as_slice());
-        assert!(rt; parts.signals.as_slice() == whole.signals.as_slice());
-        assert_eq!(rt; parts.left, whole.left);
+        is_like(rt, &parts, whole);
     }
     Ok(())
+}
+
+fn is_like(rt: &impl Abort, made: &Made, wanted: &Made) {
+    assert!(rt; made.rows.as_slice() == wanted.rows.as_slice());
+    assert!(rt; made.signals.as_slice() == wanted.signals.as_slice());
+    assert_eq!(rt; made.left, wanted.left);
 }
 
 #[test]

@@ -1,31 +1,30 @@
 -- The views of the cores, dealt out in file order.
-use Rattle.std.proofs.Common.{◌≡◌, ◌≢◌, ℕ, zero, suc, ◌+◌, ◌<◌, Bool, true, false, List, [], ◌∷◌, ◌++◌, length, get_or, set, drop, Option, Some, None, inl, inr, refl, sym, ap, ◌∙◌, append-nil, subst, arith}
-use Rattle.std.specs.Prelude.{flat_map, nat_lt, slice_index, ◌==◌}
+use Rattle.std.proofs.Common.{◌≡◌, ◌≢◌, ℕ, zero, suc, ◌+◌, ◌<◌, ◌≤◌, Bool, true, false, List, [], ◌∷◌, ◌++◌, length, get_or, set, drop, Option, Some, None, inl, inr, refl, sym, ap, ◌∙◌, subst, arith}
+use Rattle.std.specs.Prelude.{map, nat_lt, slice_index, unwrap_or, ◌==◌}
 use Rattle.std.specs.List.{range_with_len}
 use Rattle.std.specs.declared.alloc.Global.{Global}
 use Rattle.std.specs.declared.collections.VecDeque.{VecDeque}
 use Rattle.std.proofs.lemmas.Bool.Decides.{eqb_tells, nat_tests}
 use Rattle.std.proofs.lemmas.List.{get_or-set_same, get_or-set_other, get_or_default, get_or_append_left, get_or_push, length-set, length_push}
+use Rattle.std.proofs.lemmas.List.FromFn.{map-range_with_len_more}
 use Rattle.mcs_mail.specs.Box.{Content}
 use Rattle.mcs_control.specs.declared.view.ContextView.{ContextView}
-use Rattle.mcs_control.specs.Context.{Context}
+use Rattle.mcs_control.specs.Context.{Context, view_of}
 use Rattle.mcs_core.specs.declared.standing.Chosen.{Chosen}
-use Rattle.mcs_merge.proofs.Merges.{flat_map-same}
 use Rattle.mcs_system.specs.declared.part.ContextPart.{ContextPart}
 use Rattle.mcs_system.specs.declared.part.SystemParts.{SystemParts}
 use Rattle.mcs_system.specs.System.{System, context_part, no_context}
 use Rattle.mcs_system.specs.WellFormed.{IsWellFormed}
-use Rattle.mcs_core.specs.Core.{Core}
+use Rattle.mcs_core.specs.Core.{Core, context_of}
 use Rattle.mcs_core.specs.Clock.{world, core_at}
-use Rattle.mcs_core.specs.Contexts.{is_some}
+use Rattle.mcs_core.specs.Contexts.{is_some, no_server}
 use Rattle.mcs_core.specs.stored.Sound.{has_context}
 use Rattle.mcs_core.specs.State.{State}
-use Rattle.mcs_core.specs.Views.{own_view, views_from, views_of}
+use Rattle.mcs_core.specs.Views.{using_of, own_view, views_from, views_of}
 use Rattle.mcs_window.specs.stored.Views.{AreQueued, AreBegun}
 use Rattle.mcs_window.specs.stored.Cores.{AreHere}
 use Rattle.mcs_window.specs.Stretch.{StandsAt}
 use Rattle.mcs_window.specs.Views.{view_in, views_in, views_at, views_before, AreStates}
-use Rattle.mcs_window.proofs.Ranges.{flat_map-join}
 
 abbrev Queue : Type 0
 Queue = VecDeque ContextView Global
@@ -64,9 +63,10 @@ module _ (system : System) where
   none_owned x running None e = refl
   none_owned x running (Some context) e = cc
 
-  one_owned : (x : ℕ) (running : Option Chosen) (context : Option Context) → is_some context ≡ true → (view : ContextView) × (own_view system x running context ≡ view ∷ [])
+  one_owned : (x : ℕ) (running : Option Chosen) (context : Option Context) → is_some context ≡ true →
+      own_view system x running context ≡ view_of x (using_of system x running) (unwrap_or context no_server) ∷ []
   one_owned x running None e = cc
-  one_owned x running (Some context) e = (_, refl)
+  one_owned x running (Some context) e = refl
 
   module _ (states : List State) (are : AreStates system states) where
     abbrev cores : State → ℕ → Core
@@ -80,7 +80,8 @@ module _ (system : System) where
     as_many d c l = ((are.fit c d l).sound (are.whole c d l)).contexts
 
     -- of the next context its own core has the view, and the others have none
-    next-own : (d : State) (x : ℕ) → (context_part system x).core < system.cores → x < length system.contexts → (view : ContextView) × (view_in system (cores d) x ≡ view ∷ [])
+    next-own : (d : State) (x : ℕ) → (context_part system x).core < system.cores → x < length system.contexts →
+        own_view system x (cores d (context_part system x).core).running (get_or (cores d (context_part system x).core).contexts x None) ≡ view_in system (cores d) x ∷ []
     next-own d x l k =
         one_owned x (cores d (context_part system x).core).running (get_or (cores d (context_part system x).core).contexts x None)
         (owns d (context_part system x).core x l k ∙ same (context_part system x).core)
@@ -97,33 +98,27 @@ module _ (system : System) where
     -- what the queue of the next context's core has
     at-head : (d : State) (x : ℕ) (queues : List Queue) (queue : Queue) → (context_part system x).core < system.cores → x < length system.contexts → AreQueued system states x queues →
         queue ≡ get_or queues (context_part system x).core queue →
-        queue.items ≡ view_in system (cores d) x ++ views_from system (suc x) (cores d (context_part system x).core).running (drop (x + 1) (cores d (context_part system x).core).contexts)
+        queue.items ≡ view_in system (cores d) x ∷ views_from system (suc x) (cores d (context_part system x).core).running (drop (x + 1) (cores d (context_part system x).core).contexts)
     at-head d x queues queue l k left at =
         ap (λ (q : Queue). q.items) at ∙ left.each (context_part system x).core queue d l
         ∙ next-views x (cores d (context_part system x).core).running (cores d (context_part system x).core).contexts (let many = as_many d (context_part system x).core l in omega arith)
+        ∙ ap (λ xs. xs ++ views_from system (suc x) (cores d (context_part system x).core).running (drop (x + 1) (cores d (context_part system x).core).contexts)) (next-own d x l k)
 
     -- it is not empty
     pub has-head : (d : State) (x : ℕ) (queues : List Queue) (queue : Queue) → (context_part system x).core < system.cores → x < length system.contexts → AreQueued system states x queues →
         queue ≡ get_or queues (context_part system x).core queue → queue.items ≡ [] → ⊥
-    has-head d x queues queue l k left at none = by (next-own d x l k)
-      where
-        by : (view : ContextView) × (view_in system (cores d) x ≡ view ∷ []) → ⊥
-        by (view, e) =
-            let f = at-head d x queues queue l k left at in
-            let g : [] ≡ view ∷ views_from system (suc x) (cores d (context_part system x).core).running (drop (x + 1) (cores d (context_part system x).core).contexts) = sym none ∙ f ∙ ap (λ xs. xs ++ views_from system (suc x) (cores d (context_part system x).core).running (drop (x + 1) (cores d (context_part system x).core).contexts)) e in
-            cc
+    has-head d x queues queue l k left at none =
+        let rest = views_from system (suc x) (cores d (context_part system x).core).running (drop (x + 1) (cores d (context_part system x).core).contexts) in
+        let g : [] ≡ view_in system (cores d) x ∷ rest = sym none ∙ at-head d x queues queue l k left at in
+        cc
 
     module _ (x : ℕ) (queues : List Queue) (queue next : Queue) (view : ContextView) (l : (context_part system x).core < system.cores) (k : x < length system.contexts) (left : AreQueued system states x queues)
         (at : queue ≡ get_or queues (context_part system x).core queue) (taken : queue.items ≡ view ∷ next.items) where
-      dealt-view : (d : State) → (view_in system (cores d) x ≡ view ∷ []) × (next.items ≡ views_from system (suc x) (cores d (context_part system x).core).running (drop (x + 1) (cores d (context_part system x).core).contexts))
-      dealt-view d = by (next-own d x l k)
-        where
-          by : (v : ContextView) × (view_in system (cores d) x ≡ v ∷ []) →
-              (view_in system (cores d) x ≡ view ∷ []) × (next.items ≡ views_from system (suc x) (cores d (context_part system x).core).running (drop (x + 1) (cores d (context_part system x).core).contexts))
-          by (v, e) =
-              let rest = views_from system (suc x) (cores d (context_part system x).core).running (drop (x + 1) (cores d (context_part system x).core).contexts) in
-              let g : view ∷ next.items ≡ v ∷ rest = sym taken ∙ at-head d x queues queue l k left at ∙ ap (λ xs. xs ++ rest) e in
-              (let same : view ≡ v = cc in e ∙ ap (λ w. w ∷ []) (sym same), let others : next.items ≡ rest = cc in others)
+      dealt-view : (d : State) → (view_in system (cores d) x ≡ view) × (next.items ≡ views_from system (suc x) (cores d (context_part system x).core).running (drop (x + 1) (cores d (context_part system x).core).contexts))
+      dealt-view d =
+          let rest = views_from system (suc x) (cores d (context_part system x).core).running (drop (x + 1) (cores d (context_part system x).core).contexts) in
+          let g : view ∷ next.items ≡ view_in system (cores d) x ∷ rest = sym taken ∙ at-head d x queues queue l k left at in
+          (let same : view_in system (cores d) x ≡ view = cc in same, let others : next.items ≡ rest = cc in others)
 
       pub dealt-left : AreQueued system states (x + 1) (set queues (context_part system x).core next)
       dealt-left =
@@ -144,13 +139,12 @@ module _ (system : System) where
           one : suc x ≡ x + 1
           one = omega arith
 
-      pub dealt-more : (views more : List ContextView) → ((d : State) → views ≡ flat_map (view_in system (cores d)) (range_with_len 0 x)) → more ≡ views ++ view ∷ [] →
-          (d : State) → more ≡ flat_map (view_in system (cores d)) (range_with_len 0 (x + 1))
+      pub dealt-more : (views more : List ContextView) → ((d : State) → views ≡ map (view_in system (cores d)) (range_with_len 0 x)) → more ≡ views ++ view ∷ [] →
+          (d : State) → more ≡ map (view_in system (cores d)) (range_with_len 0 (x + 1))
       dealt-more views more h e d =
-          let z : 0 + x ≡ x = omega arith in
           e ∙ ap (λ xs. xs ++ view ∷ []) (h d)
-          ∙ ap (λ xs. flat_map (view_in system (cores d)) (range_with_len 0 x) ++ xs) (sym (dealt-view d).0 ∙ sym (append-nil (view_in system (cores d) x)) ∙ ap (λ m. flat_map (view_in system (cores d)) (range_with_len m 1)) (sym z))
-          ∙ flat_map-join (view_in system (cores d)) x 1 0
+          ∙ ap (λ v. map (view_in system (cores d)) (range_with_len 0 x) ++ v ∷ []) (sym (dealt-view d).0)
+          ∙ sym (map-range_with_len_more (view_in system (cores d)) 0 x x (omega arith))
 
 -- the part of the context that is next
 pub part-at : (system : System) (x k : ℕ) (parts : SystemParts) (contexts : List ContextPart) (part : ContextPart) → parts ≡ system → contexts ≡ parts.contexts → x < length contexts →
@@ -177,19 +171,26 @@ states-here system clocks states boxes many here =
     stands : (c : ℕ) (x : State) → c < system.cores → StandsAt system c (slice_index clocks c) (get_or states c x)
     stands c x l = (here c x (record { mails = []; spare = 0 }) l).state_is
 
+map-same : (f g : ℕ → ContextView) (n a : ℕ) → ((i : ℕ) → a ≤ i → i < a + n → f i ≡ g i) → map f (range_with_len a n) ≡ map g (range_with_len a n)
+map-same f g zero a h = refl
+map-same f g (suc n) a h = both _ _ _ _ (h a (omega arith) (omega arith)) (map-same f g n (a + 1) (λ i p q. h i (omega arith) (omega arith)))
+  where
+    both : (x y : ContextView) (xs ys : List ContextView) → x ≡ y → xs ≡ ys → x ∷ xs ≡ y ∷ ys
+    both x y xs ys e k = cc
+
 -- the views of states that stand as the clock has them are those of the clock
 pub views-here : (system : System) → IsWellFormed system → (clocks : List ℕ) (states : List State) (boxes : List Content) → AreHere system clocks states boxes → (d : State) →
     views_in system (λ c. (get_or states c d).core) ≡ views_at system clocks
 views-here system well clocks states boxes here d =
-    flat_map-same (view_in system (λ c. (get_or states c d).core)) (view_in system (λ c. core_at system (world system (slice_index clocks c)) c)) (length system.contexts) 0
+    map-same (view_in system (λ c. (get_or states c d).core)) (view_in system (λ c. core_at system (world system (slice_index clocks c)) c)) (length system.contexts) 0
     (λ x _ l.
     let k = core-known system well x (omega arith) in
-    ap (λ (core : Core). own_view system x core.running (get_or core.contexts x None)) (here (context_part system x).core d (record { mails = []; spare = 0 }) k).state_is.core_is)
+    ap (λ (core : Core). view_of x (using_of system x core.running) (context_of core x)) (here (context_part system x).core d (record { mails = []; spare = 0 }) k).state_is.core_is)
 
 -- where all clocks are at one moment, the views are those before it
 pub views-at_one : (system : System) → IsWellFormed system → (clocks : List ℕ) (t : ℕ) → ((c : ℕ) → c < system.cores → slice_index clocks c ≡ t) → views_at system clocks ≡ views_before system t
 views-at_one system well clocks t at =
-    flat_map-same (view_in system (λ c. core_at system (world system (slice_index clocks c)) c)) (view_in system (λ c. core_at system (world system t) c)) (length system.contexts) 0
+    map-same (view_in system (λ c. core_at system (world system (slice_index clocks c)) c)) (view_in system (λ c. core_at system (world system t) c)) (length system.contexts) 0
     (λ x _ l.
     let k = core-known system well x (omega arith) in
-    ap (λ m. let core = core_at system (world system m) (context_part system x).core in own_view system x core.running (get_or core.contexts x None)) (at (context_part system x).core k))
+    ap (λ m. let core = core_at system (world system m) (context_part system x).core in view_of x (using_of system x core.running) (context_of core x)) (at (context_part system x).core k))

@@ -1,7 +1,7 @@
 ghost use Rattle.std.specs.Prelude.{◌≡◌, ◌≤◌, ◌<◌, ◌^◌, ◌+◌, ℕ, true, false, IfOk, OnOk, OnErr, IfErr, IfSome, IfNone, IsErr, IsTrue};
 ghost use Rattle.std.specs.Arc.{arc_value};
 ghost use Rattle.mcs_window.specs.Stretch.{rows_between, NothingArrivesBefore};
-ghost use Rattle.mcs_window.specs.Views.{views_at};
+ghost use Rattle.mcs_window.specs.Views.{views_at, AreShownAt};
 ghost use Rattle.mcs_window.specs.Progress.{Progress, opening_progress, clock_of, taken_of, advanced, stepped, with_taken, with_failed, after_fault, IsReady, IsFault, IsBehind, IsFirstBehind};
 
 use crate::StepFault;
@@ -118,9 +118,11 @@ impl Cores {
         Ok(())
     }
 
-    /// The contexts of all cores in file order, each as its core has it at its clock. After a step's `NoMemory` it answers it too.
+    /// The contexts of all cores in file order, each once, as its core has it at its clock: it shows its whole budget in force then, and no
+    /// ticks in use unless its thread runs. After a step's `NoMemory` it answers it too.
     pub fn contexts(&self, alloc: Global) -> Result<Vec<ContextView>, NoMemory>
         ensures views { IfOk result (λ views. views.items ≡ views_at self.now.system self.now.clocks) }
+        ensures budgets { IfOk result (λ views. AreShownAt self.now.system self.now.clocks views.items) }
         ensures failed { IsTrue self.now.failed → IsErr result }
     {
         if self.failed {

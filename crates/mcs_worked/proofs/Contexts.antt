@@ -3,12 +3,14 @@ use Rattle.std.specs.Prelude.{◌≡◌, ℕ, ◌+◌, List, [], ◌∷◌, Some
 use Rattle.std.specs.List.{range_with_len}
 use Rattle.mcs_refills.specs.declared.refill.Refill.{Refill}
 use Rattle.mcs_control.specs.declared.view.ContextView.{ContextView}
+use Rattle.mcs_control.specs.Context.Budget.{Dates}
 use Rattle.mcs_system.specs.System.{System}
 use Rattle.mcs_core.specs.Clock.{world, core_at}
 use Rattle.mcs_core.specs.Views.{views_of}
 use Rattle.mcs_laws.specs.Changes.{Change, changed_by, taken_by}
-use Rattle.mcs_laws.specs.Changes.Change.{Charged, Ordered}
-use Rattle.mcs_laws.specs.Histories.{charges_at, context_before, opening_context}
+use Rattle.mcs_laws.specs.Changes.Change.{Charged, Unblocked, Ordered}
+use Rattle.mcs_laws.specs.Histories.{charges_at, unblocks_at, context_before, opening_context}
+use Rattle.mcs_laws.specs.Slices.{charges_from, HasLeft, IsOneSlice}
 use Rattle.mcs_worked.specs.Parts.{order}
 use Rattle.mcs_worked.proofs.Schedules as worked
 
@@ -69,3 +71,28 @@ mixed_changes = Charged 3 ∷ Ordered (order 4 1 2 8 0) ∷ []
 left_by_an_order :
     changed_by 1 mixed_changes (opening_context worked.arrival_before_order_before_release_system 1) ≡ context_before worked.arrival_before_order_before_release_system 1 5
 left_by_an_order = refl
+
+-- a round robin context of 3: it is charged 1 at moment 1, where its thread is preempted, and 2 at moment 4, where the slice is used up; so
+-- from the full slice at first to the next one, before moment 5, it is charged its budget
+slice_is_charged : charges_from worked.round_robin_takes_turns_system 0 0 5 ≡ 1 ∷ 2 ∷ []
+slice_is_charged = refl
+
+one_slice : IsOneSlice worked.round_robin_takes_turns_system 0 0 5
+one_slice = record { full = refl; next = refl; once = refl }
+
+-- before moment 4 one tick of it is charged, and two are left
+slice_in_part : HasLeft worked.round_robin_takes_turns_system 0 4 2
+slice_in_part = refl
+
+-- one whose thread waits after a tick, and is woken at moment 4: nothing else unblocks the context
+told_of_the_wake : flat_map (unblocks_at worked.arrival_before_order_before_release_system 0) (range_with_len 0 5) ≡ 4 ∷ []
+told_of_the_wake = refl
+
+-- of the dates 1, 2 and 20 that the charge left the first two become 4 and 5
+left_by_a_wake :
+    changed_by 1 (Charged 1 ∷ Unblocked 4 ∷ []) (opening_context worked.arrival_before_order_before_release_system 0)
+    ≡ context_before worked.arrival_before_order_before_release_system 0 5
+left_by_a_wake = refl
+
+dates_after_the_wake : (context_before worked.arrival_before_order_before_release_system 0 5).budget ≡ Dates (4 ∷ 5 ∷ 20 ∷ [])
+dates_after_the_wake = refl

@@ -57,14 +57,15 @@ IsBest places first len best =
 abbrev pub with_back : ℕ → Line → Line
 with_back thread line = record { first = if line.len == 0 then thread else line.first; last = thread; len = line.len + 1 }
 
--- the thread that is to name it: itself in a line with no thread
+-- the thread behind which it enters: itself in a line with no thread
 abbrev pub before_back : ℕ → Line → ℕ
 before_back thread line = if line.len == 0 then thread else line.last
 
--- the places where that one names this one
+-- the places, where the one before names this thread as the one behind it
 abbrev pub named : ℕ → ℕ → List Place → List Place
 named before thread places = set places before (record { behind = thread; priority = (place_of places before).priority })
 
+-- the places, where a thread enters a line at its back
 abbrev pub joined : ℕ → ℕ → Line → List Place → List Place
 joined thread priority line places = named (before_back thread line) thread (set places thread (record { behind = thread; priority = priority }))
 
@@ -76,6 +77,7 @@ without_waiter one behind line = record {
   len = line.len - 1;
 }
 
+-- the places, where a waiter leaves its line
 abbrev pub unlinked : Waiter → List Place → List Place
 unlinked one places = named one.before (place_of places one.thread).behind places
 
@@ -99,7 +101,7 @@ abbrev pub times_in : ℕ → List Note → ℕ
 times_in thread [] = 0
 times_in thread (note ∷ notes) = times thread note.waiters + times_in thread notes
 
--- a notification on which nothing was posted
+-- a notification with no word and no waiter, as it is made
 abbrev pub quiet : Kept
 quiet = record { word = 0; line = record { first = 0; last = 0; len = 0 } }
 

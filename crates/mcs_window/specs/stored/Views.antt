@@ -1,5 +1,5 @@
 -- The views of each core, of which those of the first contexts were dealt out.
-use Rattle.std.specs.Prelude.{◌≡◌, ℕ, ◌<◌, List, drop, flat_map, length, slice_index_or}
+use Rattle.std.specs.Prelude.{◌≡◌, ℕ, ◌<◌, List, drop, map, length, slice_index_or}
 use Rattle.std.specs.List.{range_with_len}
 use Rattle.std.specs.declared.alloc.Global.{Global}
 use Rattle.std.specs.declared.collections.VecDeque.{VecDeque}
@@ -22,4 +22,4 @@ pub record AreBegun (system : System) (states : List State) (begun : ℕ) (queue
 -- the views of the contexts below this number were dealt out
 pub record AreDealt (system : System) (states : List State) (dealt : ℕ) (queues : List (VecDeque ContextView Global)) (views : List ContextView) : Type 0 where
   pub left : AreQueued system states dealt queues
-  pub are : (x : State) → views ≡ flat_map (view_in system (λ c. (slice_index_or states c x).core)) (range_with_len 0 dealt)
+  pub are : (x : State) → views ≡ map (view_in system (λ c. (slice_index_or states c x).core)) (range_with_len 0 dealt)

@@ -1,5 +1,5 @@
 use Rattle.std.proofs.Common.{◌≡◌, ◌+◌, ◌<◌, ◌∙◌, List, [], ◌∷◌, length, get_or, set, refl, ap, sym, subst, arith}
-use Rattle.std.specs.Prelude.{flat_map}
+use Rattle.std.specs.Prelude.{map}
 use Rattle.std.specs.List.{range_with_len}
 use Rattle.mcs_control.specs.declared.view.ContextView.{ContextView}
 use Rattle.mcs_system.specs.declared.part.SystemParts.{SystemParts}
@@ -49,4 +49,4 @@ returns c =
     let s = c.args.system.now in
     let same : length c.as_slice-contexts.result.now ≡ length s.contexts = ap length c.as_slice-contexts.ensures ∙ ap (λ (parts : SystemParts). length parts.contexts) c.parts.ensures.same in
     let all : c.loop-context.context-index ≡ length s.contexts = omega arith in
-    λ d. c.loop-context.invariant.are d ∙ ap (λ n. flat_map (view_in s (λ k. (get_or c.args.states.now k d).core)) (range_with_len 0 n)) all
+    λ d. c.loop-context.invariant.are d ∙ ap (λ n. map (view_in s (λ k. (get_or c.args.states.now k d).core)) (range_with_len 0 n)) all

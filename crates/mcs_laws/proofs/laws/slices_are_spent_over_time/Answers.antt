@@ -1,0 +1,8 @@
+use Rattle.mcs_laws.proofs.Slices.{slices-charged, slices-spent}
+use Rattle.mcs_laws.proofs.laws.slices_are_spent_over_time.Goals as goal
+
+pub returns-clause-charges : goal.returns-clause-charges
+returns-clause-charges c = slices-charged
+
+pub returns-clause-full_slices : goal.returns-clause-full_slices
+returns-clause-full_slices c = slices-spent
