@@ -29,7 +29,6 @@ may_stop-requires c =
 
 pub returns : goal.returns
 returns c =
-    let item = item_of c.args.here.now.system.now c.args.thread c.args.self.now in
     let Stops : Option Item → Type 0 = λ item. OnOk c.may_stop.result
     (Makes c.args.here.now (finishes by_priority c.args.here.now.system.now c.args.here.now.core c.args.here.now.moment c.args.thread c.args.used item c.args.self.now)
     c.may_stop.new.self c.args.log.now c.may_stop.new.log) in

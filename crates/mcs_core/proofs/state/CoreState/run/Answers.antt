@@ -1,4 +1,4 @@
-use Rattle.std.proofs.Common.{◌≡◌, ◌-◌, ◌+◌, [], sym, ap, ◌∙◌, arith, false}
+use Rattle.std.proofs.Common.{◌≡◌, ◌-◌, ◌+◌, [], refl, sym, ap, ◌∙◌, arith, rules, false}
 use Rattle.std.specs.Prelude.{max}
 use Rattle.mcs_core.specs.Orders.{orders_of, to_come}
 use Rattle.mcs_core.specs.State.{State, made_by}
@@ -25,6 +25,13 @@ turns-preserved c =
           (made_by c.args.system.now c.args.self.now c.args.to c.args.mail.now.mails) (omega arith) i.runs state mail
           (if_ok c.step.result _ fine c.step.ensures.rows) (if_ok c.step.result _ fine c.step.ensures.signals);
     }
+
+-- a state that was refused memory owes nothing but its number and its clock
+pub returns-then-is_err-clause-fits : goal.returns-then-is_err-clause-fits
+returns-then-is_err-clause-fits c = record { known = search rules; early = search rules; sound = λ f. cc; orders = λ f. cc }
+
+pub returns-then-is_err-clause-failed : goal.returns-then-is_err-clause-failed
+returns-then-is_err-clause-failed c = refl
 
 over : (c : goal.After-turns) → c.args.to - c.turns.self.clock ≡ 0
 over c =
