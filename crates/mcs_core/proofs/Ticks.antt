@@ -157,7 +157,7 @@ module _ (system : System) (number from : ℕ) (each : IsOneEach system) where
       gone : IsSound system number from PastTick (Some (record { thread = chosen.thread; standing = Done })) (off core)
       gone = off-sound system number from each InTick PastTick chosen.thread chosen.using Running Done core (loosened system number from InTick chosen.thread Running core r.stands h) refl refl refl refl refl
 
-      back : (k : ℕ) (cause : AfterItem) → 1 ≤ k → IsSound system number from PastTick None (stops_to_back by_priority system t chosen.thread cause k core).core
+      back : (k : ℕ) (cause : Why) → 1 ≤ k → IsSound system number from PastTick None (stops_to_back by_priority system t chosen.thread cause k core).core
       back k cause some = stops_to_back-sound system number from each PastTick t chosen.thread k cause core l f gone p some
 
       stays : (chosen.using == head_amount (its_context system chosen.thread core)) ≡ false → IsSound system number from PastTick None core
@@ -254,7 +254,7 @@ module _ (system : System) (number from : ℕ) (each : IsOneEach system) where
       counted : (chosen : Chosen) → IsSound system number from InTick None (counts chosen core) → IsSound system number from PastTick None (after_count by_priority system c t chosen.thread (chosen.using + 1) (counts chosen core)).core
       counted chosen i = ends ((thread_of (counts chosen core) chosen.thread).place.left == 0)
         where
-          ends : (b : Bool) → IsSound system number from PastTick None (cond b (finishes by_priority system c t chosen.thread (chosen.using + 1) (item_of system chosen.thread (counts chosen core)) (counts chosen core)) (may_stop by_priority system t chosen.thread (chosen.using + 1) why.Spent (counts chosen core))).core
+          ends : (b : Bool) → IsSound system number from PastTick None (cond b (finishes by_priority system c t chosen.thread (chosen.using + 1) (item_of system chosen.thread (counts chosen core)) (counts chosen core)) (may_stop by_priority system t chosen.thread (chosen.using + 1) after.GoesOn (counts chosen core))).core
           ends true = finishes-sound c t (record { thread = chosen.thread; using = chosen.using + 1 }) (item_of system chosen.thread (counts chosen core)) (counts chosen core) l f (noted chosen.thread (thread_of (counts chosen core) chosen.thread).place.item) i refl
           ends false = may_stop-sound c t (record { thread = chosen.thread; using = chosen.using + 1 }) after.GoesOn (counts chosen core) l f i refl (λ f. cc)
 

@@ -90,14 +90,14 @@ module _ (system : System) where
 
 -- the parts of a turn
 module _ (system : System) (t : ℕ) where
-  stops_to_back-alike : (x : ℕ) (cause : AfterItem) (n : ℕ) (k : Core) →
+  stops_to_back-alike : (x : ℕ) (cause : Why) (n : ℕ) (k : Core) →
       sorted_turn (turns.stops_to_back in_one_list system t x cause n k) ≡ turns.stops_to_back by_priority system t x cause n (with_queue_sorted k)
   stops_to_back-alike x cause n k =
       let made = turns.stops_to_back in_one_list system t x cause n k in
       ap (λ core. record { core = core; rows = made.rows; mails = made.mails })
       (enters_back-alike system x (turns.date_of system t x (turns.charged system x n k)) (off (turns.charged system x n k)))
 
-  stops_to_front-alike : (x : ℕ) (cause : AfterItem) (n : ℕ) (k : Core) →
+  stops_to_front-alike : (x : ℕ) (cause : Why) (n : ℕ) (k : Core) →
       sorted_turn (turns.stops_to_front in_one_list system t x cause n k) ≡ turns.stops_to_front by_priority system t x cause n (with_queue_sorted k)
   stops_to_front-alike x cause n k =
       let made = turns.stops_to_front in_one_list system t x cause n k in

@@ -236,12 +236,12 @@ module _ (system : System) (t x : ℕ) where
           moved (head k) (head (turns.charged system y n k)) (suc t) None k.ready k.releases (ap head_moment (sym (other-moment y k _ other)))
           (record { runs = tt; ready = h.ready; pends = h.pends })
 
-  stops_to_back-on_time : (y : ℕ) (cause : AfterItem) (n : ℕ) (k : Core) → (Owns y → IsFree y k) → OnTime k → OnTime (turns.stops_to_back by_priority system t y cause n k).core
+  stops_to_back-on_time : (y : ℕ) (cause : Why) (n : ℕ) (k : Core) → (Owns y → IsFree y k) → OnTime k → OnTime (turns.stops_to_back by_priority system t y cause n k).core
   stops_to_back-on_time y cause n k free h =
       let after = turns.charged system y n k in
       enters_back-on_time y (turns.date_of system t y after) (off after) (fits y (off after)) (charged-on_time y n k free h)
 
-  stops_to_front-on_time : (y : ℕ) (cause : AfterItem) (n : ℕ) (k : Core) → OnTime (off k) → OnTime (turns.stops_to_front by_priority system t y cause n k).core
+  stops_to_front-on_time : (y : ℕ) (cause : Why) (n : ℕ) (k : Core) → OnTime (off k) → OnTime (turns.stops_to_front by_priority system t y cause n k).core
   stops_to_front-on_time y cause n k h = enters_front-on_time y (turns.date_of system t y k) (off k) (fits y (off k)) h
 
   -- an order for another context

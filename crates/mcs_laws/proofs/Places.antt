@@ -219,11 +219,11 @@ module _ (system : System) (t y : ℕ) where
   each-held part h (x ∷ xs) k = omega (arith, h x k, each-held part h xs (part x k).core)
 
   -- a thread that stops and enters again
-  stops_to_front-held : (x using n : ℕ) (cause : AfterItem) (k : Core) → k.running ≡ Some (record { thread = x; using = using }) →
+  stops_to_front-held : (x using n : ℕ) (cause : Why) (k : Core) → k.running ≡ Some (record { thread = x; using = using }) →
       held (turns.stops_to_front by_priority system t x cause n k).core ≤ held k
   stops_to_front-held x using n cause k e = omega (arith, enters_front-held x (turns.date_of system t x k) (off k), off-held k x using e)
 
-  stops_to_back-held : (x using n : ℕ) (cause : AfterItem) (k : Core) → k.running ≡ Some (record { thread = x; using = using }) →
+  stops_to_back-held : (x using n : ℕ) (cause : Why) (k : Core) → k.running ≡ Some (record { thread = x; using = using }) →
       held (turns.stops_to_back by_priority system t x cause n k).core ≤ held k
   stops_to_back-held x using n cause k e =
       omega (arith, enters_back-held x (turns.date_of system t x (turns.charged system x n k)) (off (turns.charged system x n k)), off-held (turns.charged system x n k) x using e)
@@ -308,7 +308,7 @@ module _ (system : System) (c t y : ℕ) where
       by false = refl
 
   -- a stop of the running thread
-  stops-held : (x using : ℕ) (cause : AfterItem) (standing : Standing) (k : Core) → k.running ≡ Some (record { thread = x; using = using }) →
+  stops-held : (x using : ℕ) (cause : Why) (standing : Standing) (k : Core) → k.running ≡ Some (record { thread = x; using = using }) →
       held system t y (turns.stops system x cause using standing k).core + one y x ≡ held system t y k
   stops-held x using cause standing k e = off-held system t y (turns.charged system x using k) x using e
 

@@ -71,7 +71,7 @@ module _ (system : System) (c t x : ℕ) where
   quiet o made e = omega (arith, ap used e)
 
   -- a stop
-  stop : (y using k : ℕ) (cause : AfterItem) (until : Option ℕ) (o : Option Chosen) (made : Turn) → o ≡ Some (record { thread = y; using = using }) →
+  stop : (y using k : ℕ) (cause : Why) (until : Option ℕ) (o : Option Chosen) (made : Turn) → o ≡ Some (record { thread = y; using = using }) →
       made.rows ≡ row.Stop y cause k until ∷ [] → (y ≡ x → using ≤ k) → Spends o made
   stop y using k cause until o made e f l =
       let now : used o ≡ cond (y == x) using 0 = ap used e in

@@ -248,7 +248,7 @@ module _ (queue : Discipline) (system : System) (c t x : ℕ) where
   each_part P part h (y ∷ ys) core = then_part P P P [] [] core (part y core) (each part ys) (h y core) (λ k. each_part P part h ys k)
 
   -- a charge that a stop tells, after which nobody runs
-  charging : (P Q : Option Chosen → Context → Type 0) (y k : ℕ) (cause : AfterItem) (until : Option ℕ) (core : Core) (made : Turn) →
+  charging : (P Q : Option Chosen → Context → Type 0) (y k : ℕ) (cause : Why) (until : Option ℕ) (core : Core) (made : Turn) →
       made.core.contexts ≡ (turns.charged system y k core).contexts → made.rows ≡ row.Stop y cause k until ∷ [] →
       (Own y → KeepsItsBudget (context_of core x) → holds P core → (1 ≤ k) × (k ≤ head_amount (context_of core x))) →
       holds Q made.core → Traced P Q [] core made
@@ -488,10 +488,10 @@ module _ (queue : Discipline) (system : System) (c t x : ℕ) where
   counts-steady y using o k p = record { runs = p.runs; uses = λ own. ((p.uses own).0, omega (arith, (p.uses own).1, head_amount-unblocked t k)) }
 
   -- a stop, of what the running thread has used or of the whole head
-  stops-traced : (y using : ℕ) (cause : AfterItem) (standing : Standing) (core : Core) → Traced (Counts y using) (Uses 1 1) [] core (turns.stops system y cause using standing core)
+  stops-traced : (y using : ℕ) (cause : Why) (standing : Standing) (core : Core) → Traced (Counts y using) (Uses 1 1) [] core (turns.stops system y cause using standing core)
   stops-traced y using cause standing core = charging (Counts y using) (Uses 1 1) y using cause None core _ refl refl (λ own kept p. p.uses own) tt
 
-  stops_to_back-traced : (P : Option Chosen → Context → Type 0) (y k : ℕ) (cause : AfterItem) (core : Core) →
+  stops_to_back-traced : (P : Option Chosen → Context → Type 0) (y k : ℕ) (cause : Why) (core : Core) →
       (Own y → KeepsItsBudget (context_of core x) → holds P core → (1 ≤ k) × (k ≤ head_amount (context_of core x))) →
       Traced P (Uses 1 1) [] core (turns.stops_to_back queue system t y cause k core)
   stops_to_back-traced P y k cause core h =

@@ -104,7 +104,7 @@ module _ (x : ℕ) where
   by_test P false u v p q = q
 
   -- the running thread stops
-  stop_row : (y k : ℕ) (cause : AfterItem) (date : Option ℕ) (running : Option Chosen) (using : ℕ) → running ≡ Some (record { thread = y; using = using })
+  stop_row : (y k : ℕ) (cause : Why) (date : Option ℕ) (running : Option Chosen) (using : ℕ) → running ≡ Some (record { thread = y; using = using })
       → (after_row (row.Stop y cause k date) (is_open running) ≡ false) × (is_open running ≡ false → stops x (row.Stop y cause k date) ≡ false)
   stop_row y k cause date running using e =
       (ap (λ o. cond (y == x) false (is_open o)) e ∙ by (y == x), λ f. sym (ap is_open e) ∙ f)
@@ -113,7 +113,7 @@ module _ (x : ℕ) where
       by true = refl
       by false = refl
 
-  quits-stop : (y k using : ℕ) (cause : AfterItem) (date : Option ℕ) (from : Core) (turn : Turn) → from.running ≡ Some (record { thread = y; using = using })
+  quits-stop : (y k using : ℕ) (cause : Why) (date : Option ℕ) (from : Core) (turn : Turn) → from.running ≡ Some (record { thread = y; using = using })
       → turn.rows ≡ row.Stop y cause k date ∷ [] → turn.core.running ≡ None → Quits from turn
   quits-stop y k using cause date from turn e rows gone =
       let s = stop_row y k cause date from.running using e in
@@ -168,7 +168,7 @@ module _ (system : System) (t x : ℕ) where
   silent-quits : (k after : Core) → after.running ≡ k.running → Quits x k (silent after)
   silent-quits k after e = plain-quits x k (silent after) record { running = e; rows = tt }
 
-  stops_to_front-quits : (y using k : ℕ) (cause : AfterItem) (from core : Core) → from.running ≡ Some (record { thread = y; using = using })
+  stops_to_front-quits : (y using k : ℕ) (cause : Why) (from core : Core) → from.running ≡ Some (record { thread = y; using = using })
       → Quits x from (turns.stops_to_front by_priority system t y cause k core)
   stops_to_front-quits y using k cause from core e =
       quits-stop x y k using cause (turns.date_of system t y core) from (turns.stops_to_front by_priority system t y cause k core) e refl
@@ -215,7 +215,7 @@ module _ (system : System) (t x : ℕ) where
 
 -- the end of the tick, the choice, and the whole turn
 module _ (system : System) (c t x : ℕ) where
-  stops_to_back-quits : (y using k : ℕ) (cause : AfterItem) (core : Core) → core.running ≡ Some (record { thread = y; using = using })
+  stops_to_back-quits : (y using k : ℕ) (cause : Why) (core : Core) → core.running ≡ Some (record { thread = y; using = using })
       → Quits x core (turns.stops_to_back by_priority system t y cause k core)
   stops_to_back-quits y using k cause core e =
       let after = turns.charged system y k core in
