@@ -21,6 +21,8 @@ use Rattle.mcs_script.specs.declared.moved.Moved.TheVariants.{Next, RoundEnds, A
 use Rattle.mcs_mail.specs.declared.mail.Mail.{Mail}
 use Rattle.mcs_system.specs.System.{System, note_part, thread_part, delay_between}
 use Rattle.mcs_core.specs.Core.{Core, note_of, thread_of}
+use Rattle.mcs_core.specs.declared.standing.AfterItem.{AfterItem}
+use Rattle.mcs_core.specs.declared.standing.AfterItem.TheVariants as after
 use Rattle.mcs_core.specs.declared.standing.Chosen.{Chosen}
 use Rattle.mcs_release.specs.Release.{is_due}
 use Rattle.mcs_core.specs.Turn as turns
@@ -140,21 +142,19 @@ module _ (queue : Discipline) (system : System) (c t : ℕ) where
   takes_effect-out x i (Some Yield) core e = IsOutgoing-none _ (moves_on-none x core)
   takes_effect-out x i None core e = tt
 
-  pub may_stop-none : (x using : ℕ) (cause : Why) (core : Core) → (turns.may_stop queue system t x using cause core).mails ≡ []
-  may_stop-none x using why.Done core = refl
-  may_stop-none x using why.Wait core = refl
-  may_stop-none x using why.Yield core = refl
-  may_stop-none x using why.Spent core = cond-none (using == head_amount (turns.its_context system x core)) _ _ refl refl
-  may_stop-none x using why.Preempt core = cond-none (using == head_amount (turns.its_context system x core)) _ _ refl refl
-  may_stop-none x using why.Order core = cond-none (using == head_amount (turns.its_context system x core)) _ _ refl refl
+  pub may_stop-none : (x using : ℕ) (cause : AfterItem) (core : Core) → (turns.may_stop queue system t x using cause core).mails ≡ []
+  may_stop-none x using after.Ends core = refl
+  may_stop-none x using after.Blocks core = refl
+  may_stop-none x using after.Yields core = refl
+  may_stop-none x using after.GoesOn core = cond-none (using == head_amount (turns.its_context system x core)) _ _ refl refl
 
   finishes-out : (x i using : ℕ) (item : Option Item) (core : Core) → slice_get (thread_part system x).script i ≡ item → IsOutgoing (turns.finishes queue system c t x using item core).mails
   finishes-out x i using item core e =
-      IsOutgoing-append (turns.takes_effect queue system c t x item core).mails _ (takes_effect-out x i item core e) (may_stop-none x using (turns.stop_after system x item core) _)
+      IsOutgoing-append (turns.takes_effect queue system c t x item core).mails _ (takes_effect-out x i item core e) (may_stop-none x using (turns.after_item system x item core) _)
 
   after_count-out : (x using : ℕ) (core : Core) → IsOutgoing (turns.after_count queue system c t x using core).mails
   after_count-out x using core =
-      IsOutgoing-cond ((thread_of core x).place.left == 0) _ _ (finishes-out x (thread_of core x).place.item using (turns.item_of system x core) core refl) (IsOutgoing-none _ (may_stop-none x using why.Spent core))
+      IsOutgoing-cond ((thread_of core x).place.left == 0) _ _ (finishes-out x (thread_of core x).place.item using (turns.item_of system x core) core refl) (IsOutgoing-none _ (may_stop-none x using after.GoesOn core))
 
   tick_of-out : (o : Option Chosen) (core : Core) → IsOutgoing (turns.tick_of queue system c t o core).mails
   tick_of-out None core = tt

@@ -18,6 +18,8 @@ use Rattle.mcs_script.specs.declared.item.Item.{Item}
 use Rattle.mcs_script.specs.declared.item.Item.TheVariants.{Compute, Signal, Wait, Yield}
 use Rattle.mcs_script.specs.declared.moved.Moved.{Moved}
 use Rattle.mcs_script.specs.declared.moved.Moved.TheVariants.{Next, RoundEnds, AllDone}
+use Rattle.mcs_core.specs.declared.standing.AfterItem.{AfterItem}
+use Rattle.mcs_core.specs.declared.standing.AfterItem.TheVariants as after
 use Rattle.mcs_core.specs.declared.standing.Chosen.{Chosen}
 use Rattle.mcs_core.specs.declared.standing.Standing.TheVariants.{Blocked, Running, Done}
 use Rattle.mcs_system.specs.System.{System, thread_part, note_part}
@@ -142,7 +144,7 @@ module _ (system : System) (number from : ℕ) (each : IsOneEach system) where
       by false = refl
 
   -- at most one stop, of a thread that did not block
-  pub may_stop-sound : (c t : ℕ) (chosen : Chosen) (cause : Why) (core : Core) → t ≤ 2 ^ 40 → from ≤ t + 1 → IsSound system number from InTick None core → core.running ≡ Some chosen → (cause ≡ why.Wait → ⊥) →
+  pub may_stop-sound : (c t : ℕ) (chosen : Chosen) (cause : AfterItem) (core : Core) → t ≤ 2 ^ 40 → from ≤ t + 1 → IsSound system number from InTick None core → core.running ≡ Some chosen → (cause ≡ after.Blocks → ⊥) →
       IsSound system number from PastTick None (may_stop by_priority system t chosen.thread chosen.using cause core).core
   may_stop-sound c t chosen cause core l f h e n = by cause n
     where
@@ -183,17 +185,15 @@ module _ (system : System) (number from : ℕ) (each : IsOneEach system) where
       spent true f = back chosen.using why.Spent r.used
       spent false f = stays f
 
-      by : (cause : Why) → (cause ≡ why.Wait → ⊥) → IsSound system number from PastTick None (may_stop by_priority system t chosen.thread chosen.using cause core).core
-      by why.Done n = stops-sound system number from each PastTick t chosen.thread chosen.using why.Done Done core gone p refl refl refl r.used
-      by why.Wait n = absurd (n refl)
-      by why.Yield n = back (head_amount (its_context system chosen.thread core)) why.Yield (runner-head InTick chosen core h e)
-      by why.Spent n = spent (chosen.using == head_amount (its_context system chosen.thread core)) refl
-      by why.Preempt n = spent (chosen.using == head_amount (its_context system chosen.thread core)) refl
-      by why.Order n = spent (chosen.using == head_amount (its_context system chosen.thread core)) refl
+      by : (cause : AfterItem) → (cause ≡ after.Blocks → ⊥) → IsSound system number from PastTick None (may_stop by_priority system t chosen.thread chosen.using cause core).core
+      by after.Ends n = stops-sound system number from each PastTick t chosen.thread chosen.using why.Done Done core gone p refl refl refl r.used
+      by after.Blocks n = absurd (n refl)
+      by after.Yields n = back (head_amount (its_context system chosen.thread core)) why.Yield (runner-head InTick chosen core h e)
+      by after.GoesOn n = spent (chosen.using == head_amount (its_context system chosen.thread core)) refl
 
   -- the stop of a thread that blocked
   pub blocked-sound : (c t note : ℕ) (chosen : Chosen) (core : Core) → IsSound system number from InTick None core → core.running ≡ Some chosen → note < length core.notes →
-      IsSound system number from PastTick None (may_stop by_priority system t chosen.thread chosen.using why.Wait (waits_as system t chosen.thread note Blocks core).core).core
+      IsSound system number from PastTick None (may_stop by_priority system t chosen.thread chosen.using after.Blocks (waits_as system t chosen.thread note Blocks core).core).core
   blocked-sound c t note chosen core h e l =
       let r = runner InTick chosen core h e in
       let p = runner-placed InTick chosen core h e in
@@ -202,7 +202,7 @@ module _ (system : System) (number from : ℕ) (each : IsOneEach system) where
       stops-sound system number from each PastTick t chosen.thread chosen.using why.Wait Blocked (with_note note (after_wait Blocks (queued system chosen.thread) (note_of core note)) core) gone
       (record { known = p.known; item = p.item; bound = p.bound; has = p.has }) refl refl refl r.used
 
-  moved-never : (m : Moved) (cause : Why) → (cause ≡ why.Wait → ⊥) → after_move m cause ≡ why.Wait → ⊥
+  moved-never : (m : Moved) (cause : AfterItem) → (cause ≡ after.Blocks → ⊥) → after_move m cause ≡ after.Blocks → ⊥
   moved-never Next cause n e = n e
   moved-never RoundEnds cause n e = n e
   moved-never AllDone cause n e = cc
@@ -214,17 +214,17 @@ module _ (system : System) (number from : ℕ) (each : IsOneEach system) where
       let first = signals-sound c t note badge chosen.thread core l f (rw h.notes k) h in
       let runs = signals-running c t note badge chosen.thread core ∙ e in
       let second = moves-sound system number from each InTick t chosen.thread _ first (runner-placed InTick chosen _ first runs) in
-      may_stop-sound c t chosen _ _ l f second (moves-running t chosen.thread _ ∙ runs) (moved-never (move_of system chosen.thread core) why.Spent (λ f. cc))
+      may_stop-sound c t chosen _ _ l f second (moves-running t chosen.thread _ ∙ runs) (moved-never (move_of system chosen.thread core) after.GoesOn (λ f. cc))
   finishes-sound c t chosen (Some (Wait note)) core l f k h e = by (waited (note_of core note))
     where
       by : (w : Waited) → IsSound system number from PastTick None (may_stop by_priority system t chosen.thread chosen.using (after_waited w) (waits_as system t chosen.thread note w core).core).core
-      by (Got word) = may_stop-sound c t chosen why.Spent _ l f (got-sound InTick t note word chosen core h e (rw h.notes k)) (moves-running t chosen.thread _ ∙ e) (λ f. cc)
+      by (Got word) = may_stop-sound c t chosen after.GoesOn _ l f (got-sound InTick t note word chosen core h e (rw h.notes k)) (moves-running t chosen.thread _ ∙ e) (λ f. cc)
       by Blocks = blocked-sound c t note chosen core h e (rw h.notes k)
   finishes-sound c t chosen (Some (Compute ticks)) core l f k h e =
-      may_stop-sound c t chosen _ _ l f (moves-sound system number from each InTick t chosen.thread core h (runner-placed InTick chosen core h e)) (moves-running t chosen.thread core ∙ e) (moved-never (move_of system chosen.thread core) why.Spent (λ f. cc))
+      may_stop-sound c t chosen _ _ l f (moves-sound system number from each InTick t chosen.thread core h (runner-placed InTick chosen core h e)) (moves-running t chosen.thread core ∙ e) (moved-never (move_of system chosen.thread core) after.GoesOn (λ f. cc))
   finishes-sound c t chosen (Some Yield) core l f k h e =
-      may_stop-sound c t chosen _ _ l f (moves-sound system number from each InTick t chosen.thread core h (runner-placed InTick chosen core h e)) (moves-running t chosen.thread core ∙ e) (moved-never (move_of system chosen.thread core) why.Yield (λ f. cc))
-  finishes-sound c t chosen None core l f k h e = may_stop-sound c t chosen why.Spent core l f h e (λ f. cc)
+      may_stop-sound c t chosen _ _ l f (moves-sound system number from each InTick t chosen.thread core h (runner-placed InTick chosen core h e)) (moves-running t chosen.thread core ∙ e) (moved-never (move_of system chosen.thread core) after.Yields (λ f. cc))
+  finishes-sound c t chosen None core l f k h e = may_stop-sound c t chosen after.GoesOn core l f h e (λ f. cc)
 
   -- the notifications of all items are the system's
   abbrev pub AreNoted : Type 0
@@ -254,9 +254,9 @@ module _ (system : System) (number from : ℕ) (each : IsOneEach system) where
       counted : (chosen : Chosen) → IsSound system number from InTick None (counts chosen core) → IsSound system number from PastTick None (after_count by_priority system c t chosen.thread (chosen.using + 1) (counts chosen core)).core
       counted chosen i = ends ((thread_of (counts chosen core) chosen.thread).place.left == 0)
         where
-          ends : (b : Bool) → IsSound system number from PastTick None (cond b (finishes by_priority system c t chosen.thread (chosen.using + 1) (item_of system chosen.thread (counts chosen core)) (counts chosen core)) (may_stop by_priority system t chosen.thread (chosen.using + 1) why.Spent (counts chosen core))).core
+          ends : (b : Bool) → IsSound system number from PastTick None (cond b (finishes by_priority system c t chosen.thread (chosen.using + 1) (item_of system chosen.thread (counts chosen core)) (counts chosen core)) (may_stop by_priority system t chosen.thread (chosen.using + 1) after.GoesOn (counts chosen core))).core
           ends true = finishes-sound c t (record { thread = chosen.thread; using = chosen.using + 1 }) (item_of system chosen.thread (counts chosen core)) (counts chosen core) l f (noted chosen.thread (thread_of (counts chosen core) chosen.thread).place.item) i refl
-          ends false = may_stop-sound c t (record { thread = chosen.thread; using = chosen.using + 1 }) why.Spent (counts chosen core) l f i refl (λ f. cc)
+          ends false = may_stop-sound c t (record { thread = chosen.thread; using = chosen.using + 1 }) after.GoesOn (counts chosen core) l f i refl (λ f. cc)
 
       by : (o : Option Chosen) → core.running ≡ o → IsSound system number from PastTick None (tick_of by_priority system c t o core).core
       by None e = idle-sound core h e

@@ -26,6 +26,8 @@ use Rattle.mcs_system.specs.System.{System, thread_part, note_part, context_part
 use Rattle.mcs_core.specs.Core.{Core, thread_of, context_of, note_of, with_thread, with_context, with_note, stands, pends, off}
 use Rattle.mcs_release.specs.declared.dated.Dated.{Dated}
 use Rattle.mcs_release.specs.Release.{is_due}
+use Rattle.mcs_core.specs.declared.standing.AfterItem.{AfterItem}
+use Rattle.mcs_core.specs.declared.standing.AfterItem.TheVariants as after
 use Rattle.mcs_core.specs.declared.standing.Chosen.{Chosen}
 use Rattle.mcs_core.specs.declared.standing.Standing.{Standing}
 use Rattle.mcs_core.specs.declared.standing.Standing.TheVariants.{Blocked, Ready, Running, Done}
@@ -128,13 +130,13 @@ module _ (queue : Discipline) (system : System) (t : ℕ) where
         mails = [];
       }
 
-  -- at most one stop, for this cause, of the thread that has used so many ticks
-  abbrev pub may_stop : ℕ → ℕ → Why → Core → Turn
-  may_stop thread using why.Done core = stops system thread why.Done using Done core
-  may_stop thread using why.Wait core = stops system thread why.Wait using Blocked core
-  may_stop thread using why.Yield core =
+  -- at most one stop of the thread that has used so many ticks, by what follows its item
+  abbrev pub may_stop : ℕ → ℕ → AfterItem → Core → Turn
+  may_stop thread using after.Ends core = stops system thread why.Done using Done core
+  may_stop thread using after.Blocks core = stops system thread why.Wait using Blocked core
+  may_stop thread using after.Yields core =
       stops_to_back thread why.Yield (head_amount (its_context system thread core)) core
-  may_stop thread using other core =
+  may_stop thread using after.GoesOn core =
       if using == head_amount (its_context system thread core)
       then stops_to_back thread why.Spent using core
       else silent core
@@ -162,11 +164,7 @@ module _ (system : System) (t : ℕ) where
   placed thread move since core =
       let state = thread_of core thread in
       with_thread thread
-      (record {
-        standing = state.standing;
-        place = place_after system.call (part_of system thread).script move state.place;
-        since = since;
-      })
+      (record state { place = place_after system.call (part_of system thread).script move state.place; since = since })
       core
 
   abbrev pub round_row : ℕ → Core → What
@@ -212,22 +210,22 @@ module _ (queue : Discipline) (system : System) (t : ℕ) where
   abbrev pub posts : ℕ → ℕ → Core → Turn
   posts note badge core = posts_as note (posted badge (note_of core note)) core
 
--- which stop follows a finished item: none but the one of a spent head, or one of done, wait and yield
-abbrev pub after_move : Moved → Why → Why
-after_move AllDone other = why.Done
+-- what follows a finished item
+abbrev pub after_move : Moved → AfterItem → AfterItem
+after_move AllDone other = after.Ends
 after_move Next other = other
 after_move RoundEnds other = other
 
-abbrev pub after_waited : Waited → Why
-after_waited Blocks = why.Wait
-after_waited (Got word) = why.Spent
+abbrev pub after_waited : Waited → AfterItem
+after_waited Blocks = after.Blocks
+after_waited (Got word) = after.GoesOn
 
-abbrev pub stop_after : System → ℕ → Option Item → Core → Why
-stop_after system thread (Some Yield) core = after_move (move_of system thread core) why.Yield
-stop_after system thread (Some (Wait note)) core = after_waited (waited (note_of core note))
-stop_after system thread (Some (Compute ticks)) core = after_move (move_of system thread core) why.Spent
-stop_after system thread (Some (Signal note badge)) core = after_move (move_of system thread core) why.Spent
-stop_after system thread None core = why.Spent
+abbrev pub after_item : System → ℕ → Option Item → Core → AfterItem
+after_item system thread (Some Yield) core = after_move (move_of system thread core) after.Yields
+after_item system thread (Some (Wait note)) core = after_waited (waited (note_of core note))
+after_item system thread (Some (Compute ticks)) core = after_move (move_of system thread core) after.GoesOn
+after_item system thread (Some (Signal note badge)) core = after_move (move_of system thread core) after.GoesOn
+after_item system thread None core = after.GoesOn
 
 -- one more tick was used, and the item's rest is one less
 abbrev pub counts : Chosen → Core → Core
@@ -271,14 +269,14 @@ module _ (queue : Discipline) (system : System) (c t : ℕ) where
   abbrev pub finishes : ℕ → ℕ → Option Item → Core → Turn
   finishes thread using item core =
       takes_effect thread item core
-      followed_by may_stop queue system t thread using (stop_after system thread item core)
+      followed_by may_stop queue system t thread using (after_item system thread item core)
 
   -- after the count: where nothing of the item is left it is finished, and else only a spent head stops the thread
   abbrev pub after_count : ℕ → ℕ → Core → Turn
   after_count thread using core =
       if (thread_of core thread).place.left == 0
       then finishes thread using (item_of system thread core) core
-      else may_stop queue system t thread using why.Spent core
+      else may_stop queue system t thread using after.GoesOn core
 
   abbrev pub tick_of : Option Chosen → Core → Turn
   tick_of None core = silent core

@@ -20,5 +20,5 @@ mod turn;
 mod views;
 
 pub use mcs_system::{ContextPart, Name, NotePart, System, SystemParts, ThreadPart};
-pub use standing::{Chosen, Standing, Thread};
+pub use standing::{AfterItem, Chosen, Standing, Thread};
 pub use state::CoreState;

@@ -32,3 +32,16 @@ pub struct Chosen {
     pub thread: ThreadId,
     pub using: u64,
 }
+
+/// What follows a thread's item, at the end of a tick.
+#[derive(Clone, Copy, Debug, PartialEq, Eq)]
+pub enum AfterItem {
+    /// The thread goes on, unless the head is spent.
+    GoesOn,
+    /// It was the last item of the last round.
+    Ends,
+    /// The thread waits on a notification whose word is 0.
+    Blocks,
+    /// The item gives the rest of the head away.
+    Yields,
+}

@@ -6,9 +6,9 @@ ghost use Rattle.mcs_core.specs.Core.{off};
 ghost use Rattle.mcs_core.specs.stored.Parts.{Makes};
 ghost use Rattle.mcs_core.specs.stored.Sound.{CanStop, IsFree};
 
-use crate::Standing;
 use crate::local::Local;
 use crate::log::{Here, Log};
+use crate::{AfterItem, Standing};
 use mcs_ticks::{NoMemory, ThreadId, Tick, What, Why};
 
 impl Local {
@@ -98,28 +98,28 @@ impl Local {
         log.tell(here, stopped(thread, why, ticks, until))
     }
 
-    /// At most one stop of the running thread, which has used so many ticks.
+    /// At most one stop of the running thread, which has used so many ticks, by what follows its item.
     pub(crate) fn may_stop(
         &mut self,
         here: &Here<'_>,
         thread: ThreadId,
         used: u64,
-        why: Why,
+        after: AfterItem,
         log: &mut Log<'_>,
     ) -> Result<(), NoMemory>
         requires { CanStop here.now.system.now thread used self.old }
         ensures { OnOk result
-            (Makes here.now (may_stop by_priority here.now.system.now here.now.moment thread used why self.old)
+            (Makes here.now (may_stop by_priority here.now.system.now here.now.moment thread used after self.old)
             self.new log.old log.new) }
     {
-        match why {
-            Why::Done => self.stop(here, thread, Why::Done, used, Standing::Done, log),
-            Why::Wait => self.stop(here, thread, Why::Wait, used, Standing::Blocked, log),
-            Why::Yield => {
+        match after {
+            AfterItem::Ends => self.stop(here, thread, Why::Done, used, Standing::Done, log),
+            AfterItem::Blocks => self.stop(here, thread, Why::Wait, used, Standing::Blocked, log),
+            AfterItem::Yields => {
                 let head = self.head_amount(here.system, thread);
                 self.stop_to_back(here, thread, Why::Yield, head, log)
             }
-            _ => {
+            AfterItem::GoesOn => {
                 if used == self.head_amount(here.system, thread) {
                     self.stop_to_back(here, thread, Why::Spent, used, log)
                 } else {

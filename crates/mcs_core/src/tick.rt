@@ -2,7 +2,7 @@ ghost use Rattle.std.specs.Prelude.{◌≡◌, ◌^◌, ◌≤◌, ◌<◌, OnOk
 ghost use Rattle.mcs_ticks.specs.Queue.{by_priority};
 ghost use Rattle.mcs_notify.specs.Note.{waited};
 ghost use Rattle.mcs_core.specs.Core.{note_of};
-ghost use Rattle.mcs_core.specs.Turn.{counts, mail_to, signals, waits_as, takes_effect, item_of, stop_after, after_move, after_waited, finishes, tick};
+ghost use Rattle.mcs_core.specs.Turn.{counts, mail_to, signals, waits_as, takes_effect, item_of, after_item, after_move, after_waited, finishes, tick};
 ghost use Rattle.mcs_core.specs.stored.Items.{IsNoted, CanTakeEffect};
 ghost use Rattle.mcs_core.specs.stored.Parts.{Makes};
 ghost use Rattle.mcs_core.specs.stored.Sound.{times_waiting, IsPlaced, IsFree, WakesFree, IsSound};
@@ -11,12 +11,12 @@ ghost use Rattle.mcs_system.specs.WellFormed.{IsWellFormed};
 
 use crate::local::Local;
 use crate::log::{Here, Log};
-use crate::{Chosen, Thread};
+use crate::{AfterItem, Chosen, Thread};
 use mcs_mail::Mail;
 use mcs_notify::Waited;
 use mcs_script::{Item, Moved, Place};
 use mcs_system::SystemParts;
-use mcs_ticks::{NoMemory, NoteId, ThreadId, What, Why};
+use mcs_ticks::{NoMemory, NoteId, ThreadId, What};
 
 impl Local {
     /// The running thread counts a tick.
@@ -46,31 +46,31 @@ impl Local {
         );
     }
 
-    /// Which stop follows a wait: one where the word is 0.
-    fn stop_at_wait(&self, note: NoteId) -> Why
+    /// What follows a wait: the thread blocks where the word is 0.
+    fn after_wait(&self, note: NoteId) -> AfterItem
         requires { note < length self.now.notes }
         ensures { result ≡ after_waited (waited (note_of self.now note)) }
     {
         if self.word(note) == 0 {
-            Why::Wait
+            AfterItem::Blocks
         } else {
-            Why::Spent
+            AfterItem::GoesOn
         }
     }
 
-    /// Which stop follows the thread's item when it is finished: `Spent` means none but that of a spent head.
-    fn stop_after(&self, system: &SystemParts, thread: ThreadId, item: &Option<Item>) -> Why
+    /// What follows the thread's item when it is finished.
+    fn after_item(&self, system: &SystemParts, thread: ThreadId, item: &Option<Item>) -> AfterItem
         requires known { thread < length self.now.threads }
         requires placed { IsPlaced system.now thread self.now }
         requires noted { IsNoted (length self.now.notes) item.now }
-        ensures { result ≡ stop_after system.now thread item.now self.now }
+        ensures { result ≡ after_item system.now thread item.now self.now }
     {
         match item {
-            Some(Item::Yield) => after_move(self.move_of(system, thread), Why::Yield),
-            Some(Item::Wait(note)) => self.stop_at_wait(*note),
-            Some(Item::Compute(_)) => after_move(self.move_of(system, thread), Why::Spent),
-            Some(Item::Signal(_, _)) => after_move(self.move_of(system, thread), Why::Spent),
-            None => Why::Spent,
+            Some(Item::Yield) => after_move(self.move_of(system, thread), AfterItem::Yields),
+            Some(Item::Wait(note)) => self.after_wait(*note),
+            Some(Item::Compute(_)) => after_move(self.move_of(system, thread), AfterItem::GoesOn),
+            Some(Item::Signal(_, _)) => after_move(self.move_of(system, thread), AfterItem::GoesOn),
+            None => AfterItem::GoesOn,
         }
     }
 
@@ -181,9 +181,9 @@ impl Local {
             self.new log.old log.new) }
     {
         let item = self.item_of(here.system, thread);
-        let why = self.stop_after(here.system, thread, &item);
+        let after = self.after_item(here.system, thread, &item);
         self.take_effect(here, thread, &item, log)?;
-        self.may_stop(here, thread, used, why, log)
+        self.may_stop(here, thread, used, after, log)
     }
 
     /// The end of the tick.
@@ -204,7 +204,7 @@ impl Local {
         if self.thread(thread).place.left == 0 {
             self.finish(here, thread, used, log)
         } else {
-            self.may_stop(here, thread, used, Why::Spent, log)
+            self.may_stop(here, thread, used, AfterItem::GoesOn, log)
         }
     }
 }
@@ -224,11 +224,12 @@ fn mail_to(here: &Here<'_>, note: NoteId, badge: u32) -> Mail
     }
 }
 
-fn after_move(moved: Moved, other: Why) -> Why
+/// What follows a move: after the last round the thread is done.
+fn after_move(moved: Moved, other: AfterItem) -> AfterItem
     ensures { result ≡ after_move moved other }
 {
     if moved == Moved::AllDone {
-        Why::Done
+        AfterItem::Ends
     } else {
         other
     }

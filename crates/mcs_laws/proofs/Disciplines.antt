@@ -26,6 +26,8 @@ use Rattle.mcs_mail.specs.declared.mail.Mail.{Mail}
 use Rattle.mcs_system.specs.System.{System, note_part}
 use Rattle.mcs_core.specs.Core.{Core, opening_core, note_of, with_note, thread_of, stands, off}
 use Rattle.mcs_core.specs.declared.standing.Standing.TheVariants.{Ready}
+use Rattle.mcs_core.specs.declared.standing.AfterItem.{AfterItem}
+use Rattle.mcs_core.specs.declared.standing.AfterItem.TheVariants as after
 use Rattle.mcs_core.specs.declared.standing.Chosen.{Chosen}
 use Rattle.mcs_release.specs.declared.dated.Dated.{Dated}
 use Rattle.mcs_release.specs.Release.{is_due}
@@ -193,34 +195,32 @@ module _ (system : System) (c t : ℕ) where
   takes_effect-alike x None k = refl
 
   spent-alike : (x using : ℕ) (k : Core) →
-      sorted_turn (turns.may_stop in_one_list system t x using why.Spent k) ≡ turns.may_stop by_priority system t x using why.Spent (with_queue_sorted k)
+      sorted_turn (turns.may_stop in_one_list system t x using after.GoesOn k) ≡ turns.may_stop by_priority system t x using after.GoesOn (with_queue_sorted k)
   spent-alike x using k =
       by_test (using == head_amount (turns.its_context system x k)) _ _ _ _ (stops_to_back-alike system t x why.Spent using k) refl
 
-  may_stop-alike : (x using : ℕ) (cause : Why) (k : Core) →
+  may_stop-alike : (x using : ℕ) (cause : AfterItem) (k : Core) →
       sorted_turn (turns.may_stop in_one_list system t x using cause k) ≡ turns.may_stop by_priority system t x using cause (with_queue_sorted k)
-  may_stop-alike x using why.Done k = refl
-  may_stop-alike x using why.Wait k = refl
-  may_stop-alike x using why.Yield k = stops_to_back-alike system t x why.Yield (head_amount (turns.its_context system x k)) k
-  may_stop-alike x using why.Spent k = spent-alike x using k
-  may_stop-alike x using why.Preempt k = spent-alike x using k
-  may_stop-alike x using why.Order k = spent-alike x using k
+  may_stop-alike x using after.Ends k = refl
+  may_stop-alike x using after.Blocks k = refl
+  may_stop-alike x using after.Yields k = stops_to_back-alike system t x why.Yield (head_amount (turns.its_context system x k)) k
+  may_stop-alike x using after.GoesOn k = spent-alike x using k
 
-  stop_after-alike : (x : ℕ) (item : Option Item) (k : Core) →
-      turns.stop_after system x item k ≡ turns.stop_after system x item (with_queue_sorted k)
-  stop_after-alike x (Some (Signal note badge)) k = refl
-  stop_after-alike x (Some (Wait note)) k = refl
-  stop_after-alike x (Some (Compute ticks)) k = refl
-  stop_after-alike x (Some Yield) k = refl
-  stop_after-alike x None k = refl
+  after_item-alike : (x : ℕ) (item : Option Item) (k : Core) →
+      turns.after_item system x item k ≡ turns.after_item system x item (with_queue_sorted k)
+  after_item-alike x (Some (Signal note badge)) k = refl
+  after_item-alike x (Some (Wait note)) k = refl
+  after_item-alike x (Some (Compute ticks)) k = refl
+  after_item-alike x (Some Yield) k = refl
+  after_item-alike x None k = refl
 
   finishes-alike : (x using : ℕ) (item : Option Item) (k : Core) →
       sorted_turn (turns.finishes in_one_list system c t x using item k) ≡ turns.finishes by_priority system c t x using item (with_queue_sorted k)
   finishes-alike x using item k =
-      then_part _ _ (turns.may_stop in_one_list system t x using (turns.stop_after system x item k))
-      (turns.may_stop by_priority system t x using (turns.stop_after system x item k))
-      (takes_effect-alike x item k) (may_stop-alike x using (turns.stop_after system x item k))
-      ∙ ap (λ cause. turns.takes_effect by_priority system c t x item (with_queue_sorted k) followed_by turns.may_stop by_priority system t x using cause) (stop_after-alike x item k)
+      then_part _ _ (turns.may_stop in_one_list system t x using (turns.after_item system x item k))
+      (turns.may_stop by_priority system t x using (turns.after_item system x item k))
+      (takes_effect-alike x item k) (may_stop-alike x using (turns.after_item system x item k))
+      ∙ ap (λ cause. turns.takes_effect by_priority system c t x item (with_queue_sorted k) followed_by turns.may_stop by_priority system t x using cause) (after_item-alike x item k)
 
   after_count-alike : (x using : ℕ) (k : Core) →
       sorted_turn (turns.after_count in_one_list system c t x using k) ≡ turns.after_count by_priority system c t x using (with_queue_sorted k)

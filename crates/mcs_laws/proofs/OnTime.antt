@@ -22,6 +22,8 @@ use Rattle.mcs_script.specs.declared.item.Item.TheVariants.{Compute, Signal, Wai
 use Rattle.mcs_script.specs.declared.moved.Moved.{Moved}
 use Rattle.mcs_script.specs.declared.moved.Moved.TheVariants.{Next, RoundEnds, AllDone}
 use Rattle.mcs_mail.specs.declared.mail.Mail.{Mail}
+use Rattle.mcs_core.specs.declared.standing.AfterItem.{AfterItem}
+use Rattle.mcs_core.specs.declared.standing.AfterItem.TheVariants as after
 use Rattle.mcs_core.specs.declared.standing.Chosen.{Chosen}
 use Rattle.mcs_system.specs.System.{System, note_part, thread_part}
 use Rattle.mcs_core.specs.Core.{Core, context_of, note_of, thread_of, with_note, off}
@@ -405,24 +407,22 @@ module _ (system : System) (c t x : ℕ) where
   effect-free y using (Some Yield) k e alone = moves_on-free y using k k e alone refl (λ z. omega arith)
   effect-free y using None k e alone = runs-alone system t x y using k e alone
 
-  spent-on_time : (y using : ℕ) (k : Core) → Free y k → On k → On (turns.may_stop by_priority system t y using why.Spent k).core
+  spent-on_time : (y using : ℕ) (k : Core) → Free y k → On k → On (turns.may_stop by_priority system t y using after.GoesOn k).core
   spent-on_time y using k free h =
       by_test system t x (using == head_amount (turns.its_context system y k)) (turns.stops_to_back by_priority system t y why.Spent using k) (silent k)
       (stops_to_back-on_time system t x y why.Spent using k free h) h
 
-  may_stop-on_time : (y using : ℕ) (cause : Why) (k : Core) → Free y k → On k → On (turns.may_stop by_priority system t y using cause k).core
-  may_stop-on_time y using why.Done k free h = charged-on_time system t x y using k free h
-  may_stop-on_time y using why.Wait k free h = charged-on_time system t x y using k free h
-  may_stop-on_time y using why.Yield k free h = stops_to_back-on_time system t x y why.Yield (head_amount (turns.its_context system y k)) k free h
-  may_stop-on_time y using why.Spent k free h = spent-on_time y using k free h
-  may_stop-on_time y using why.Preempt k free h = spent-on_time y using k free h
-  may_stop-on_time y using why.Order k free h = spent-on_time y using k free h
+  may_stop-on_time : (y using : ℕ) (cause : AfterItem) (k : Core) → Free y k → On k → On (turns.may_stop by_priority system t y using cause k).core
+  may_stop-on_time y using after.Ends k free h = charged-on_time system t x y using k free h
+  may_stop-on_time y using after.Blocks k free h = charged-on_time system t x y using k free h
+  may_stop-on_time y using after.Yields k free h = stops_to_back-on_time system t x y why.Yield (head_amount (turns.its_context system y k)) k free h
+  may_stop-on_time y using after.GoesOn k free h = spent-on_time y using k free h
 
   after_count-on_time : (y using : ℕ) (k : Core) → k.running ≡ Some (record { thread = y; using = using }) → Alone k → On k → On (turns.after_count by_priority system c t y using k).core
   after_count-on_time y using k e alone h =
       let item = turns.item_of system y k in
-      by_test system t x ((thread_of k y).place.left == 0) (turns.finishes by_priority system c t y using item k) (turns.may_stop by_priority system t y using why.Spent k)
-      (may_stop-on_time y using (turns.stop_after system y item k) (turns.takes_effect by_priority system c t y item k).core (effect-free y using item k e alone) (takes_effect-on_time y item k alone h))
+      by_test system t x ((thread_of k y).place.left == 0) (turns.finishes by_priority system c t y using item k) (turns.may_stop by_priority system t y using after.GoesOn k)
+      (may_stop-on_time y using (turns.after_item system y item k) (turns.takes_effect by_priority system c t y item k).core (effect-free y using item k e alone) (takes_effect-on_time y item k alone h))
       (spent-on_time y using k (runs-alone system t x y using k e alone) h)
 
   -- before the turn the core is on time up to now, and after the end of the tick for one moment more

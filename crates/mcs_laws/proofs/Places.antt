@@ -10,6 +10,8 @@ use Rattle.mcs_notify.specs.Note.{Note, quiet_note, posted, after_post, waited, 
 use Rattle.mcs_notify.specs.declared.posted.Posted.{Posted}
 use Rattle.mcs_notify.specs.declared.posted.Posted.TheVariants.{Woke, Held}
 use Rattle.mcs_release.specs.declared.dated.Dated.{Dated}
+use Rattle.mcs_core.specs.declared.standing.AfterItem.{AfterItem}
+use Rattle.mcs_core.specs.declared.standing.AfterItem.TheVariants as after
 use Rattle.mcs_core.specs.declared.standing.Chosen.{Chosen}
 use Rattle.mcs_core.specs.declared.standing.Standing.{Standing}
 use Rattle.mcs_core.specs.declared.standing.Standing.TheVariants.{Blocked, Done}
@@ -310,28 +312,26 @@ module _ (system : System) (c t y : ℕ) where
       held system t y (turns.stops system x cause using standing k).core + one y x ≡ held system t y k
   stops-held x using cause standing k e = off-held system t y (turns.charged system x using k) x using e
 
-  spent-held : (x using : ℕ) (k : Core) → k.running ≡ Some (record { thread = x; using = using }) → held system t y (turns.may_stop by_priority system t x using why.Spent k).core ≤ held system t y k
+  spent-held : (x using : ℕ) (k : Core) → k.running ≡ Some (record { thread = x; using = using }) → held system t y (turns.may_stop by_priority system t x using after.GoesOn k).core ≤ held system t y k
   spent-held x using k e =
       by_test system t y (using == head_amount (turns.its_context system x k)) k (turns.stops_to_back by_priority system t x why.Spent using k) (silent k)
       (stops_to_back-held system t y x using using why.Spent k e) (omega arith)
 
-  may_stop-held : (x using : ℕ) (cause : Why) (k : Core) → k.running ≡ Some (record { thread = x; using = using }) → held system t y (turns.may_stop by_priority system t x using cause k).core ≤ held system t y k
-  may_stop-held x using why.Done k e = omega (arith, stops-held x using why.Done Done k e)
-  may_stop-held x using why.Wait k e = omega (arith, stops-held x using why.Wait Blocked k e)
-  may_stop-held x using why.Yield k e = stops_to_back-held system t y x using (head_amount (turns.its_context system x k)) why.Yield k e
-  may_stop-held x using why.Spent k e = spent-held x using k e
-  may_stop-held x using why.Preempt k e = spent-held x using k e
-  may_stop-held x using why.Order k e = spent-held x using k e
+  may_stop-held : (x using : ℕ) (cause : AfterItem) (k : Core) → k.running ≡ Some (record { thread = x; using = using }) → held system t y (turns.may_stop by_priority system t x using cause k).core ≤ held system t y k
+  may_stop-held x using after.Ends k e = omega (arith, stops-held x using why.Done Done k e)
+  may_stop-held x using after.Blocks k e = omega (arith, stops-held x using why.Wait Blocked k e)
+  may_stop-held x using after.Yields k e = stops_to_back-held system t y x using (head_amount (turns.its_context system x k)) why.Yield k e
+  may_stop-held x using after.GoesOn k e = spent-held x using k e
 
   -- the item takes effect and at most one stop follows: a thread that joins the waiters stops
-  then_stops : (x using : ℕ) (cause : Why) (k : Core) (effect : Turn) → k.running ≡ Some (record { thread = x; using = using }) → effect.core.running ≡ k.running → held system t y effect.core ≤ held system t y k →
+  then_stops : (x using : ℕ) (cause : AfterItem) (k : Core) (effect : Turn) → k.running ≡ Some (record { thread = x; using = using }) → effect.core.running ≡ k.running → held system t y effect.core ≤ held system t y k →
       held system t y (effect followed_by turns.may_stop by_priority system t x using cause).core ≤ held system t y k
   then_stops x using cause k effect e f l = omega (arith, l, may_stop-held x using cause effect.core (f ∙ e))
 
   finishes-wait : (x using note : ℕ) (w : Waited) (k : Core) → k.running ≡ Some (record { thread = x; using = using }) →
       held system t y (turns.waits_as system t x note w k followed_by turns.may_stop by_priority system t x using (turns.after_waited w)).core ≤ held system t y k
   finishes-wait x using note (Got word) k e =
-      then_stops x using why.Spent k (turns.waits_as system t x note (Got word) k) e
+      then_stops x using after.GoesOn k (turns.waits_as system t x note (Got word) k) e
       (moves-running system t y x (turns.move_of system x given) given) (waits_as-got x note word k)
     where
       given : Core
@@ -346,19 +346,19 @@ module _ (system : System) (c t y : ℕ) where
       held system t y (turns.finishes by_priority system c t x using item k).core ≤ held system t y k
   finishes-held x using (Some (Signal note badge)) k e =
       let sent = turns.signals by_priority system c t x note badge k in
-      then_stops x using (turns.stop_after system x (Some (Signal note badge)) k) k (turns.takes_effect by_priority system c t x (Some (Signal note badge)) k) e
+      then_stops x using (turns.after_item system x (Some (Signal note badge)) k) k (turns.takes_effect by_priority system c t x (Some (Signal note badge)) k) e
       (moves-running system t y x (turns.move_of system x sent.core) sent.core ∙ signals-running x note badge k)
       (omega (arith, moves_on-held x sent.core, signals-held x note badge k))
   finishes-held x using (Some (Wait note)) k e = finishes-wait x using note (waited (note_of k note)) k e
   finishes-held x using (Some (Compute ticks)) k e =
-      then_stops x using (turns.stop_after system x (Some (Compute ticks)) k) k (turns.moves_on system t x k) e (moves-running system t y x (turns.move_of system x k) k) (moves_on-held x k)
+      then_stops x using (turns.after_item system x (Some (Compute ticks)) k) k (turns.moves_on system t x k) e (moves-running system t y x (turns.move_of system x k) k) (moves_on-held x k)
   finishes-held x using (Some Yield) k e =
-      then_stops x using (turns.stop_after system x (Some Yield) k) k (turns.moves_on system t x k) e (moves-running system t y x (turns.move_of system x k) k) (moves_on-held x k)
-  finishes-held x using None k e = then_stops x using why.Spent k (silent k) e refl (omega arith)
+      then_stops x using (turns.after_item system x (Some Yield) k) k (turns.moves_on system t x k) e (moves-running system t y x (turns.move_of system x k) k) (moves_on-held x k)
+  finishes-held x using None k e = then_stops x using after.GoesOn k (silent k) e refl (omega arith)
 
   after_count-held : (x using : ℕ) (k : Core) → k.running ≡ Some (record { thread = x; using = using }) → held system t y (turns.after_count by_priority system c t x using k).core ≤ held system t y k
   after_count-held x using k e =
-      by_test system t y ((thread_of k x).place.left == 0) k (turns.finishes by_priority system c t x using (turns.item_of system x k) k) (turns.may_stop by_priority system t x using why.Spent k)
+      by_test system t y ((thread_of k x).place.left == 0) k (turns.finishes by_priority system c t x using (turns.item_of system x k) k) (turns.may_stop by_priority system t x using after.GoesOn k)
       (finishes-held x using (turns.item_of system x k) k e) (spent-held x using k e)
 
   pub tick_of-held : (o : Option Chosen) (k : Core) → k.running ≡ o → held system t y (turns.tick_of by_priority system c t o k).core ≤ held system t y k

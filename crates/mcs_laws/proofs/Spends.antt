@@ -20,6 +20,8 @@ use Rattle.mcs_script.specs.declared.item.Item.TheVariants.{Compute, Signal, Wai
 use Rattle.mcs_script.specs.declared.moved.Moved.{Moved}
 use Rattle.mcs_script.specs.declared.moved.Moved.TheVariants.{Next, RoundEnds, AllDone}
 use Rattle.mcs_mail.specs.declared.mail.Mail.{Mail}
+use Rattle.mcs_core.specs.declared.standing.AfterItem.{AfterItem}
+use Rattle.mcs_core.specs.declared.standing.AfterItem.TheVariants as after
 use Rattle.mcs_core.specs.declared.standing.Chosen.{Chosen}
 use Rattle.mcs_system.specs.System.{System, thread_part}
 use Rattle.mcs_core.specs.Core.{Core, context_of, note_of, thread_of, with_note}
@@ -148,7 +150,7 @@ module _ (system : System) (c t x : ℕ) where
   moves-contexts y RoundEnds k = refl
   moves-contexts y AllDone k = refl
 
-  spent-spends : (y using : ℕ) (k : Core) → k.running ≡ Some (record { thread = y; using = using }) → Spends k.running (turns.may_stop by_priority system t y using why.Spent k)
+  spent-spends : (y using : ℕ) (k : Core) → k.running ≡ Some (record { thread = y; using = using }) → Spends k.running (turns.may_stop by_priority system t y using after.GoesOn k)
   spent-spends y using k e =
       let stopped = turns.stops_to_back by_priority system t y why.Spent using k in
       by_test k.running (using == head_amount (turns.its_context system y k)) stopped (silent k)
@@ -156,38 +158,36 @@ module _ (system : System) (c t x : ℕ) where
       (quiet k.running (silent k) refl)
 
   -- a yield charges the whole head, of which no more is in use
-  may_stop-spends : (y using : ℕ) (cause : Why) (k : Core) → k.running ≡ Some (record { thread = y; using = using }) →
-      (cause ≡ why.Yield → y ≡ x → using ≤ head_amount (turns.its_context system y k)) → Spends k.running (turns.may_stop by_priority system t y using cause k)
-  may_stop-spends y using why.Done k e l = stop y using using why.Done None k.running (turns.may_stop by_priority system t y using why.Done k) e refl (λ own. omega arith)
-  may_stop-spends y using why.Wait k e l = stop y using using why.Wait None k.running (turns.may_stop by_priority system t y using why.Wait k) e refl (λ own. omega arith)
-  may_stop-spends y using why.Yield k e l =
+  may_stop-spends : (y using : ℕ) (cause : AfterItem) (k : Core) → k.running ≡ Some (record { thread = y; using = using }) →
+      (cause ≡ after.Yields → y ≡ x → using ≤ head_amount (turns.its_context system y k)) → Spends k.running (turns.may_stop by_priority system t y using cause k)
+  may_stop-spends y using after.Ends k e l = stop y using using why.Done None k.running (turns.may_stop by_priority system t y using after.Ends k) e refl (λ own. omega arith)
+  may_stop-spends y using after.Blocks k e l = stop y using using why.Wait None k.running (turns.may_stop by_priority system t y using after.Blocks k) e refl (λ own. omega arith)
+  may_stop-spends y using after.Yields k e l =
       let whole = head_amount (turns.its_context system y k) in
       stop y using whole why.Yield (turns.date_of system t y (turns.charged system y whole k)) k.running (turns.stops_to_back by_priority system t y why.Yield whole k) e refl (l refl)
-  may_stop-spends y using why.Spent k e l = spent-spends y using k e
-  may_stop-spends y using why.Preempt k e l = spent-spends y using k e
-  may_stop-spends y using why.Order k e l = spent-spends y using k e
+  may_stop-spends y using after.GoesOn k e l = spent-spends y using k e
 
-  moved-yields : (m : Moved) → turns.after_move m why.Spent ≡ why.Yield → ⊥
+  moved-yields : (m : Moved) → turns.after_move m after.GoesOn ≡ after.Yields → ⊥
   moved-yields Next e = cc
   moved-yields RoundEnds e = cc
   moved-yields AllDone e = cc
 
-  waited-yields : (w : Waited) → turns.after_waited w ≡ why.Yield → ⊥
+  waited-yields : (w : Waited) → turns.after_waited w ≡ after.Yields → ⊥
   waited-yields (Got word) e = cc
   waited-yields Blocks e = cc
 
-  no_yield : why.Spent ≡ why.Yield → ⊥
+  no_yield : after.GoesOn ≡ after.Yields → ⊥
   no_yield e = cc
 
   finishes-spends : (y using : ℕ) (item : Option Item) (k : Core) → k.running ≡ Some (record { thread = y; using = using }) →
       (y ≡ x → using ≤ head_amount (turns.its_context system y k)) → Spends k.running (turns.finishes by_priority system c t y using item k)
   finishes-spends y using item k e l =
       let effect = turns.takes_effect by_priority system c t y item k in
-      then_spends k.running effect (turns.may_stop by_priority system t y using (turns.stop_after system y item k))
+      then_spends k.running effect (turns.may_stop by_priority system t y using (turns.after_item system y item k))
       (quiet k.running effect (effect-running y item k))
-      (may_stop-spends y using (turns.stop_after system y item k) effect.core (effect-running y item k ∙ e) (by item))
+      (may_stop-spends y using (turns.after_item system y item k) effect.core (effect-running y item k ∙ e) (by item))
     where
-      by : (i : Option Item) → turns.stop_after system y i k ≡ why.Yield → y ≡ x →
+      by : (i : Option Item) → turns.after_item system y i k ≡ after.Yields → y ≡ x →
           using ≤ head_amount (turns.its_context system y (turns.takes_effect by_priority system c t y i k).core)
       by (Some (Signal note badge)) f own = absurd (moved-yields (turns.move_of system y k) f)
       by (Some (Wait note)) f own = absurd (waited-yields (waited (note_of k note)) f)
@@ -199,7 +199,7 @@ module _ (system : System) (c t x : ℕ) where
       (y ≡ x → using ≤ head_amount (turns.its_context system y k)) → Spends k.running (turns.after_count by_priority system c t y using k)
   after_count-spends y using k e l =
       by_test k.running ((thread_of k y).place.left == 0) (turns.finishes by_priority system c t y using (turns.item_of system y k) k)
-      (turns.may_stop by_priority system t y using why.Spent k)
+      (turns.may_stop by_priority system t y using after.GoesOn k)
       (finishes-spends y using (turns.item_of system y k) k e l) (spent-spends y using k e)
 
   -- the thread has used less than the head

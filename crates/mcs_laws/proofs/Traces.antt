@@ -28,6 +28,8 @@ use Rattle.mcs_mail.specs.declared.mail.Mail.{Mail}
 use Rattle.mcs_system.specs.System.{System, note_part, thread_part, context_part}
 use Rattle.mcs_core.specs.Core.{Core, context_of, note_of, thread_of, with_note, off}
 use Rattle.mcs_core.specs.Contexts.{no_server}
+use Rattle.mcs_core.specs.declared.standing.AfterItem.{AfterItem}
+use Rattle.mcs_core.specs.declared.standing.AfterItem.TheVariants as after
 use Rattle.mcs_core.specs.declared.standing.Chosen.{Chosen}
 use Rattle.mcs_release.specs.declared.dated.Dated.{Dated}
 use Rattle.mcs_core.specs.declared.standing.Standing.{Standing}
@@ -498,14 +500,14 @@ module _ (queue : Discipline) (system : System) (c t x : ℕ) where
       (idle 1 1 (turns.stops_to_back queue system t y cause k core).core
       (enters_back-running y (turns.date_of system t y (turns.charged system y k core)) (off (turns.charged system y k core))))
 
-  spent-traced : (y using : ℕ) (core : Core) → Traced (Counts y using) (Uses 1 1) [] core (turns.may_stop queue system t y using why.Spent core)
+  spent-traced : (y using : ℕ) (core : Core) → Traced (Counts y using) (Uses 1 1) [] core (turns.may_stop queue system t y using after.GoesOn core)
   spent-traced y using core = by (same using (head_amount (turns.its_context system y core)))
     where
       stopped : Turn
       stopped = turns.stops_to_back queue system t y why.Spent using core
 
       on : (b : Bool) → (using == head_amount (turns.its_context system y core)) ≡ b → Traced (Counts y using) (Uses 1 1) [] core (cond b stopped (silent core)) →
-          Traced (Counts y using) (Uses 1 1) [] core (turns.may_stop queue system t y using why.Spent core)
+          Traced (Counts y using) (Uses 1 1) [] core (turns.may_stop queue system t y using after.GoesOn core)
       on b e p = rw e p
 
       less : using ≢ head_amount (turns.its_context system y core) → (o : Option Chosen) → o ≡ core.running → Counts y using o (context_of core x) → Uses 1 1 o (context_of core x)
@@ -517,31 +519,29 @@ module _ (queue : Discipline) (system : System) (c t x : ℕ) where
               fewer : (a b : ℕ) → a ≢ b → a ≤ b → a + 1 ≤ b
               fewer a b e l = omega arith
 
-      by : Same using (head_amount (turns.its_context system y core)) → Traced (Counts y using) (Uses 1 1) [] core (turns.may_stop queue system t y using why.Spent core)
+      by : Same using (head_amount (turns.its_context system y core)) → Traced (Counts y using) (Uses 1 1) [] core (turns.may_stop queue system t y using after.GoesOn core)
       by (Are e d) = on true e (stops_to_back-traced (Counts y using) y using why.Spent core (λ own kept p. p.uses own))
       by (Differ e d) = on false e (plain (Counts y using) (Uses 1 1) core (silent core) refl refl (λ kept p. less d core.running refl p))
 
-  may_stop-traced : (y using : ℕ) (cause : Why) (core : Core) → Traced (Counts y using) (Uses 1 1) [] core (turns.may_stop queue system t y using cause core)
-  may_stop-traced y using why.Done core = stops-traced y using _ _ core
-  may_stop-traced y using why.Wait core = stops-traced y using _ _ core
-  may_stop-traced y using why.Yield core =
+  may_stop-traced : (y using : ℕ) (cause : AfterItem) (core : Core) → Traced (Counts y using) (Uses 1 1) [] core (turns.may_stop queue system t y using cause core)
+  may_stop-traced y using after.Ends core = stops-traced y using _ _ core
+  may_stop-traced y using after.Blocks core = stops-traced y using _ _ core
+  may_stop-traced y using after.Yields core =
       stops_to_back-traced (Counts y using) y (head_amount (turns.its_context system y core)) why.Yield core (λ own kept p. whole own kept)
     where
       whole : Own y → KeepsItsBudget (context_of core x) → (1 ≤ head_amount (turns.its_context system y core)) × (head_amount (turns.its_context system y core) ≤ head_amount (context_of core x))
       whole own kept = rw own (head_amount-some (context_of core x) kept, omega arith)
-  may_stop-traced y using why.Spent core = spent-traced y using core
-  may_stop-traced y using why.Preempt core = spent-traced y using core
-  may_stop-traced y using why.Order core = spent-traced y using core
+  may_stop-traced y using after.GoesOn core = spent-traced y using core
 
   after_count-traced : (y using : ℕ) (core : Core) → Traced (Counts y using) (Uses 1 1) [] core (turns.after_count queue system c t y using core)
   after_count-traced y using core =
       by_test (Counts y using) (Uses 1 1) [] ((thread_of core y).place.left == 0) core
-      (turns.finishes queue system c t y using (turns.item_of system y core) core) (turns.may_stop queue system t y using why.Spent core)
+      (turns.finishes queue system c t y using (turns.item_of system y core) core) (turns.may_stop queue system t y using after.GoesOn core)
       (
       then_part (Counts y using) (Counts y using) (Uses 1 1) [] [] core (turns.takes_effect queue system c t y (turns.item_of system y core) core)
-      (turns.may_stop queue system t y using (turns.stop_after system y (turns.item_of system y core) core))
+      (turns.may_stop queue system t y using (turns.after_item system y (turns.item_of system y core) core))
       (takes_effect-traced (Counts y using) (counts-steady y using) y (turns.item_of system y core) core)
-      (λ k. may_stop-traced y using (turns.stop_after system y (turns.item_of system y core) core) k)
+      (λ k. may_stop-traced y using (turns.after_item system y (turns.item_of system y core) core) k)
       )
       (spent-traced y using core)
 

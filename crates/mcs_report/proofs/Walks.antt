@@ -20,6 +20,8 @@ use Rattle.mcs_script.specs.declared.moved.Moved.{Moved}
 use Rattle.mcs_script.specs.declared.moved.Moved.TheVariants.{Next, RoundEnds, AllDone}
 use Rattle.mcs_release.specs.declared.dated.Dated.{Dated}
 use Rattle.mcs_mail.specs.declared.mail.Mail.{Mail}
+use Rattle.mcs_core.specs.declared.standing.AfterItem.{AfterItem}
+use Rattle.mcs_core.specs.declared.standing.AfterItem.TheVariants as after
 use Rattle.mcs_core.specs.declared.standing.Chosen.{Chosen}
 use Rattle.mcs_core.specs.declared.standing.Standing.TheVariants.{Blocked, Done}
 use Rattle.mcs_system.specs.System.{System, note_part}
@@ -221,7 +223,7 @@ module _ (system : System) (c t x : ℕ) where
       (enters_back-running system t x y (turns.date_of system t y after) (off after))
 
   spent-quits : (y using : ℕ) (k : Core) → k.running ≡ Some (record { thread = y; using = using })
-      → Quits x k (turns.may_stop by_priority system t y using why.Spent k)
+      → Quits x k (turns.may_stop by_priority system t y using after.GoesOn k)
   spent-quits y using k e =
       by_test x (λ turn. Quits x k turn) (using == head_amount (turns.its_context system y k))
       (turns.stops_to_back by_priority system t y why.Spent using k)
@@ -229,14 +231,12 @@ module _ (system : System) (c t x : ℕ) where
       (stops_to_back-quits y using using why.Spent k e)
       (silent-quits system t x k k refl)
 
-  may_stop-quits : (y using : ℕ) (cause : Why) (k : Core) → k.running ≡ Some (record { thread = y; using = using })
+  may_stop-quits : (y using : ℕ) (cause : AfterItem) (k : Core) → k.running ≡ Some (record { thread = y; using = using })
       → Quits x k (turns.may_stop by_priority system t y using cause k)
-  may_stop-quits y using why.Done k e = quits-stop x y using using why.Done None k (turns.stops system y why.Done using Done k) e refl refl
-  may_stop-quits y using why.Wait k e = quits-stop x y using using why.Wait None k (turns.stops system y why.Wait using Blocked k) e refl refl
-  may_stop-quits y using why.Yield k e = stops_to_back-quits y using (head_amount (turns.its_context system y k)) why.Yield k e
-  may_stop-quits y using why.Spent k e = spent-quits y using k e
-  may_stop-quits y using why.Preempt k e = spent-quits y using k e
-  may_stop-quits y using why.Order k e = spent-quits y using k e
+  may_stop-quits y using after.Ends k e = quits-stop x y using using why.Done None k (turns.stops system y why.Done using Done k) e refl refl
+  may_stop-quits y using after.Blocks k e = quits-stop x y using using why.Wait None k (turns.stops system y why.Wait using Blocked k) e refl refl
+  may_stop-quits y using after.Yields k e = stops_to_back-quits y using (head_amount (turns.its_context system y k)) why.Yield k e
+  may_stop-quits y using after.GoesOn k e = spent-quits y using k e
 
   signals-plain : (y note badge : ℕ) (k : Core) → Plain x k (turns.signals by_priority system c t y note badge k)
   signals-plain y note badge k =
@@ -271,7 +271,7 @@ module _ (system : System) (c t x : ℕ) where
       → Quits x k (turns.finishes by_priority system c t y using item k)
   finishes-quits y using item k e =
       let effect = turns.takes_effect by_priority system c t y item k in
-      let cause = turns.stop_after system y item k in
+      let cause = turns.after_item system y item k in
       let p = effect-plain y item k in
       quits-then x k effect (turns.may_stop by_priority system t y using cause) (plain-quits x k effect p) (may_stop-quits y using cause effect.core (p.running ∙ e))
 
@@ -280,7 +280,7 @@ module _ (system : System) (c t x : ℕ) where
   after_count-quits y using k e =
       by_test x (λ turn. Quits x k turn) ((thread_of k y).place.left == 0)
       (turns.finishes by_priority system c t y using (turns.item_of system y k) k)
-      (turns.may_stop by_priority system t y using why.Spent k)
+      (turns.may_stop by_priority system t y using after.GoesOn k)
       (finishes-quits y using (turns.item_of system y k) k e)
       (spent-quits y using k e)
 

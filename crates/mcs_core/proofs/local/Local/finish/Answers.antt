@@ -2,9 +2,11 @@ use Rattle.std.proofs.Common.{Option, subst, arith}
 use Rattle.std.specs.Prelude.{OnOk}
 use Rattle.mcs_ticks.specs.Queue.{by_priority}
 use Rattle.mcs_script.specs.declared.item.Item.{Item}
+use Rattle.mcs_core.specs.declared.standing.AfterItem.{AfterItem}
+use Rattle.mcs_core.specs.declared.standing.AfterItem.TheVariants as after
 use Rattle.mcs_core.specs.Core.{thread_of}
 use Rattle.mcs_core.specs.stored.Parts.{Makes}
-use Rattle.mcs_core.specs.Turn.{item_of, takes_effect, stop_after, may_stop, finishes}
+use Rattle.mcs_core.specs.Turn.{item_of, takes_effect, after_item, may_stop, finishes}
 use Rattle.mcs_core.proofs.Effects.{can_take_effect, can_stop_after}
 use Rattle.mcs_core.proofs.Loops.{then-makes}
 use Rattle.mcs_core.proofs.Whole.{on_ok-map}
@@ -34,6 +36,6 @@ returns c =
     (on_ok-map _ _ c.may_stop.result
     (then-makes c.args.here.now
     (takes_effect by_priority c.args.here.now.system.now c.args.here.now.core c.args.here.now.moment c.args.thread c.item_of-item.result c.args.self.now)
-    (may_stop by_priority c.args.here.now.system.now c.args.here.now.moment c.args.thread c.args.used (stop_after c.args.here.now.system.now c.args.thread c.item_of-item.result c.args.self.now))
+    (may_stop by_priority c.args.here.now.system.now c.args.here.now.moment c.args.thread c.args.used (after_item c.args.here.now.system.now c.args.thread c.item_of-item.result c.args.self.now))
     c.take_effect.new.self c.may_stop.new.self c.args.log.now c.take_effect.new.log c.may_stop.new.log c.in_ok-take_effect.ensures)
-    (rw (← c.stop_after-why.ensures) c.may_stop.ensures))
+    (rw (← c.after_item-after.ensures) c.may_stop.ensures))
