@@ -109,14 +109,14 @@ FaultOf k fault.NoMemory = ⊤
 FaultOf k (fault.Help text) = k ≡ kind.DisplayHelp
 FaultOf k (fault.Words text) = (k ≡ kind.DisplayHelp → ⊥) × (k ≡ kind.OutOfMemory → ⊥)
 
--- a fault comes of one of these kinds, or of want of memory
+-- a fault comes of one of these kinds, or memory has run out
 abbrev pub IsFaultOf : Kinds → WordsFault → Type 0
 IsFaultOf kinds fault.NoMemory = ⊤
 IsFaultOf kinds (fault.Help text) = IsAmong kind.DisplayHelp kinds
 IsFaultOf kinds (fault.Words text) = (k : ErrorKind) × (k ≡ kind.DisplayHelp → ⊥) × IsAmong k kinds
 
 -- What the words are answered: the values that the command line gives them, where they have no fault; where it takes them, nothing but
--- want of memory; else help where help is among their faults, or the text of another of them.
+-- being out of memory; else help where help is among their faults, or the text of another of them.
 pub record IsAnswer (words : List Text) (r : Result Options WordsFault) : Type 0 where
   -- the names of what is shown, wherever they lie
   pub shows : Bor (List (Bor Text))

@@ -58,7 +58,8 @@ module _ (read_old read_new : Option (List ℕ)) where
   module _ (write_old write_new : Option (List ℕ)) (options : Options) where
     -- what was written is the output for the bytes that were read, and nothing else
     abbrev pub IsDone : Type 0
-    IsDone = (system : System) × IsRead system × Appends write_old write_new (output_of options.show system options.horizon)
+    IsDone = (system : System) × IsRead system
+        × Appends write_old write_new (output_of options.show system options.horizon)
 
     -- the file is to blame before anything else; before the text is whole nothing is written
     abbrev pub IsFault : RunFault → Type 0

@@ -12,7 +12,7 @@ status_of_words (words.Help text) = 0
 status_of_words (words.Words text) = 2
 status_of_words words.NoMemory = 4
 
--- a file is to blame for every fault of its text but want of memory
+-- a file is to blame for every fault of its text but being out of memory
 abbrev pub status_of_file : FaultKind → ℕ
 status_of_file kind.NoMemory = 4
 status_of_file other = 1

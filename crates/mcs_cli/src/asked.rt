@@ -42,7 +42,7 @@ pub enum WordsFault {
 }
 
 impl WordsFault {
-    /// The exit status of the program: 0 after help, 2 for words that are not understood, 4 for want of memory.
+    /// The exit status of the program: 0 after help, 2 for words that are not understood, 4 where memory has run out.
     pub fn status(&self) -> u8
         ensures { result ≡ status_of_words self.now }
     {

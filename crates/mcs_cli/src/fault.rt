@@ -23,7 +23,7 @@ pub enum RunFault {
 }
 
 impl RunFault {
-    /// The exit status of the program: 1 for a wrong file, 3 for a reader or a writer that failed, 4 for want of memory.
+    /// The exit status of the program: 1 for a wrong file, 3 for a reader or a writer that failed, 4 where memory has run out.
     pub fn status(&self) -> u8
         ensures { result ≡ status_of_run self.now }
     {

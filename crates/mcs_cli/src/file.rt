@@ -16,8 +16,12 @@ pub fn run_with<F: Files, R: Read, W: Write>(
     output: &mut W,
     options: &Options,
 ) -> Result<(), RunFault>
-    ensures input { options.now.file ≡ None → IsRun (R.remaining input.old) (R.remaining input.new) (W.contents output.old) (W.contents output.new) options.now result }
-    ensures file { IfSome options.now.file (λ _. (old new : Option (List ℕ)) × IsRun old new (W.contents output.old) (W.contents output.new) options.now result) }
+    ensures input { options.now.file ≡ None
+        → IsRun (R.remaining input.old) (R.remaining input.new) (W.contents output.old) (W.contents output.new)
+        options.now result }
+    ensures file { IfSome options.now.file
+        (λ _. (old new : Option (List ℕ))
+        × IsRun old new (W.contents output.old) (W.contents output.new) options.now result) }
     ensures kept { IfSome options.now.file (λ _. input.new ≡ input.old) }
 {
     match &options.file {

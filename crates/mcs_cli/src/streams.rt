@@ -22,7 +22,8 @@ pub fn run<R: Read, W: Write>(
     writer: &mut W,
     options: &Options,
 ) -> Result<(), RunFault>
-    ensures { IsRun (R.remaining reader.old) (R.remaining reader.new) (W.contents writer.old) (W.contents writer.new) options.now result }
+    ensures { IsRun (R.remaining reader.old) (R.remaining reader.new) (W.contents writer.old) (W.contents writer.new)
+        options.now result }
 {
     let system = read_system(alloc, reader)?;
     let text = simulated(alloc, system, options).map_err(RunFault::Sim)?;

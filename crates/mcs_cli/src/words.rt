@@ -104,7 +104,8 @@ fn number<'a>(
 
 /// `--show`.
 fn show<'a>(alloc: Global) -> Arg<'a>
-    ensures rule { (shows : Bor (List (Bor (List ℕ)))) × (map (λ s. s.now) shows.now ≡ show_words) × (rule_of result ≡ show_rule shows) }
+    ensures rule { (shows : Bor (List (Bor (List ℕ)))) × (map (λ s. s.now) shows.now ≡ show_words)
+        × (rule_of result ≡ show_rule shows) }
     ensures fits { FitsChain result }
     ensures id { result.id.now ≡ codes "show" }
 {
@@ -135,7 +136,8 @@ fn options_of(alloc: Global, matches: &ArgMatches<'_>) -> Result<Options, AllocE
 }
 
 fn file_of(alloc: Global, matches: &ArgMatches<'_>) -> Result<Option<String>, AllocError>
-    ensures { IfOk result (λ file. option_map string_bytes file ≡ first_of (codes "FILE") (rows_of (found_of matches.now))) }
+    ensures { IfOk result
+        (λ file. option_map string_bytes file ≡ first_of (codes "FILE") (rows_of (found_of matches.now))) }
 {
     match matches.get_str("FILE") {
         Some(name) => Ok(Some(String::from_str(alloc, name)?)),

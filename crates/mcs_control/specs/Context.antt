@@ -37,12 +37,14 @@ abbrev pub new_context : Config → ℕ → Context
 new_context config at = record { config = config; budget = first_budget (kind_of config) at config.budget }
 
 abbrev pub budget_charged : ℕ → ℕ → Config → Budget → Budget
-budget_charged k min_budget config (Dates dates) = Dates (server.charged_with_enough k min_budget config.period (max_refills_of config) dates)
+budget_charged k min_budget config (Dates dates) =
+    Dates (server.charged_with_enough k min_budget config.period (max_refills_of config) dates)
 budget_charged k min_budget config (Slice left) = Slice (slice_charged k config.budget left)
 
 -- charged k ticks
 abbrev pub context_charged : ℕ → ℕ → Context → Context
-context_charged k min_budget context = record context { budget = budget_charged k min_budget context.config context.budget }
+context_charged k min_budget context =
+    record context { budget = budget_charged k min_budget context.config context.budget }
 
 abbrev pub budget_unblocked : ℕ → Budget → Budget
 budget_unblocked t (Dates dates) = Dates (server.unblocked t dates)
@@ -96,4 +98,5 @@ left_shown (Slice left) = Some left
 
 -- what there is to see of a context: its number, its refills or what is left of its slice, and the ticks in use
 abbrev pub view_of : ℕ → ℕ → Context → ContextView
-view_of number using context = record { context = number; refills = refills_shown context.budget; left = left_shown context.budget; using = using }
+view_of number using context =
+    record { context = number; refills = refills_shown context.budget; left = left_shown context.budget; using = using }

@@ -28,4 +28,6 @@ pub record IsConfig (config : Config) : Type 0 where
   pub few : config.extra ≤ 64
 
 abbrev pub PassedAreConfigs : Type 0
-PassedAreConfigs = (min_budget : ℕ) (config : Config) (kind : Kind) → checked min_budget config ≡ Ok kind → IsConfig config × (kind ≡ kind_of config)
+PassedAreConfigs =
+    (min_budget : ℕ) (config : Config) (kind : Kind) → checked min_budget config ≡ Ok kind → IsConfig config
+    × (kind ≡ kind_of config)

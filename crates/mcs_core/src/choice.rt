@@ -41,7 +41,9 @@ impl Local {
     pub(crate) fn choose(&mut self, here: &Here<'_>, log: &mut Log<'_>) -> Result<(), NoMemory>
         requires well_formed { IsWellFormed here.now.system.now }
         requires sound { IsSound here.now.system.now here.now.core (here.now.moment + 1) PastTick None self.old }
-        ensures { OnOk result (Makes here.now (chooses by_priority here.now.system.now here.now.moment self.old) self.new log.old log.new) }
+        ensures { OnOk result
+            (Makes here.now (chooses by_priority here.now.system.now here.now.moment self.old) self.new log.old
+            log.new) }
     {
         if self.running().is_some() {
             return Ok(());

@@ -102,8 +102,10 @@ fn outcome_of(rt: &HostRuntime, system: &[u8], run: &str) -> io::Result<Outcome>
 
 /// Compares what a run of the system that a text describes writes with what it must write.
 fn compared(alloc: Global, system: &[u8], options: &Options, wanted: &[u8]) -> Outcome
-    ensures agrees { result ≡ Agrees → (s : System) × (loaded system.now ≡ Ok s) × (output_of options.now.show s options.now.horizon ≡ wanted.now) }
-    ensures differs { (line : ℕ) → result ≡ Differs line → (s : System) × (loaded system.now ≡ Ok s) × (output_of options.now.show s options.now.horizon ≢ wanted.now) }
+    ensures agrees { result ≡ Agrees → (s : System) × (loaded system.now ≡ Ok s)
+        × (output_of options.now.show s options.now.horizon ≡ wanted.now) }
+    ensures differs { (line : ℕ) → result ≡ Differs line → (s : System) × (loaded system.now ≡ Ok s)
+        × (output_of options.now.show s options.now.horizon ≢ wanted.now) }
     ensures refused { (f : LoadFault) → result ≡ Fails (Load f) → f ≢ no_memory → loaded system.now ≡ Err f }
 {
     let mut reader = system;

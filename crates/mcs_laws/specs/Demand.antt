@@ -12,7 +12,8 @@ module _ (system : System) (thread : ℕ) where
   -- in how many of the ticks before the horizon the thread runs; in tick t runs the thread that the turn at t leaves running
   abbrev pub ticks_run : ℕ → ℕ
   ticks_run zero = 0
-  ticks_run (suc t) = ticks_run t + times_running thread (home_before system (thread_part system thread).context (suc t)).running
+  ticks_run (suc t) =
+      ticks_run t + times_running thread (home_before system (thread_part system thread).context (suc t)).running
 
   -- what it may run before the horizon: the budget of its context for each period that begins
   abbrev pub demand_of : ℕ → ℕ
@@ -23,5 +24,6 @@ module _ (system : System) (thread : ℕ) where
 -- no thread whose context no order names runs more than that
 abbrev pub ThreadsRunWithinDemand : System → Type 0
 ThreadsRunWithinDemand system =
-    (thread horizon : ℕ) → thread < length system.threads → IsNeverReconfigured system (thread_part system thread).context →
+    (thread horizon : ℕ) → thread < length system.threads
+    → IsNeverReconfigured system (thread_part system thread).context →
     ticks_run system thread horizon ≤ demand_of system thread horizon

@@ -14,5 +14,7 @@ module _ (system : System) where
   -- priority: the rows are the same, the signals under way are the same, and so are the cores but for the order of that list
   pub record DisciplinesAgree : Type 0 where
     pub rows : (horizon : ℕ) → schedule_with in_one_list system horizon ≡ schedule_with by_priority system horizon
-    pub signals : (t : ℕ) → (clock_with in_one_list system t).world.mails ≡ (clock_with by_priority system t).world.mails
-    pub cores : (t : ℕ) → map with_queue_sorted (clock_with in_one_list system t).world.cores ≡ (clock_with by_priority system t).world.cores
+    pub signals : (t : ℕ) → (clock_with in_one_list system t).world.mails
+        ≡ (clock_with by_priority system t).world.mails
+    pub cores : (t : ℕ) → map with_queue_sorted (clock_with in_one_list system t).world.cores
+        ≡ (clock_with by_priority system t).world.cores

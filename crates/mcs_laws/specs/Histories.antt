@@ -23,7 +23,8 @@ is_order_for context order = order.context == context
 module _ (system : System) where
   -- what a row tells that the context was charged: what the stop of its thread says
   abbrev pub charge_told : ℕ → What → List ℕ
-  charge_told context (row.Stop thread why k until) = if (thread_part system thread).context == context then k ∷ [] else []
+  charge_told context (row.Stop thread why k until) =
+      if (thread_part system thread).context == context then k ∷ [] else []
   charge_told context (row.Release thread) = []
   charge_told context (row.Run thread) = []
   charge_told context (row.Signal thread note badge) = []
@@ -39,7 +40,8 @@ module _ (system : System) where
 
   -- what a row of moment t tells that the context was unblocked: a wake of its thread unblocks it then
   abbrev pub unblock_told : ℕ → ℕ → What → List ℕ
-  unblock_told context t (row.Wake thread note word) = if (thread_part system thread).context == context then t ∷ [] else []
+  unblock_told context t (row.Wake thread note word) =
+      if (thread_part system thread).context == context then t ∷ [] else []
   unblock_told context t (row.Stop thread why k until) = []
   unblock_told context t (row.Release thread) = []
   unblock_told context t (row.Run thread) = []
@@ -84,7 +86,8 @@ module _ (system : System) where
   pub record History (context : ℕ) : Type 0 where
     pub changes : ℕ → List Change
     pub opening : context_before context 0 ≡ opening_context context
-    pub after : (t : ℕ) → context_before context (suc t) ≡ changed_by system.min_budget (changes t) (context_before context t)
+    pub after : (t : ℕ) → context_before context (suc t)
+        ≡ changed_by system.min_budget (changes t) (context_before context t)
     pub sound : (t : ℕ) → AreSound system.min_budget (changes t) (context_before context t)
     pub charges : (t : ℕ) → charges_at context t ≡ charges_of (changes t)
     pub unblocks : (t : ℕ) → unblocks_at context t ≡ unblocks_of (changes t)
@@ -97,7 +100,8 @@ module _ (system : System) where
   -- the running thread, where it is bound to the context, has used less than the head
   abbrev pub UsesLess : ℕ → Option Chosen → Context → Type 0
   UsesLess number None context = Unit {0}
-  UsesLess number (Some chosen) context = (thread_part system chosen.thread).context ≡ number → chosen.using < head_amount context
+  UsesLess number (Some chosen) context =
+      (thread_part system chosen.thread).context ≡ number → chosen.using < head_amount context
 
   -- each configuration gives a budget: at least a tick, and at most the period
   pub record GivesBudgets : Type 0 where
@@ -128,5 +132,6 @@ module _ (system : System) where
 
   abbrev pub ContextsAreSpaced : Type 0
   ContextsAreSpaced =
-      (context : ℕ) (history : History context) → context < length system.contexts → kind_of (context_part system context).config ≡ Sporadic →
+      (context : ℕ) (history : History context) → context < length system.contexts
+      → kind_of (context_part system context).config ≡ Sporadic →
       IsNeverReconfigured context → (t : ℕ) → IsSpacedBefore context history t

@@ -15,7 +15,8 @@ last_config config (order ∷ orders) = last_config order.config orders
 module _ (system : System) where
   -- the orders for the context before moment t, by moment, and in file order within one moment
   abbrev pub orders_before : ℕ → ℕ → List Order
-  orders_before context t = by_moment (filter (λ order. is_order_for context order && nat_lt order.moment t) system.orders)
+  orders_before context t =
+      by_moment (filter (λ order. is_order_for context order && nat_lt order.moment t) system.orders)
 
   -- the configuration in force before moment t: that of the last of them, or else the file's
   abbrev pub config_in_force : ℕ → ℕ → Config

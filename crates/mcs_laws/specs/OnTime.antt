@@ -19,10 +19,11 @@ module _ (thread head : ℕ) where
 
   -- before the turn at the moment, on a core that has these running, ready and waiting for a date: where it is ready the head has come,
   -- and where it waits for a date that is not before the head
-  pub record IsOnTime (moment : ℕ) (running : Option Chosen) (queue : List Queued) (releases : List Dated) : Type 0 where
-    pub runs : RunsInTime moment running
-    pub ready : 1 ≤ times_queued thread queue → head < moment
-    pub pends : AllByRecursion (λ (dated : Dated). dated.thread ≡ thread → head ≤ dated.date) releases
+  pub record IsOnTime (moment : ℕ) (running : Option Chosen) (queue : List Queued) (releases : List Dated) : Type 0
+    where
+      pub runs : RunsInTime moment running
+      pub ready : 1 ≤ times_queued thread queue → head < moment
+      pub pends : AllByRecursion (λ (dated : Dated). dated.thread ≡ thread → head ≤ dated.date) releases
 
 -- at each moment each thread whose context no order names is on time
 abbrev pub ThreadsAreOnTime : System → Type 0

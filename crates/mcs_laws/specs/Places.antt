@@ -26,7 +26,8 @@ module _ (thread : ℕ) where
 
   -- how many places it has on the core
   abbrev pub places : Core → ℕ
-  places core = times_running core.running + times_queued core.ready + times_dated core.releases + times_waiting core.notes
+  places core =
+      times_running core.running + times_queued core.ready + times_dated core.releases + times_waiting core.notes
 
 -- at each moment a thread has at most one place on a core: one that runs is in no queue and waits on nothing, and one that waits or is
 -- queued is so once

@@ -24,7 +24,8 @@ module _ (system : System) where
 
   -- the view of a context before moment t
   abbrev pub view_before : ℕ → ℕ → ContextView
-  view_before context t = view_of context (using_of system context (home_before system context t).running) (context_before system context t)
+  view_before context t =
+      view_of context (using_of system context (home_before system context t).running) (context_before system context t)
 
   abbrev pub ContextsAreShown : Type 0
   ContextsAreShown = (context t : ℕ) → context < length system.contexts → IsShown context t (view_before context t)

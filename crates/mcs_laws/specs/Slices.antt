@@ -34,7 +34,8 @@ module _ (system : System) (context : ℕ) where
     pub has_before : HasLeft from before
     pub has_after : HasLeft (from + moments) after
     pub within : AreWithin (charges_from from moments) budget before
-    pub sums : sum (charges_from from moments) + after ≡ before + times_used_up (charges_from from moments) budget before * budget
+    pub sums : sum (charges_from from moments) + after
+        ≡ before + times_used_up (charges_from from moments) budget before * budget
 
   -- the slice is full before these moments, is used up once in them, and is the next full one after them
   pub record IsOneSlice (from moments : ℕ) : Type 0 where

@@ -16,7 +16,8 @@ module _ (system : System) where
 
   -- the rows of a moment are those of the turns, in order of the cores
   abbrev pub RowsAreOfTurns : Type 0
-  RowsAreOfTurns = (t : ℕ) → (clock system (suc t)).rows ≡ (clock system t).rows ++ flat_map (λ c. rows_of system c t) cores
+  RowsAreOfTurns =
+      (t : ℕ) → (clock system (suc t)).rows ≡ (clock system t).rows ++ flat_map (λ c. rows_of system c t) cores
 
   -- the signals of all turns before moment `past`, in order of making
   abbrev pub sent_at : ℕ → List Mail

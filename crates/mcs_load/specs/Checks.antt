@@ -32,10 +32,11 @@ reads value = record { tests = []; value = value }
 
 -- a test that reads nothing
 abbrev pub must : Bool → FaultKind → Spot → Checked (Unit {0})
-must passes kind spot = record { tests = record { passes = passes; fault = record { kind = kind; spot = spot } } ∷ []; value = tt }
+must passes kind spot =
+    record { tests = record { passes = passes; fault = record { kind = kind; spot = spot } } ∷ []; value = tt }
 
 -- Where a function returned Ok, each test passes, and what it returned, seen by view, is what is
--- read. Where it returned another fault than want of memory, that is the first failed test's.
+-- read. Where it returned another fault than being out of memory, that is the first failed test's.
 abbrev pub Gives : {X A : Type 0} → (X → A) → Result X LoadFault → Checked A → Type 0
 Gives view (Ok x) step = (first_failed step.tests ≡ None) × (step.value ≡ view x)
 Gives view (Err fault) step = ¬ (fault ≡ no_memory) → first_failed step.tests ≡ Some fault

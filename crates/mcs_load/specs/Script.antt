@@ -18,7 +18,8 @@ use Rattle.mcs_load.specs.Words.{must_at, if_there, place_of, bytes_or_none, ite
 
 -- a test of the item with this number
 abbrev pub must_item : At → ℕ → FaultKind → Bool → Checked (Unit {0})
-must_item at number kind passes = must passes kind (record { section = at.section; row = at.row; key = key.Script; item = number })
+must_item at number kind passes =
+    must passes kind (record { section = at.section; row = at.row; key = key.Script; item = number })
 
 -- what a text says, where it says something
 unfoldable pub said : At → ℕ → Result Raw ItemFault → Checked Raw

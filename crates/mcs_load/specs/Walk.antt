@@ -123,7 +123,15 @@ thread contexts notes at earlier row = do
   priority ← whole_number at key.Priority 0 255 row
   times ← times at row
   script ← script notes (part_at contexts context).core at row
-  reads (record { name = name; context = context; priority = priority; start = times.start; rounds = times.rounds; deadline = times.deadline; script = script })
+  reads (record {
+    name = name;
+    context = context;
+    priority = priority;
+    start = times.start;
+    rounds = times.rounds;
+    deadline = times.deadline;
+    script = script;
+  })
 
 unfoldable pub threads : List ContextPart → List NotePart → Members → Checked (List ThreadPart)
 threads contexts notes file = do
@@ -186,7 +194,16 @@ walk file = do
   notes ← notes top.cores file
   threads ← threads contexts notes file
   orders ← orders top.cores top.min_budget contexts file
-  reads (record { cores = top.cores; delay = top.delay; call = top.call; min_budget = top.min_budget; contexts = contexts; notes = notes; threads = threads; orders = orders })
+  reads (record {
+    cores = top.cores;
+    delay = top.delay;
+    call = top.call;
+    min_budget = top.min_budget;
+    contexts = contexts;
+    notes = notes;
+    threads = threads;
+    orders = orders;
+  })
 
 -- the table that the text is
 abbrev pub table_or_empty : Option Members → Members

@@ -63,7 +63,8 @@ whole_number at key least most members = let found = get_member (key_name key) m
   number at key least most least found
 
 unfoldable pub number_with_default : At → Key → ℕ → ℕ → ℕ → Members → Checked ℕ
-number_with_default at key least most default members = number at key least most default (get_member (key_name key) members)
+number_with_default at key least most default members =
+    number at key least most default (get_member (key_name key) members)
 
 -- a text that is there
 abbrev pub bytes_or_none : Option (List ℕ) → List ℕ

@@ -20,14 +20,16 @@ impl At {
 
     /// The fault at a key of the row.
     pub(crate) fn fault(self, key: Key, kind: FaultKind) -> LoadFault
-        ensures { result ≡ record { kind = kind; spot = record { section = self.section; row = self.row; key = key; item = 0 } } }
+        ensures { result
+            ≡ record { kind = kind; spot = record { section = self.section; row = self.row; key = key; item = 0 } } }
     {
         self.item_fault(key, 0, kind)
     }
 
     /// The fault at an item, from 1, of the array at a key of the row.
     pub(crate) fn item_fault(self, key: Key, item: usize, kind: FaultKind) -> LoadFault
-        ensures { result ≡ record { kind = kind; spot = record { section = self.section; row = self.row; key = key; item = item } } }
+        ensures { result
+            ≡ record { kind = kind; spot = record { section = self.section; row = self.row; key = key; item = item } } }
     {
         let spot = Spot {
             section: self.section,

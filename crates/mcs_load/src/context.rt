@@ -35,7 +35,8 @@ fn context_row<'a>(
     row: &'a Table,
 ) -> Result<ContextPart, LoadFault>
     requires { (1 ≤ cores) × (cores ≤ 64) }
-    ensures gives { (earlier : List ContextPart) → names.old ≡ map (λ c. c.name) earlier → Gives (λ x. x) result (context cores min_budget at earlier (table_view row.now)) }
+    ensures gives { (earlier : List ContextPart) → names.old ≡ map (λ c. c.name) earlier
+        → Gives (λ x. x) result (context cores min_budget at earlier (table_view row.now)) }
     ensures kept { IfOk result (λ c. names.new ≡ names.old ++ c.name ∷ []) }
 {
     only_keys(at, &CONTEXT_KEYS, row)?;
@@ -59,7 +60,8 @@ fn context_at<'a>(
     value: &'a Value,
 ) -> Result<ContextPart, LoadFault>
     requires { (1 ≤ cores) × (cores ≤ 64) }
-    ensures gives { (earlier : List ContextPart) → names.old ≡ map (λ c. c.name) earlier → number ≡ suc (length earlier) → Gives (λ x. x) result (row section.Context (context cores min_budget) earlier (view value.now)) }
+    ensures gives { (earlier : List ContextPart) → names.old ≡ map (λ c. c.name) earlier → number ≡ suc (length earlier)
+        → Gives (λ x. x) result (row section.Context (context cores min_budget) earlier (view value.now)) }
     ensures kept { IfOk result (λ c. names.new ≡ names.old ++ c.name ∷ []) }
 {
     let at = At {
@@ -79,7 +81,8 @@ fn context_rows<'a>(
 ) -> Result<Vec<ContextPart>, LoadFault>
     requires range { (1 ≤ cores) × (cores ≤ 64) }
     requires empty { names.old ≡ [] }
-    ensures gives { Gives (λ v. v.items) result (each (row section.Context (context cores min_budget)) [] (items_view rows.now)) }
+    ensures gives { Gives (λ v. v.items) result
+        (each (row section.Context (context cores min_budget)) [] (items_view rows.now)) }
     ensures kept { IfOk result (λ v. names.new ≡ map (λ c. c.name) v.items) }
 {
     let mut contexts = Vec::new(alloc);

@@ -93,7 +93,7 @@ fn walk(alloc: Global, file: &Table) -> Result<SystemParts, LoadFault>
 }
 
 /// The system that the text of a file describes, or the first fault of the walk: the text as TOML, the keys and numbers at the top,
-/// then contexts, notifications, threads and orders, each array row by row. Want of memory is answered, as
+/// then contexts, notifications, threads and orders, each array row by row. `NoMemory` is answered, as
 /// [`FaultKind::NoMemory`](crate::FaultKind::NoMemory), where a growth was refused, before any later fault.
 #[tactic(auto, using(crate::proofs::Steps::both, crate::proofs::Steps::or_else_none, crate::proofs::Steps::or_else_some), unfolding(crate::specs::Walk::file))]
 pub fn load(alloc: Global, text: &[u8]) -> Result<System, LoadFault>

@@ -81,7 +81,8 @@ fn order_row<'a>(
 ) -> Result<Order, LoadFault>
     requires range { (1 ≤ cores) × (cores ≤ 64) }
     requires names { names.now ≡ map (λ c. c.name) contexts.now }
-    ensures { (earlier : List Order) → Tells (λ x. x) result (order cores min_budget contexts.now at earlier (table_view row.now)) }
+    ensures { (earlier : List Order)
+        → Tells (λ x. x) result (order cores min_budget contexts.now at earlier (table_view row.now)) }
 {
     only_keys(at, &ORDER_KEYS, row)?;
     let ticks = whole_number(at, Key::At, 0, Limits::ORDER_MOMENT, row)?;
@@ -106,7 +107,8 @@ fn order_at<'a>(
 ) -> Result<Order, LoadFault>
     requires range { (1 ≤ cores) × (cores ≤ 64) }
     requires names { names.now ≡ map (λ c. c.name) contexts.now }
-    ensures { (earlier : List Order) → number ≡ suc (length earlier) → Tells (λ x. x) result (row section.Order (order cores min_budget contexts.now) earlier (view value.now)) }
+    ensures { (earlier : List Order) → number ≡ suc (length earlier)
+        → Tells (λ x. x) result (row section.Order (order cores min_budget contexts.now) earlier (view value.now)) }
 {
     let at = At {
         section: Section::Order,
@@ -126,7 +128,8 @@ fn order_rows<'a>(
 ) -> Result<Vec<Order>, LoadFault>
     requires range { (1 ≤ cores) × (cores ≤ 64) }
     requires names { names.now ≡ map (λ c. c.name) contexts.now }
-    ensures { Gives (λ v. v.items) result (each (row section.Order (order cores min_budget contexts.now)) [] (items_view rows.now)) }
+    ensures { Gives (λ v. v.items) result
+        (each (row section.Order (order cores min_budget contexts.now)) [] (items_view rows.now)) }
 {
     let mut orders = Vec::new(alloc);
     for (i, value) in rows.iter().enumerate() {

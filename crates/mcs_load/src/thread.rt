@@ -86,7 +86,9 @@ fn thread_row<'a>(
 ) -> Result<ThreadPart, LoadFault>
     requires contexts { context_names.now ≡ map (λ c. c.name) contexts.now }
     requires notes { note_names.now ≡ map (λ n. n.name) notes.now }
-    ensures gives { (earlier : List ThreadPart) → names.old ≡ map (λ t. t.name) earlier → taken.old.keys ≡ map (λ t. t.context) earlier → Gives (λ x. x) result (thread contexts.now notes.now at earlier (table_view row.now)) }
+    ensures gives { (earlier : List ThreadPart) → names.old ≡ map (λ t. t.name) earlier → taken.old.keys
+        ≡ map (λ t. t.context) earlier
+        → Gives (λ x. x) result (thread contexts.now notes.now at earlier (table_view row.now)) }
     ensures names { IfOk result (λ t. names.new ≡ names.old ++ t.name ∷ []) }
     ensures taken { IfOk result (λ t. taken.new.keys ≡ taken.old.keys ++ t.context ∷ []) }
 {
@@ -122,7 +124,9 @@ fn thread_at<'a>(
 ) -> Result<ThreadPart, LoadFault>
     requires contexts { context_names.now ≡ map (λ c. c.name) contexts.now }
     requires notes { note_names.now ≡ map (λ n. n.name) notes.now }
-    ensures gives { (earlier : List ThreadPart) → names.old ≡ map (λ t. t.name) earlier → taken.old.keys ≡ map (λ t. t.context) earlier → number ≡ suc (length earlier) → Gives (λ x. x) result (row section.Thread (thread contexts.now notes.now) earlier (view value.now)) }
+    ensures gives { (earlier : List ThreadPart) → names.old ≡ map (λ t. t.name) earlier → taken.old.keys
+        ≡ map (λ t. t.context) earlier → number ≡ suc (length earlier)
+        → Gives (λ x. x) result (row section.Thread (thread contexts.now notes.now) earlier (view value.now)) }
     ensures names { IfOk result (λ t. names.new ≡ names.old ++ t.name ∷ []) }
     ensures taken { IfOk result (λ t. taken.new.keys ≡ taken.old.keys ++ t.context ∷ []) }
 {
@@ -154,7 +158,8 @@ fn thread_rows<'a>(
 ) -> Result<Vec<ThreadPart>, LoadFault>
     requires contexts { context_names.now ≡ map (λ c. c.name) contexts.now }
     requires notes { note_names.now ≡ map (λ n. n.name) notes.now }
-    ensures { Gives (λ v. v.items) result (each (row section.Thread (thread contexts.now notes.now)) [] (items_view rows.now)) }
+    ensures { Gives (λ v. v.items) result
+        (each (row section.Thread (thread contexts.now notes.now)) [] (items_view rows.now)) }
 {
     let mut names = Names::new(alloc);
     let mut taken = IndexSet::new(alloc);

@@ -35,7 +35,8 @@ fn number(
 ) -> Result<u64, LoadFault>
     requires { (least ≤ default) × (default ≤ most) }
     ensures in_range { IfOk result (λ n. (least ≤ n) × (n ≤ most)) }
-    ensures gives { Tells (λ n. n) result (number at key least most default (option_map (λ v. view v.now) found.entry)) }
+    ensures gives { Tells (λ n. n) result
+        (number at key least most default (option_map (λ v. view v.now) found.entry)) }
 {
     let Some(value) = found else {
         return Ok(default);

@@ -38,7 +38,12 @@ impl Model for Late {
     ghost use Rattle.std.specs.BinaryHeap.{heap_items, heap_len, heap_capacity};
     ghost use Rattle.mcs_mail.specs.stored.Numbers.{in_order, mails_of, IsNumbered};
 
-    ghost view = { λ a. record { mails = mails_of (in_order (heap_items a.heap)); spare = heap_capacity a.heap - heap_len a.heap; next = a.next } };
+    ghost view = { λ a.
+        record {
+          mails = mails_of (in_order (heap_items a.heap));
+          spare = heap_capacity a.heap - heap_len a.heap;
+          next = a.next;
+        } };
 
     ghost invariant = { λ a. IsNumbered (heap_items a.heap) a.next };
 }

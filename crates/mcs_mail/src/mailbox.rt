@@ -30,7 +30,11 @@ impl Model for Mailbox {
     ghost use Rattle.mcs_mail.specs.Box.{put_all};
     ghost use Rattle.mcs_mail.specs.stored.Late.{IsMerged};
 
-    ghost view = { λ a. record { mails = put_all a.late.mails a.ring.items; spare = min (deque_capacity a.ring - (deque_len a.ring + length a.late.mails)) a.late.spare } };
+    ghost view = { λ a.
+        record {
+          mails = put_all a.late.mails a.ring.items;
+          spare = min (deque_capacity a.ring - (deque_len a.ring + length a.late.mails)) a.late.spare;
+        } };
 
     ghost invariant = { λ a. IsMerged a.late.mails a.ring.items (deque_capacity a.ring) };
 }

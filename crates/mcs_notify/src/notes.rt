@@ -73,7 +73,10 @@ impl Notes {
         requires thread { thread < self.old.threads }
         requires free { is_waiting thread self.old.notes ≡ false }
         ensures waited { result ≡ waited (note_of self.old.notes note) }
-        ensures note { self.new ≡ with_note note (after_wait result (record { thread = thread; priority = priority }) (note_of self.old.notes note)) self.old }
+        ensures note { self.new
+            ≡ with_note note
+            (after_wait result (record { thread = thread; priority = priority }) (note_of self.old.notes note))
+            self.old }
     {
         let kept = &mut self.notes[note.0];
         if kept.word != 0 {

@@ -90,7 +90,8 @@ impl Model for Ready {
 
     ghost use Rattle.mcs_ready.specs.stored.Lines.{queue_from, all_threads, IsKept};
 
-    ghost view = { λ a. record { queue = queue_from 0 (all_threads a.next.items a.lines.items); room = length a.held.items } };
+    ghost view = { λ a.
+        record { queue = queue_from 0 (all_threads a.next.items a.lines.items); room = length a.held.items } };
 
     ghost invariant = { λ a. IsKept a.priorities.words a.lines.items a.next.items a.held.items };
 }

@@ -118,7 +118,8 @@ pub record Server : Type 0 where
 
 -- a new server, whose whole budget may be used from `at` on
 abbrev pub new_server : ℕ → ℕ → ℕ → ℕ → ℕ → Server
-new_server at budget period max_refills room = record { dates = dates_from at budget; period = period; max_refills = max_refills; room = room }
+new_server at budget period max_refills room =
+    record { dates = dates_from at budget; period = period; max_refills = max_refills; room = room }
 
 -- the server after a charge of k with enough at the head
 abbrev pub server_charged : ℕ → ℕ → Server → Server

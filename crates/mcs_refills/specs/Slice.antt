@@ -43,9 +43,12 @@ left_after_all (k ∷ ks) budget left = left_after_all ks budget (slice_charged 
 abbrev pub times_used_up : List ℕ → ℕ → ℕ → ℕ
 times_used_up [] budget left = 0
 times_used_up (k ∷ ks) budget left =
-    if left - k == 0 then times_used_up ks budget (slice_charged k budget left) + 1 else times_used_up ks budget (slice_charged k budget left)
+    if left - k == 0 then times_used_up ks budget (slice_charged k budget left) + 1
+    else times_used_up ks budget (slice_charged k budget left)
 
 -- from a full slice on, the charges sum to the budgets that they used up and what they used of the last: so from one full slice
 -- to the next they sum to the budget
 abbrev pub SlicesAreSpent : Type 0
-SlicesAreSpent = (budget : ℕ) (ks : List ℕ) → AreWithin ks budget budget → sum ks + left_after_all ks budget budget ≡ budget + times_used_up ks budget budget * budget
+SlicesAreSpent =
+    (budget : ℕ) (ks : List ℕ) → AreWithin ks budget budget → sum ks + left_after_all ks budget budget
+    ≡ budget + times_used_up ks budget budget * budget

@@ -98,7 +98,8 @@ pub fn charge_list(
     requires some { 1 ≤ ticks }
     requires in_head { ticks ≤ first_amount refills.old.items }
     requires early { first_moment refills.old.items ≤ 2 ^ 40 }
-    ensures { refills.new ≡ buffer (after_charge ticks min_budget period max_refills refills.old.items) refills.old.capacity }
+    ensures { refills.new
+        ≡ buffer (after_charge ticks min_budget period max_refills refills.old.items) refills.old.capacity }
 {
     let moment = take(refills, ticks);
     let back = Refill {

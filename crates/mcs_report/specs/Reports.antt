@@ -55,7 +55,8 @@ is_spent thread (row.Stop x why.Spent charged until) = x == thread
 is_spent thread _ = false
 
 abbrev pub wait_in : ℕ → ℕ → ℕ → What → List ℕ
-wait_in horizon thread moment (row.Stop x why.Spent charged (Some until)) = if x == thread then (min until horizon - moment) ∷ [] else []
+wait_in horizon thread moment (row.Stop x why.Spent charged (Some until)) =
+    if x == thread then (min until horizon - moment) ∷ [] else []
 wait_in horizon thread moment _ = []
 
 -- how long the thread waited after each stop with a spent head, up to the horizon
@@ -105,5 +106,6 @@ reports_of system horizon rows =
     let threads = thread_reports horizon rows 0 system.threads in
     record {
       threads = threads;
-      cores = map (λ c. core_report_of horizon (ran_on system c system.threads threads)) (range_with_len 0 system.cores);
+      cores = map (λ c. core_report_of horizon (ran_on system c system.threads threads))
+          (range_with_len 0 system.cores);
     }

@@ -20,7 +20,17 @@ pub record Tally : Type 0 where
   pub accounts : List Account
 
 abbrev pub no_report : ThreadReport
-no_report = record { ran = 0; rounds = 0; least = 0; greatest = 0; total = 0; late = 0; spent = 0; throttled = 0; longest = 0 }
+no_report = record {
+  ran = 0;
+  rounds = 0;
+  least = 0;
+  greatest = 0;
+  total = 0;
+  late = 0;
+  spent = 0;
+  throttled = 0;
+  longest = 0;
+}
 
 -- the account of a thread of this core before the first row
 abbrev pub opened : ℕ → ℕ → Account
@@ -114,12 +124,14 @@ report_at horizon account = (ended horizon account).report
 
 -- what the threads of core c ran, each
 abbrev pub ran_by : ℕ → List Account → ℕ → List ℕ
-ran_by horizon accounts c = map (λ account. (report_at horizon account).ran) (filter (λ account. account.core == c) accounts)
+ran_by horizon accounts c =
+    map (λ account. (report_at horizon account).ran) (filter (λ account. account.core == c) accounts)
 
 -- the reports at the horizon
 abbrev pub finished : Tally → Reports
 finished tally =
     record {
       threads = map (report_at tally.horizon) tally.accounts;
-      cores = map (λ c. core_report_of tally.horizon (ran_by tally.horizon tally.accounts c)) (range_with_len 0 tally.cores);
+      cores = map (λ c. core_report_of tally.horizon (ran_by tally.horizon tally.accounts c))
+          (range_with_len 0 tally.cores);
     }

@@ -39,7 +39,8 @@ impl Model for Tally {
 
 fn opened_accounts(alloc: Global, parts: &SystemParts) -> Result<Vec<Account>, NoMemory>
     ensures { IfOk result
-        (λ accounts. accounts.items ≡ map (λ thread. opened (core_of parts.now thread) thread.deadline) parts.now.threads) }
+        (λ accounts. accounts.items
+        ≡ map (λ thread. opened (core_of parts.now thread) thread.deadline) parts.now.threads) }
 {
     let accounts = parts
         .threads
@@ -128,7 +129,8 @@ fn all_core_reports(
 ) -> Vec<CoreReport>
     requires empty { reports.items ≡ [] }
     requires room { cores ≤ vec_capacity reports }
-    ensures { result.items ≡ map (λ c. core_report_of horizon (ran_by horizon accounts.now c)) (range_with_len 0 cores) }
+    ensures { result.items
+        ≡ map (λ c. core_report_of horizon (ran_by horizon accounts.now c)) (range_with_len 0 cores) }
 {
     for core in 0..cores {
         let pushed = reports.push(core_report(accounts, horizon, core));

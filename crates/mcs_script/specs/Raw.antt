@@ -39,7 +39,9 @@ value_of digits = fold (λ value digit. 10 * value + (digit - 48)) 0 digits
 
 -- a number from 1 to the greatest
 abbrev pub number_up_to : ℕ → List ℕ → Option ℕ
-number_up_to most digits = if is_numeral digits && (nat_le 1 (value_of digits) && nat_le (value_of digits) most) then Some (value_of digits) else None
+number_up_to most digits =
+    if is_numeral digits && (nat_le 1 (value_of digits) && nat_le (value_of digits) most) then Some (value_of digits)
+    else None
 
 -- the item that a number makes
 abbrev pub with_number : (ℕ → Raw) → Option ℕ → Result Raw ItemFault

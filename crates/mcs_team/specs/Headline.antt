@@ -3,7 +3,7 @@
 -- in use counted, sum to its budget and do not overlap.
 --
 -- Its premises: the system is accepted, which is to be well formed (`System` holds no other); the horizon is at most 2^40, which is a
--- condition of the calls; and the call has succeeded, which want of memory alone prevents.
+-- condition of the calls; and the call has succeeded, which being out of memory alone prevents.
 use Rattle.std.specs.Prelude.{◌≡◌, ℕ, suc, ◌≤◌, List}
 use Rattle.mcs_ticks.specs.declared.row.Row.{Row}
 use Rattle.mcs_control.specs.declared.view.ContextView.{ContextView}

@@ -50,4 +50,5 @@ pub record AreTaken (start : Progress) (many : ℕ) (lists : List (Vec Row Globa
   pub system_is : progress.system ≡ start.system
   pub clocks_are : progress.clocks ≡ start.clocks
   pub left : (c : ℕ) → many ≤ c → taken_of progress c ≡ taken_of start c
-  pub rows_are : rows_of_lists lists ≡ map (λ c. rows_between start.system c 0 (clock_of start c)) (range_with_len 0 many)
+  pub rows_are : rows_of_lists lists
+      ≡ map (λ c. rows_between start.system c 0 (clock_of start c)) (range_with_len 0 many)

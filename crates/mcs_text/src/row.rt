@@ -108,7 +108,8 @@ fn append_stop(
     charged: u64,
     until: Option<Tick>,
 ) -> Result<(), NoMemory>
-    ensures ok { OnOk result (text.new.items ≡ text.old.items ++ after (why_word why ∷ decimal charged ∷ until_words until)) }
+    ensures ok { OnOk result
+        (text.new.items ≡ text.old.items ++ after (why_word why ∷ decimal charged ∷ until_words until)) }
     ensures kept { StartsWith text.new.items text.old.items }
 {
     append_counted(text, word_of(why), charged)?;

@@ -22,7 +22,8 @@ without thread (x ∷ xs) = if x.thread == thread then xs else x ∷ without thr
 abbrev pub without_greatest : List Queued → List Queued
 without_greatest [] = []
 without_greatest (x ∷ []) = []
-without_greatest (x ∷ y ∷ ys) = if nat_lt x.priority (first_among y ys).priority then x ∷ without_greatest (y ∷ ys) else y ∷ ys
+without_greatest (x ∷ y ∷ ys) =
+    if nat_lt x.priority (first_among y ys).priority then x ∷ without_greatest (y ∷ ys) else y ∷ ys
 
 -- how the ready threads are kept: what it is to enter at the back and at the front, which thread is the best, and what is left
 -- when that one is taken
@@ -59,7 +60,8 @@ by_priority = record { back = entered_back; front = entered_front; best = first_
 -- one list in order of entering: at the back it is appended to, at the front put before, and its first of greatest priority is
 -- the best
 abbrev pub in_one_list : Discipline
-in_one_list = record { back = λ x xs. xs ++ x ∷ []; front = λ x xs. x ∷ xs; best = first_of_greatest; rest = without_greatest }
+in_one_list =
+    record { back = λ x xs. xs ++ x ∷ []; front = λ x xs. x ∷ xs; best = first_of_greatest; rest = without_greatest }
 
 -- what a queue is told
 pub data Command : Type 0 where

@@ -21,7 +21,13 @@ taken_of progress c = slice_index progress.taken c
 
 abbrev pub opening_progress : System → ℕ → Progress
 opening_progress system horizon =
-    record { system = system; horizon = horizon; clocks = replicate system.cores 0; taken = replicate system.cores 0; failed = false }
+    record {
+      system = system;
+      horizon = horizon;
+      clocks = replicate system.cores 0;
+      taken = replicate system.cores 0;
+      failed = false;
+    }
 
 -- core c comes to a later moment, or takes the turn at its clock
 abbrev pub advanced : Progress → ℕ → ℕ → Progress
@@ -49,7 +55,7 @@ pub record IsFirstBehind (progress : Progress) (c b : ℕ) : Type 0 where
   pub behind : IsBehind progress c b
   pub first : (d : ℕ) → d < b → ¬ IsBehind progress c d
 
--- core c may step, and no want of memory was met before
+-- core c may step, and it was never out of memory
 pub record IsReady (progress : Progress) (c : ℕ) : Type 0 where
   pub whole : progress.failed ≡ false
   pub may : MayStep progress.system progress.horizon progress.clocks c
@@ -57,10 +63,11 @@ pub record IsReady (progress : Progress) (c : ℕ) : Type 0 where
 -- when each fault of a step comes, in this order of tests; there is no memory after it was wanted once
 abbrev pub IsFault : Progress → ℕ → StepFault → Type 0
 IsFault progress c Ended = (progress.failed ≡ false) × (clock_of progress c ≡ progress.horizon + 1)
-IsFault progress c (NotSafe b) = (progress.failed ≡ false) × (clock_of progress c ≤ progress.horizon) × IsFirstBehind progress c b
+IsFault progress c (NotSafe b) =
+    (progress.failed ≡ false) × (clock_of progress c ≤ progress.horizon) × IsFirstBehind progress c b
 IsFault progress c NoMemory = (progress.failed ≡ true) ⊎ IsReady progress c
 
--- only want of memory changes anything
+-- only being out of memory changes anything
 abbrev pub after_fault : StepFault → Progress → Progress
 after_fault Ended progress = progress
 after_fault (NotSafe b) progress = progress
@@ -73,7 +80,9 @@ TakeTurns progress (c ∷ cs) = IsReady progress c × TakeTurns (stepped progres
 
 -- then the list is a safe order
 abbrev pub TurnsAreSafe : Type 0
-TurnsAreSafe = (progress : Progress) (cs : List ℕ) → TakeTurns progress cs → IsSafe progress.system progress.horizon progress.clocks cs
+TurnsAreSafe =
+    (progress : Progress) (cs : List ℕ) → TakeTurns progress cs
+    → IsSafe progress.system progress.horizon progress.clocks cs
 
 -- a core that no other one is behind is not refused, unless it has taken its turn at the horizon
 abbrev pub TheLeastMayStep : System → Type 0

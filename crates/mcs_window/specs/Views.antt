@@ -32,7 +32,8 @@ module _ (system : System) where
   -- where each core is at this moment: a view for each context, in file order, which shows the whole budget that the context then has
   pub record AreShown (moment : ℕ → ℕ) (views : List ContextView) : Type 0 where
     pub many : length views ≡ length system.contexts
-    pub each : (k : ℕ) (d : ContextView) → k < length system.contexts → IsShown system k (moment (home_of system k)) (get_or views k d)
+    pub each : (k : ℕ) (d : ContextView) → k < length system.contexts
+        → IsShown system k (moment (home_of system k)) (get_or views k d)
 
   -- at the clocks of the cores, and before moment t
   abbrev pub AreShownAt : List ℕ → List ContextView → Type 0

@@ -135,7 +135,8 @@ impl Cores {
     /// The rows of a core since they were last taken.
     pub fn take_rows(&mut self, core: CoreId) -> Vec<Row>
         requires { core < self.old.system.cores }
-        ensures rows { result.items ≡ rows_between self.old.system core (taken_of self.old core) (clock_of self.old core) }
+        ensures rows { result.items
+            ≡ rows_between self.old.system core (taken_of self.old core) (clock_of self.old core) }
         ensures taken { self.new ≡ with_taken self.old core }
     {
         let alloc: Global = *self.fresh.allocator();

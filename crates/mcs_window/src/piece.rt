@@ -115,7 +115,8 @@ impl Piece {
     /// Takes the turns of the stretch. `Lost` is given only where there was no memory.
     pub fn run(self) -> Result<Done, Lost>
         ensures done { IfOk result (IsOf self) }
-        ensures lost { IfErr result (λ lost. (lost.core ≡ self.core) × (lost.first ≡ self.first) × (lost.past ≡ self.past)) }
+        ensures lost { IfErr result
+            (λ lost. (lost.core ≡ self.core) × (lost.first ≡ self.first) × (lost.past ≡ self.past)) }
     {
         let Piece {
             system,

@@ -35,7 +35,8 @@ pub(crate) fn all_views(
     states: &[CoreState],
 ) -> Result<Vec<ContextView>, NoMemory>
     requires { AreStates system.now states.now }
-    ensures { IfOk result (λ views. (x : State) → views.items ≡ views_in system.now (λ c. (slice_index_or states.now c x).core)) }
+    ensures { IfOk result
+        (λ views. (x : State) → views.items ≡ views_in system.now (λ c. (slice_index_or states.now c x).core)) }
 {
     let mut queues = views_by_core(alloc, system, states)?;
     let contexts = system.parts().contexts.as_slice();

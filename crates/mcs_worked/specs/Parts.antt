@@ -11,7 +11,8 @@ use Rattle.mcs_system.specs.System.{System}
 
 -- a context: its name, core, budget, period, and extra refills
 abbrev pub context : List ℕ → ℕ → ℕ → ℕ → ℕ → ContextPart
-context name core budget period extra = record { name = name; core = core; config = record { budget = budget; period = period; extra = extra } }
+context name core budget period extra =
+    record { name = name; core = core; config = record { budget = budget; period = period; extra = extra } }
 
 -- a notification: its name and its home
 abbrev pub note : List ℕ → ℕ → NotePart
@@ -20,11 +21,20 @@ note name core = record { name = name; core = core }
 -- a thread: its name, context, priority, start, rounds, deadline, and script
 abbrev pub thread : List ℕ → ℕ → ℕ → ℕ → ℕ → ℕ → List Item → ThreadPart
 thread name context priority start rounds deadline script =
-    record { name = name; context = context; priority = priority; start = start; rounds = rounds; deadline = deadline; script = script }
+    record {
+      name = name;
+      context = context;
+      priority = priority;
+      start = start;
+      rounds = rounds;
+      deadline = deadline;
+      script = script;
+    }
 
 -- an order: its moment, context, and the new budget, period and extra refills
 abbrev pub order : ℕ → ℕ → ℕ → ℕ → ℕ → Order
-order moment context budget period extra = record { moment = moment; context = context; config = record { budget = budget; period = period; extra = extra } }
+order moment context budget period extra =
+    record { moment = moment; context = context; config = record { budget = budget; period = period; extra = extra } }
 
 -- a row: its moment, its core, and what happens
 abbrev pub at : ℕ → ℕ → What → Row
@@ -33,7 +43,16 @@ at moment core what = record { moment = moment; core = core; what = what }
 -- a system of one core, on which each call costs a tick
 abbrev pub one_core : List ContextPart → List NotePart → List ThreadPart → List Order → System
 one_core contexts notes threads orders =
-    record { cores = 1; delay = 1; call = 1; min_budget = 1; contexts = contexts; notes = notes; threads = threads; orders = orders }
+    record {
+      cores = 1;
+      delay = 1;
+      call = 1;
+      min_budget = 1;
+      contexts = contexts;
+      notes = notes;
+      threads = threads;
+      orders = orders;
+    }
 
 -- a system of two cores, with signals under way for two ticks
 abbrev pub two_cores : List ContextPart → List NotePart → List ThreadPart → List Order → System

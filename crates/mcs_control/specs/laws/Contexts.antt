@@ -12,7 +12,8 @@ use Rattle.mcs_control.specs.Control.{IsConfig, kind_of}
 -- or a slice with something left, and at most the budget
 abbrev pub IsBudget : Config → Budget → Type 0
 IsBudget config (Dates dates) =
-    (config.budget < config.period) × AreKept config.budget config.period dates × (length (refills_of dates) ≤ max_refills_of config)
+    (config.budget < config.period) × AreKept config.budget config.period dates
+    × (length (refills_of dates) ≤ max_refills_of config)
 IsBudget config (Slice left) = (config.budget ≡ config.period) × (1 ≤ left) × (left ≤ config.budget)
 
 -- a context in good order
@@ -24,9 +25,11 @@ pub record IsContext (context : Context) : Type 0 where
 abbrev pub ContextsAreKept : Type 0
 ContextsAreKept =
     ((config : Config) (at : ℕ) → IsConfig config → IsContext (new_context config at))
-    × ((k min_budget : ℕ) (context : Context) → IsContext context → 1 ≤ k → k ≤ head_amount context → IsContext (context_charged k min_budget context))
+    × ((k min_budget : ℕ) (context : Context) → IsContext context → 1 ≤ k → k ≤ head_amount context
+    → IsContext (context_charged k min_budget context))
     × ((t : ℕ) (context : Context) → IsContext context → IsContext (context_unblocked t context))
-    × ((t : ℕ) (config : Config) (context : Context) → IsContext context → IsConfig config → kind_of config ≡ kind_of context.config → IsContext (context_ordered t config context))
+    × ((t : ℕ) (config : Config) (context : Context) → IsContext context → IsConfig config → kind_of config
+    ≡ kind_of context.config → IsContext (context_ordered t config context))
 
 -- what is done to a context: charges, and the unblocking of a wake
 abbrev pub context_stepped : Step → Context → Context
@@ -41,7 +44,8 @@ taken_by step (Slice left) = []
 -- the dates that charges take from a context, in order
 abbrev pub consumed_from : List Step → Context → List ℕ
 consumed_from [] context = []
-consumed_from (step ∷ steps) context = taken_by step context.budget ++ consumed_from steps (context_stepped step context)
+consumed_from (step ∷ steps) context =
+    taken_by step context.budget ++ consumed_from steps (context_stepped step context)
 
 -- where no order comes between, the date a whole budget later is at least a period later
 abbrev pub ConsumedAreSpaced : Type 0

@@ -37,4 +37,5 @@ ShowsBudget config view = ShowsBudgetOf (kind_of config) config view
 -- a context in good order, of whose head so many ticks are in use, shows its whole budget
 abbrev pub ContextsShowTheirBudgets : Type 0
 ContextsShowTheirBudgets =
-    (number using : ℕ) (context : Context) → IsContext context → using ≤ head_amount context → ShowsBudget context.config (view_of number using context)
+    (number using : ℕ) (context : Context) → IsContext context → using ≤ head_amount context
+    → ShowsBudget context.config (view_of number using context)

@@ -16,7 +16,8 @@ held config budget = record { config = config; budget = held_budget budget }
 
 -- the refills or the slice are configured as the context is
 abbrev pub IsConfigured : Config → ℕ → Budget → Type 0
-IsConfigured config room (Sporadic server) = (server.period ≡ config.period) × (server.max_refills ≡ context.max_refills_of config) × (server.room ≡ room)
+IsConfigured config room (Sporadic server) =
+    (server.period ≡ config.period) × (server.max_refills ≡ context.max_refills_of config) × (server.room ≡ room)
 IsConfigured config room (RoundRobin slice) = slice.budget ≡ config.budget
 
 pub record IsHeld (config : Config) (budget : Budget) (room : ℕ) : Type 0 where

@@ -15,7 +15,15 @@ pub record LateMail : Type 0 where
 
 -- mail with its number
 abbrev pub numbered : ℕ → Mail → Numbered
-numbered number mail = record { arrives = mail.arrives; made = mail.made; maker = mail.maker; number = number; note = mail.note; badge = mail.badge }
+numbered number mail =
+    record {
+      arrives = mail.arrives;
+      made = mail.made;
+      maker = mail.maker;
+      number = number;
+      note = mail.note;
+      badge = mail.badge;
+    }
 
 -- .. and without
 abbrev pub mail_of : Numbered → Mail
@@ -25,7 +33,10 @@ mail_of x = record { arrives = x.arrives; made = x.made; maker = x.maker; note =
 abbrev pub is_earlier : Reverse Numbered → Reverse Numbered → Bool
 is_earlier a b =
     nat_lt a.0.arrives b.0.arrives
-    || ((a.0.arrives == b.0.arrives) && (nat_lt a.0.made b.0.made || ((a.0.made == b.0.made) && (nat_lt a.0.maker b.0.maker || ((a.0.maker == b.0.maker) && nat_lt a.0.number b.0.number)))))
+    || ((a.0.arrives == b.0.arrives)
+    && (nat_lt a.0.made b.0.made
+    || ((a.0.made == b.0.made)
+    && (nat_lt a.0.maker b.0.maker || ((a.0.maker == b.0.maker) && nat_lt a.0.number b.0.number)))))
 
 -- one more among these, in front of the first that it is earlier than
 abbrev pub enter : Reverse Numbered → List (Reverse Numbered) → List (Reverse Numbered)
@@ -45,8 +56,10 @@ mails_of (x ∷ xs) = mail_of x.0 ∷ mails_of xs
 -- the heap's order: the earliest on top
 abbrev pub late_cmp : Reverse Numbered → Reverse Numbered → Ordering
 late_cmp x y =
-    ordering_then (nat_cmp y.0.arrives x.0.arrives) (ordering_then (nat_cmp y.0.made x.0.made) (ordering_then (nat_cmp y.0.maker x.0.maker)
-    (ordering_then (nat_cmp y.0.number x.0.number) (ordering_then (nat_cmp y.0.note x.0.note) (nat_cmp y.0.badge x.0.badge)))))
+    ordering_then (nat_cmp y.0.arrives x.0.arrives)
+    (ordering_then (nat_cmp y.0.made x.0.made) (ordering_then (nat_cmp y.0.maker x.0.maker)
+    (ordering_then (nat_cmp y.0.number x.0.number)
+    (ordering_then (nat_cmp y.0.note x.0.note) (nat_cmp y.0.badge x.0.badge)))))
 
 abbrev pub one_if : Bool → ℕ
 one_if b = if b then 1 else 0

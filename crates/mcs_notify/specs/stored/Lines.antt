@@ -55,7 +55,8 @@ IsBest places first len best =
 
 -- a line with the thread at its back
 abbrev pub with_back : ℕ → Line → Line
-with_back thread line = record { first = if line.len == 0 then thread else line.first; last = thread; len = line.len + 1 }
+with_back thread line =
+    record { first = if line.len == 0 then thread else line.first; last = thread; len = line.len + 1 }
 
 -- the thread behind which it enters: itself in a line with no thread
 abbrev pub before_back : ℕ → Line → ℕ
@@ -63,11 +64,13 @@ before_back thread line = if line.len == 0 then thread else line.last
 
 -- the places, where the one before names this thread as the one behind it
 abbrev pub named : ℕ → ℕ → List Place → List Place
-named before thread places = set places before (record { behind = thread; priority = (place_of places before).priority })
+named before thread places =
+    set places before (record { behind = thread; priority = (place_of places before).priority })
 
 -- the places, where a thread enters a line at its back
 abbrev pub joined : ℕ → ℕ → Line → List Place → List Place
-joined thread priority line places = named (before_back thread line) thread (set places thread (record { behind = thread; priority = priority }))
+joined thread priority line places =
+    named (before_back thread line) thread (set places thread (record { behind = thread; priority = priority }))
 
 -- a line without this waiter, behind which that thread stands
 abbrev pub without_waiter : Waiter → ℕ → Line → Line
@@ -107,6 +110,7 @@ quiet = record { word = 0; line = record { first = 0; last = 0; len = 0 } }
 
 -- what is kept of the lines: each ends with its last thread, and each thread that waits is one that there is, and waits once
 pub record IsKept (kept : List Kept) (places : List Place) : Type 0 where
-  pub ends : (n : ℕ) → last_or (slice_index_or kept n quiet).line.last (note_of (notes_at kept places) n).waiters ≡ (slice_index_or kept n quiet).line.last
+  pub ends : (n : ℕ) → last_or (slice_index_or kept n quiet).line.last (note_of (notes_at kept places) n).waiters
+      ≡ (slice_index_or kept n quiet).line.last
   pub once : (thread : ℕ) → times_in thread (notes_at kept places) ≤ 1
   pub below : (thread : ℕ) → 0 < times_in thread (notes_at kept places) → thread < length places

@@ -74,6 +74,7 @@ one_if held = if held then 1 else 0
 pub record IsKept (words : List ℕ) (lines : List Line) (next : List ℕ) (held : List Bool) : Type 0 where
   pub count : length lines ≡ 256
   pub room : length next ≡ length held
-  pub ends : (p : ℕ) → last_or (slice_index_or lines p no_line).last (slice_index_or (all_threads next lines) p []) ≡ (slice_index_or lines p no_line).last
+  pub ends : (p : ℕ) → last_or (slice_index_or lines p no_line).last (slice_index_or (all_threads next lines) p [])
+      ≡ (slice_index_or lines p no_line).last
   pub marked : (p : ℕ) → has words p ≡ is_some_in (slice_index_or (all_threads next lines) p [])
   pub once : (x : ℕ) → times_in x (all_threads next lines) ≡ one_if (slice_index_or held x false)

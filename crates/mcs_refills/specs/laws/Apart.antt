@@ -34,8 +34,12 @@ pub record HaveBudget (budget period max_refills : ℕ) (refills : List Refill) 
 
 -- the refills of dates that ascend are apart, and their amounts are the number of the dates
 abbrev pub RefillsOfDates : Type 0
-RefillsOfDates = (low high : ℕ) (dates : List ℕ) → IsWithin low high dates → AreApart (refills_of dates) × (total_amount (refills_of dates) ≡ length dates)
+RefillsOfDates =
+    (low high : ℕ) (dates : List ℕ) → IsWithin low high dates → AreApart (refills_of dates)
+    × (total_amount (refills_of dates) ≡ length dates)
 
 -- so a server in good order has its budget in its refills
 abbrev pub ServersHaveTheirBudgets : Type 0
-ServersHaveTheirBudgets = (budget : ℕ) (server : Server) → IsServer budget server → HaveBudget budget server.period server.max_refills (refills_of server.dates)
+ServersHaveTheirBudgets =
+    (budget : ℕ) (server : Server) → IsServer budget server
+    → HaveBudget budget server.period server.max_refills (refills_of server.dates)

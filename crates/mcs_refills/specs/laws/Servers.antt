@@ -11,10 +11,13 @@ pub record IsServer (budget : ℕ) (server : Server) : Type 0 where
 -- a new server is in good order, a charge and unblocking leave it so, and an order makes it so with the new budget and period
 abbrev pub ServersAreKept : Type 0
 ServersAreKept =
-    ((at budget period max_refills room : ℕ) → budget ≤ period → 1 ≤ max_refills → IsServer budget (new_server at budget period max_refills room))
-    × ((k min_budget budget : ℕ) (server : Server) → IsServer budget server → 1 ≤ k → k ≤ head_amount server.dates → IsServer budget (server_charged k min_budget server))
+    ((at budget period max_refills room : ℕ) → budget ≤ period → 1 ≤ max_refills
+    → IsServer budget (new_server at budget period max_refills room))
+    × ((k min_budget budget : ℕ) (server : Server) → IsServer budget server → 1 ≤ k → k ≤ head_amount server.dates
+    → IsServer budget (server_charged k min_budget server))
     × ((t budget : ℕ) (server : Server) → IsServer budget server → IsServer budget (server_unblocked t server))
-    × ((t budget period max_refills : ℕ) (server : Server) → budget ≤ period → 2 ≤ max_refills → IsServer budget (server_reconfigured t budget period max_refills server))
+    × ((t budget period max_refills : ℕ) (server : Server) → budget ≤ period → 2 ≤ max_refills
+    → IsServer budget (server_reconfigured t budget period max_refills server))
 
 -- the head has at least the minimum, where the budget has: after a charge, and then also after unblocking and an order
 abbrev pub HeadsHaveEnough : Type 0

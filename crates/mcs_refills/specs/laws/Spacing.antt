@@ -42,7 +42,8 @@ used_by (Unblock t) dates = []
 -- the dates that the charges take, in order
 abbrev pub consumed : ℕ → ℕ → List Step → List ℕ → List ℕ
 consumed period max_refills [] dates = []
-consumed period max_refills (step ∷ steps) dates = used_by step dates ++ consumed period max_refills steps (stepped period max_refills step dates)
+consumed period max_refills (step ∷ steps) dates =
+    used_by step dates ++ consumed period max_refills steps (stepped period max_refills step dates)
 
 -- a charge uses something
 abbrev pub IsProper : Step → Type 0
@@ -55,16 +56,19 @@ AreProper (step ∷ steps) = IsProper step × AreProper steps
 
 -- the date a whole budget later is at least a period later
 abbrev pub IsSpaced : ℕ → ℕ → List ℕ → Type 0
-IsSpaced budget period dates = (j : ℕ) → j + budget < length dates → slice_index dates j + period ≤ slice_index dates (j + budget)
+IsSpaced budget period dates =
+    (j : ℕ) → j + budget < length dates → slice_index dates j + period ≤ slice_index dates (j + budget)
 
 -- the spacing step: unblocking moves no date to before its place, and a charge none to before its place after use
 abbrev pub StepsSpace : Type 0
 StepsSpace =
     (budget period max_refills k min_budget t : ℕ) (dates : List ℕ) → AreKept budget period dates → 1 ≤ k →
-    IsUnder dates (unblocked t dates) × IsUnder (after_use k period dates) (charged_with_enough k min_budget period max_refills dates)
+    IsUnder dates (unblocked t dates)
+    × IsUnder (after_use k period dates) (charged_with_enough k min_budget period max_refills dates)
 
 -- so the dates that charges take are spaced
 abbrev pub ConsumedAreSpaced : Type 0
 ConsumedAreSpaced =
-    (budget period max_refills : ℕ) (steps : List Step) (dates : List ℕ) → AreKept budget period dates → AreProper steps →
+    (budget period max_refills : ℕ) (steps : List Step) (dates : List ℕ) → AreKept budget period dates → AreProper steps
+    →
     IsSpaced budget period (consumed period max_refills steps dates)

@@ -58,7 +58,8 @@ given_back max_refills back (r ∷ rs) =
 
 -- the refills after a charge
 abbrev pub after_charge : ℕ → ℕ → ℕ → ℕ → List Refill → List Refill
-after_charge k min_budget period max_refills rs = enough min_budget (given_back max_refills (record { begins = first_moment rs + period; amount = k }) (taken k rs))
+after_charge k min_budget period max_refills rs =
+    enough min_budget (given_back max_refills (record { begins = first_moment rs + period; amount = k }) (taken k rs))
 
 -- the head (begins, amount) with those of the refills after it that it reaches
 abbrev pub with_reached : ℕ → ℕ → List Refill → List Refill

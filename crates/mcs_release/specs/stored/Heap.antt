@@ -25,7 +25,9 @@ dues_from place (Some x ∷ places) = due_at place x ∷ dues_from (suc place) p
 
 -- the heap's order: the least date on top, then the least place
 abbrev pub due_cmp : Reverse Due → Reverse Due → Ordering
-due_cmp x y = ordering_then (nat_cmp y.0.date x.0.date) (ordering_then (nat_cmp y.0.place x.0.place) (nat_cmp y.0.thread x.0.thread))
+due_cmp x y =
+    ordering_then (nat_cmp y.0.date x.0.date)
+    (ordering_then (nat_cmp y.0.place x.0.place) (nat_cmp y.0.thread x.0.thread))
 
 -- the heap holds what the places hold, in some order: each count of them is the same
 abbrev pub HoldsSame : List (Reverse Due) → List (Option Dated) → Type 0
@@ -46,8 +48,9 @@ pub record IsPlaced (places : List (Option Dated)) (end : ℕ) (heap : List (Rev
   pub order : IsHeap due_cmp heap
 
 -- besides, each thread below the number that there is room for stands in one place at most, and there are places for all
-pub record IsKept (places : List (Option Dated)) (end : ℕ) (heap : List (Reverse Due)) (room capacity : ℕ) : Type 0 where
-  pub placed : IsPlaced places end heap
-  pub once : (thread : ℕ) → times thread (entered places) ≤ one_if (nat_lt thread room)
-  pub wide : room ≤ length places
-  pub space : room ≤ capacity
+pub record IsKept (places : List (Option Dated)) (end : ℕ) (heap : List (Reverse Due)) (room capacity : ℕ) : Type 0
+  where
+    pub placed : IsPlaced places end heap
+    pub once : (thread : ℕ) → times thread (entered places) ≤ one_if (nat_lt thread room)
+    pub wide : room ≤ length places
+    pub space : room ≤ capacity

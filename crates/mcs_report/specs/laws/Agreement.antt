@@ -33,4 +33,5 @@ Agree =
 abbrev pub AgreeButRan : Type 0
 AgreeButRan =
     (system : System) (horizon : ℕ) (rows : List Row)
-    → map but_ran (finished (tally_of system horizon rows)).threads ≡ map but_ran (reports_of system horizon rows).threads
+    → map but_ran (finished (tally_of system horizon rows)).threads
+    ≡ map but_ran (reports_of system horizon rows).threads

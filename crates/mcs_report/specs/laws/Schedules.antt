@@ -9,7 +9,8 @@ use Rattle.mcs_report.specs.laws.Agreement.{RunsApart, tally_of}
 
 -- in a schedule each run of a thread is stopped before the next one
 abbrev pub SchedulesRunApart : Type 0
-SchedulesRunApart = (system : System) → IsWellFormed system → (horizon thread : ℕ) → RunsApart thread (schedule system horizon)
+SchedulesRunApart =
+    (system : System) → IsWellFormed system → (horizon thread : ℕ) → RunsApart thread (schedule system horizon)
 
 -- so the tally of a schedule gives its reports
 abbrev pub SchedulesAreReported : Type 0

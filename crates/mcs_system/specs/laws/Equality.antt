@@ -61,8 +61,11 @@ same_system_decides a b =
     let contexts = pointwise_decides same_context_decides a.contexts b.contexts in
     let notes = pointwise_decides same_note_decides a.notes b.notes in
     let threads = pointwise_decides same_thread_decides a.threads b.threads in
-    let orders = pointwise_decides same_order_decides a.orders b.orders in
-    (λ e. grind (arith, nat_tests, contexts.0, notes.0, threads.0, orders.0), λ e. grind (arith, nat_tests, contexts.1, notes.1, threads.1, orders.1))
+    let orders = pointwise_decides same_order_decides a.orders b.orders in (
+      λ e. grind (arith, nat_tests, contexts.0, notes.0, threads.0, orders.0),
+      λ e.
+          grind (arith, nat_tests, contexts.1, notes.1, threads.1, orders.1),
+    )
 
 pub same_thread_equivalence : IsEquivalence same_thread
 same_thread_equivalence = decided same_thread same_thread_decides

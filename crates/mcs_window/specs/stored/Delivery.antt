@@ -15,4 +15,5 @@ module _ (system : System) where
   -- each box has got the signals for its core, in the order in which they are given
   pub record AreDelivered (signals : List Mail) (before after : List Content) : Type 0 where
     pub many : length after ≡ length before
-    pub each : (c : ℕ) (x : Content) → c < length before → (slice_index_or after c x).mails ≡ put_all (filter (is_home c) signals) (slice_index_or before c x).mails
+    pub each : (c : ℕ) (x : Content) → c < length before → (slice_index_or after c x).mails
+        ≡ put_all (filter (is_home c) signals) (slice_index_or before c x).mails

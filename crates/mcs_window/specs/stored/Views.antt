@@ -9,17 +9,23 @@ use Rattle.mcs_core.specs.State.{State}
 use Rattle.mcs_core.specs.Views.{views_from, views_of}
 use Rattle.mcs_window.specs.Views.{view_in}
 
-pub record AreQueued (system : System) (states : List State) (dealt : ℕ) (queues : List (VecDeque ContextView Global)) : Type 0 where
+pub record AreQueued (system : System) (states : List State) (dealt : ℕ)
+    (queues : List (VecDeque ContextView Global)) : Type 0 where
   pub many : length queues ≡ system.cores
   pub each : (c : ℕ) (q : VecDeque ContextView Global) (x : State) → c < system.cores →
-      (slice_index_or queues c q).items ≡ views_from system dealt (slice_index_or states c x).core.running (drop dealt (slice_index_or states c x).core.contexts)
+      (slice_index_or queues c q).items
+      ≡ views_from system dealt (slice_index_or states c x).core.running
+      (drop dealt (slice_index_or states c x).core.contexts)
 
 -- the views of the cores below this number, of which none was dealt out
-pub record AreBegun (system : System) (states : List State) (begun : ℕ) (queues : List (VecDeque ContextView Global)) : Type 0 where
+pub record AreBegun (system : System) (states : List State) (begun : ℕ)
+    (queues : List (VecDeque ContextView Global)) : Type 0 where
   pub many : length queues ≡ begun
-  pub each : (c : ℕ) (q : VecDeque ContextView Global) (x : State) → c < begun → (slice_index_or queues c q).items ≡ views_of system (slice_index_or states c x).core
+  pub each : (c : ℕ) (q : VecDeque ContextView Global) (x : State) → c < begun → (slice_index_or queues c q).items
+      ≡ views_of system (slice_index_or states c x).core
 
 -- the views of the contexts below this number were dealt out
-pub record AreDealt (system : System) (states : List State) (dealt : ℕ) (queues : List (VecDeque ContextView Global)) (views : List ContextView) : Type 0 where
+pub record AreDealt (system : System) (states : List State) (dealt : ℕ) (queues : List (VecDeque ContextView Global))
+    (views : List ContextView) : Type 0 where
   pub left : AreQueued system states dealt queues
   pub are : (x : State) → views ≡ map (view_in system (λ c. (slice_index_or states c x).core)) (range_with_len 0 dealt)
