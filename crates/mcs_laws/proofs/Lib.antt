@@ -8,6 +8,7 @@ pub mod Histories
 pub mod InForce
 pub mod Shown
 pub mod Slices
+pub mod Told
 pub mod Spaced
 pub mod Places
 pub mod OnTime

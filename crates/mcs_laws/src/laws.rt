@@ -7,7 +7,7 @@ ghost use Rattle.mcs_laws.specs.OnTime.{ThreadsAreOnTime};
 ghost use Rattle.mcs_laws.specs.Demand.{ThreadsRunWithinDemand};
 ghost use Rattle.mcs_laws.specs.InForce.{ContextsHaveTheBudgetInForce};
 ghost use Rattle.mcs_laws.specs.Shown.{ContextsAreShown};
-ghost use Rattle.mcs_laws.specs.Slices.{SlicesAreCharged, SlicesAreSpent};
+ghost use Rattle.mcs_laws.specs.Slices.{SchedulesTellCharges, SlicesAreCharged, SlicesAreSpent};
 ghost use Rattle.mcs_laws.specs.Histories.{GivesBudgets, ContextsHaveHistories, ContextsHaveTheirBudgets, ContextsAreSpaced};
 
 /// A law of well-formed systems: each signal takes time, and each configuration that SchedControl accepts gives a budget of at least a
@@ -76,6 +76,7 @@ pub fn contexts_are_shown()
 /// A law of the clock: where no order names a round robin context, the charges that the rows tell of it and what is left of its slice sum to
 /// its budget for each slice. So from one full slice to the next these charges sum to the budget.
 pub fn slices_are_spent_over_time()
+    ensures told { (system : System) → IsWellFormed system → SchedulesTellCharges system }
     ensures charges { (system : System) → IsWellFormed system → SlicesAreCharged system }
     ensures full_slices { (system : System) → IsWellFormed system → SlicesAreSpent system }
 {}

@@ -4,12 +4,12 @@
 --
 -- Its premises: the system is accepted, which is to be well formed (`System` holds no other); the horizon is at most 2^40, which is a
 -- condition of the calls; and the call has succeeded, which being out of memory alone prevents.
-use Rattle.std.specs.Prelude.{◌≡◌, ℕ, suc, ◌≤◌, List}
+use Rattle.std.specs.Prelude.{◌≡◌, ℕ, suc, ◌+◌, ◌≤◌, List, sum}
 use Rattle.mcs_ticks.specs.declared.row.Row.{Row}
 use Rattle.mcs_control.specs.declared.view.ContextView.{ContextView}
 use Rattle.mcs_system.specs.System.{System}
 use Rattle.mcs_core.specs.Clock.{schedule}
-use Rattle.mcs_laws.specs.Slices.{SlicesAreSpent}
+use Rattle.mcs_laws.specs.Slices.{HasSlices, IsOneSlice, charges_in, budget}
 use Rattle.mcs_report.specs.declared.reports.Reports.{Reports}
 use Rattle.mcs_report.specs.Reports.{reports_of}
 use Rattle.mcs_window.specs.Views.{views_before, AreShownBefore}
@@ -19,17 +19,17 @@ module _ (system : System) where
   -- in force then, which is that of the last order for the context up to this moment, or else the file's. A sporadic context has refills that
   -- ascend and neither touch nor overlap; their amounts sum to the budget, they are at most `2 + extra` and span at most the period; the ticks
   -- in use are ticks of the head. Of a round robin context's slice 1 to the budget are left, and the ticks in use are among them. None are in
-  -- use unless the context's thread runs. `probe` promises this of its views.
-  pub record BudgetsStand (t : ℕ) (views : List ContextView) : Type 0 where
-    pub views_are : views ≡ views_before system (suc t)
-    pub shown : AreShownBefore system (suc t) views
+  -- use unless the context's thread runs. `probe` promises this of its views, which are those of the clock.
+  abbrev pub BudgetsStand : ℕ → List ContextView → Type 0
+  BudgetsStand t views = AreShownBefore system (suc t) views
 
-  -- both halves: `simulate_alone` promises this of its rows and its reports
+  -- Both halves. `simulate_alone` promises this of its rows and its reports; `run` of `mcs_cli` writes their text and nothing else.
   pub record Headline (horizon : ℕ) (rows : List Row) (reports : Reports) : Type 0 where
     -- the first
     pub rows_are : rows ≡ schedule system horizon
     pub reports_are : reports ≡ reports_of system horizon rows
     -- the second, at each moment of the run
     pub budgets : (t : ℕ) → t ≤ horizon → BudgetsStand t (views_before system (suc t))
-    -- and for round robin contexts that no order names: from one full slice to the next the charges that the rows tell sum to the budget
-    pub slices : SlicesAreSpent system
+    -- and of round robin contexts that no order names: from one full slice to the next the charges that the rows tell sum to the budget
+    pub slices : (context from moments : ℕ) → HasSlices system context → from + moments ≤ suc horizon → IsOneSlice system context from moments →
+        sum (charges_in system context from moments rows) ≡ budget system context

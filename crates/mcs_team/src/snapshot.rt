@@ -1,7 +1,7 @@
 ghost use Rattle.std.specs.Prelude.{◌≡◌, ◌≤◌, ◌+◌, ◌^◌, IfOk};
 ghost use Rattle.std.specs.Arc.{arc_value};
 ghost use Rattle.mcs_team.specs.Headline.{BudgetsStand};
-ghost use Rattle.mcs_window.specs.Views.{views_before, AreShownBefore};
+ghost use Rattle.mcs_window.specs.Views.{views_before};
 
 use crate::SimFault;
 use crate::windows::Windows;
@@ -19,8 +19,7 @@ use std::sync::Arc;
 pub fn probe(alloc: Global, system: Arc<System>, t: Tick) -> Result<Vec<ContextView>, SimFault>
     requires { t ≤ 2 ^ 40 }
     ensures views { IfOk result (λ views. views.items ≡ views_before (arc_value system) (t + 1)) }
-    ensures budgets { IfOk result (λ views. AreShownBefore (arc_value system) (t + 1) views.items) }
-    ensures headline { IfOk result (λ views. BudgetsStand (arc_value system) t views.items) }
+    ensures budgets { IfOk result (λ views. BudgetsStand (arc_value system) t views.items) }
 {
     let windows = Windows::of(&system, t);
     let mut cores = Cores::new(alloc, system, t)?;

@@ -10,7 +10,7 @@ use Rattle.mcs_core.specs.Views.{views_of}
 use Rattle.mcs_laws.specs.Changes.{Change, changed_by, taken_by}
 use Rattle.mcs_laws.specs.Changes.Change.{Charged, Unblocked, Ordered}
 use Rattle.mcs_laws.specs.Histories.{charges_at, unblocks_at, context_before, opening_context}
-use Rattle.mcs_laws.specs.Slices.{charges_from, HasLeft, IsOneSlice}
+use Rattle.mcs_laws.specs.Slices.{charges_from, charges_in, HasLeft, IsOneSlice}
 use Rattle.mcs_worked.specs.Parts.{order}
 use Rattle.mcs_worked.proofs.Schedules as worked
 
@@ -76,6 +76,9 @@ left_by_an_order = refl
 -- from the full slice at first to the next one, before moment 5, it is charged its budget
 slice_is_charged : charges_from worked.round_robin_takes_turns_system 0 0 5 ≡ 1 ∷ 2 ∷ []
 slice_is_charged = refl
+
+told_by_the_schedule : charges_in worked.round_robin_takes_turns_system 0 0 5 worked.round_robin_takes_turns_rows ≡ 1 ∷ 2 ∷ []
+told_by_the_schedule = refl
 
 one_slice : IsOneSlice worked.round_robin_takes_turns_system 0 0 5
 one_slice = record { full = refl; next = refl; once = refl }

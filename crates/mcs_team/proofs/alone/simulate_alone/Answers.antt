@@ -1,4 +1,5 @@
-use Rattle.std.proofs.Common.{◌≡◌, ℕ, List, suc, refl, ap, ◌∙◌, sym, subst, rules}
+use Rattle.std.proofs.Common.{◌≡◌, ℕ, List, suc, ap, ◌∙◌, sym, subst, rules}
+use Rattle.std.specs.Prelude.{sum}
 use Rattle.std.specs.Arc.{arc_value}
 use Rattle.mcs_system.specs.System.{System}
 use Rattle.mcs_system.specs.WellFormed.{IsWellFormed}
@@ -7,10 +8,11 @@ use Rattle.mcs_ticks.specs.declared.row.Row.{Row}
 use Rattle.mcs_report.specs.declared.reports.Reports.{Reports}
 use Rattle.mcs_report.specs.Reports.{reports_of}
 use Rattle.mcs_report.specs.laws.Demand.{DemandIsBounded, AreWithinDemand}
-use Rattle.mcs_window.specs.Views.{views_before}
 use Rattle.mcs_window.proofs.Shown.{views-shown}
+use Rattle.mcs_laws.specs.Slices.{charges_in}
 use Rattle.mcs_laws.proofs.Slices.{slices-spent}
-use Rattle.mcs_team.specs.Headline.{BudgetsStand, Headline}
+use Rattle.mcs_laws.proofs.Told.{schedules-tell}
+use Rattle.mcs_team.specs.Headline.{Headline}
 use Rattle.mcs_team.proofs.Takings.{cores-in_order}
 use Rattle.mcs_team.proofs.alone.simulate_alone.Goals as goal
 
@@ -23,8 +25,10 @@ whole-headline system horizon rows reports ok are is =
     record {
       rows_are = are;
       reports_are = is ∙ ap (reports_of system horizon) (sym are);
-      budgets = λ t l. record { views_are = refl; shown = views-shown system ok (λ c. suc t) };
-      slices = slices-spent system ok;
+      budgets = λ t l. views-shown system ok (λ c. suc t);
+      slices = λ context from moments has l one.
+          ap (λ rs. sum (charges_in system context from moments rs)) are ∙ ap sum (schedules-tell system ok context from moments horizon has.known l)
+          ∙ slices-spent system ok context from moments has one;
     }
 
 pub merge-requires : goal.merge-requires
