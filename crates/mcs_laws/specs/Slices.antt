@@ -18,7 +18,8 @@ module _ (system : System) (context : ℕ) where
   -- the same of the rows of a schedule
   abbrev pub charge_in : ℕ → ℕ → Row → List ℕ
   charge_in from moments row =
-      if (row.core == home_of system context) && nat_le from row.moment && nat_lt row.moment (from + moments) then charge_told system context row.what else []
+      if (row.core == home_of system context) && nat_le from row.moment && nat_lt row.moment (from + moments)
+          then charge_told system context row.what else []
 
   abbrev pub charges_in : ℕ → ℕ → List Row → List ℕ
   charges_in from moments rows = flat_map (charge_in from moments) rows

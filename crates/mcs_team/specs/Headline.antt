@@ -31,5 +31,6 @@ module _ (system : System) where
     -- the second, at each moment of the run
     pub budgets : (t : ℕ) → t ≤ horizon → BudgetsStand t (views_before system (suc t))
     -- and of round robin contexts that no order names: from one full slice to the next the charges that the rows tell sum to the budget
-    pub slices : (context from moments : ℕ) → HasSlices system context → from + moments ≤ suc horizon → IsOneSlice system context from moments →
+    pub slices : (context from moments : ℕ) → HasSlices system context → from + moments ≤ suc horizon
+        → IsOneSlice system context from moments →
         sum (charges_in system context from moments rows) ≡ budget system context
