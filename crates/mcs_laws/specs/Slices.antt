@@ -19,7 +19,7 @@ module _ (system : System) (context : ℕ) where
   abbrev pub charge_in : ℕ → ℕ → Row → List ℕ
   charge_in from moments row =
       if (row.core == home_of system context) && nat_le from row.moment && nat_lt row.moment (from + moments)
-          then charge_told system context row.what else []
+      then charge_told system context row.what else []
 
   abbrev pub charges_in : ℕ → ℕ → List Row → List ℕ
   charges_in from moments rows = flat_map (charge_in from moments) rows

@@ -28,8 +28,7 @@ impl Model for Refills {
     ghost Value = { Server };
 
     ghost view = { λ a.
-        record { dates = dates_of a.ring.items; period = a.period; max_refills = a.max_refills; room = a.ring.capacity }
-            };
+        record { dates = dates_of a.ring.items; period = a.period; max_refills = a.max_refills; room = a.ring.capacity } };
 
     ghost invariant = { λ a. IsStored a.ring.items a.period a.max_refills a.ring.capacity };
 }
