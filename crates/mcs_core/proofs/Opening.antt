@@ -7,6 +7,7 @@ use Rattle.std.proofs.lemmas.List.{get_or-map, get_or_past, length-map}
 use Rattle.mcs_ticks.specs.declared.queue.Queued.{Queued}
 use Rattle.mcs_refills.specs.Server.{first_date, dates_from}
 use Rattle.mcs_refills.proofs.Spaces.{kept-new}
+use Rattle.mcs_control.specs.laws.Contexts.{IsWhole}
 use Rattle.mcs_control.specs.declared.config.Config.{Config}
 use Rattle.mcs_control.specs.declared.config.Kind.{Kind}
 use Rattle.mcs_control.specs.declared.config.Kind.TheVariants.{Sporadic, RoundRobin}
@@ -22,7 +23,7 @@ use Rattle.mcs_core.specs.declared.standing.Thread.{Thread}
 use Rattle.mcs_system.specs.System.{System, context_part, thread_part, no_context, no_thread, core_of, start_of}
 use Rattle.mcs_core.specs.Contexts.{no_server, is_some, is_own, seen_contexts, HasRoom, HaveRoom}
 use Rattle.mcs_core.specs.Core.{Core, no_state, thread_of, context_of, opening_thread, opening_releases, opening_contexts, opening_core}
-use Rattle.mcs_core.specs.stored.Sound.{times_dated, times_waiting, times_ready, times_pending, times_blocked, is_here, may_run, has_context, IsKeptBudget, IsPlaced, AreEarly, IsBudget, IsSound}
+use Rattle.mcs_core.specs.stored.Sound.{times_dated, times_waiting, times_ready, times_pending, times_blocked, is_here, may_run, has_context, IsPlaced, AreEarly, IsBudget, IsSound}
 use Rattle.mcs_core.specs.stored.Sound.Phase.{Between}
 use Rattle.mcs_system.specs.WellFormed.{IsWellFormed, IsContext, IsThread}
 use Rattle.mcs_control.specs.declared.config.Order.{Order}
@@ -53,10 +54,10 @@ new-early config at l = by (kind_of config)
     by RoundRobin = omega arith
 
 -- a new context's budget is kept
-new-kept : (min_budget : ℕ) (config : Config) (at : ℕ) → IsAccepted min_budget config → IsKeptBudget config (new_context config at).budget
+new-kept : (min_budget : ℕ) (config : Config) (at : ℕ) → IsAccepted min_budget config → IsWhole config (new_context config at).budget
 new-kept min_budget config at a = by (kind_of config)
   where
-    by : (kind : Kind) → IsKeptBudget config (first_budget kind at config.budget)
+    by : (kind : Kind) → IsWhole config (first_budget kind at config.budget)
     by Sporadic = kept-new config.budget config.period at a.within
     by RoundRobin = (a.some, omega arith)
 

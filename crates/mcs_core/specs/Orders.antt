@@ -24,9 +24,13 @@ orders_of system c = by_moment (filter (is_for_core system c) system.orders)
 abbrev pub to_come : ℕ → List Order → List Order
 to_come t orders = filter (λ order. nat_le t order.moment) orders
 
+-- whether the order is of the moment t
+abbrev pub is_of : ℕ → Order → Bool
+is_of t order = order.moment == t
+
 -- the orders of the moment t
 abbrev pub due_now : ℕ → List Order → List Order
-due_now t orders = filter (λ order. order.moment == t) orders
+due_now t orders = filter (is_of t) orders
 
 -- the first, if its moment has come at t, and what is left when it is taken
 abbrev pub first_due : ℕ → List Order → Option Order

@@ -23,6 +23,7 @@ use Rattle.mcs_script.specs.Script.{move_after, place_after}
 use Rattle.mcs_mail.specs.declared.mail.Mail.{Mail}
 use Rattle.mcs_system.specs.declared.part.ThreadPart.{ThreadPart}
 use Rattle.mcs_system.specs.System.{System, thread_part, note_part, context_part, delay_between}
+use Rattle.mcs_core.specs.Orders.{is_of, is_for_core}
 use Rattle.mcs_core.specs.Core.{Core, thread_of, context_of, note_of, with_thread, with_context, with_note, stands, pends, off}
 use Rattle.mcs_release.specs.declared.dated.Dated.{Dated}
 use Rattle.mcs_release.specs.Release.{is_due}
@@ -100,35 +101,27 @@ module _ (queue : Discipline) (system : System) where
       let core = stands thread Ready core in
       record core { ready = queue.front (queued system thread) core.ready }
 
--- a stop for good, or until a signal
+-- a stop for good, or until a signal: the context is charged, and the thread leaves the core
 abbrev pub stops : System → ℕ → Why → ℕ → Standing → Core → Turn
 stops system thread why k standing core =
-    record {
-      core = stands thread standing (off (charged system thread k core));
-      rows = row.Stop thread why k None ∷ [];
-      mails = [];
-    }
+    says (row.Stop thread why k None) (stands thread standing (off (charged system thread k core)))
 
 -- stops at moment t
 module _ (queue : Discipline) (system : System) (t : ℕ) where
-  -- to the back of the ready queue
+  -- the running thread, whose context has been charged k ticks, leaves the core and enters again, so or with a date
+  abbrev pub leaves : (ℕ → Option ℕ → Core → Core) → ℕ → Why → ℕ → Core → Turn
+  leaves enters thread why k core =
+      let date = date_of system t thread core in
+      says (row.Stop thread why k date) (enters thread date (off core))
+
+  -- to the back of the ready queue, when its context is charged
   abbrev pub stops_to_back : ℕ → Why → ℕ → Core → Turn
   stops_to_back thread why k core =
-      let after = charged system thread k core in
-      record {
-        core = enters_back queue system thread (date_of system t thread after) (off after);
-        rows = row.Stop thread why k (date_of system t thread after) ∷ [];
-        mails = [];
-      }
+      leaves (enters_back queue system) thread why k (charged system thread k core)
 
-  -- of the thread that runs, whose context has been charged, to the front of the ready queue
+  -- to the front of it; the context has been charged
   abbrev pub stops_to_front : ℕ → Why → ℕ → Core → Turn
-  stops_to_front thread why k core =
-      record {
-        core = enters_front queue system thread (date_of system t thread core) (off core);
-        rows = row.Stop thread why k (date_of system t thread core) ∷ [];
-        mails = [];
-      }
+  stops_to_front thread why k core = leaves (enters_front queue system) thread why k core
 
   -- at most one stop of the thread that has used so many ticks, by what follows its item
   abbrev pub may_stop : ℕ → ℕ → AfterItem → Core → Turn
@@ -346,7 +339,7 @@ module _ (queue : Discipline) (system : System) (t : ℕ) where
 
 -- the orders of this moment for contexts of core c
 abbrev pub is_for_now : System → ℕ → ℕ → Order → Bool
-is_for_now system c t order = (order.moment == t) && ((context_part system order.context).core == c)
+is_for_now system c t order = is_of t order && is_for_core system c order
 
 -- the whole turn of core c at moment t, with the mail that arrives, and the ready threads kept by this discipline
 abbrev pub turn_with : Discipline → System → ℕ → ℕ → List Mail → Core → Turn

@@ -6,6 +6,7 @@ use Rattle.mcs_refills.specs.declared.refill.Refill.{Refill}
 use Rattle.mcs_refills.specs.Server as server
 use Rattle.mcs_refills.specs.laws.Spacing.{AreKept}
 use Rattle.mcs_refills.proofs.Spaces.{kept-charged, kept-unblocked, kept-reconfigured, kept-new}
+use Rattle.mcs_control.specs.laws.Contexts.{IsWhole}
 use Rattle.mcs_control.specs.declared.config.Config.{Config}
 use Rattle.mcs_control.specs.declared.config.Kind.{Kind}
 use Rattle.mcs_control.specs.declared.config.Kind.TheVariants.{Sporadic, RoundRobin}
@@ -13,7 +14,7 @@ use Rattle.mcs_control.specs.Control.{kind_of, checked}
 use Rattle.mcs_control.specs.Context.{Context, Budget, new_context, context_charged, context_unblocked, context_ordered, head_amount, max_refills_of}
 use Rattle.mcs_control.specs.Context.Budget.{Dates, Slice}
 use Rattle.mcs_core.proofs.Budgets.{accepted-is, head-some}
-use Rattle.mcs_laws.specs.Changes.{Change, KeepsItsBudget, IsBudget, IsWhole, changed, changed_by, IsSound, AreSound}
+use Rattle.mcs_laws.specs.Changes.{Change, KeepsItsBudget, IsBudget, changed, changed_by, IsSound, AreSound}
 use Rattle.mcs_laws.specs.Changes.Change.{Charged, Unblocked, Ordered}
 
 -- the head

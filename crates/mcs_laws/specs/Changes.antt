@@ -3,6 +3,7 @@ use Rattle.std.specs.Prelude.{ℕ, ◌≤◌, List, [], ◌∷◌, ◌++◌, fla
 use Rattle.mcs_refills.specs.laws.Spacing.{AreKept}
 use Rattle.mcs_control.specs.declared.config.Config.{Config}
 use Rattle.mcs_control.specs.declared.config.Order.{Order}
+use Rattle.mcs_control.specs.laws.Contexts.{IsWhole}
 use Rattle.mcs_control.specs.Context.{Context, Budget, context_charged, context_unblocked, context_ordered, head_amount}
 use Rattle.mcs_control.specs.Context.Budget.{Dates, Slice}
 
@@ -41,12 +42,6 @@ orders_of changes = flat_map order_of changes
 pub record IsBudget (config : Config) : Type 0 where
   pub some : 1 ≤ config.budget
   pub fits : config.budget ≤ config.period
-
--- a sporadic context's dates are as many as its budget, ascend and span less than a period; of a slice at least a tick is left
--- and at most the budget
-abbrev pub IsWhole : Config → Budget → Type 0
-IsWhole config (Dates dates) = AreKept config.budget config.period dates
-IsWhole config (Slice left) = (1 ≤ left) × (left ≤ config.budget)
 
 -- the context has the budget in force
 pub record KeepsItsBudget (context : Context) : Type 0 where

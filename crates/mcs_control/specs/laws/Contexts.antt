@@ -8,6 +8,12 @@ use Rattle.mcs_control.specs.Context.{Budget, Context, new_context, context_char
 use Rattle.mcs_control.specs.Context.Budget.{Dates, Slice}
 use Rattle.mcs_control.specs.Control.{IsConfig, kind_of}
 
+-- a sporadic context's dates are as many as its budget, ascend and span less than a period; of a slice at least a tick is left
+-- and at most the budget
+abbrev pub IsWhole : Config → Budget → Type 0
+IsWhole config (Dates dates) = AreKept config.budget config.period dates
+IsWhole config (Slice left) = (1 ≤ left) × (left ≤ config.budget)
+
 -- a budget of the configuration's kind: as many dates as the budget, which ascend and span less than the period, in few refills;
 -- or a slice with something left, and at most the budget
 abbrev pub IsBudget : Config → Budget → Type 0

@@ -3,6 +3,7 @@ use Rattle.std.specs.Prelude.{◌≡◌, ℕ, ◌+◌, ◌^◌, ◌<◌, ◌≤�
 use Rattle.std.specs.List.{AllByRecursion}
 use Rattle.mcs_ticks.specs.declared.queue.Queued.{Queued}
 use Rattle.mcs_refills.specs.laws.Spacing.{AreKept}
+use Rattle.mcs_control.specs.laws.Contexts.{IsWhole}
 use Rattle.mcs_control.specs.declared.config.Config.{Config}
 use Rattle.mcs_control.specs.Context.{Context, Budget, head_amount, head_moment}
 use Rattle.mcs_control.specs.Context.Budget.{Dates, Slice}
@@ -105,11 +106,6 @@ slack Between = 0
 slack InTick = 1
 slack PastTick = 0
 
--- a sporadic context's dates ascend, are as many as the budget, and span less than the period; a slice is not used up
-abbrev pub IsKeptBudget : Config → Budget → Type 0
-IsKeptBudget config (Dates dates) = AreKept config.budget config.period dates
-IsKeptBudget config (Slice left) = (1 ≤ left) × (left ≤ config.budget)
-
 module _ (system : System) where
   -- a thread of the core: its item is one of its script, and its context one of the core's
   pub record IsPlaced (x : ℕ) (core : Core) : Type 0 where
@@ -132,7 +128,7 @@ module _ (system : System) where
   pub record IsBudget (k : ℕ) (context : Context) : Type 0 where
     pub accepted : IsOk (checked system.min_budget context.config)
     pub same_kind : kind_of context.config ≡ kind_of (context_part system k).config
-    pub kept : IsKeptBudget context.config context.budget
+    pub kept : IsWhole context.config context.budget
 
   -- the running thread: its head has come, and it has not used more than the head
   pub record IsRunning (phase : Phase) (chosen : Chosen) (core : Core) : Type 0 where
