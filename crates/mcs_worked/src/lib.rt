@@ -1,2 +1,2 @@
-//! Worked systems: theorems and tests that cross the crates.
+//! Worked systems: their schedules as theorems of the definitions.
 #![tactic(auto)]
