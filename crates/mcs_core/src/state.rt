@@ -1,4 +1,4 @@
-ghost use Rattle.std.specs.Prelude.{◌≡◌, ◌+◌, ◌^◌, ◌≤◌, ◌<◌, ◌++◌, true, false, OnOk, OnErr, IfOk, IsErr, IsTrue, ◌↔◌, All};
+ghost use Rattle.std.specs.Prelude.{◌≡◌, ◌+◌, ◌^◌, ◌≤◌, ◌<◌, ◌++◌, max, true, false, OnOk, OnErr, IfOk, IsErr, IsTrue, ◌↔◌, All};
 ghost use Rattle.mcs_core.specs.State.{Fits, IsExpected, opening_state, made_by, state_after};
 ghost use Rattle.mcs_core.specs.Views.{views_of};
 
@@ -130,8 +130,8 @@ impl CoreState {
 
     /// Takes the turns from the clock up to, not including, moment `to`, with the mail of the box as arrivals. Rows are
     /// appended, and so are the signals for other cores; mail that does not arrive stays in the box. Where memory is
-    /// refused the state is spent, and nothing is said of the box, the rows and the signals; a state that is spent
-    /// refuses at once and changes nothing.
+    /// refused the state is spent, with its number kept and its clock at a moment on the way to `to`, and nothing is
+    /// said of the box, the rows and the signals; a state that is spent refuses at once and changes nothing.
     pub fn run(
         &mut self,
         system: &System,
@@ -152,6 +152,10 @@ impl CoreState {
         ensures mail { OnOk result (mail.new.mails ≡ (made_by system.now self.old to mail.old.mails).box) }
         ensures fits { Fits system.now self.new }
         ensures failed { OnErr result (self.new.failed ≡ true) }
+        ensures refused { OnErr result
+            ((self.new.number ≡ self.old.number)
+            × (self.old.clock ≤ self.new.clock)
+            × (self.new.clock ≤ max self.old.clock to)) }
         ensures going { OnOk result (self.old.failed ≡ false) }
         ensures spent { self.old.failed ≡ true →
             (self.new ≡ self.old) × (rows.new ≡ rows.old) × (signals.new ≡ signals.old) × (mail.new ≡ mail.old) }
