@@ -1,10 +1,12 @@
 -- Rows in order of their moments that have each list's rows at each moment are the merged rows.
-use Rattle.std.proofs.Common.{◌≡◌, ℕ, zero, suc, ◌+◌, ◌<◌, ◌≤◌, Bool, true, false, cond, List, [], ◌∷◌, ◌++◌, refl, sym, ap, ◌∙◌, arith}
+use Rattle.std.proofs.Common.{◌≡◌, ℕ, zero, suc, ◌+◌, ◌<◌, ◌≤◌, Bool, true, false, cond, List, [], ◌∷◌, ◌++◌, Vec, take, drop, append_assoc, refl, sym, ap, ◌∙◌, arith}
 use Rattle.std.specs.Prelude.{flat_map, ◌==◌}
 use Rattle.std.specs.List.{range_with_len}
+use Rattle.std.specs.declared.alloc.Global.{Global}
 use Rattle.std.proofs.lemmas.Bool.Decides.{nat_tests}
 use Rattle.mcs_ticks.specs.declared.row.Row.{Row}
-use Rattle.mcs_merge.specs.Merge.{rows_at, last_moment, last_of_all, merged, AreFrom, DoNotFall, AreMerged}
+use Rattle.mcs_merge.specs.Lists.{rows_of_lists}
+use Rattle.mcs_merge.specs.Merge.{rows_at, last_moment, last_of_all, merged, AreFrom, DoNotFall, AreJoined, AreMerged}
 use Rattle.mcs_merge.proofs.Joins.{AreFrom-earlier, rows_at-later}
 
 -- two lists of what is put together part by part
@@ -98,3 +100,28 @@ pub merged-is : (lists : List (List Row)) (rows : List Row) → AreMerged lists 
 merged-is lists rows h =
     sym (by_moments rows (suc (last_of_all lists)) 0 h.in_order (AreFrom-zero rows) (λ t l. h.at_each t ∙ all-past t lists (omega arith)))
     ∙ flat_map-same (λ t. rows_at t rows) (λ t. flat_map (rows_at t) lists) (suc (last_of_all lists)) 0 (λ t _ _. h.at_each t)
+
+-- the rows of a moment in the lists before a place, and then of those from it on
+split : (t n : ℕ) (lists : List (Vec Row Global)) →
+    flat_map (rows_at t) (rows_of_lists (take n lists)) ++ flat_map (rows_at t) (rows_of_lists (drop n lists)) ≡ flat_map (rows_at t) (rows_of_lists lists)
+split t zero lists = refl
+split t (suc n) [] = refl
+split t (suc n) (rows ∷ lists) =
+    append_assoc (rows_at t rows.items) (flat_map (rows_at t) (rows_of_lists (take n lists))) (flat_map (rows_at t) (rows_of_lists (drop n lists)))
+    ∙ ap (λ us. rows_at t rows.items ++ us) (split t n lists)
+
+-- both parts of the lists, each merged and then joined, are the lists merged
+pub halves-merged : (n : ℕ) (lists front back : List (Vec Row Global)) (first second left right rows : List Row) → front ≡ take n lists → back ≡ drop n lists →
+    AreMerged (rows_of_lists front) first → AreMerged (rows_of_lists back) second → left ≡ first → right ≡ second → AreJoined left right rows → AreMerged (rows_of_lists lists) rows
+halves-merged n lists front back first second left right rows e f h k l r j =
+    record {
+      in_order = j.in_order;
+      at_each = λ t.
+          j.at_each t
+          ∙ both _ _ _ _ (ap (rows_at t) l ∙ h.at_each t ∙ ap (λ us. flat_map (rows_at t) (rows_of_lists us)) e)
+          (ap (rows_at t) r ∙ k.at_each t ∙ ap (λ us. flat_map (rows_at t) (rows_of_lists us)) f)
+          ∙ split t n lists;
+    }
+  where
+    both : (xs ys us vs : List Row) → xs ≡ ys → us ≡ vs → xs ++ us ≡ ys ++ vs
+    both xs ys us vs e f = cc

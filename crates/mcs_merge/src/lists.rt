@@ -6,31 +6,29 @@ use mcs_ticks::{NoMemory, Row};
 use std::alloc::Global;
 
 /// The rows of all cores by moment, then core, then place. List `c` has the rows of core `c`, and their moments do not fall.
-/// Of `n` rows of `c` cores it takes the order of `n * log c` steps.
+/// Of `n` rows of `c` cores it takes the order of `n * log c` steps. One list alone is given as it is, and others are dropped when they
+/// are joined.
 pub fn merge(alloc: Global, lists: Vec<Vec<Row>>) -> Result<Vec<Row>, NoMemory>
     requires in_order { All (λ rows. DoNotFall rows.items) lists.items }
     ensures { IfOk result (λ rows. rows.items ≡ merged (rows_of_lists lists.items)) }
 {
-    let rows = merge_lists(alloc, lists.as_slice())?;
+    let rows = merge_lists(alloc, lists)?;
     Ok(rows)
 }
 
 // The first half and the second half, each merged, and then joined.
-fn merge_lists(alloc: Global, lists: &[Vec<Row>]) -> Result<Vec<Row>, NoMemory>
-    requires in_order { All (λ rows. DoNotFall rows.items) lists.now }
-    ensures { IfOk result (λ rows. AreMerged (rows_of_lists lists.now) rows.items) }
+fn merge_lists(alloc: Global, mut lists: Vec<Vec<Row>>) -> Result<Vec<Row>, NoMemory>
+    requires in_order { All (λ rows. DoNotFall rows.items) lists.items }
+    ensures { IfOk result (λ rows. AreMerged (rows_of_lists lists.items) rows.items) }
 {
-    match lists {
-        [] => Ok(Vec::new(alloc)),
-        [only] => Ok(Vec::from_slice(alloc, only.as_slice())?),
-        [first, second] => join(alloc, first.as_slice(), second.as_slice()),
-        _ => {
-            let (front, back) = lists.split_at(lists.len() / 2);
-            let first = merge_lists(alloc, front)?;
-            let second = merge_lists(alloc, back)?;
-            join(alloc, first.as_slice(), second.as_slice())
-        }
+    if lists.len() < 2 {
+        return Ok(lists.pop().unwrap_or(Vec::new(alloc)));
     }
+    let back = lists.split_off(lists.len() / 2)?;
+    let first = merge_lists(alloc, lists)?;
+    let second = merge_lists(alloc, back)?;
+    let rows = join(alloc, first.as_slice(), second.as_slice())?;
+    Ok(rows)
 }
 
 // Two lists as one in order of the moments; of one moment the first list's rows stand before the second's.

@@ -19,10 +19,10 @@ use mcs_window::{Cores, rows_merge};
 use std::alloc::Global;
 use std::sync::Arc;
 
-/// The whole simulation up to the horizon, at most 2^40, on this thread, with its reports. The cores go in windows of `delay` moments,
-/// and one core alone in one window: no signal of a window arrives before the next. A thread whose context no order names runs at most
-/// its budget for each period that begins before the horizon, the first of them at moment 0. At each moment of the run each context has its
-/// whole budget in force, in refills that neither touch nor overlap, or in a slice.
+/// The whole simulation up to the horizon, at most 2^40, on this thread, with its reports. The cores go in windows of at most `delay`
+/// moments, and one core alone in windows of any length: no signal of a window arrives before the next. A thread whose context no order
+/// names runs at most its budget for each period that begins before the horizon, the first of them at moment 0. At each moment of the run
+/// each context has its whole budget in force, in refills that neither touch nor overlap, or in a slice.
 pub fn simulate_alone(alloc: Global, system: Arc<System>, horizon: Tick) -> Result<Whole, SimFault>
     requires { horizon ≤ 2 ^ 40 }
     ensures rows { IfOk result (λ whole. whole.rows ≡ schedule (arc_value system) horizon) }

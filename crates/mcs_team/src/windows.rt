@@ -6,12 +6,15 @@ use mcs_system::System;
 use mcs_ticks::{CoreId, NoMemory, Tick};
 use mcs_window::Cores;
 
+// No window is longer, so that few rows are made before they are taken.
+const LONGEST: u64 = 65_536;
+
 /// What does not change while a system is simulated in windows.
 #[derive(Drop)]
 pub(crate) struct Windows {
     /// How many cores there are.
     pub cores: usize,
-    /// How long a signal is under way, in ticks: how long a window is, unless there is one core.
+    /// How long a signal is under way, in ticks: no window of several cores is longer.
     pub delay: u64,
     /// The moment after the last.
     pub end: Tick,
@@ -39,10 +42,15 @@ impl Windows {
         ensures in_time { result ≤ self.now.end }
         ensures reached { (2 ≤ self.now.cores) → result ≤ first + self.now.delay }
     {
-        if self.cores < 2 || self.end.get() - first.get() <= self.delay {
+        let length = if self.cores < 2 {
+            LONGEST
+        } else {
+            self.delay.min(LONGEST)
+        };
+        if self.end.get() - first.get() <= length {
             return self.end;
         }
-        first.plus(self.delay).unwrap()
+        first.plus(length).unwrap()
     }
 
     // Each core takes its turns of the window that begins at `first`. Answers where it ends.
@@ -76,7 +84,7 @@ impl Windows {
         Ok(())
     }
 
-    /// All windows from moment 0 on. No rows are kept.
+    /// All windows from moment 0 on. The rows of a window are dropped at its end.
     pub(crate) fn pass_all(&self, cores: &mut Cores) -> Result<(), NoMemory>
         requires windows { AreFor self.now cores.old }
         requires at_first { AllAt cores.old.system cores.old.horizon 0 cores.old }
