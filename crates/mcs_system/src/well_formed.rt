@@ -74,19 +74,18 @@ fn are_named<T: Named>(things: &[T]) -> bool
     things.len() <= Limits::THREADS && have_names(things) && have_distinct_names(things)
 }
 
-fn shares_context(thread: &ThreadPart, earlier: &[ThreadPart]) -> bool
-    ensures { IsTrue result ↔ Any (λ other. other.context ≡ thread.now.context) earlier.now }
-{
-    earlier.iter().any(|other| other.context == thread.context)
-}
-
+// Marks the contexts that a thread has. The marks stand on the stack, so this takes no memory either.
 fn have_contexts_of_their_own(threads: &[ThreadPart]) -> bool
+    requires { All (λ thread. thread.context < 4096) threads.now }
     ensures { IsTrue result ↔ AllPairs (λ a b. a.context ≢ b.context) threads.now }
 {
-    for (i, thread) in threads.iter().enumerate() {
-        if shares_context(thread, &threads[..i]) {
+    let mut has_thread = [false; Limits::CONTEXTS];
+    for thread in threads {
+        let context = thread.context.0;
+        if has_thread[context] {
             return false;
         }
+        has_thread[context] = true;
     }
     true
 }
@@ -106,7 +105,7 @@ impl SystemParts {
     /// Whether the system is well formed: counts and numbers lie in their ranges (profile M), names are 1 to 32 characters of
     /// `A-Z a-z 0-9 _ -` and distinct in each kind, each configuration passes its check with the system's least budget, no two
     /// threads have one context, a thread waits on notifications of its own core alone, and an order keeps the context's kind. It
-    /// takes no memory. Names and threads are compared in pairs, so it takes time with the square of their number.
+    /// takes no memory, so names are compared in pairs, in time with the square of their number; the rest is linear.
     pub fn is_well_formed(&self) -> bool
         ensures { IsTrue result ↔ IsWellFormed self.now }
     {
