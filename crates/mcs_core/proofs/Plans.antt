@@ -1,8 +1,9 @@
 -- The orders of a core by moment, and those that are left.
-use Rattle.std.proofs.Common.{◌≡◌, ℕ, zero, suc, ◌+◌, ◌<◌, ◌≤◌, Bool, true, false, cond, List, [], ◌∷◌, ◌++◌, length, take, get_or, add-one, append-nil, append_assoc, refl, sym, ap, ◌∙◌, arith}
-use Rattle.std.specs.Prelude.{nat_lt, nat_le, ◌==◌, ◌&&◌, filter, fold, insert, All}
+use Rattle.std.proofs.Common.{◌≡◌, ℕ, suc, ◌+◌, ◌<◌, ◌≤◌, Bool, true, false, cond, ◌⊎◌, inl, inr, Less, Equal, Greater, List, [], ◌∷◌, ◌++◌, length, get_or, append-nil, append_assoc, refl, sym, ap, ◌∙◌, arith}
+use Rattle.std.specs.Prelude.{nat_lt, nat_le, ◌==◌, ◌&&◌, not, filter, fold, All}
+use Rattle.std.specs.Ordering.{is_lt, nat_cmp}
 use Rattle.std.specs.List.{AllByRecursion}
-use Rattle.std.specs.List.Sorted.{IsPartitionedBy, IsPartitionPoint}
+use Rattle.std.specs.List.Sorted.{IsNonDecreasingBy, IsStableByKey}
 use Rattle.std.proofs.lemmas.Bool.Decides.{nat_tests}
 use Rattle.mcs_control.specs.declared.config.Order.{Order}
 use Rattle.mcs_system.specs.System.{System}
@@ -191,70 +192,72 @@ due-of system c t =
     ∙ due-fold t [] (filter (is_for_core system c) system.orders) tt
     ∙ due-filter system c t system.orders
 
--- where an order stands: behind those that are not later, and before the others
-placed : (order : Order) (os : List Order) (i : ℕ) → i ≤ length os → ((k : ℕ) (d : Order) → k < i → (get_or os k d).moment ≤ order.moment) →
-    ((d : Order) → i < length os → order.moment < (get_or os i d).moment) → insert os i order ≡ with_order os order
-placed order [] zero p f g = refl
-placed order [] (suc i) p f g = absurd (omega arith)
-placed order (o ∷ os) zero p f g =
-    let later : nat_lt order.moment o.moment ≡ true = let h : order.moment < o.moment = g o (omega arith) in grind (arith, nat_tests) in
-    rw later refl
-placed order (o ∷ os) (suc i) p f g =
-    let later : nat_lt order.moment o.moment ≡ false = let h : o.moment ≤ order.moment = f 0 o (omega arith) in grind (arith, nat_tests) in
-    rw later (ap (λ ys. o ∷ ys) (placed order os i (omega arith) (λ k d q. f (suc k) d (omega arith)) (λ d q. g d (omega arith))))
+-- orders by moment are known by those of each moment
+at-head : (o : Order) (os : List Order) → due_now o.moment (o ∷ os) ≡ o ∷ due_now o.moment os
+at-head o os = let same : (o.moment == o.moment) ≡ true = grind (arith, nat_tests) in rw same refl
 
--- of orders by moment none is before the first
-none-before : (t : ℕ) (os : List Order) (j : ℕ) (d : Order) → AreByMoment t os → j < length os → t ≤ (get_or os j d).moment
-none-before t [] j d h l = absurd (omega arith)
-none-before t (o ∷ os) zero d h l = h.0
-none-before t (o ∷ os) (suc j) d h l = let i = none-before o.moment os j d h.1 (omega arith) in omega (arith, h.0)
-
-ascending : (t : ℕ) (os : List Order) (i j : ℕ) (d : Order) → AreByMoment t os → i ≤ j → j < length os → (get_or os i d).moment ≤ (get_or os j d).moment
-ascending t [] i j d h p l = absurd (omega arith)
-ascending t (o ∷ os) zero zero d h p l = omega arith
-ascending t (o ∷ os) zero (suc j) d h p l = none-before o.moment os j d h.1 (omega arith)
-ascending t (o ∷ os) (suc i) zero d h p l = absurd (omega arith)
-ascending t (o ∷ os) (suc i) (suc j) d h p l = ascending o.moment os i j d h.1 (omega arith) (omega arith)
-
--- what a binary search for the place asks, and what it finds
-pub is_partitioned : (order : Order) (os : List Order) → AreByMoment 0 os → IsPartitionedBy (λ other. nat_le other.moment order.moment) os
-is_partitioned order os h i j d p q e =
-    let l : (get_or os i d).moment ≤ (get_or os j d).moment = ascending 0 os i j d h (omega arith) q in
-    let m : (get_or os j d).moment ≤ order.moment = grind (arith, nat_tests) in
-    grind (arith, nat_tests)
-
-pub placed-partition : (order : Order) (os : List Order) (i : ℕ) → i ≤ length os →
-    IsPartitionPoint (λ other. nat_le other.moment order.moment ≡ true) (λ other. nat_le other.moment order.moment ≡ false) os i → insert os i order ≡ with_order os order
-placed-partition order os i p h =
-    placed order os i p (λ k d q. from_true (get_or os k d) (h.0 k d (omega arith) q)) (λ d q. from_false (get_or os i d) (h.1 i d (omega arith) q))
+same-orders : (s t : ℕ) (xs ys : List Order) → AreByMoment s xs → AreByMoment t ys → ((o : Order) → due_now o.moment xs ≡ due_now o.moment ys) → xs ≡ ys
+same-orders s t [] [] h g f = refl
+same-orders s t [] (y ∷ ys) h g f = let no : [] ≡ y ∷ due_now y.moment ys = f y ∙ at-head y ys in cc
+same-orders s t (x ∷ xs) [] h g f = let no : x ∷ due_now x.moment xs ≡ [] = sym (at-head x xs) ∙ f x in cc
+same-orders s t (x ∷ xs) (y ∷ ys) h g f = by (least x.moment y.moment) (λ e. same-orders x.moment y.moment xs ys h.1 g.1 (tails e))
   where
-    from_true : (other : Order) → nat_le other.moment order.moment ≡ true → other.moment ≤ order.moment
-    from_true other e = grind (arith, nat_tests)
+    least : (a b : ℕ) → (a < b) ⊎ ((b < a) ⊎ (a ≡ b))
+    least a b = grind arith
 
-    from_false : (other : Order) → nat_le other.moment order.moment ≡ false → order.moment < other.moment
-    from_false other e = grind (arith, nat_tests)
+    tails : x ≡ y → (o : Order) → due_now o.moment xs ≡ due_now o.moment ys
+    tails e o = drop_one (x.moment == o.moment) (f o ∙ ap (λ (z : Order). due_now o.moment (z ∷ ys)) (sym e))
+      where
+        drop_one : (b : Bool) → cond b (x ∷ due_now o.moment xs) (due_now o.moment xs) ≡ cond b (x ∷ due_now o.moment ys) (due_now o.moment ys) →
+            due_now o.moment xs ≡ due_now o.moment ys
+        drop_one true i = cc
+        drop_one false i = i
 
--- one order more of the file
-fold-next : (test : Order → Bool) (os xs : List Order) (i : ℕ) (x : Order) → i < length xs → x ≡ get_or xs i x →
-    fold with_order os (filter test (take (suc i) xs)) ≡ cond (test x) (with_order (fold with_order os (filter test (take i xs))) x) (fold with_order os (filter test (take i xs)))
-fold-next test os [] i x l e = absurd (omega arith)
-fold-next test os (y ∷ xs) zero x l e = rw (← e) (by (test x))
+    by : (x.moment < y.moment) ⊎ ((y.moment < x.moment) ⊎ (x.moment ≡ y.moment)) → (x ≡ y → xs ≡ ys) → x ∷ xs ≡ y ∷ ys
+    by (inl l) i =
+        let no : x ∷ due_now x.moment xs ≡ [] = sym (at-head x xs) ∙ f x ∙ due-none x.moment y.moment (y ∷ ys) l (omega arith, g.1) in
+        cc
+    by (inr (inl l)) i =
+        let no : [] ≡ y ∷ due_now y.moment ys = sym (due-none y.moment x.moment (x ∷ xs) l (omega arith, h.1)) ∙ f y ∙ at-head y ys in
+        cc
+    by (inr (inr e)) i =
+        let heads : x ∷ due_now x.moment xs ≡ y ∷ due_now y.moment ys =
+        sym (at-head x xs) ∙ f x ∙ ap (λ m. due_now m (y ∷ ys)) e ∙ at-head y ys in
+        let head : x ≡ y = cc in
+        let rest : xs ≡ ys = i head in
+        cc
+
+-- orders whose moments do not fall are by moment
+not_falling : (t : ℕ) (os : List Order) → ((d : Order) → 0 < length os → t ≤ (get_or os 0 d).moment) → IsNonDecreasingBy (λ (o : Order). o.moment) os → AreByMoment t os
+not_falling t [] l h = tt
+not_falling t (o ∷ os) l h =
+    (l o (omega arith), not_falling o.moment os (λ d q. h 0 1 d (omega arith) (omega arith)) (λ i j d p q. h (suc i) (suc j) d (omega arith) (omega arith)))
+
+-- those that tie by their moments are those of one moment
+moments-tie : (a b : ℕ) → (not (is_lt (nat_cmp a b)) && not (is_lt (nat_cmp b a))) ≡ (b == a)
+moments-tie a b =
+    ap (λ p. not p && not (is_lt (nat_cmp b a))) (less (nat_lt a b) (a == b)) ∙ ap (λ q. not (nat_lt a b) && not q) (less (nat_lt b a) (b == a))
+    ∙ by (nat_lt a b) (nat_lt b a) (b == a) refl refl refl
   where
-    by : (b : Bool) → fold with_order os (cond b (x ∷ []) []) ≡ cond b (with_order os x) os
-    by true = refl
-    by false = refl
-fold-next test os (y ∷ xs) (suc i) x l e = by (test y) (fold-next test (with_order os y) xs i x (omega arith) e) (fold-next test os xs i x (omega arith) e)
-  where
-    by : (b : Bool) →
-        fold with_order (with_order os y) (filter test (take (suc i) xs)) ≡ cond (test x) (with_order (fold with_order (with_order os y) (filter test (take i xs))) x) (fold with_order (with_order os y) (filter test (take i xs))) →
-        fold with_order os (filter test (take (suc i) xs)) ≡ cond (test x) (with_order (fold with_order os (filter test (take i xs))) x) (fold with_order os (filter test (take i xs))) →
-        fold with_order os (cond b (y ∷ filter test (take (suc i) xs)) (filter test (take (suc i) xs))) ≡ cond (test x) (with_order (fold with_order os (cond b (y ∷ filter test (take i xs)) (filter test (take i xs)))) x) (fold with_order os (cond b (y ∷ filter test (take i xs)) (filter test (take i xs))))
-    by true p q = p
-    by false p q = q
+    less : (p q : Bool) → is_lt (cond p Less (cond q Equal Greater)) ≡ p
+    less true q = refl
+    less false true = refl
+    less false false = refl
 
-pub by_moment-next : (test : Order → Bool) (xs : List Order) (i : ℕ) (x : Order) → i < length xs → x ≡ get_or xs i x →
-    by_moment (filter test (take (i + 1) xs)) ≡ cond (test x) (with_order (by_moment (filter test (take i xs))) x) (by_moment (filter test (take i xs)))
-by_moment-next test xs i x l e = rw add-one (fold-next test [] xs i x l e)
+    by : (p q r : Bool) → nat_lt a b ≡ p → nat_lt b a ≡ q → (b == a) ≡ r → (not p && not q) ≡ r
+    by true q true d e f = absurd (grind (arith, nat_tests))
+    by true q false d e f = refl
+    by false true true d e f = absurd (grind (arith, nat_tests))
+    by false true false d e f = refl
+    by false false true d e f = refl
+    by false false false d e f = absurd (grind (arith, nat_tests))
 
-pub by_moment-is : (xs : List Order) → AreByMoment 0 (by_moment xs)
-by_moment-is xs = fold-by_moment [] xs tt
+ties-due : (o : Order) (os : List Order) → filter (λ (x : Order). not (is_lt (nat_cmp o.moment x.moment)) && not (is_lt (nat_cmp x.moment o.moment))) os ≡ due_now o.moment os
+ties-due o [] = refl
+ties-due o (x ∷ os) = rw (moments-tie o.moment x.moment, ties-due o os) refl
+
+-- a stable sort by moment
+pub stably-sorted : (xs ys : List Order) → IsNonDecreasingBy (λ (o : Order). o.moment) ys → IsStableByKey (λ (o : Order). o.moment) nat_cmp xs ys → ys ≡ by_moment xs
+stably-sorted xs ys up stable =
+    same-orders 0 0 ys (by_moment xs) (not_falling 0 ys (λ d q. omega arith) up) (fold-by_moment [] xs tt)
+    (λ o. sym (ties-due o ys) ∙ stable o ∙ ties-due o xs ∙ sym (due-fold o.moment [] xs tt))

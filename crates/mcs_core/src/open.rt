@@ -3,7 +3,7 @@ ghost use Rattle.mcs_control.specs.Context.{new_context};
 ghost use Rattle.mcs_control.specs.Control.{IsConfig};
 ghost use Rattle.mcs_core.specs.Contexts.{HasRoom};
 ghost use Rattle.mcs_core.specs.Core.{opening_thread, opening_releases, opening_contexts, opening_core};
-ghost use Rattle.mcs_core.specs.Orders.{AreByMoment, with_order, orders_of};
+ghost use Rattle.mcs_core.specs.Orders.{by_moment, orders_of};
 ghost use Rattle.mcs_system.specs.System.{context_part, start_of};
 ghost use Rattle.mcs_system.specs.WellFormed.{IsWellFormed};
 
@@ -136,21 +136,11 @@ impl Local {
     }
 }
 
-/// Where to insert the order: behind those of its moment.
-fn place_of(orders: &[Order], order: &Order) -> usize
-    requires { AreByMoment 0 orders.now }
-    ensures within { result ≤ length orders.now }
-    ensures place { insert orders.now result order.now ≡ with_order orders.now order.now }
+/// Puts orders in order by moment; those of one moment stay as they stand.
+fn sort_orders(orders: &mut Vec<Order>) -> Result<(), NoMemory>
+    ensures { OnOk result (orders.new.items ≡ by_moment orders.old.items) }
 {
-    orders.partition_point(|other| other.moment <= order.moment)
-}
-
-fn insert_order(orders: &mut Vec<Order>, order: Order) -> Result<(), NoMemory>
-    requires { AreByMoment 0 orders.old.items }
-    ensures { OnOk result (orders.new.items ≡ with_order orders.old.items order) }
-{
-    let place = place_of(orders.as_slice(), &order);
-    orders.insert(place, order)?;
+    orders.sort_by_key(|order| order.moment.get())?;
     Ok(())
 }
 
@@ -162,9 +152,10 @@ impl Agenda {
         let mut orders = Vec::new(alloc);
         for order in system.orders.as_slice() {
             if system.core_of_context(order.context) == core {
-                insert_order(&mut orders, *order)?;
+                orders.push(*order)?;
             }
         }
+        sort_orders(&mut orders)?;
         Ok(Agenda::from_orders(orders))
     }
 }
