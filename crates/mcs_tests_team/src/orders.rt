@@ -13,7 +13,8 @@ use std::process::Abort;
 use std::sync::Arc;
 use std::test::Fail;
 
-fn step(cores: &mut Cores, core: usize) -> Result<(), StepFault>
+/// One step of a core.
+pub fn step(cores: &mut Cores, core: usize) -> Result<(), StepFault>
     requires { core < cores.old.system.cores }
     ensures { cores.new.system ≡ cores.old.system }
 {

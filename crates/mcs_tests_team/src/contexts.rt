@@ -1,0 +1,77 @@
+//! Views of the contexts of cores that stand at different moments.
+ghost use Rattle.std.specs.Prelude.{◌≡◌, ◌<◌};
+
+use super::orders::step;
+use super::systems::{moment, system};
+use mcs_control::ContextView;
+use mcs_window::Cores;
+use std::process::Abort;
+use std::test::Fail;
+
+const BOTH: &str = r#"
+version = 1
+cores = 2
+delay = 5
+context = [
+    { name = "a", core = 1, budget = 2, period = 5 },
+    { name = "b", core = 0, budget = 3, period = 10 },
+    { name = "c", core = 1, budget = 4, period = 4 },
+]
+thread = [
+    { name = "A", context = "a", priority = 5, rounds = 1, script = ["compute 9"] },
+    { name = "B", context = "b", priority = 5, rounds = 1, script = ["compute 9"] },
+    { name = "C", context = "c", priority = 4, rounds = 1, script = ["compute 9"] },
+]
+"#;
+
+// So many steps of a core, none of which is refused.
+fn steps(cores: &mut Cores, core: usize, many: usize) -> Result<(), Fail>
+    requires { core < cores.old.system.cores }
+    ensures { cores.new.system ≡ cores.old.system }
+{
+    for _ in 0..many {
+        if step(cores, core).is_err() {
+            return Err(Fail::from("a safe step"));
+        }
+    }
+    Ok(())
+}
+
+// A sporadic context's one refill: when it begins, and of how many ticks it is; and the ticks in use.
+fn shows_refill(rt: &impl Abort, view: &ContextView, refill: (u64, u64), using: u64) {
+    let refills = view.refills.as_slice();
+    assert_eq!(rt; refills.len(), 1);
+    assert_eq!(rt; (refills[0].begins, refills[0].amount), refill);
+    assert_eq!(rt; (view.left, view.using), (None, using));
+}
+
+// What is left of a round robin context's slice, and the ticks in use.
+fn shows_slice(rt: &impl Abort, view: &ContextView, left: u64, using: u64) {
+    assert!(rt; view.refills.as_slice().is_empty());
+    assert_eq!(rt; (view.left, view.using), (Some(left), using));
+}
+
+#[test]
+fn each_core_shows_its_contexts_at_its_clock(rt: HostRuntime) -> Result<(), Fail> {
+    let alloc = rt.alloc();
+    let system = system(alloc, BOTH)?;
+    assert_eq!(rt; system.parts().cores, 2);
+    let mut cores = Cores::new(alloc, system, moment(20)?)?;
+    // core 0 has taken moments 0 and 1: B has run one tick. Core 1 has taken 0 to 3: A used up 2 ticks, and C has run one.
+    steps(&mut cores, 0, 2)?;
+    steps(&mut cores, 1, 4)?;
+    let views = cores.contexts(alloc)?;
+    assert_eq!(rt; views.len(), 3);
+    shows_refill(&rt, &views[0], (5, 2), 0);
+    shows_refill(&rt, &views[1], (0, 3), 1);
+    shows_slice(&rt, &views[2], 4, 1);
+    // core 0 has taken 0 to 3: B used up 3 ticks. Core 1 has taken 0 to 5: A came back and C was charged 3 ticks.
+    steps(&mut cores, 0, 2)?;
+    steps(&mut cores, 1, 2)?;
+    let later = cores.contexts(alloc)?;
+    assert_eq!(rt; later.len(), 3);
+    shows_refill(&rt, &later[0], (5, 2), 0);
+    shows_refill(&rt, &later[1], (10, 3), 0);
+    shows_slice(&rt, &later[2], 1, 0);
+    Ok(())
+}
