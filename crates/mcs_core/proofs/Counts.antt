@@ -9,7 +9,7 @@ use Rattle.mcs_release.specs.Release.{is_held as is_held_releases}
 use Rattle.std.specs.List.{list_any}
 use Rattle.mcs_notify.specs.Note.{Note, quiet_note, is_waiting}
 use Rattle.mcs_release.specs.declared.dated.Dated.{Dated}
-use Rattle.mcs_core.specs.stored.Sound.{times_queued, times_dated, times_waiting}
+use Rattle.mcs_core.specs.Places.{times_queued, times_dated, times_waiting}
 
 -- 1 where the numbers are equal
 abbrev pub one_if_same : ℕ → ℕ → ℕ

@@ -14,7 +14,8 @@ use Rattle.mcs_core.specs.declared.standing.Thread.{Thread}
 use Rattle.mcs_system.specs.System.{System, thread_part}
 use Rattle.mcs_core.specs.Core.{Core, thread_of, with_thread, pends}
 use Rattle.mcs_core.specs.Turn.{its_context, date_of, queued, enters_back, enters_front}
-use Rattle.mcs_core.specs.stored.Sound.{times_queued, times_dated, Phase, IsEarly, AreEarly, RunsRight, IsSound}
+use Rattle.mcs_core.specs.stored.Sound.{Phase, IsEarly, AreEarly, RunsRight, IsSound}
+use Rattle.mcs_core.specs.Places.{times_queued, times_dated}
 use Rattle.mcs_core.proofs.Counts.{one_if_same, times_queued-back, times_queued-front, times_dated-append}
 use Rattle.mcs_core.proofs.Soundness.{re_stands, arrived}
 

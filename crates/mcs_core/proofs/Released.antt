@@ -16,7 +16,8 @@ use Rattle.mcs_core.specs.Turn.{silent, says, ◌followed_by◌, enters_back, re
 use Rattle.mcs_core.specs.declared.log.Here.{Here}
 use Rattle.mcs_core.specs.declared.log.Log.{Log}
 use Rattle.mcs_core.specs.stored.Parts.{Makes}
-use Rattle.mcs_core.specs.stored.Sound.{times_queued, times_dated, times_ready, times_pending, Phase, IsFree, IsSound}
+use Rattle.mcs_core.specs.stored.Sound.{times_ready, times_pending, Phase, IsFree, IsSound}
+use Rattle.mcs_core.specs.Places.{times_queued, times_dated}
 use Rattle.mcs_core.specs.stored.Sound.Phase.{PastTick}
 use Rattle.mcs_core.proofs.Counts.{times_queued-rest}
 use Rattle.mcs_core.proofs.Soundness.{IsOneEach}

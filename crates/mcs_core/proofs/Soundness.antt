@@ -16,7 +16,8 @@ use Rattle.mcs_core.specs.declared.standing.Thread.{Thread}
 use Rattle.mcs_system.specs.System.{System, thread_part}
 use Rattle.mcs_core.specs.Contexts.{no_server, is_some}
 use Rattle.mcs_core.specs.Core.{Core, thread_of, context_of, with_thread, with_context, no_state}
-use Rattle.mcs_core.specs.stored.Sound.{times_queued, times_dated, times_waiting, times_ready, times_pending, times_blocked, is_here, may_run, Loose, Phase, standing_of, has_context, IsPlaced, IsEarly, AreEarly, IsBudget, RunsRight, IsSound}
+use Rattle.mcs_core.specs.stored.Sound.{times_ready, times_pending, times_blocked, is_here, may_run, Loose, Phase, standing_of, has_context, IsPlaced, IsEarly, AreEarly, IsBudget, RunsRight, IsSound}
+use Rattle.mcs_core.specs.Places.{times_queued, times_dated, times_waiting}
 
 -- no two threads have one context
 abbrev pub IsOneEach : System → Type 0

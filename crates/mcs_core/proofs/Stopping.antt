@@ -21,7 +21,8 @@ use Rattle.mcs_core.specs.declared.standing.Thread.{Thread}
 use Rattle.mcs_system.specs.System.{System, thread_part}
 use Rattle.mcs_core.specs.Core.{Core, thread_of, note_of, with_thread, with_note, off}
 use Rattle.mcs_core.specs.Turn.{its_context, date_of, charged, given, moves, moves_on, move_of, stops, stops_to_back, enters_front}
-use Rattle.mcs_core.specs.stored.Sound.{times_queued, times_dated, times_waiting, times_ready, times_pending, times_blocked, is_here, may_run, Phase, IsPlaced, AreEarly, RunsRight, IsSound}
+use Rattle.mcs_core.specs.stored.Sound.{times_ready, times_pending, times_blocked, is_here, may_run, Phase, IsPlaced, AreEarly, RunsRight, IsSound}
+use Rattle.mcs_core.specs.Places.{times_queued, times_dated, times_waiting}
 use Rattle.mcs_core.proofs.Counts.{times_waiting-set}
 use Rattle.mcs_core.proofs.Soundness.{IsOneEach, re_stands, loosened, arrived, recontexted, keeps_alone, thread-other}
 use Rattle.mcs_core.proofs.Budgets.{accepted-is, charged-kept}

@@ -26,7 +26,8 @@ use Rattle.mcs_system.specs.System.{System, thread_part, note_part}
 use Rattle.mcs_core.specs.Core.{Core, thread_of, note_of, with_note, off}
 use Rattle.mcs_core.specs.stored.Items.{IsNoted}
 use Rattle.mcs_core.specs.Turn.{its_context, date_of, queued, enters_back, unblocked, given, moves, moves_on, move_of, wakes, posts_as, posts, mail_to, signals, waits_as, after_waited, may_stop, after_move, finishes, after_count, counts, item_of, tick_of, tick, stops_to_back}
-use Rattle.mcs_core.specs.stored.Sound.{times_queued, Phase, IsPlaced, IsRunning, RunsRight, AreEarly, IsSound}
+use Rattle.mcs_core.specs.stored.Sound.{Phase, IsPlaced, IsRunning, RunsRight, AreEarly, IsSound}
+use Rattle.mcs_core.specs.Places.{times_queued}
 use Rattle.mcs_core.specs.stored.Sound.Phase.{Between, InTick, PastTick}
 use Rattle.mcs_core.proofs.Counts.{one_if_same, times_queued-append, times_waiting-set}
 use Rattle.mcs_core.proofs.Soundness.{IsOneEach, re_stands, loosened}

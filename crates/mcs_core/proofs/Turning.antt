@@ -20,7 +20,8 @@ use Rattle.mcs_system.specs.System.{System, thread_part, context_part}
 use Rattle.mcs_core.specs.Core.{Core, thread_of, context_of, with_thread, off}
 use Rattle.mcs_core.specs.Turn.{silent, ◌followed_by◌, each, its_context, date_of, charged, applied, orders_running, obeys, is_for_now, arrives, released, releases, preempts_by, preempts, chooses_of, chooses, turn, enters_front, stops_to_front}
 use Rattle.mcs_release.specs.Release.{is_due}
-use Rattle.mcs_core.specs.stored.Sound.{times_queued, times_dated, times_pending, times_ready, is_here, Loose, has_context, IsPlaced, IsEarly, AreEarly, RunsRight, IsSound}
+use Rattle.mcs_core.specs.stored.Sound.{times_pending, times_ready, is_here, Loose, has_context, IsPlaced, IsEarly, AreEarly, RunsRight, IsSound}
+use Rattle.mcs_core.specs.Places.{times_queued, times_dated}
 use Rattle.mcs_core.specs.stored.Sound.Phase.{Between, PastTick}
 use Rattle.mcs_core.proofs.Counts.{one_if_same, times_queued-rest}
 use Rattle.mcs_core.proofs.Soundness.{IsOneEach, re_stands, loosened, arrived, recontexted, keeps_if, runs-other, runs-context, thread-same}

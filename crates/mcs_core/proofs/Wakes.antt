@@ -19,7 +19,8 @@ use Rattle.mcs_core.specs.declared.standing.Thread.{Thread}
 use Rattle.mcs_system.specs.System.{System, thread_part}
 use Rattle.mcs_core.specs.Core.{Core, thread_of, note_of, with_thread, with_note}
 use Rattle.mcs_core.specs.Turn.{its_context, date_of, unblocked, enters_back, given, moves, moves_on, move_of, wakes, posts_as, posts}
-use Rattle.mcs_core.specs.stored.Sound.{times_queued, times_waiting, times_blocked, is_here, Phase, IsPlaced, RunsRight, IsSound}
+use Rattle.mcs_core.specs.stored.Sound.{times_blocked, is_here, Phase, IsPlaced, RunsRight, IsSound}
+use Rattle.mcs_core.specs.Places.{times_queued, times_waiting}
 use Rattle.mcs_core.proofs.Counts.{one_if_same, times_queued-without, greatest-stands, times_waiting-set, times_waiting-at}
 use Rattle.mcs_core.proofs.Soundness.{IsOneEach, re_stands, loosened, recontexted, rethreaded, keeps_if, runs-other, runs-context, thread-same}
 use Rattle.mcs_core.proofs.Budgets.{unblocked-kept}

@@ -1,5 +1,6 @@
 pub mod Contexts
 pub mod Core
+pub mod Places
 pub mod Turn
 pub mod Clock
 pub mod Run

@@ -9,7 +9,8 @@ ghost use Rattle.mcs_system.specs.System.{thread_part};
 ghost use Rattle.mcs_core.specs.stored.Room.{IsRoomy};
 ghost use Rattle.mcs_core.specs.Core.{thread_of, context_of, note_of, with_thread, with_context, with_note, stands, pends, off};
 ghost use Rattle.mcs_core.specs.Turn.{its_context, applied, charged, queued, date_of, enters_back, enters_front};
-ghost use Rattle.mcs_core.specs.stored.Sound.{times_queued, times_dated, times_waiting, has_context};
+ghost use Rattle.mcs_core.specs.stored.Sound.{has_context};
+ghost use Rattle.mcs_core.specs.Places.{times_queued, times_dated, times_waiting};
 
 use crate::contexts::Contexts;
 use crate::log::Here;

@@ -5,7 +5,8 @@ ghost use Rattle.mcs_core.specs.Core.{note_of};
 ghost use Rattle.mcs_core.specs.Turn.{counts, mail_to, signals, waits_as, takes_effect, item_of, after_item, after_move, after_waited, finishes, tick};
 ghost use Rattle.mcs_core.specs.stored.Items.{IsNoted, CanTakeEffect};
 ghost use Rattle.mcs_core.specs.stored.Parts.{Makes};
-ghost use Rattle.mcs_core.specs.stored.Sound.{times_waiting, IsPlaced, IsFree, WakesFree, IsSound};
+ghost use Rattle.mcs_core.specs.stored.Sound.{IsPlaced, IsFree, WakesFree, IsSound};
+ghost use Rattle.mcs_core.specs.Places.{times_waiting};
 ghost use Rattle.mcs_core.specs.stored.Sound.Phase.{Between, InTick};
 ghost use Rattle.mcs_system.specs.WellFormed.{IsWellFormed};
 

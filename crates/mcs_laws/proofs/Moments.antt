@@ -20,7 +20,8 @@ use Rattle.mcs_core.specs.Clock as clocks
 use Rattle.mcs_system.specs.WellFormed.{IsWellFormed}
 use Rattle.mcs_core.proofs.Clock.{core_at-world}
 use Rattle.mcs_laws.specs.Histories as told
-use Rattle.mcs_laws.specs.Places.{times_dated, places}
+use Rattle.mcs_laws.specs.Places.{places}
+use Rattle.mcs_core.specs.Places.{times_dated}
 use Rattle.mcs_laws.specs.OnTime.{IsOnTime, ThreadsAreOnTime}
 use Rattle.mcs_laws.proofs.Ranges.{by_recursion}
 use Rattle.mcs_laws.proofs.Places as held

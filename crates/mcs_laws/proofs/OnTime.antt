@@ -30,7 +30,8 @@ use Rattle.mcs_core.specs.Core.{Core, context_of, note_of, thread_of, with_note,
 use Rattle.mcs_release.specs.Release.{is_due}
 use Rattle.mcs_core.specs.Turn as turns
 use Rattle.mcs_core.specs.Turn.{Turn, each, silent, says, ◌followed_by◌, is_for_now}
-use Rattle.mcs_laws.specs.Places.{times_running, times_queued, times_dated, places}
+use Rattle.mcs_laws.specs.Places.{times_running, places}
+use Rattle.mcs_core.specs.Places.{times_queued, times_dated}
 use Rattle.mcs_laws.specs.OnTime.{IsOnTime, RunsInTime}
 use Rattle.mcs_laws.proofs.Places as held
 use Rattle.mcs_laws.proofs.Traces.{Same, same, set-other}

@@ -3,7 +3,6 @@ use Rattle.std.proofs.Common.{◌≡◌, ℕ, zero, suc, ◌+◌, ◌<◌, ◌�
 use Rattle.std.specs.Prelude.{filter, ◌==◌, nat_lt}
 use Rattle.std.proofs.lemmas.Bool.Decides.{nat_tests}
 use Rattle.std.proofs.lemmas.List.FromFn.{get_or-map-range_with_len}
-use Rattle.std.proofs.lemmas.List.Sums.{sum_by-cons, sum_by_push, sum_by-set}
 use Rattle.mcs_ticks.specs.Queue.{by_priority, first_among, without, entered_back, entered_front, first_of}
 use Rattle.mcs_ticks.specs.declared.queue.Queued.{Queued}
 use Rattle.mcs_notify.specs.Note.{Note, quiet_note, posted, after_post, waited, after_wait}
@@ -34,7 +33,9 @@ use Rattle.mcs_core.specs.Turn as turns
 use Rattle.mcs_core.specs.Turn.{Turn, each, silent, says, ◌followed_by◌, is_for_now}
 use Rattle.mcs_core.specs.Clock as clocks
 use Rattle.mcs_core.proofs.Clock.{core_at-world}
-use Rattle.mcs_laws.specs.Places.{times_running, times_queued, times_dated, times_waiting, places, ThreadsHaveOnePlace}
+use Rattle.mcs_laws.specs.Places.{times_running, places, ThreadsHaveOnePlace}
+use Rattle.mcs_core.specs.Places.{times_queued, times_dated, times_waiting}
+use Rattle.mcs_core.proofs.Counts.{times_queued-append, times_dated-append, times_waiting-set}
 
 -- queues
 module _ (y : ℕ) where
@@ -42,16 +43,16 @@ module _ (y : ℕ) where
   one x = cond (x == y) 1 0
 
   pub queued-cons : (x : Queued) (xs : List Queued) → times_queued y (x ∷ xs) ≡ one x.thread + times_queued y xs
-  queued-cons x xs = sum_by-cons (λ (q : Queued). one q.thread) x xs
+  queued-cons x xs = refl
 
   queued-push : (xs : List Queued) (x : Queued) → times_queued y (xs ++ x ∷ []) ≡ times_queued y xs + one x.thread
-  queued-push xs x = sum_by_push (λ (q : Queued). one q.thread) xs x
+  queued-push xs x = omega (arith, times_queued-append y xs x)
 
   pub dated-cons : (x : Dated) (xs : List Dated) → times_dated y (x ∷ xs) ≡ one x.thread + times_dated y xs
-  dated-cons x xs = sum_by-cons (λ (q : Dated). one q.thread) x xs
+  dated-cons x xs = refl
 
   dated-push : (xs : List Dated) (x : Dated) → times_dated y (xs ++ x ∷ []) ≡ times_dated y xs + one x.thread
-  dated-push xs x = sum_by_push (λ (q : Dated). one q.thread) xs x
+  dated-push xs x = omega (arith, times_dated-append y xs x)
 
   pub back-queued : (x : Queued) (xs : List Queued) → times_queued y (entered_back x xs) ≡ times_queued y xs + one x.thread
   back-queued x [] = queued-push [] x
@@ -146,7 +147,7 @@ module _ (y : ℕ) where
 
       by : (b : Bool) → nat_lt i (length notes) ≡ b →
           times_waiting y (set notes i n) + times_queued y (get_or notes i quiet_note).waiters ≤ times_waiting y notes + times_queued y n.waiters
-      by true e = omega (arith, sum_by-set (λ (m : Note). times_queued y m.waiters) notes i n quiet_note (inside i (length notes) e))
+      by true e = omega (arith, times_waiting-set y i n notes (inside i (length notes) e))
       by false e = rw (set-past notes i n (outside i (length notes) e), past notes i (outside i (length notes) e)) (omega arith)
 
 module _ (system : System) (t y : ℕ) where
@@ -415,7 +416,7 @@ opening-dated system c y number (part ∷ parts) = by (core_of system part == c)
 
 pub quiet-waiting : {A : Type 0} (y : ℕ) (xs : List A) → times_waiting y (map (λ _. quiet_note) xs) ≡ 0
 quiet-waiting y [] = refl
-quiet-waiting y (x ∷ xs) = omega (arith, sum_by-cons (λ (m : Note). times_queued y m.waiters) quiet_note (map (λ _. quiet_note) xs), quiet-waiting y xs)
+quiet-waiting y (x ∷ xs) = omega (arith, quiet-waiting y xs)
 
 opening-held : (system : System) (c y : ℕ) → places y (opening_core system c) ≤ 1
 opening-held system c y = omega (arith, opening-dated system c y 0 system.threads, quiet-waiting y system.notes, at_most y)

@@ -7,7 +7,7 @@ use Rattle.mcs_release.specs.declared.dated.Dated.{Dated}
 use Rattle.mcs_core.specs.declared.standing.Chosen.{Chosen}
 use Rattle.mcs_system.specs.System.{System, thread_part}
 use Rattle.mcs_laws.specs.Histories.{home_before, context_before, IsNeverReconfigured}
-use Rattle.mcs_laws.specs.Places.{times_queued}
+use Rattle.mcs_core.specs.Places.{times_queued}
 
 -- a thread whose context has this head moment
 module _ (thread head : ℕ) where

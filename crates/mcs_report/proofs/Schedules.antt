@@ -6,7 +6,6 @@ use Rattle.std.proofs.lemmas.Bool.{cases_lt}
 use Rattle.std.proofs.lemmas.Bool.Decides.{nat_tests}
 use Rattle.std.proofs.lemmas.List.{get_or_past, map-append}
 use Rattle.std.proofs.lemmas.List.FromFn.{get_or-map-range_with_len}
-use Rattle.std.proofs.lemmas.List.Sums.{sum_by-cons}
 use Rattle.mcs_ticks.specs.declared.row.Row.{Row}
 use Rattle.mcs_ticks.specs.declared.row.What.{What}
 use Rattle.mcs_release.specs.declared.dated.Dated.{Dated}
@@ -17,7 +16,8 @@ use Rattle.mcs_core.specs.Core.{Core, opening_core, opening_releases}
 use Rattle.mcs_core.specs.Clock as clocks
 use Rattle.mcs_system.specs.WellFormed.{IsWellFormed}
 use Rattle.mcs_core.proofs.Clock.{core_at-world, rows-clock}
-use Rattle.mcs_laws.specs.Places.{times_running, times_dated, places}
+use Rattle.mcs_laws.specs.Places.{times_running, places}
+use Rattle.mcs_core.specs.Places.{times_dated}
 use Rattle.mcs_laws.proofs.Places.{turn-held, quiet-waiting}
 use Rattle.mcs_report.specs.Reports.{runs, stops}
 use Rattle.mcs_report.specs.laws.Agreement.{StopsFirst, RunsApart}
@@ -82,7 +82,6 @@ no_date system c x n (part ∷ parts) h = by (core_of system part == c) refl (no
         omega (
           arith,
           none,
-          sum_by-cons (λ (dated : Dated). cond (dated.thread == x) 1 0) (record { thread = n; date = part.start }) others,
           another n x (λ q. h 0 (omega arith) (equal (core_of system part) c e) (omega arith)),
         )
     by false e none = none

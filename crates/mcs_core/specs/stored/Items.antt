@@ -6,7 +6,8 @@ use Rattle.mcs_ticks.specs.Queue.{by_priority}
 use Rattle.mcs_system.specs.System.{System}
 use Rattle.mcs_core.specs.Core.{Core}
 use Rattle.mcs_core.specs.Turn.{signals}
-use Rattle.mcs_core.specs.stored.Sound.{times_waiting, IsPlaced, IsFree, WakesFree}
+use Rattle.mcs_core.specs.stored.Sound.{IsPlaced, IsFree, WakesFree}
+use Rattle.mcs_core.specs.Places.{times_waiting}
 
 -- its notification is one of these
 abbrev pub IsNoted : ℕ → Option Item → Type 0

@@ -16,21 +16,9 @@ use Rattle.mcs_core.specs.declared.standing.Standing.{Standing}
 use Rattle.mcs_core.specs.declared.standing.Standing.TheVariants.{Blocked, Pending, Ready, Running, Done, Elsewhere}
 use Rattle.mcs_core.specs.Contexts.{is_own}
 use Rattle.mcs_system.specs.System.{System, context_part, thread_part}
+use Rattle.mcs_core.specs.Places.{times_queued, times_dated, times_waiting}
 use Rattle.mcs_core.specs.Core.{Core, thread_of, context_of, note_of, with_note}
 use Rattle.mcs_core.specs.Turn.{its_context}
-
--- how often a thread stands in a queue, in the release queue, and among the waiters of all notifications
-abbrev pub times_queued : ℕ → List Queued → ℕ
-times_queued x [] = 0
-times_queued x (y ∷ ys) = (if y.thread == x then 1 else 0) + times_queued x ys
-
-abbrev pub times_dated : ℕ → List Dated → ℕ
-times_dated x [] = 0
-times_dated x (y ∷ ys) = (if y.thread == x then 1 else 0) + times_dated x ys
-
-abbrev pub times_waiting : ℕ → List Note → ℕ
-times_waiting x [] = 0
-times_waiting x (note ∷ notes) = times_queued x note.waiters + times_waiting x notes
 
 -- how often a thread that stands so is in the ready queue, in the release queue, and among the waiters
 abbrev pub times_ready : Standing → ℕ
