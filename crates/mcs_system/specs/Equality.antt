@@ -6,6 +6,7 @@ use Rattle.mcs_control.specs.declared.config.Order.{Order}
 use Rattle.mcs_script.specs.declared.item.Item.{Item}
 use Rattle.mcs_script.specs.declared.item.Item.TheVariants.{Compute, Signal, Wait, Yield}
 use Rattle.mcs_system.specs.declared.part.ContextPart.{ContextPart}
+use Rattle.mcs_system.specs.declared.part.Link.{Link}
 use Rattle.mcs_system.specs.declared.part.NotePart.{NotePart}
 use Rattle.mcs_system.specs.declared.part.ThreadPart.{ThreadPart}
 use Rattle.mcs_system.specs.System.{System}
@@ -39,6 +40,9 @@ same_thread a b =
 abbrev pub same_order : Order → Order → Bool
 same_order a b = a.moment == b.moment && a.context == b.context && same_config a.config b.config
 
+abbrev pub same_link : Link → Link → Bool
+same_link a b = a.maker == b.maker && a.home == b.home && a.delay == b.delay
+
 abbrev pub same_limits : System → System → Bool
 same_limits a b = a.cores == b.cores && a.delay == b.delay && a.call == b.call && a.min_budget == b.min_budget
 
@@ -49,3 +53,4 @@ same_system a b =
     && pointwise same_note a.notes b.notes
     && pointwise same_thread a.threads b.threads
     && pointwise same_order a.orders b.orders
+    && pointwise same_link a.links b.links

@@ -1,6 +1,7 @@
 -- A system: what a file describes, each thing numbered by its place in its list.
-use Rattle.std.specs.Prelude.{ℕ, ◌≤◌, ◌==◌, if◌then◌else◌, List, [], ◌∷◌, get_or}
+use Rattle.std.specs.Prelude.{ℕ, ◌≡◌, ◌≢◌, ◌<◌, ◌≤◌, ◌==◌, ◌&&◌, if◌then◌else◌, List, [], ◌∷◌, get_or}
 use Rattle.mcs_system.specs.declared.part.ContextPart.{ContextPart}
+use Rattle.mcs_system.specs.declared.part.Link.{Link}
 use Rattle.mcs_system.specs.declared.part.NotePart.{NotePart}
 use Rattle.mcs_system.specs.declared.part.ThreadPart.{ThreadPart}
 use Rattle.mcs_system.specs.declared.part.SystemParts.{SystemParts}
@@ -36,10 +37,31 @@ abbrev pub start_of : List ThreadPart → ℕ → ℕ
 start_of [] context = 0
 start_of (thread ∷ threads) context = if thread.context == context then thread.start else start_of threads context
 
+-- the delay of the link from this maker to this home, or this delay where they have no link
+abbrev pub delay_by_link : List Link → ℕ → ℕ → ℕ → ℕ
+delay_by_link [] maker home delay = delay
+delay_by_link (link ∷ links) maker home delay =
+    if link.maker == maker && link.home == home then link.delay else delay_by_link links maker home delay
+
 -- how long a signal of this maker is under way to this core
 abbrev pub delay_between : System → ℕ → ℕ → ℕ
-delay_between system maker home = system.delay
+delay_between system maker home = delay_by_link system.links maker home system.delay
 
 -- each signal is under way for at least one tick
 abbrev pub TakesTime : System → Type 0
 TakesTime system = (maker home : ℕ) → 1 ≤ delay_between system maker home
+
+-- two cores, and how long a signal of the one is under way to the other
+pub record HasDelay (system : System) (delay : ℕ) : Type 0 where
+  pub maker : ℕ
+  pub home : ℕ
+  pub maker_known : maker < system.cores
+  pub home_known : home < system.cores
+  pub differ : maker ≢ home
+  pub is : delay_between system maker home ≡ delay
+
+-- the least delay of two different cores
+pub record IsLeastDelay (system : System) (least : ℕ) : Type 0 where
+  pub below : (maker home : ℕ) → maker < system.cores → home < system.cores → maker ≢ home →
+      least ≤ delay_between system maker home
+  pub there : 2 ≤ system.cores → HasDelay system least

@@ -6,6 +6,7 @@ use Rattle.mcs_script.specs.declared.item.Item.{Item}
 use Rattle.mcs_script.specs.declared.item.Item.TheVariants.{Compute, Signal, Wait, Yield}
 use Rattle.mcs_script.specs.Script.{IsScript}
 use Rattle.mcs_system.specs.declared.part.ContextPart.{ContextPart}
+use Rattle.mcs_system.specs.declared.part.Link.{Link}
 use Rattle.mcs_system.specs.declared.part.NotePart.{NotePart}
 use Rattle.mcs_system.specs.declared.part.ThreadPart.{ThreadPart}
 use Rattle.mcs_system.specs.Names.{is_name}
@@ -16,6 +17,10 @@ pub record AreNamed {A : Type 0} (name : A → List ℕ) (things : List A) : Typ
   pub few : length things ≤ 4096
   pub each : All (λ thing. IsTrue (is_name (name thing))) things
   pub distinct : AllPairs (λ a b. name a ≢ name b) things
+
+-- no two links go from the same core to the same core
+abbrev pub DifferInCores : Link → Link → Type 0
+DifferInCores a b = ¬ ((a.maker ≡ b.maker) × (a.home ≡ b.home))
 
 module _ (system : System) where
   -- cores, and times in ticks, within their limits
@@ -58,6 +63,13 @@ module _ (system : System) where
     pub accepted : IsOk (checked system.min_budget order.config)
     pub same_kind : kind_of order.config ≡ kind_of (context_part system order.context).config
 
+  -- from a core that there is to another one, with a delay within its limits
+  pub record IsLink (link : Link) : Type 0 where
+    pub maker : link.maker < system.cores
+    pub home : link.home < system.cores
+    pub other : link.maker ≢ link.home
+    pub delay : (1 ≤ link.delay) × (link.delay ≤ 2 ^ 20)
+
   pub record IsWellFormed : Type 0 where
     pub limits : AreLimits
     pub context_names : AreNamed (λ context. context.name) system.contexts
@@ -70,3 +82,6 @@ module _ (system : System) where
     pub one_each : AllPairs (λ a b. a.context ≢ b.context) system.threads
     pub few_orders : length system.orders ≤ 4096
     pub orders : All IsOrder system.orders
+    pub few_links : length system.links ≤ 4096
+    pub links : All IsLink system.links
+    pub one_link : AllPairs DifferInCores system.links

@@ -67,6 +67,7 @@ fn same_parts(one: &SystemParts, other: &SystemParts) -> bool
         && one.notes.as_slice() == other.notes.as_slice()
         && one.threads.as_slice() == other.threads.as_slice()
         && one.orders.as_slice() == other.orders.as_slice()
+        && one.links.as_slice() == other.links.as_slice()
 }
 
 impl PartialEq for SystemParts {

@@ -1,6 +1,7 @@
 //! Systems: what a file describes, and when it is well formed.
 #![tactic(auto)]
 
+mod delays;
 mod equality;
 mod lookup;
 mod name;
@@ -9,5 +10,5 @@ mod system;
 mod well_formed;
 
 pub use name::Name;
-pub use part::{ContextPart, NotePart, SystemParts, ThreadPart};
+pub use part::{ContextPart, Link, NotePart, SystemParts, ThreadPart};
 pub use system::System;

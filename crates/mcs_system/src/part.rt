@@ -36,12 +36,28 @@ pub struct ThreadPart {
     pub script: Script,
 }
 
+/// A delay of its own for the signals of one core to another one.
+#[derive(Clone, Copy, Debug, PartialEq, Eq)]
+pub struct Link {
+    /// The core that makes the signals.
+    pub maker: CoreId,
+    /// The core at which their notifications are at home. It is not the maker.
+    pub home: CoreId,
+    /// The ticks for which such a signal is under way, 1 to 2^20.
+    pub delay: u64,
+}
+
+impl Link {
+    /// Links of a system: 0 to this.
+    pub const MOST: usize = 4_096;
+}
+
 /// All that a file says of a system, each thing numbered by its place in its list.
 #[derive(Debug, Drop)]
 pub struct SystemParts {
     /// How many cores there are, 1 to 64.
     pub cores: usize,
-    /// The ticks for which a signal to another core is under way, 1 to 2^20.
+    /// The ticks for which a signal to another core is under way where no link says otherwise, 1 to 2^20.
     pub delay: u64,
     /// The ticks that a `signal`, a `wait` or a `yield` costs, 1 to 2^16.
     pub call: u64,
@@ -51,4 +67,6 @@ pub struct SystemParts {
     pub notes: Sequence<NotePart>,
     pub threads: Sequence<ThreadPart>,
     pub orders: Sequence<Order>,
+    /// The pairs of cores that have a delay of their own, no pair twice, at most 4,096.
+    pub links: Sequence<Link>,
 }

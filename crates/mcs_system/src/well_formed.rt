@@ -2,9 +2,9 @@ ghost use Rattle.std.specs.Prelude.{◌≡◌, ◌↔◌, ◌≢◌, ℕ, ◌<�
 ghost use Rattle.mcs_script.specs.Script.{IsScript};
 ghost use Rattle.mcs_system.specs.System.{context_part};
 ghost use Rattle.mcs_system.specs.Names.{is_name};
-ghost use Rattle.mcs_system.specs.WellFormed.{AreNamed, AreLimits, IsContext, IsNote, IsItem, IsThread, IsOrder, IsWellFormed};
+ghost use Rattle.mcs_system.specs.WellFormed.{AreNamed, AreLimits, IsContext, IsNote, IsItem, IsThread, IsOrder, IsLink, DifferInCores, IsWellFormed};
 
-use crate::{ContextPart, Name, NotePart, SystemParts, ThreadPart};
+use crate::{ContextPart, Link, Name, NotePart, SystemParts, ThreadPart};
 use mcs_control::{Config, Order};
 use mcs_script::{Item, Script};
 use mcs_ticks::{ContextId, CoreId, Limits, NoteId};
@@ -90,6 +90,22 @@ fn have_contexts_of_their_own(threads: &[ThreadPart]) -> bool
     true
 }
 
+// Marks the pairs of cores that have a link, on the stack too.
+fn have_cores_of_their_own(links: &[Link]) -> bool
+    requires { All (λ link. (link.maker < 64) × (link.home < 64)) links.now }
+    ensures { IsTrue result ↔ AllPairs DifferInCores links.now }
+{
+    let mut has_link = [false; Limits::CORES * Limits::CORES];
+    for link in links {
+        let pair = link.maker.0 * Limits::CORES + link.home.0;
+        if has_link[pair] {
+            return false;
+        }
+        has_link[pair] = true;
+    }
+    true
+}
+
 fn has_numbers(thread: &ThreadPart) -> bool
     ensures { IsTrue result
         ↔ (thread.now.priority ≤ 255) × (thread.now.start ≤ 2 ^ 40) × (thread.now.rounds ≤ 2 ^ 40)
@@ -104,8 +120,9 @@ fn has_numbers(thread: &ThreadPart) -> bool
 impl SystemParts {
     /// Whether the system is well formed: counts and numbers lie in their ranges (profile M), names are 1 to 32 characters of
     /// `A-Z a-z 0-9 _ -` and distinct in each kind, each configuration passes its check with the system's least budget, no two
-    /// threads have one context, a thread waits on notifications of its own core alone, and an order keeps the context's kind. It
-    /// takes no memory, so names are compared in pairs, in time with the square of their number; the rest is linear.
+    /// threads have one context, a thread waits on notifications of its own core alone, an order keeps the context's kind, and no
+    /// two links go from the same core to the same other core. It takes no memory, so names are compared in pairs, in time with the
+    /// square of their number; the rest is linear.
     pub fn is_well_formed(&self) -> bool
         ensures { IsTrue result ↔ IsWellFormed self.now }
     {
@@ -119,6 +136,9 @@ impl SystemParts {
             && have_contexts_of_their_own(self.threads.as_slice())
             && self.orders.len() <= Limits::ORDERS
             && self.has_orders()
+            && self.links.len() <= Link::MOST
+            && self.has_links()
+            && have_cores_of_their_own(self.links.as_slice())
     }
 
     fn has_limits(&self) -> bool
@@ -242,5 +262,21 @@ impl SystemParts {
             .as_slice()
             .iter()
             .all(|order| self.is_order(order))
+    }
+
+    fn is_link(&self, link: Link) -> bool
+        ensures { IsTrue result ↔ IsLink self.now link }
+    {
+        link.maker.0 < self.cores
+            && link.home.0 < self.cores
+            && link.maker != link.home
+            && 1 <= link.delay
+            && link.delay <= Limits::DELAY
+    }
+
+    fn has_links(&self) -> bool
+        ensures { IsTrue result ↔ All (IsLink self.now) self.now.links }
+    {
+        self.links.as_slice().iter().all(|link| self.is_link(*link))
     }
 }

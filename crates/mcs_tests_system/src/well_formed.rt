@@ -1,6 +1,6 @@
 use mcs_control::{Config, Order};
 use mcs_script::{Item, Script};
-use mcs_system::{ContextPart, Name, NotePart, SystemParts, ThreadPart};
+use mcs_system::{ContextPart, Link, Name, NotePart, SystemParts, ThreadPart};
 use mcs_ticks::{ContextId, CoreId, NoteId, Sequence, Tick};
 use std::alloc::Global;
 use std::process::Abort;
@@ -31,6 +31,9 @@ struct Sample {
     order_at: u64,
     order_for: usize,
     order: Config,
+    maker: usize,
+    home: usize,
+    link_delay: u64,
 }
 
 const SPORADIC: Config = Config {
@@ -62,6 +65,9 @@ const SAMPLE: Sample = Sample {
     order_at: 3,
     order_for: 0,
     order: SPORADIC,
+    maker: 0,
+    home: 1,
+    link_delay: 3,
 };
 
 fn tick(ticks: u64) -> Result<Tick, Fail> {
@@ -134,6 +140,19 @@ fn threads(alloc: Global, sample: Sample) -> Result<Vec<ThreadPart>, Fail> {
     Ok(vec![in alloc; first, second]?)
 }
 
+fn link(maker: usize, home: usize, delay: u64) -> Link {
+    Link {
+        maker: CoreId(maker),
+        home: CoreId(home),
+        delay,
+    }
+}
+
+fn links(alloc: Global, sample: Sample) -> Result<Vec<Link>, Fail> {
+    let first = link(sample.maker, sample.home, sample.link_delay);
+    Ok(vec![in alloc; first, link(1, 0, 7)]?)
+}
+
 fn parts(alloc: Global, sample: Sample) -> Result<SystemParts, Fail> {
     let order = Order {
         moment: tick(sample.order_at)?,
@@ -149,6 +168,7 @@ fn parts(alloc: Global, sample: Sample) -> Result<SystemParts, Fail> {
         notes: Sequence::new(notes(alloc, sample)?),
         threads: Sequence::new(threads(alloc, sample)?),
         orders: Sequence::new(vec![in alloc; order]?),
+        links: Sequence::new(links(alloc, sample)?),
     })
 }
 
@@ -179,6 +199,7 @@ enum Change {
     OrderAt(u64),
     OrderFor(usize),
     Ordered(u64, u64, u64),
+    Linked(usize, usize, u64),
 }
 
 fn config(budget: u64, period: u64, extra: u64) -> Config {
@@ -213,6 +234,11 @@ fn apply(change: Change, sample: &mut Sample) {
         Change::OrderAt(moment) => sample.order_at = moment,
         Change::OrderFor(context) => sample.order_for = context,
         Change::Ordered(budget, period, extra) => sample.order = config(budget, period, extra),
+        Change::Linked(maker, home, delay) => {
+            sample.maker = maker;
+            sample.home = home;
+            sample.link_delay = delay;
+        }
     }
 }
 
@@ -256,6 +282,8 @@ fn limits_are_accepted(rt: HostRuntime) -> Result<(), Fail> {
         Change::Badge(u32::MAX),
         Change::OrderAt(LONGEST),
         Change::Ordered(LONGEST - 1, LONGEST, 64),
+        Change::Linked(0, 1, 1),
+        Change::Linked(0, 1, 1_048_576),
     ];
     all_are(&rt, rt.alloc(), true, &changes)
 }
@@ -279,12 +307,15 @@ fn one_past_a_limit_is_refused(rt: HostRuntime) -> Result<(), Fail> {
         Change::Compute(LONGEST + 1),
         Change::Badge(0),
         Change::OrderAt(LONGEST + 1),
+        Change::Linked(0, 1, 0),
+        Change::Linked(0, 1, 1_048_577),
     ];
     all_are(&rt, rt.alloc(), false, &changes)
 }
 
 // One part that does not fit the others: a core, a context or a notification that is not there, a configuration that is refused, a
-// context that two threads have, a wait away from home, an order that changes the kind, a name that another one has.
+// context that two threads have, a wait away from home, an order that changes the kind, a name that another one has, a link from a
+// core to itself, a second link of two cores.
 #[test]
 fn parts_that_do_not_fit_are_refused(rt: HostRuntime) -> Result<(), Fail> {
     let changes = [
@@ -311,6 +342,10 @@ fn parts_that_do_not_fit_are_refused(rt: HostRuntime) -> Result<(), Fail> {
         Change::Context("b"),
         Change::Note("m"),
         Change::Thread("B"),
+        Change::Linked(0, 2, 3),
+        Change::Linked(2, 0, 3),
+        Change::Linked(0, 0, 3),
+        Change::Linked(1, 0, 3),
     ];
     all_are(&rt, rt.alloc(), false, &changes)
 }

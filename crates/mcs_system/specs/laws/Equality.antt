@@ -8,10 +8,11 @@ use Rattle.mcs_control.specs.declared.config.Order.{Order}
 use Rattle.mcs_script.specs.declared.item.Item.{Item}
 use Rattle.mcs_script.specs.declared.item.Item.TheVariants.{Compute, Signal, Wait, Yield}
 use Rattle.mcs_system.specs.declared.part.ContextPart.{ContextPart}
+use Rattle.mcs_system.specs.declared.part.Link.{Link}
 use Rattle.mcs_system.specs.declared.part.NotePart.{NotePart}
 use Rattle.mcs_system.specs.declared.part.ThreadPart.{ThreadPart}
 use Rattle.mcs_system.specs.System.{System}
-use Rattle.mcs_system.specs.Equality.{same_config, same_item, same_context, same_note, same_thread, same_order, same_system}
+use Rattle.mcs_system.specs.Equality.{same_config, same_item, same_context, same_note, same_thread, same_order, same_link, same_system}
 
 pub same_config_decides : (a b : Config) → Decides (same_config a b) (a ≡ b)
 same_config_decides a b = (λ e. grind (arith, nat_tests), λ e. grind (arith, nat_tests))
@@ -50,6 +51,9 @@ same_order_decides a b =
     let config = same_config_decides a.config b.config in
     (λ e. grind (arith, nat_tests, config.0), λ e. grind (arith, nat_tests, config.1))
 
+pub same_link_decides : (a b : Link) → Decides (same_link a b) (a ≡ b)
+same_link_decides a b = (λ e. grind (arith, nat_tests), λ e. grind (arith, nat_tests))
+
 pub same_thread_decides : (a b : ThreadPart) → Decides (same_thread a b) (a ≡ b)
 same_thread_decides a b =
     let name = bytes_decides a.name b.name in
@@ -61,10 +65,11 @@ same_system_decides a b =
     let contexts = pointwise_decides same_context_decides a.contexts b.contexts in
     let notes = pointwise_decides same_note_decides a.notes b.notes in
     let threads = pointwise_decides same_thread_decides a.threads b.threads in
-    let orders = pointwise_decides same_order_decides a.orders b.orders in (
-      λ e. grind (arith, nat_tests, contexts.0, notes.0, threads.0, orders.0),
+    let orders = pointwise_decides same_order_decides a.orders b.orders in
+    let links = pointwise_decides same_link_decides a.links b.links in (
+      λ e. grind (arith, nat_tests, contexts.0, notes.0, threads.0, orders.0, links.0),
       λ e.
-          grind (arith, nat_tests, contexts.1, notes.1, threads.1, orders.1),
+          grind (arith, nat_tests, contexts.1, notes.1, threads.1, orders.1, links.1),
     )
 
 pub same_thread_equivalence : IsEquivalence same_thread
