@@ -5,6 +5,7 @@ pub mod Each
 pub mod Members
 pub mod Items
 pub mod Passed
+pub mod Pairs
 pub mod Scripts
 pub mod WellFormed
 mod OnLiterals

@@ -1,9 +1,10 @@
 -- Where no test fails, what is read is a well-formed system.
-use Rattle.std.proofs.Common.{◌≡◌, ◌≢◌, ℕ, suc, ◌-◌, ◌^◌, ◌<◌, ◌≤◌, nat_eq, true, false, not, List, [], ◌∷◌, ◌++◌, length, map, None, is_some, Result, Ok, Err, IsOk, All, AllPairs, refl, arith}
+use Rattle.std.proofs.Common.{◌≡◌, ◌≢◌, ℕ, zero, suc, ◌-◌, ◌^◌, ◌<◌, ◌≤◌, ◌==◌, ◌&&◌, nat_eq, Bool, true, false, true≢false, not, get_or, sym, ◌∙◌, List, [], ◌∷◌, ◌++◌, length, map, None, is_some, Result, Ok, Err, IsOk, All, AllPairs, refl, arith}
 use Rattle.std.specs.List.{list_any}
-use Rattle.std.proofs.lemmas.Bool.{eq-eqb}
+use Rattle.std.proofs.lemmas.Bool.{eq-eqb, eqb-false, or_parts}
 use Rattle.std.proofs.lemmas.List.{length-map}
 use Rattle.std.proofs.lemmas.List.Elements.{All-push, All-nil}
+use Rattle.std.proofs.lemmas.List.Quantifiers.{all_pairs_push}
 use Rattle.toml.specs.Data.{Data, Members}
 use Rattle.mcs_control.specs.declared.config.ControlFault.{ControlFault}
 use Rattle.mcs_control.specs.declared.config.Kind.{Kind}
@@ -11,22 +12,27 @@ use Rattle.mcs_control.specs.declared.config.Kind.TheVariants as kinds
 use Rattle.mcs_control.specs.declared.config.Order.{Order}
 use Rattle.mcs_control.specs.Control.{checked, kind_of}
 use Rattle.mcs_system.specs.declared.part.ContextPart.{ContextPart}
+use Rattle.mcs_system.specs.declared.part.Link.{Link}
 use Rattle.mcs_system.specs.declared.part.NotePart.{NotePart}
 use Rattle.mcs_system.specs.declared.part.ThreadPart.{ThreadPart}
 use Rattle.mcs_system.specs.System.{System}
 use Rattle.mcs_system.specs.Names.{is_name}
-use Rattle.mcs_system.specs.WellFormed.{AreNamed, IsContext, IsNote, IsThread, IsOrder, IsWellFormed}
+use Rattle.mcs_system.specs.WellFormed.{AreNamed, IsContext, IsNote, IsThread, IsOrder, IsLink, DifferInCores, IsWellFormed}
 use Rattle.mcs_load.specs.declared.at.At.{At}
 use Rattle.mcs_load.specs.declared.spot.Key.TheVariants as key
 use Rattle.mcs_load.specs.declared.spot.Section.TheVariants as section
 use Rattle.mcs_load.specs.declared.spot.Section.{Section}
 use Rattle.mcs_load.specs.declared.numbers.Numbers.{Numbers}
 use Rattle.mcs_load.specs.Checks.{Checked, first_failed}
-use Rattle.mcs_load.specs.Words.{only_keys, whole_number, number_with_default, new_name, text, is_among, place_of, row, row_table, rows}
+use Rattle.mcs_load.specs.Words.{only_keys, whole_number, number_with_default, new_name, text, is_among, place_of, row, row_table, rows, array_of}
 use Rattle.mcs_load.specs.Script.{script}
-use Rattle.mcs_load.specs.Walk.{accepts, config, accepted_config, context, contexts, note, notes, known, known_context, part_at, own_context, max_ticks, times, thread, threads, ordered_context, is_same_kind, keeps_kind, order, orders, top, top_keys, numbers, walk, document, file}
+use Rattle.mcs_load.specs.Walk.{accepts, config, accepted_config, context, contexts, note, notes, known, known_context, part_at, own_context, max_ticks, times, thread, threads, ordered_context, is_same_kind, keeps_kind, order, orders, link_numbers, is_linked, link, links, top, listed_keys, numbers, walk, document, file}
 use Rattle.mcs_load.proofs.Passed.{passed_test, both_passed, each_keeps, each_length, whole_number_passed, number_with_default_passed, new_name_passed, rows_passed, place_within, distinct_more, HaveNames, have_no_names, have_names_more}
 use Rattle.mcs_load.proofs.Scripts.{script_passed}
+
+not_passed : (b : Bool) → not b ≡ true → b ≡ false
+not_passed true h = cc
+not_passed false h = refl
 
 accepts_passed : (at : At) (r : Result Kind ControlFault) → first_failed (accepts at r).tests ≡ None → IsOk r
 unfolding accepts
@@ -89,7 +95,7 @@ module _ (system : System) (some : 1 ≤ system.cores) where
 
   contexts_passed : (file : Members) → first_failed (contexts system.cores system.min_budget file).tests ≡ None
       → AreNamed (λ c. c.name) (contexts system.cores system.min_budget file).value × All (IsContext system) (contexts system.cores system.min_budget file).value
-  unfolding contexts
+  unfolding contexts array_of
   contexts_passed file h =
       let step = row section.Context (context system.cores system.min_budget) in
       let items = (rows section.Context key.Context file).value in
@@ -126,7 +132,7 @@ module _ (system : System) (some : 1 ≤ system.cores) where
 
   notes_passed : (file : Members) → first_failed (notes system.cores file).tests ≡ None
       → AreNamed (λ n. n.name) (notes system.cores file).value × All (IsNote system) (notes system.cores file).value
-  unfolding notes
+  unfolding notes array_of
   notes_passed file h =
       let step = row section.Note (note system.cores) in
       let items = (rows section.Note key.Note file).value in
@@ -225,7 +231,7 @@ module _ (system : System) where
       → AreNamed (λ t. t.name) (threads system.contexts system.notes file).value
       × All (IsThread system) (threads system.contexts system.notes file).value
       × AllPairs (λ a b. a.context ≢ b.context) (threads system.contexts system.notes file).value
-  unfolding threads
+  unfolding threads array_of
   threads_passed file h =
       let step = row section.Thread one_thread in
       let items = (rows section.Thread key.Thread file).value in
@@ -286,7 +292,7 @@ module _ (system : System) where
 
   orders_passed : (file : Members) → first_failed (orders system.cores system.min_budget system.contexts file).tests ≡ None
       → (length (orders system.cores system.min_budget system.contexts file).value ≤ 4096) × All (IsOrder system) (orders system.cores system.min_budget system.contexts file).value
-  unfolding orders
+  unfolding orders array_of
   orders_passed file h =
       let step = row section.Order one_order in
       let items = (rows section.Order key.Order file).value in
@@ -294,6 +300,70 @@ module _ (system : System) where
       let count = each_length step items [] in
       let few = rows_passed section.Order key.Order file p.0 in
       (omega (arith, count, few), each_keeps step (All (IsOrder system)) next_order_passed items [] (All-nil (IsOrder system)) p.1)
+
+-- no earlier link has the two cores
+module _ (x : Link) where
+  no_pair_as : (same_maker same_home : Bool) (y : Link) → (y.maker == x.maker) ≡ same_maker → (y.home == x.home) ≡ same_home → (same_maker && same_home) ≡ false → DifferInCores y x
+  no_pair_as false same_home y makers homes h = λ (e, _). true≢false (sym (eq-eqb y.maker x.maker e) ∙ makers)
+  no_pair_as true false y makers homes h = λ (_, e). true≢false (sym (eq-eqb y.home x.home e) ∙ homes)
+  no_pair_as true true y makers homes h = cc
+
+  no_pair : (earlier : List Link) → is_linked earlier x.maker x.home ≡ false → (k : ℕ) (d : Link) → k < length earlier → DifferInCores (get_or earlier k d) x
+  no_pair [] h k d within = absurd (omega arith)
+  no_pair (y ∷ ys) h zero d within = no_pair_as _ _ y refl refl (or_parts (y.maker == x.maker && y.home == x.home) (is_linked ys x.maker x.home) h).0
+  no_pair (y ∷ ys) h (suc k) d within = no_pair ys (or_parts (y.maker == x.maker && y.home == x.home) (is_linked ys x.maker x.home) h).1 k d (omega arith)
+
+module _ (system : System) (some : 1 ≤ system.cores) where
+  link_numbers_passed : (at : At) (row : Members) → first_failed (link_numbers system.cores at row).tests ≡ None
+      → ((link_numbers system.cores at row).value.maker < system.cores)
+      × ((link_numbers system.cores at row).value.home < system.cores)
+      × ((1 ≤ (link_numbers system.cores at row).value.delay) × ((link_numbers system.cores at row).value.delay ≤ 2 ^ 20))
+  unfolding link_numbers
+  link_numbers_passed at row h =
+      let keys = both_passed (only_keys at (key.Maker ∷ key.Home ∷ key.Delay ∷ []) row).tests _ h in
+      let maker = both_passed (whole_number at key.Maker 0 (system.cores - 1) row).tests _ keys.1 in
+      let home = both_passed (whole_number at key.Home 0 (system.cores - 1) row).tests _ maker.1 in
+      let delay = both_passed (whole_number at key.Delay 1 (2 ^ 20) row).tests [] home.1 in
+      let m = whole_number_passed at key.Maker 0 (system.cores - 1) row (omega arith) maker.0 in
+      let t = whole_number_passed at key.Home 0 (system.cores - 1) row (omega arith) home.0 in
+      (omega (arith, m.1), omega (arith, t.1), whole_number_passed at key.Delay 1 (2 ^ 20) row (omega arith) delay.0)
+
+  link_passed : (at : At) (earlier : List Link) (row : Members) → first_failed (link system.cores at earlier row).tests ≡ None
+      → IsLink system (link system.cores at earlier row).value
+      × (is_linked earlier (link system.cores at earlier row).value.maker (link system.cores at earlier row).value.home ≡ false)
+  unfolding link
+  link_passed at earlier row h =
+      let given = (link_numbers system.cores at row).value in
+      let numbers = both_passed (link_numbers system.cores at row).tests _ h in
+      let other = passed_test (not (given.maker == given.home)) _ _ numbers.1 in
+      let new = passed_test (not (is_linked earlier given.maker given.home)) _ _ other.1 in
+      let limits = link_numbers_passed at row numbers.0 in
+      (record { maker = limits.0; home = limits.1; other = eqb-false given.maker given.home (not_passed _ other.0); delay = limits.2 }, not_passed _ new.0)
+
+  -- the links so far
+  abbrev AreLinks : List Link → Type 0
+  AreLinks earlier = All (IsLink system) earlier × AllPairs DifferInCores earlier
+
+  next_link_passed : (earlier : List Link) (d : Data) → AreLinks earlier → first_failed (row section.Link (link system.cores) earlier d).tests ≡ None
+      → AreLinks (earlier ++ (row section.Link (link system.cores) earlier d).value ∷ [])
+  next_link_passed earlier d so_far h =
+      let at = at_row section.Link (suc (length earlier)) in
+      let x = (link system.cores at earlier (row_table at d).value).value in
+      let p = link_passed at earlier (row_table at d).value (row_passed section.Link (link system.cores) earlier d h) in
+      (All-push (IsLink system) earlier _ so_far.0 p.0, all_pairs_push DifferInCores earlier x so_far.1 (no_pair x earlier p.1))
+
+  links_passed : (file : Members) → first_failed (links system.cores file).tests ≡ None
+      → (length (links system.cores file).value ≤ 4096) × All (IsLink system) (links system.cores file).value × AllPairs DifferInCores (links system.cores file).value
+  unfolding links array_of
+  links_passed file h =
+      let step = row section.Link (link system.cores) in
+      let items = (rows section.Link key.Link file).value in
+      let p = both_passed (rows section.Link key.Link file).tests _ h in
+      let count = each_length step items [] in
+      let few = rows_passed section.Link key.Link file p.0 in
+      let none : AreLinks [] = (All-nil (IsLink system), λ i j d less within. absurd (omega arith)) in
+      let all = each_keeps step AreLinks next_link_passed items [] none p.1 in
+      (omega (arith, count, few), all.0, all.1)
 
 -- the numbers at the top lie within their limits
 record AreNumbers (read : Numbers) : Type 0 where
@@ -305,8 +375,8 @@ record AreNumbers (read : Numbers) : Type 0 where
 numbers_passed : (file : Members) → first_failed (numbers file).tests ≡ None → AreNumbers (numbers file).value
 unfolding numbers
 numbers_passed file h =
-    let keys = both_passed (only_keys top top_keys file).tests _ h in
-    let version = both_passed (whole_number top key.Version 1 1 file).tests _ keys.1 in
+    let keys = both_passed (only_keys top (listed_keys file) file).tests _ h in
+    let version = both_passed (whole_number top key.Version 1 2 file).tests _ keys.1 in
     let cores = both_passed (whole_number top key.Cores 1 64 file).tests _ version.1 in
     let delay = both_passed (whole_number top key.Delay 1 (2 ^ 20) file).tests _ cores.1 in
     let call = both_passed (number_with_default top key.Call 1 (2 ^ 16) 1 file).tests _ delay.1 in
@@ -324,10 +394,12 @@ walk_passed file h =
     let system : System = (walk file).value in
     let top = both_passed (numbers file).tests _ h in
     let limits = numbers_passed file top.0 in
-    let in_contexts = both_passed (contexts system.cores system.min_budget file).tests _ top.1 in
+    let in_links = both_passed (links system.cores file).tests _ top.1 in
+    let in_contexts = both_passed (contexts system.cores system.min_budget file).tests _ in_links.1 in
     let in_notes = both_passed (notes system.cores file).tests _ in_contexts.1 in
     let in_threads = both_passed (threads system.contexts system.notes file).tests _ in_notes.1 in
     let in_orders = both_passed (orders system.cores system.min_budget system.contexts file).tests [] in_threads.1 in
+    let of_links = links_passed system limits.cores.0 file in_links.0 in
     let of_contexts = contexts_passed system limits.cores.0 file in_contexts.0 in
     let of_notes = notes_passed system limits.cores.0 file in_notes.0 in
     let of_threads = threads_passed system file in_threads.0 in
@@ -343,6 +415,9 @@ walk_passed file h =
       one_each = of_threads.2;
       few_orders = of_orders.0;
       orders = of_orders.1;
+      few_links = of_links.0;
+      links = of_links.1;
+      one_link = of_links.2;
     }
 
 -- a system that is read is well formed

@@ -50,6 +50,39 @@ system_of_a_file : answer (file (codes "version = 1\ncores = 1\ndelay = 1\n\n[[c
       notes = [];
       threads = record { name = codes "A"; context = 0; priority = 5; start = 0; rounds = 1; deadline = 0; script = items.Compute 5 ∷ [] } ∷ [];
       orders = record { moment = 7; context = 0; config = record { budget = 3; period = 6; extra = 1 } } ∷ [];
+      links = [];
     })
 unfolding load_on_literals
 system_of_a_file = refl
+
+-- links are of version 2 alone
+link_in_version_1 : answer (file (codes "version = 1\ncores = 2\ndelay = 1\n[[link]]\nmaker = 0\nhome = 1\ndelay = 3\n"))
+    ≡ Err (record { kind = kind.UnknownKey; spot = record { section = section.Top; row = 0; key = key.Other; item = 0 } })
+unfolding load_on_literals
+link_in_version_1 = refl
+
+link_in_version_2 : answer (file (codes "version = 2\ncores = 2\ndelay = 1\n[[link]]\nmaker = 0\nhome = 1\ndelay = 3\n"))
+    ≡ Ok (record {
+      cores = 2;
+      delay = 1;
+      call = 1;
+      min_budget = 1;
+      contexts = [];
+      notes = [];
+      threads = [];
+      orders = [];
+      links = record { maker = 0; home = 1; delay = 3 } ∷ [];
+    })
+unfolding load_on_literals
+link_in_version_2 = refl
+
+link_to_itself : answer (file (codes "version = 2\ncores = 2\ndelay = 1\n[[link]]\nmaker = 1\nhome = 1\ndelay = 1\n"))
+    ≡ Err (record { kind = kind.SelfLink; spot = record { section = section.Link; row = 1; key = key.Home; item = 0 } })
+unfolding load_on_literals
+link_to_itself = refl
+
+-- the way back is no second link, the same way again is one
+link_twice : answer (file (codes "version = 2\ncores = 2\ndelay = 1\nlink = [{maker=0,home=1,delay=1},{maker=1,home=0,delay=1},{maker=0,home=1,delay=2}]\n"))
+    ≡ Err (record { kind = kind.DoubleLink; spot = record { section = section.Link; row = 3; key = key.Home; item = 0 } })
+unfolding load_on_literals
+link_twice = refl

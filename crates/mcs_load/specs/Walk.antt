@@ -1,8 +1,8 @@
 -- The tests of a file, in the order in which they are put.
-use Rattle.std.specs.Prelude.{ℕ, ◌-◌, ◌^◌, Bool, true, false, ◌&&◌, List, [], ◌∷◌, map, get_or, not, nat_eq, ◌==◌, Option, Some, None, is_some, Result, Ok, Err}
+use Rattle.std.specs.Prelude.{ℕ, ◌-◌, ◌^◌, ℤ, pos, negsuc, Bool, true, false, ◌&&◌, if◌then◌else◌, List, [], ◌∷◌, map, get_or, not, nat_eq, ◌==◌, Option, Some, None, is_some, option_and_then, Result, Ok, Err}
 use Rattle.std.specs.Str.{is_utf8}
 use Rattle.std.specs.List.{list_any}
-use Rattle.toml.specs.Data.{Members, no_members}
+use Rattle.toml.specs.Data.{Members, no_members, get_member, as_integer}
 use Rattle.toml.specs.Parse.{parse_document}
 use Rattle.mcs_control.specs.declared.config.Config.{Config}
 use Rattle.mcs_control.specs.declared.config.Kind.{Kind}
@@ -12,20 +12,22 @@ use Rattle.mcs_control.specs.declared.config.ControlFault.{ControlFault}
 use Rattle.mcs_control.specs.declared.config.ControlFault.TheVariants as refused
 use Rattle.mcs_control.specs.Control.{checked, kind_of}
 use Rattle.mcs_system.specs.declared.part.ContextPart.{ContextPart}
+use Rattle.mcs_system.specs.declared.part.Link.{Link}
 use Rattle.mcs_system.specs.declared.part.NotePart.{NotePart}
 use Rattle.mcs_system.specs.declared.part.ThreadPart.{ThreadPart}
 use Rattle.mcs_system.specs.declared.part.SystemParts.{SystemParts}
 use Rattle.mcs_system.specs.System.{no_context}
-use Rattle.mcs_load.specs.declared.fault.FaultKind.TheVariants.{NotToml, Control, UnknownName, ContextTaken, OtherCore, KindChange}
+use Rattle.mcs_load.specs.declared.fault.FaultKind.TheVariants.{NotToml, Control, UnknownName, ContextTaken, OtherCore, KindChange, SelfLink, DoubleLink}
 use Rattle.mcs_load.specs.declared.spot.Key.{Key}
 use Rattle.mcs_load.specs.declared.spot.Key.TheVariants as key
 use Rattle.mcs_load.specs.declared.spot.Section.TheVariants as section
+use Rattle.mcs_load.specs.Keys.{key_name}
 use Rattle.mcs_load.specs.Script.{script, place_or_first}
 use Rattle.mcs_load.specs.Checks.{Checked, ◌>>=◌, reads}
 use Rattle.mcs_load.specs.declared.at.At.{At}
 use Rattle.mcs_load.specs.declared.numbers.Numbers.{Numbers}
 use Rattle.mcs_load.specs.declared.thread.Timing.{Timing}
-use Rattle.mcs_load.specs.Words.{place_of, text, must_at, array_at, only_keys, whole_number, number_with_default, new_name, rows, row, each}
+use Rattle.mcs_load.specs.Words.{place_of, text, must_at, array_at, only_keys, whole_number, number_with_default, new_name, row, array_of}
 
 -- no upper limit but that of a TOML integer
 abbrev pub any_number : ℕ
@@ -73,14 +75,10 @@ note cores at earlier row = do
   reads (record { name = name; core = core })
 
 unfoldable pub contexts : ℕ → ℕ → Members → Checked (List ContextPart)
-contexts cores min_budget file = do
-  items ← rows section.Context key.Context file
-  each (row section.Context (context cores min_budget)) [] items
+contexts cores min_budget file = array_of section.Context key.Context (context cores min_budget) file
 
 unfoldable pub notes : ℕ → Members → Checked (List NotePart)
-notes cores file = do
-  items ← rows section.Note key.Note file
-  each (row section.Note (note cores)) [] items
+notes cores file = array_of section.Note key.Note (note cores) file
 
 -- the context of this name
 unfoldable pub known : At → List (List ℕ) → List ℕ → Checked ℕ
@@ -134,9 +132,7 @@ thread contexts notes at earlier row = do
   })
 
 unfoldable pub threads : List ContextPart → List NotePart → Members → Checked (List ThreadPart)
-threads contexts notes file = do
-  items ← rows section.Thread key.Thread file
-  each (row section.Thread (thread contexts notes)) [] items
+threads contexts notes file = array_of section.Thread key.Thread (thread contexts notes) file
 
 -- the context of an order; the order's core names the SchedControl capability that is used
 unfoldable pub ordered_context : ℕ → List ContextPart → At → Members → Checked ℕ
@@ -166,21 +162,56 @@ order cores min_budget contexts at earlier row = do
   reads (record { moment = moment; context = context; config = config })
 
 unfoldable pub orders : ℕ → ℕ → List ContextPart → Members → Checked (List Order)
-orders cores min_budget contexts file = do
-  items ← rows section.Order key.Order file
-  each (row section.Order (order cores min_budget contexts)) [] items
+orders cores min_budget contexts file = array_of section.Order key.Order (order cores min_budget contexts) file
+
+-- the two cores of a row, and its delay
+unfoldable pub link_numbers : ℕ → At → Members → Checked Link
+link_numbers cores at row = do
+  _ ← only_keys at (key.Maker ∷ key.Home ∷ key.Delay ∷ []) row
+  maker ← whole_number at key.Maker 0 (cores - 1) row
+  home ← whole_number at key.Home 0 (cores - 1) row
+  delay ← whole_number at key.Delay 1 (2 ^ 20) row
+  reads (record { maker = maker; home = home; delay = delay })
+
+-- one of the links goes from this core to that one
+abbrev pub is_linked : List Link → ℕ → ℕ → Bool
+is_linked links maker home = list_any (λ link. link.maker == maker && link.home == home) links
+
+-- to another core, by no earlier row
+unfoldable pub link : ℕ → At → List Link → Members → Checked Link
+link cores at earlier row = do
+  link ← link_numbers cores at row
+  _ ← must_at at key.Home SelfLink (not (link.maker == link.home))
+  _ ← must_at at key.Home DoubleLink (not (is_linked earlier link.maker link.home))
+  reads link
+
+unfoldable pub links : ℕ → Members → Checked (List Link)
+links cores file = array_of section.Link key.Link (link cores) file
 
 abbrev pub top : At
 top = array_at section.Top
 
+-- whether the version of the file is the integer 2
+abbrev pub is_two : Option ℤ → Bool
+is_two (Some (pos n)) = n == 2
+is_two (Some (negsuc n)) = false
+is_two None = false
+
+abbrev pub is_version_2 : Members → Bool
+is_version_2 file = is_two (option_and_then as_integer (get_member (key_name key.Version) file))
+
 abbrev pub top_keys : List Key
 top_keys = key.Version ∷ key.Cores ∷ key.Delay ∷ key.Call ∷ key.MinBudget ∷ key.Context ∷ key.Note ∷ key.Thread ∷ key.Order ∷ []
+
+-- links are of version 2 alone
+unfoldable pub listed_keys : Members → List Key
+listed_keys file = if is_version_2 file then key.Link ∷ top_keys else top_keys
 
 -- the numbers at the top
 unfoldable pub numbers : Members → Checked Numbers
 numbers file = do
-  _ ← only_keys top top_keys file
-  _ ← whole_number top key.Version 1 1 file
+  _ ← only_keys top (listed_keys file) file
+  _ ← whole_number top key.Version 1 2 file
   cores ← whole_number top key.Cores 1 64 file
   delay ← whole_number top key.Delay 1 (2 ^ 20) file
   call ← number_with_default top key.Call 1 (2 ^ 16) 1 file
@@ -190,6 +221,7 @@ numbers file = do
 unfoldable pub walk : Members → Checked SystemParts
 walk file = do
   top ← numbers file
+  links ← links top.cores file
   contexts ← contexts top.cores top.min_budget file
   notes ← notes top.cores file
   threads ← threads contexts notes file
@@ -203,6 +235,7 @@ walk file = do
     notes = notes;
     threads = threads;
     orders = orders;
+    links = links;
   })
 
 -- the table that the text is

@@ -135,3 +135,9 @@ abbrev pub row : {A : Type 0} → Section → (At → List A → Members → Che
 row section read earlier d = let at : At = record { section = section; row = suc (length earlier) } in do
   members ← row_table at d
   read at earlier members
+
+-- all rows of an array of tables
+unfoldable pub array_of : {A : Type 0} → Section → Key → (At → List A → Members → Checked A) → Members → Checked (List A)
+array_of section array_key read file = do
+  items ← rows section array_key file
+  each (row section read) [] items

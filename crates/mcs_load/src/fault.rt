@@ -55,6 +55,12 @@ pub enum FaultKind {
     /// An order that makes a context round robin, or ends its being so.
     #[error("kind change")]
     KindChange,
+    /// A link from a core to itself.
+    #[error("self link")]
+    SelfLink,
+    /// A link of a pair of cores that an earlier link has.
+    #[error("double link")]
+    DoubleLink,
     /// A growth for which there was no memory.
     #[error("no memory")]
     NoMemory,

@@ -1,24 +1,30 @@
-ghost use Rattle.std.specs.Prelude.{◌≤◌, IfOk};
+ghost use Rattle.std.specs.Prelude.{◌≡◌, ◌≤◌, IfOk};
 ghost use Rattle.toml.specs.View.{table_view};
 ghost use Rattle.mcs_load.specs.Checks.{Gives, Tells};
-ghost use Rattle.mcs_load.specs.Walk.{document, numbers, walk, file};
+ghost use Rattle.mcs_load.specs.Walk.{is_version_2, listed_keys, document, numbers, walk, file};
 
 use crate::at::At;
-use crate::context::contexts;
+use crate::context::{ContextReader, contexts};
 use crate::fault::LoadFault;
+use crate::link::links;
 use crate::names::Names;
-use crate::note::notes;
+use crate::note::{NoteReader, notes};
 use crate::numbers::Numbers;
 use crate::order::orders;
 use crate::spot::{Key, Section};
 use crate::thread::threads;
-use crate::words::{number_with_default, only_keys, whole_number};
+use crate::words::{find, number_with_default, only_keys, whole_number};
 use mcs_system::{System, SystemParts};
 use mcs_ticks::{Limits, Sequence};
 use std::alloc::Global;
 use toml::Table;
 
-const TOP_KEYS: [Key; 9] = [
+/// The newest version of the format.
+const NEWEST: u64 = 2;
+
+// The first is of version 2 alone.
+const TOP_KEYS: [Key; 10] = [
+    Key::Link,
     Key::Version,
     Key::Cores,
     Key::Delay,
@@ -29,6 +35,28 @@ const TOP_KEYS: [Key; 9] = [
     Key::Thread,
     Key::Order,
 ];
+
+/// Whether the version of the file is the integer 2.
+fn is_version_2(file: &Table) -> bool
+    ensures { result ≡ is_version_2 (table_view file.now) }
+{
+    let Some(version) = find(file, Key::Version) else {
+        return false;
+    };
+    version.as_integer() == Some(2)
+}
+
+/// The keys at the top that a file of its version may have: links are of version 2 alone.
+#[tactic(auto, unfolding(crate::specs::Walk::listed_keys))]
+fn listed_keys(file: &Table) -> &'static [Key]
+    ensures { result.now ≡ listed_keys (table_view file.now) }
+{
+    if is_version_2(file) {
+        &TOP_KEYS
+    } else {
+        &TOP_KEYS[1..]
+    }
+}
 
 #[tactic(auto, unfolding(crate::specs::Walk::document))]
 fn document(alloc: Global, bytes: &[u8]) -> Result<Table, LoadFault>
@@ -50,8 +78,8 @@ fn numbers(file: &Table) -> Result<Numbers, LoadFault>
     ensures gives { Tells (λ n. n) result (numbers (table_view file.now)) }
 {
     let top = At::array(Section::Top);
-    only_keys(top, &TOP_KEYS, file)?;
-    let _version = whole_number(top, Key::Version, 1, 1, file)?;
+    only_keys(top, listed_keys(file), file)?;
+    let _version = whole_number(top, Key::Version, 1, NEWEST, file)?;
     let cores = whole_number(top, Key::Cores, 1, Limits::CORES as u64, file)?;
     let delay = whole_number(top, Key::Delay, 1, Limits::DELAY, file)?;
     let call = number_with_default(top, Key::Call, 1, Limits::CALL, 1, file)?;
@@ -74,12 +102,30 @@ fn walk(alloc: Global, file: &Table) -> Result<SystemParts, LoadFault>
         call,
         min_budget,
     } = numbers(file)?;
-    let mut context_names = Names::new(alloc);
-    let contexts = contexts(alloc, cores, min_budget, &mut context_names, file)?;
-    let mut note_names = Names::new(alloc);
-    let notes = notes(alloc, cores, &mut note_names, file)?;
-    let threads = threads(alloc, &contexts, &context_names, &notes, &note_names, file)?;
-    let orders = orders(alloc, cores, min_budget, &contexts, &context_names, file)?;
+    let links = links(alloc, cores, file)?;
+    let mut of_contexts = ContextReader {
+        alloc,
+        cores,
+        min_budget,
+        names: Names::new(alloc),
+    };
+    let contexts = contexts(&mut of_contexts, file)?;
+    let mut of_notes = NoteReader {
+        alloc,
+        cores,
+        names: Names::new(alloc),
+    };
+    let notes = notes(&mut of_notes, file)?;
+    let context_names = &of_contexts.names;
+    let threads = threads(
+        alloc,
+        &contexts,
+        context_names,
+        &notes,
+        &of_notes.names,
+        file,
+    )?;
+    let orders = orders(alloc, cores, min_budget, &contexts, context_names, file)?;
     Ok(SystemParts {
         cores: cores as usize,
         delay,
@@ -89,11 +135,12 @@ fn walk(alloc: Global, file: &Table) -> Result<SystemParts, LoadFault>
         notes: Sequence::new(notes),
         threads: Sequence::new(threads),
         orders: Sequence::new(orders),
+        links: Sequence::new(links),
     })
 }
 
 /// The system that the text of a file describes, or the first fault of the walk: the text as TOML, the keys and numbers at the top,
-/// then contexts, notifications, threads and orders, each array row by row. `NoMemory` is answered, as
+/// then links, contexts, notifications, threads and orders, each array row by row. `NoMemory` is answered, as
 /// [`FaultKind::NoMemory`](crate::FaultKind::NoMemory), where a growth was refused, before any later fault.
 #[tactic(auto, using(crate::proofs::Steps::both, crate::proofs::Steps::or_else_none, crate::proofs::Steps::or_else_some), unfolding(crate::specs::Walk::file))]
 pub fn load(alloc: Global, text: &[u8]) -> Result<System, LoadFault>

@@ -28,6 +28,9 @@ pub(crate) fn name_of(key: Key) -> &'static str
         Key::Deadline => "deadline",
         Key::Script => "script",
         Key::At => "at",
+        Key::Link => "link",
+        Key::Maker => "maker",
+        Key::Home => "home",
         Key::Other => "?",
         Key::Whole => "",
     }

@@ -13,13 +13,14 @@ use crate::context::{core_of_part, known_context};
 use crate::fault::{FaultKind, LoadFault};
 use crate::names::Names;
 use crate::numbers::moment;
+use crate::reader::{RowReader, read_array};
 use crate::spot::{Key, Section};
-use crate::words::{only_keys, row_table, rows, whole_number};
+use crate::words::{only_keys, whole_number};
 use mcs_control::{Config, Order};
 use mcs_system::ContextPart;
 use mcs_ticks::{ContextId, CoreId, Limits};
 use std::alloc::Global;
-use toml::{Table, Value};
+use toml::Table;
 
 const ORDER_KEYS: [Key; 6] = [
     Key::At,
@@ -70,76 +71,40 @@ fn keep_kind(
     }
 }
 
-#[tactic(auto, using(crate::proofs::Steps::both, crate::proofs::Steps::or_else_none, crate::proofs::Steps::or_else_some), unfolding(crate::specs::Walk::order))]
-fn order_row<'a>(
+/// Reads orders for the contexts of a file.
+#[derive(Drop)]
+struct OrderReader<'c, 'n, 'a> {
     cores: u64,
     min_budget: u64,
-    contexts: &[ContextPart],
-    names: &Names<'a>,
-    at: At,
-    row: &'a Table,
-) -> Result<Order, LoadFault>
-    requires range { (1 ≤ cores) × (cores ≤ 64) }
-    requires names { names.now ≡ map (λ c. c.name) contexts.now }
-    ensures { (earlier : List Order)
-        → Tells (λ x. x) result (order cores min_budget contexts.now at earlier (table_view row.now)) }
-{
-    only_keys(at, &ORDER_KEYS, row)?;
-    let ticks = whole_number(at, Key::At, 0, Limits::ORDER_MOMENT, row)?;
-    let context = ordered_context(cores, contexts, names, at, row)?;
-    let config = accepted_config(at, min_budget, row)?;
-    keep_kind(at, contexts, context, config)?;
-    Ok(Order {
-        moment: moment(ticks),
-        context: ContextId(context),
-        config,
-    })
+    contexts: &'c [ContextPart],
+    names: &'n Names<'a>,
 }
 
-#[tactic(auto, using(crate::proofs::Steps::both, crate::proofs::Steps::or_else_none, crate::proofs::Steps::or_else_some))]
-fn order_at<'a>(
-    cores: u64,
-    min_budget: u64,
-    contexts: &[ContextPart],
-    names: &Names<'a>,
-    number: usize,
-    value: &'a Value,
-) -> Result<Order, LoadFault>
-    requires range { (1 ≤ cores) × (cores ≤ 64) }
-    requires names { names.now ≡ map (λ c. c.name) contexts.now }
-    ensures { (earlier : List Order) → number ≡ suc (length earlier)
-        → Tells (λ x. x) result (row section.Order (order cores min_budget contexts.now) earlier (view value.now)) }
-{
-    let at = At {
-        section: Section::Order,
-        row: number,
-    };
-    let row = row_table(at, value)?;
-    order_row(cores, min_budget, contexts, names, at, row)
-}
+impl<'c, 'n, 'a> RowReader<'a> for OrderReader<'c, 'n, 'a> {
+    type Part = Order;
 
-fn order_rows<'a>(
-    alloc: Global,
-    cores: u64,
-    min_budget: u64,
-    contexts: &[ContextPart],
-    names: &Names<'a>,
-    rows: &'a [Value],
-) -> Result<Vec<Order>, LoadFault>
-    requires range { (1 ≤ cores) × (cores ≤ 64) }
-    requires names { names.now ≡ map (λ c. c.name) contexts.now }
-    ensures { Gives (λ v. v.items) result
-        (each (row section.Order (order cores min_budget contexts.now)) [] (items_view rows.now)) }
-{
-    let mut orders = Vec::new(alloc);
-    for (i, value) in rows.iter().enumerate() {
-        orders.push(order_at(cores, min_budget, contexts, names, i + 1, value)?)?;
+    ghost reads = { λ reader. order reader.cores reader.min_budget reader.contexts.now };
+
+    ghost keeps = { λ reader _.
+        (1 ≤ reader.cores) × (reader.cores ≤ 64) × (reader.names.now ≡ map (λ c. c.name) reader.contexts.now) };
+
+    #[tactic(auto, using(crate::proofs::Steps::both, crate::proofs::Steps::or_else_none, crate::proofs::Steps::or_else_some), unfolding(crate::specs::Walk::order))]
+    fn read(&mut self, at: At, row: &'a Table) -> Result<Order, LoadFault> {
+        only_keys(at, &ORDER_KEYS, row)?;
+        let ticks = whole_number(at, Key::At, 0, Limits::ORDER_MOMENT, row)?;
+        let context = ordered_context(self.cores, self.contexts, self.names, at, row)?;
+        let config = accepted_config(at, self.min_budget, row)?;
+        keep_kind(at, self.contexts, context, config)?;
+        Ok(Order {
+            moment: moment(ticks),
+            context: ContextId(context),
+            config,
+        })
     }
-    Ok(orders)
 }
 
 /// The orders of a file in order; `names` are the names of its contexts.
-#[tactic(auto, using(crate::proofs::Steps::both, crate::proofs::Steps::or_else_none, crate::proofs::Steps::or_else_some), unfolding(crate::specs::Walk::orders))]
+#[tactic(auto, unfolding(crate::specs::Walk::orders))]
 pub(crate) fn orders<'a>(
     alloc: Global,
     cores: u64,
@@ -152,6 +117,11 @@ pub(crate) fn orders<'a>(
     requires names { names.now ≡ map (λ c. c.name) contexts.now }
     ensures { Gives (λ v. v.items) result (orders cores min_budget contexts.now (table_view file.now)) }
 {
-    let rows = rows(Section::Order, Key::Order, file)?;
-    order_rows(alloc, cores, min_budget, contexts, names, rows)
+    let mut reader = OrderReader {
+        cores,
+        min_budget,
+        contexts,
+        names,
+    };
+    read_array(alloc, &mut reader, Section::Order, Key::Order, file)
 }

@@ -16,6 +16,8 @@ pub enum Section {
     Thread,
     /// The array `order`.
     Order,
+    /// The array `link`.
+    Link,
 }
 
 /// A key of a file, one for each name.
@@ -41,6 +43,9 @@ pub enum Key {
     Deadline,
     Script,
     At,
+    Link,
+    Maker,
+    Home,
     /// A key that is not listed.
     Other,
     /// No key: the array, the row or the file.
@@ -67,6 +72,7 @@ impl fmt::Display for Section {
             Section::Note => "note",
             Section::Thread => "thread",
             Section::Order => "order",
+            Section::Link => "link",
         };
         write!(f, "{name}")
     }

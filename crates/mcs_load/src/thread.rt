@@ -1,9 +1,6 @@
-ghost use Rattle.std.specs.Prelude.{◌≡◌, ◌<◌, IfOk, List, suc, length, map, [], ◌∷◌, ◌++◌};
-ghost use Rattle.toml.specs.View.{table_view, view, items_view};
-ghost use Rattle.mcs_system.specs.declared.part.ThreadPart.{ThreadPart};
-ghost use Rattle.mcs_load.specs.declared.spot.Section.TheVariants as section;
+ghost use Rattle.std.specs.Prelude.{◌≡◌, ◌<◌, IfOk, length, map, [], ◌∷◌, ◌++◌};
+ghost use Rattle.toml.specs.View.{table_view};
 ghost use Rattle.mcs_load.specs.Checks.{Gives, Tells};
-ghost use Rattle.mcs_load.specs.Words.{row, each};
 ghost use Rattle.mcs_load.specs.Walk.{own_context, times, thread, threads};
 
 use crate::at::At;
@@ -11,14 +8,15 @@ use crate::context::{core_of_part, known_context};
 use crate::fault::{FaultKind, LoadFault};
 use crate::names::Names;
 use crate::numbers::moment;
+use crate::reader::{RowReader, read_array};
 use crate::script::script;
 use crate::spot::{Key, Section};
-use crate::words::{new_name, number_with_default, only_keys, row_table, rows, whole_number};
+use crate::words::{new_name, number_with_default, only_keys, whole_number};
 use indexmap::IndexSet;
 use mcs_system::{ContextPart, Name, NotePart, ThreadPart};
 use mcs_ticks::{ContextId, Limits, Tick};
 use std::alloc::Global;
-use toml::{Table, Value};
+use toml::Table;
 
 const THREAD_KEYS: [Key; 7] = [
     Key::Name,
@@ -72,116 +70,51 @@ fn times(at: At, row: &Table) -> Result<Timing, LoadFault>
     })
 }
 
-#[tactic(auto, using(crate::proofs::Steps::both, crate::proofs::Steps::or_else_none, crate::proofs::Steps::or_else_some), unfolding(crate::specs::Walk::thread))]
-fn thread_row<'a>(
+/// Reads threads of contexts and notifications that are known by name, and keeps the threads' names and the contexts that are taken.
+#[derive(Drop)]
+struct ThreadReader<'c, 'n, 'a> {
     alloc: Global,
-    contexts: &[ContextPart],
-    context_names: &Names<'a>,
-    notes: &[NotePart],
-    note_names: &Names<'a>,
-    at: At,
-    names: &mut Names<'a>,
-    taken: &mut IndexSet<usize>,
-    row: &'a Table,
-) -> Result<ThreadPart, LoadFault>
-    requires contexts { context_names.now ≡ map (λ c. c.name) contexts.now }
-    requires notes { note_names.now ≡ map (λ n. n.name) notes.now }
-    ensures gives { (earlier : List ThreadPart) → names.old ≡ map (λ t. t.name) earlier → taken.old.keys
-        ≡ map (λ t. t.context) earlier
-        → Gives (λ x. x) result (thread contexts.now notes.now at earlier (table_view row.now)) }
-    ensures names { IfOk result (λ t. names.new ≡ names.old ++ t.name ∷ []) }
-    ensures taken { IfOk result (λ t. taken.new.keys ≡ taken.old.keys ++ t.context ∷ []) }
-{
-    only_keys(at, &THREAD_KEYS, row)?;
-    let name = new_name(at, names, row)?;
-    let context = own_context(context_names, at, taken, row)?;
-    let priority = whole_number(at, Key::Priority, 0, Limits::PRIORITY, row)?;
-    let times = times(at, row)?;
-    let core = core_of_part(contexts, context);
-    let script = script(alloc, at, note_names, notes, core, row)?;
-    Ok(ThreadPart {
-        name: Name::new(String::from_str(alloc, name)?),
-        context: ContextId(context),
-        priority: priority as u8,
-        start: times.start,
-        rounds: times.rounds,
-        deadline: times.deadline,
-        script,
-    })
+    contexts: &'c [ContextPart],
+    context_names: &'n Names<'a>,
+    notes: &'c [NotePart],
+    note_names: &'n Names<'a>,
+    names: Names<'a>,
+    taken: IndexSet<usize>,
 }
 
-#[tactic(auto, using(crate::proofs::Steps::both, crate::proofs::Steps::or_else_none, crate::proofs::Steps::or_else_some))]
-fn thread_at<'a>(
-    alloc: Global,
-    contexts: &[ContextPart],
-    context_names: &Names<'a>,
-    notes: &[NotePart],
-    note_names: &Names<'a>,
-    number: usize,
-    names: &mut Names<'a>,
-    taken: &mut IndexSet<usize>,
-    value: &'a Value,
-) -> Result<ThreadPart, LoadFault>
-    requires contexts { context_names.now ≡ map (λ c. c.name) contexts.now }
-    requires notes { note_names.now ≡ map (λ n. n.name) notes.now }
-    ensures gives { (earlier : List ThreadPart) → names.old ≡ map (λ t. t.name) earlier → taken.old.keys
-        ≡ map (λ t. t.context) earlier → number ≡ suc (length earlier)
-        → Gives (λ x. x) result (row section.Thread (thread contexts.now notes.now) earlier (view value.now)) }
-    ensures names { IfOk result (λ t. names.new ≡ names.old ++ t.name ∷ []) }
-    ensures taken { IfOk result (λ t. taken.new.keys ≡ taken.old.keys ++ t.context ∷ []) }
-{
-    let at = At {
-        section: Section::Thread,
-        row: number,
-    };
-    let row = row_table(at, value)?;
-    thread_row(
-        alloc,
-        contexts,
-        context_names,
-        notes,
-        note_names,
-        at,
-        names,
-        taken,
-        row,
-    )
-}
+impl<'c, 'n, 'a> RowReader<'a> for ThreadReader<'c, 'n, 'a> {
+    type Part = ThreadPart;
 
-fn thread_rows<'a>(
-    alloc: Global,
-    contexts: &[ContextPart],
-    context_names: &Names<'a>,
-    notes: &[NotePart],
-    note_names: &Names<'a>,
-    rows: &'a [Value],
-) -> Result<Vec<ThreadPart>, LoadFault>
-    requires contexts { context_names.now ≡ map (λ c. c.name) contexts.now }
-    requires notes { note_names.now ≡ map (λ n. n.name) notes.now }
-    ensures { Gives (λ v. v.items) result
-        (each (row section.Thread (thread contexts.now notes.now)) [] (items_view rows.now)) }
-{
-    let mut names = Names::new(alloc);
-    let mut taken = IndexSet::new(alloc);
-    let mut threads = Vec::new(alloc);
-    for (i, value) in rows.iter().enumerate() {
-        threads.push(thread_at(
-            alloc,
-            contexts,
-            context_names,
-            notes,
-            note_names,
-            i + 1,
-            &mut names,
-            &mut taken,
-            value,
-        )?)?;
+    ghost reads = { λ reader. thread reader.contexts.now reader.notes.now };
+
+    ghost keeps = { λ reader earlier.
+        (reader.context_names.now ≡ map (λ c. c.name) reader.contexts.now)
+        × (reader.note_names.now ≡ map (λ n. n.name) reader.notes.now) × (reader.names ≡ map (λ t. t.name) earlier)
+        × (reader.taken.keys ≡ map (λ t. t.context) earlier) };
+
+    #[tactic(auto, using(crate::proofs::Steps::both, crate::proofs::Steps::or_else_none, crate::proofs::Steps::or_else_some), unfolding(crate::specs::Walk::thread))]
+    fn read(&mut self, at: At, row: &'a Table) -> Result<ThreadPart, LoadFault> {
+        only_keys(at, &THREAD_KEYS, row)?;
+        let name = new_name(at, &mut self.names, row)?;
+        let context = own_context(self.context_names, at, &mut self.taken, row)?;
+        let priority = whole_number(at, Key::Priority, 0, Limits::PRIORITY, row)?;
+        let times = times(at, row)?;
+        let core = core_of_part(self.contexts, context);
+        let script = script(self.alloc, at, self.note_names, self.notes, core, row)?;
+        Ok(ThreadPart {
+            name: Name::new(String::from_str(self.alloc, name)?),
+            context: ContextId(context),
+            priority: priority as u8,
+            start: times.start,
+            rounds: times.rounds,
+            deadline: times.deadline,
+            script,
+        })
     }
-    Ok(threads)
 }
 
 /// The threads of a file in order.
-#[tactic(auto, using(crate::proofs::Steps::both, crate::proofs::Steps::or_else_none, crate::proofs::Steps::or_else_some), unfolding(crate::specs::Walk::threads))]
+#[tactic(auto, unfolding(crate::specs::Walk::threads))]
 pub(crate) fn threads<'a>(
     alloc: Global,
     contexts: &[ContextPart],
@@ -194,6 +127,14 @@ pub(crate) fn threads<'a>(
     requires notes { note_names.now ≡ map (λ n. n.name) notes.now }
     ensures { Gives (λ v. v.items) result (threads contexts.now notes.now (table_view file.now)) }
 {
-    let rows = rows(Section::Thread, Key::Thread, file)?;
-    thread_rows(alloc, contexts, context_names, notes, note_names, rows)
+    let mut reader = ThreadReader {
+        alloc,
+        contexts,
+        context_names,
+        notes,
+        note_names,
+        names: Names::new(alloc),
+        taken: IndexSet::new(alloc),
+    };
+    read_array(alloc, &mut reader, Section::Thread, Key::Thread, file)
 }

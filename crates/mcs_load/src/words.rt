@@ -14,7 +14,7 @@ use mcs_system::Name;
 use mcs_ticks::Limits;
 use toml::{Table, Value};
 
-/// The rows of an array of tables, which is the limit for contexts, notifications, threads and orders alike.
+/// The rows of an array of tables, which is the limit for contexts, notifications, threads, orders and links alike.
 const MOST_ROWS: usize = Limits::CONTEXTS;
 
 /// What a table has at a key.

@@ -18,7 +18,7 @@ note = [{name='n',core=0},{name='m',core=1}]
 thread = [{name='A',context='a',";
 
 /// What a file is answered: the text of its fault, or `accepted`.
-fn answer(alloc: Global, file: &str) -> Result<String, AllocError> {
+pub(crate) fn answer(alloc: Global, file: &str) -> Result<String, AllocError> {
     match load(alloc, file.as_bytes()) {
         Ok(_) => String::from_str(alloc, "accepted"),
         Err(fault) => fault.to_string(alloc),
@@ -26,7 +26,7 @@ fn answer(alloc: Global, file: &str) -> Result<String, AllocError> {
 }
 
 /// Each file that begins so, goes on with the first text of a case and ends so is answered the second.
-fn are_answered(
+pub(crate) fn are_answered(
     rt: &impl Abort,
     alloc: Global,
     (begin, end): (&str, &str),
@@ -72,7 +72,7 @@ static AT_THE_TOP: [(&str, &str); 13] = [
         "wrong kind at top version",
     ),
     (
-        "version = 2\ncores = 0\ndelay = 1\n",
+        "version = 3\ncores = 0\ndelay = 1\n",
         "out of range at top version",
     ),
     ("version = 1\ndelay = 0\n", "missing key at top cores"),
