@@ -29,7 +29,7 @@ use Rattle.mcs_core.specs.stored.Sound.Phase.{Between}
 use Rattle.mcs_system.specs.WellFormed.{IsWellFormed, IsContext, IsThread}
 use Rattle.mcs_control.specs.declared.config.Order.{Order}
 use Rattle.mcs_core.specs.Orders.{orders_of}
-use Rattle.mcs_core.specs.State.{Fits}
+use Rattle.mcs_core.specs.State.{State, Fits, delays_from, opening_state}
 use Rattle.mcs_core.proofs.Budgets.{IsAccepted, accepted-is}
 use Rattle.mcs_core.proofs.Plans.{to_come-all}
 
@@ -234,15 +234,21 @@ pub opening-sound : (system : System) → IsWellFormed system → (c : ℕ) → 
 opening-sound system w c l = opening system c w
 
 -- and with the orders of the core it is a first state
-pub fits-opening : (system : System) → IsWellFormed system → (c : ℕ) → c < system.cores → (core : Core) (orders : List Order) →
-    core ≡ opening_core system c → orders ≡ orders_of system c →
-    Fits system (record { number = c; clock = 0; core = core; orders = orders; failed = false })
-fits-opening system w c l core orders e f = rw (e, f) record {
+pub fits-opening : (system : System) → IsWellFormed system → (c : ℕ) → c < system.cores → (core : Core) (orders : List Order) (delays : List ℕ) →
+    core ≡ opening_core system c → orders ≡ orders_of system c → delays ≡ delays_from system c →
+    Fits system (record { number = c; clock = 0; core = core; orders = orders; delays = delays; failed = false })
+fits-opening system w c l core orders delays e f d = rw (e, f, d) record {
   known = l;
   early = omega arith;
   sound = λ g. opening-sound system w c l;
   orders = λ g. sym (to_come-all (orders_of system c));
+  delays = λ g. refl;
 }
+
+pub state-opening : (system : System) (c : ℕ) (core : Core) (orders : List Order) (delays : List ℕ) →
+    core ≡ opening_core system c → orders ≡ orders_of system c → delays ≡ delays_from system c →
+    (let state : State = record { number = c; clock = 0; core = core; orders = orders; delays = delays; failed = false } in state) ≡ opening_state system c
+state-opening system c core orders delays e f d = rw (e, f, d) refl
 
 -- how the code makes it: the release queue thread by thread
 module _ (system : System) (c : ℕ) where

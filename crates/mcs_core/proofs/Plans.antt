@@ -115,7 +115,7 @@ to_come-all (o ∷ os) = by (nat_le 0 o.moment) refl (to_come-all os)
     by false e i = absurd (grind (arith, nat_tests))
 
 -- the orders of the moment are among those that are to come
-due-to_come : (t : ℕ) (os : List Order) → due_now t (to_come t os) ≡ due_now t os
+pub due-to_come : (t : ℕ) (os : List Order) → due_now t (to_come t os) ≡ due_now t os
 due-to_come t [] = refl
 due-to_come t (o ∷ os) = by (nat_le t o.moment) (o.moment == t) refl refl (due-to_come t os)
   where
@@ -127,7 +127,7 @@ due-to_come t (o ∷ os) = by (nat_le t o.moment) (o.moment == t) refl refl (due
     by false false d e i = i
 
 -- where all are later there are none
-due-none : (t s : ℕ) (os : List Order) → t < s → AreByMoment s os → due_now t os ≡ []
+pub due-none : (t s : ℕ) (os : List Order) → t < s → AreByMoment s os → due_now t os ≡ []
 due-none t s [] l h = refl
 due-none t s (o ∷ os) l h = by (o.moment == t) refl (due-none t o.moment os (omega (arith, h.0)) h.1)
   where

@@ -37,21 +37,31 @@ pub record RunsOn (before : List Row) (sent : List Mail) (whole rest : Ran) (row
   pub made : signals ++ rest.mails ≡ sent ++ whole.mails
   pub box : rest.box ≡ whole.box
 
--- one more turn
-pub runs-step : (system : System) (c t n m : ℕ) (core : Core) (box : List Mail) (before rows rows' : List Row) (sent signals signals' : List Mail) (whole : Ran) (core' : Core) (box' : List Mail) →
-    n ≡ suc m → RunsOn before sent whole (ran system c n t core box) rows signals →
-    core' ≡ (turn system c t (arriving t box) core).core → box' ≡ staying t box →
-    rows' ≡ rows ++ stamped c t (turn system c t (arriving t box) core).rows → signals' ≡ signals ++ (turn system c t (arriving t box) core).mails →
-    RunsOn before sent whole (ran system c m (t + 1) core' box') rows' signals'
-runs-step system c t n m core box before rows rows' sent signals signals' whole core' box' e h f g i j =
-    let k : RunsOn before sent whole (with_turn system c t (turn system c t (arriving t box) core) (ran system c m (t + 1) core' box')) rows signals =
-    rw (f, g) (let P : ℕ → Type 0 = λ x. RunsOn before sent whole (ran system c x t core box) rows signals in subst P e h) in
-    record {
-      core = k.core;
-      told = rw i (append_assoc rows (stamped c t (turn system c t (arriving t box) core).rows) (ran system c m (t + 1) core' box').rows ∙ k.told);
-      made = rw j (append_assoc signals (turn system c t (arriving t box) core).mails (ran system c m (t + 1) core' box').mails ∙ k.made);
-      box = k.box;
-    }
+-- what turns make, and then what those after them make
+abbrev pub joined : Ran → Ran → Ran
+joined before after = record { core = after.core; rows = before.rows ++ after.rows; mails = before.mails ++ after.mails; box = after.box }
+
+module _ (system : System) (c : ℕ) where
+  -- more turns after these
+  pub ran-more : (n m t : ℕ) (core : Core) (box : List Mail) →
+      ran system c (n + m) t core box ≡ joined (ran system c n t core box) (ran system c m (t + n) (ran system c n t core box).core (ran system c n t core box).box)
+  ran-more zero m t core box =
+      let e : zero + m ≡ m = omega arith in
+      let f : t ≡ t + zero = omega arith in
+      ap (λ x. ran system c x t core box) e ∙ ap (λ x. ran system c m x core box) f
+  ran-more (suc n) m t core box =
+      let e : suc n + m ≡ suc (n + m) = omega arith in
+      let f : t + 1 + n ≡ t + suc n = omega arith in
+      ap (λ x. ran system c x t core box) e
+      ∙ ap (with_turn system c t (turn system c t (arriving t box) core)) (ran-more n m (t + 1) (turn system c t (arriving t box) core).core (staying t box))
+      ∙ again (stamped c t (turn system c t (arriving t box) core).rows) (turn system c t (arriving t box) core).mails
+      (ran system c n (t + 1) (turn system c t (arriving t box) core).core (staying t box))
+      ∙ ap (λ x. joined (ran system c (suc n) t core box) (ran system c m x (ran system c (suc n) t core box).core (ran system c (suc n) t core box).box)) f
+    where
+      again : (rows : List Row) (mails : List Mail) (rest : Ran) →
+          record { core = (joined rest (ran system c m (t + 1 + n) rest.core rest.box)).core; rows = rows ++ (rest.rows ++ (ran system c m (t + 1 + n) rest.core rest.box).rows); mails = mails ++ (rest.mails ++ (ran system c m (t + 1 + n) rest.core rest.box).mails); box = (ran system c m (t + 1 + n) rest.core rest.box).box }
+          ≡ joined (record { core = rest.core; rows = rows ++ rest.rows; mails = mails ++ rest.mails; box = rest.box }) (ran system c m (t + 1 + n) rest.core rest.box)
+      again rows mails rest = rw (append_assoc rows rest.rows (ran system c m (t + 1 + n) rest.core rest.box).rows, append_assoc mails rest.mails (ran system c m (t + 1 + n) rest.core rest.box).mails) refl
 
 -- one turn more from a state
 module _ (system : System) where
@@ -74,28 +84,43 @@ module _ (system : System) where
   pub left-turn : (state : State) (box : List Mail) → (made_by system state (state.clock + 1) box).box ≡ staying state.clock box
   left-turn state box = ap (λ (made : Ran). made.box) (one-turn state box)
 
-  pub runs-turn : (to : ℕ) (state state' : State) (box box' : List Mail) (before rows rows' : List Row) (sent signals signals' : List Mail) (whole : Ran) → state.clock < to →
-      RunsOn before sent whole (made_by system state to box) rows signals → state' ≡ state_after state (state.clock + 1) (made_by system state (state.clock + 1) box) →
-      box' ≡ (made_by system state (state.clock + 1) box).box → rows' ≡ rows ++ (made_by system state (state.clock + 1) box).rows →
-      signals' ≡ signals ++ (made_by system state (state.clock + 1) box).mails → RunsOn before sent whole (made_by system state' to box') rows' signals'
-  runs-turn to state state' box box' before rows rows' sent signals signals' whole l h e f g i =
-      let t = state.clock in
-      let core = (made_by system state (t + 1) box).core in
-      let later : t + 1 ≡ max t (t + 1) = omega arith in
-      let more : to - t ≡ suc (to - (t + 1)) = omega arith in
-      let next : RunsOn before sent whole (ran system state.number (to - (t + 1)) (t + 1) core box') rows' signals' =
-      runs-step system state.number t (to - t) (to - (t + 1)) state.core box before rows rows' sent signals signals' whole core box' more h
-      (made-turn state box) (f ∙ left-turn state box) (g ∙ ap (λ rs. rows ++ rs) (told-turn state box)) (i ∙ ap (λ ms. signals ++ ms) (sent-turn state box)) in
-      rw e (let P : ℕ → Type 0 = λ m. RunsOn before sent whole (ran system state.number (to - m) m core box') rows' signals' in subst P later next)
+  -- what turns from the state after some of them make with what was made so far is what the whole makes
+  pub runs-on : (to u : ℕ) (state state' : State) (box box' : List Mail) (before rows rows' : List Row) (sent signals signals' : List Mail) (whole : Ran) → state.clock ≤ u → u ≤ to →
+      RunsOn before sent whole (made_by system state to box) rows signals → state' ≡ state_after state u (made_by system state u box) →
+      box' ≡ (made_by system state u box).box → rows' ≡ rows ++ (made_by system state u box).rows →
+      signals' ≡ signals ++ (made_by system state u box).mails → RunsOn before sent whole (made_by system state' to box') rows' signals'
+  runs-on to u state state' box box' before rows rows' sent signals signals' whole l k h e f g i =
+      let n = u - state.clock in
+      let many : to - state.clock ≡ n + (to - u) = omega arith in
+      let there : state.clock + n ≡ u = omega arith in
+      let time : state'.clock ≡ u = (let s = ap (λ (s : State). s.clock) e in omega arith) in
+      let number = ap (λ (s : State). s.number) e in
+      let core = ap (λ (s : State). s.core) e in
+      let made = made_by system state u box in
+      let all : made_by system state to box ≡ joined made (ran system state.number (to - u) u made.core made.box) =
+      ap (λ x. ran system state.number x state.clock state.core box) many ∙ ran-more system state.number n (to - u) state.clock state.core box
+      ∙ ap (λ t. joined made (ran system state.number (to - u) t made.core made.box)) there in
+      let rest : made_by system state' to box' ≡ ran system state.number (to - u) u made.core made.box = rw (number, time, core, f) refl in
+      let P : Ran → Type 0 = λ rest. RunsOn before sent whole rest rows signals in
+      let Q : Ran → Type 0 = λ rest. RunsOn before sent whole rest rows' signals' in
+      subst Q (sym rest) (after made (ran system state.number (to - u) u made.core made.box) (subst P all h) g i)
+    where
+      after : (first rest : Ran) → RunsOn before sent whole (joined first rest) rows signals → rows' ≡ rows ++ first.rows → signals' ≡ signals ++ first.mails → RunsOn before sent whole rest rows' signals'
+      after first rest h i j = record {
+        core = h.core;
+        told = rw i (append_assoc rows first.rows rest.rows ∙ h.told);
+        made = rw j (append_assoc signals first.mails rest.mails ∙ h.made);
+        box = h.box;
+      }
 
 -- a call that was no refusal
 pub if_ok : (r : Result (Unit {0}) NoMemory) (P : Type 0) → is_err r ≡ false → OnOk r P → P
 if_ok (Ok x) P e p = p
 if_ok (Err x) P e p = cc
 
-pub same_state : (s : State) (number time : ℕ) (core : Core) (orders : List Order) (failed : Bool) → s.number ≡ number → s.clock ≡ time → s.core ≡ core → s.orders ≡ orders → s.failed ≡ failed →
-    s ≡ record { number = number; clock = time; core = core; orders = orders; failed = failed }
-same_state s number time core orders failed a b d e f = rw (sym a, sym b, sym d, sym e, sym f) refl
+pub same_state : (s : State) (number time : ℕ) (core : Core) (orders : List Order) (delays : List ℕ) (failed : Bool) → s.number ≡ number → s.clock ≡ time → s.core ≡ core → s.orders ≡ orders → s.delays ≡ delays → s.failed ≡ failed →
+    s ≡ record { number = number; clock = time; core = core; orders = orders; delays = delays; failed = failed }
+same_state s number time core orders delays failed a b d e g f = rw (sym a, sym b, sym d, sym e, sym g, sym f) refl
 
 -- what is to come from two moments on is what is to come from the later one on
 pub to_come-twice : (a b : ℕ) (os : List Order) → to_come a (to_come b os) ≡ to_come (max b a) os
@@ -181,3 +206,11 @@ module _ (system : System) where
       let home = kept-ran (λ (mail : Mail). (note_part system mail.note).core ≡ state.number) state.number n state.clock state.core box (λ k d l. (h k d l).home) in
       let later = later-ran state.number n state.clock state.core box (λ k d l. (h k d l).arrives) in
       λ k d l. record { known = known k d l; home = home k d l; arrives = (let e = later k d l in omega arith) }
+
+  -- .. and so with any name for that core and that mail
+  pub expected-after : (state after : State) (to : ℕ) (box left : List Mail) → after ≡ state_after state to (made_by system state to box) → left ≡ (made_by system state to box).box →
+      All (IsExpected system state) box → All (IsExpected system after) left
+  expected-after state after to box left e f h =
+      let P : State → Type 0 = λ s. All (IsExpected system s) left in
+      let Q : List Mail → Type 0 = λ mails. All (IsExpected system (state_after state to (made_by system state to box))) mails in
+      subst P (sym e) (subst Q (sym f) (left_expected state to box h))

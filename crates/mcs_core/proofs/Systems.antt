@@ -1,14 +1,19 @@
 -- What a well-formed system gives its cores.
-use Rattle.std.proofs.Common.{◌≡◌, ℕ, zero, suc, ◌^◌, ◌<◌, ◌≤◌, ◌⊎◌, inl, inr, List, [], ◌∷◌, length, sym, arith}
-use Rattle.std.specs.Prelude.{Some, All}
+use Rattle.std.proofs.Common.{◌≡◌, ℕ, zero, suc, ◌^◌, ◌<◌, ◌≤◌, ◌⊎◌, inl, inr, ◌+◌, List, [], ◌∷◌, length, sym, ap, ◌∙◌, arith}
+use Rattle.std.specs.Prelude.{Some, All, slice_index}
 use Rattle.std.specs.List.{slice_get, AllByRecursion}
-use Rattle.std.proofs.lemmas.List.{get_or_past}
+use Rattle.std.proofs.lemmas.List.{get_or_past, ext_get_or}
+use Rattle.std.proofs.lemmas.List.FromFn.{get_or-map-range_with_len, length-map-range_with_len}
 use Rattle.mcs_control.specs.declared.config.Order.{Order}
 use Rattle.mcs_script.specs.declared.item.Item.{Item}
 use Rattle.mcs_script.specs.declared.item.Item.TheVariants.{Compute, Signal, Wait, Yield}
-use Rattle.mcs_system.specs.System.{System, thread_part, no_thread, core_of}
+use Rattle.mcs_system.specs.System.{System, thread_part, no_thread, note_part, no_note, core_of, delay_between}
+use Rattle.mcs_system.proofs.Linked.{delays_within}
 use Rattle.mcs_system.specs.WellFormed.{IsWellFormed, IsItem, IsOrder}
+use Rattle.mcs_core.specs.State.{delays_from}
+use Rattle.mcs_core.specs.declared.log.Here.{Here}
 use Rattle.mcs_core.specs.stored.Items.{IsNoted}
+use Rattle.mcs_core.specs.stored.Parts.{HasDelayTo, HasDelays}
 use Rattle.mcs_core.proofs.Soundness.{IsOneEach}
 use Rattle.mcs_core.proofs.Turning.{IsProperOrder}
 
@@ -59,5 +64,30 @@ all-noted system w x i = by (cases x (length system.threads))
         rw none tt
 
 -- how long a signal is under way
-pub delay-short : (system : System) → IsWellFormed system → system.delay ≤ 2 ^ 20
-delay-short system w = w.limits.delay.1
+pub delay-short : (system : System) → IsWellFormed system → (maker home : ℕ) → delay_between system maker home ≤ 2 ^ 20
+delay-short system w maker home = (delays_within system w maker home).1
+
+-- there are at most 64 cores
+pub home-known : (system : System) → IsWellFormed system → (note : ℕ) → note < length system.notes → (note_part system note).core < 64
+home-known system w note h =
+    let home : (note_part system note).core < system.cores = w.notes note no_note h in
+    let few = w.limits.cores.1 in
+    omega arith
+
+-- the row of a core's delays
+pub delay-at : (system : System) (c home : ℕ) → home < 64 → slice_index (delays_from system c) home ≡ delay_between system c home
+delay-at system c home h = let e : 0 + home ≡ home = omega arith in get_or-map-range_with_len (delay_between system c) 0 64 home home 0 h e
+
+pub delays-are : (system : System) (c : ℕ) (delays : List ℕ) → length delays ≡ 64 → ((home : ℕ) → home < 64 → slice_index delays home ≡ delay_between system c home) → delays ≡ delays_from system c
+delays-are system c delays many each =
+    ext_get_or 0 delays (delays_from system c) (many ∙ sym (length-map-range_with_len (delay_between system c) 0 64))
+    (λ home h. let l : home < 64 = omega (arith, h, many) in each home l ∙ sym (delay-at system c home l))
+
+-- what a turn knows of its row
+pub has-delays : (here : Here) → IsWellFormed here.system.now → here.delays.now ≡ delays_from here.system.now here.core → HasDelays here
+has-delays here well row = λ note h.
+    let home : ℕ = (note_part here.system.now note).core in
+    let known : home < 64 = home-known here.system.now well note h in
+    let is : slice_index here.delays.now home ≡ delay_between here.system.now here.core home = ap (λ (delays : List ℕ). slice_index delays home) row ∙ delay-at here.system.now here.core home known in
+    let short : delay_between here.system.now here.core home ≤ 2 ^ 20 = delay-short here.system.now well here.core home in
+    record { known = known; is = is; short = omega (arith, is, short) }

@@ -38,6 +38,7 @@ two_cores = record {
       ∷ thread 2 5 1 (Compute 1 ∷ Signal 0 5 ∷ Compute 9 ∷ [])
       ∷ [];
   orders = record { moment = 4; context = 2; config = record { budget = 4; period = 10; extra = 0 } } ∷ [];
+  links = [];
 }
 
 two_cores_at_work : schedule two_cores 7 ≡
@@ -85,6 +86,7 @@ one_core = record {
       ∷ thread 4 1 6 (Wait 0 ∷ Compute 1 ∷ [])
       ∷ [];
   orders = [];
+  links = [];
 }
 
 one_core_at_work : schedule one_core 11 ≡
@@ -134,6 +136,7 @@ from_core_0 = record {
       ∷ thread 1 5 0 (Wait 0 ∷ Compute 1 ∷ [])
       ∷ [];
   orders = [];
+  links = [];
 }
 
 a_signal_arrives_at_its_home : schedule from_core_0 5 ≡

@@ -7,5 +7,6 @@ pub mod Run
 pub mod Orders
 pub mod State
 pub mod Quiet
+pub mod Busy
 pub mod Views
 pub mod stored

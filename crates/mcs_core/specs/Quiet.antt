@@ -1,11 +1,12 @@
 -- Turns that do nothing but count a tick, and the moment of the next one that does more.
-use Rattle.std.specs.Prelude.{◌≡◌, ℕ, zero, suc, ◌+◌, ◌<◌, ◌≤◌, ◌^◌, Option, Some, None, List}
+use Rattle.std.specs.Prelude.{◌≡◌, ℕ, zero, suc, ◌+◌, ◌<◌, ◌≤◌, ◌^◌, Option, Some, None, List, []}
 use Rattle.mcs_mail.specs.declared.mail.Mail.{Mail}
 use Rattle.mcs_mail.specs.Box.{arriving}
 use Rattle.mcs_system.specs.System.{System}
 use Rattle.mcs_core.specs.Core.{Core}
 use Rattle.mcs_core.specs.declared.standing.Chosen.{Chosen}
 use Rattle.mcs_core.specs.Turn.{turn, silent, counts}
+use Rattle.mcs_core.specs.Run.{ran}
 
 module _ (system : System) (c : ℕ) where
   abbrev pub counted_of : Option Chosen → Core → Core
@@ -39,3 +40,10 @@ module _ (system : System) (c : ℕ) where
       × (¬ IsQuiet moment (arriving moment box) (counted_times n core))
   IsNextBusy clock box core None =
       (n : ℕ) → clock + n ≤ 2 ^ 42 → IsQuiet (clock + n) (arriving (clock + n) box) (counted_times n core)
+
+-- quiet turns make no row and no signal, leave the box as it was, and count their ticks
+abbrev pub OnlyCount : Type 0
+OnlyCount =
+    (system : System) (c n clock : ℕ) (core : Core) (box : List Mail) →
+    AreQuiet system c clock box core n →
+    ran system c n clock core box ≡ record { core = counted_times system c n core; rows = []; mails = []; box = box }

@@ -1,35 +1,49 @@
 -- The state of one core as a caller holds it.
-use Rattle.std.specs.Prelude.{◌≡◌, ℕ, ◌<◌, ◌≤◌, ◌-◌, ◌+◌, ◌^◌, max, Bool, false, List, length, None}
+use Rattle.std.specs.Prelude.{◌≡◌, ℕ, ◌<◌, ◌≤◌, ◌-◌, ◌+◌, ◌^◌, max, Bool, false, List, length, map, None}
+use Rattle.std.specs.List.{range_with_len}
 use Rattle.mcs_control.specs.declared.config.Order.{Order}
 use Rattle.mcs_mail.specs.declared.mail.Mail.{Mail}
-use Rattle.mcs_system.specs.System.{System, note_part}
+use Rattle.mcs_system.specs.System.{System, note_part, delay_between}
 use Rattle.mcs_core.specs.Core.{Core, opening_core}
 use Rattle.mcs_core.specs.Orders.{orders_of, to_come}
 use Rattle.mcs_core.specs.Run.{Ran, ran}
 use Rattle.mcs_core.specs.stored.Sound.{IsSound}
 use Rattle.mcs_core.specs.stored.Sound.Phase.{Between}
 
--- which core it is, the moment whose turn is next, the core, the orders that it is yet to obey, and whether memory
--- failed it
+-- how long a signal of this core is under way to each core
+abbrev pub delays_from : System → ℕ → List ℕ
+delays_from system c = map (delay_between system c) (range_with_len 0 64)
+
+-- which core it is, the moment whose turn is next, the core, the orders that it is yet to obey, how long its signals are
+-- under way to each core, and whether memory failed it
 pub record State : Type 0 where
   pub number : ℕ
   pub clock : ℕ
   pub core : Core
   pub orders : List Order
+  pub delays : List ℕ
   pub failed : Bool
 
 abbrev pub opening_state : System → ℕ → State
 opening_state system c =
-    record { number = c; clock = 0; core = opening_core system c; orders = orders_of system c; failed = false }
+    record {
+      number = c;
+      clock = 0;
+      core = opening_core system c;
+      orders = orders_of system c;
+      delays = delays_from system c;
+      failed = false;
+    }
 
 -- the state is one of a core of this system: which threads, contexts and notifications there are and which are its own,
--- the threads' contexts and places, the kinds and the orders agree, and no budget in force is below the least; after a
--- failure nothing is asked
+-- the threads' contexts and places, the kinds, the orders and the delays agree, and no budget in force is below the least;
+-- after a failure nothing is asked
 pub record Fits (system : System) (state : State) : Type 0 where
   pub known : state.number < system.cores
   pub early : state.clock ≤ 2 ^ 40 + 1
   pub sound : state.failed ≡ false → IsSound system state.number state.clock Between None state.core
   pub orders : state.failed ≡ false → state.orders ≡ to_come state.clock (orders_of system state.number)
+  pub delays : state.failed ≡ false → state.delays ≡ delays_from system state.number
 
 -- mail of its box: for a notification of this core, and not before the clock
 pub record IsExpected (system : System) (state : State) (mail : Mail) : Type 0 where

@@ -1,4 +1,5 @@
 ghost use Rattle.std.specs.Prelude.{◌≡◌};
+ghost use Rattle.mcs_core.specs.Busy.{first_moment};
 ghost use Rattle.mcs_core.specs.Orders.{first_due, without_first};
 
 use mcs_control::Order;
@@ -38,6 +39,16 @@ impl Agenda {
         }
         self.next += 1;
         Some(order)
+    }
+
+    /// The moment of the first order, or None where there is none.
+    pub(crate) fn next(&self) -> Option<Tick>
+        ensures { result ≡ first_moment self.now }
+    {
+        if self.next == self.orders.len() {
+            return None;
+        }
+        Some(self.orders[self.next].moment)
     }
 
     /// These orders, of which none has been obeyed.

@@ -5,6 +5,7 @@ mod agenda;
 mod arrivals;
 mod choice;
 mod contexts;
+mod events;
 mod local;
 mod log;
 mod moves;

@@ -4,7 +4,7 @@ ghost use Rattle.mcs_control.specs.Context.{head_amount, head_moment, context_un
 ghost use Rattle.mcs_control.specs.Control.{IsConfig, kind_of};
 ghost use Rattle.mcs_notify.specs.Note.{posted, after_post, waited, after_wait};
 ghost use Rattle.mcs_ready.specs.Ready.{priority_of, thread_of as thread_of_queued};
-ghost use Rattle.mcs_release.specs.Release.{first_due, without_first_due, thread_of as thread_of_dated};
+ghost use Rattle.mcs_release.specs.Release.{first_due, without_first_due, next_date, thread_of as thread_of_dated};
 ghost use Rattle.mcs_system.specs.System.{thread_part};
 ghost use Rattle.mcs_core.specs.stored.Room.{IsRoomy};
 ghost use Rattle.mcs_core.specs.Core.{thread_of, context_of, note_of, with_thread, with_context, with_note, stands, pends, off};
@@ -252,6 +252,13 @@ impl Local {
         ensures left { self.new ≡ record self.old { releases = without_first_due moment self.old.releases } }
     {
         self.releases.pop_due(moment)
+    }
+
+    /// The least date of the release queue, or None where it is empty.
+    pub(crate) fn next_date(&self) -> Option<Tick>
+        ensures { result ≡ next_date self.now.releases }
+    {
+        self.releases.next()
     }
 
     /// The greatest priority of the ready threads.

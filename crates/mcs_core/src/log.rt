@@ -3,13 +3,15 @@ ghost use Rattle.mcs_core.specs.stored.Parts.{Adds};
 
 use mcs_mail::Mail;
 use mcs_system::SystemParts;
-use mcs_ticks::{CoreId, NoMemory, Row, Tick, What};
+use mcs_ticks::{CoreId, Limits, NoMemory, Row, Tick, What};
 
-/// Where and when a part of a turn is taken: on a core of a system, at a moment.
+/// Where and when a part of a turn is taken: on a core of a system, from which a signal has a delay to each core, at a
+/// moment.
 #[derive(Drop)]
 pub(crate) struct Here<'a> {
     pub(crate) system: &'a SystemParts,
     pub(crate) core: CoreId,
+    pub(crate) delays: &'a [u64; Limits::CORES],
     pub(crate) moment: Tick,
 }
 

@@ -1,19 +1,21 @@
-ghost use Rattle.std.specs.Prelude.{◌≡◌, ◌+◌, ◌^◌, ◌≤◌, ◌<◌, ◌++◌, max, true, false, OnOk, OnErr, IfOk, IsErr, IsTrue, ◌↔◌, All};
+ghost use Rattle.std.specs.Prelude.{◌≡◌, ◌+◌, ◌-◌, ◌^◌, ◌≤◌, ◌<◌, ◌++◌, max, true, false, [], OnOk, OnErr, IfOk, IsErr, IsTrue, ◌↔◌, All};
+ghost use Rattle.mcs_core.specs.Quiet.{AreQuiet, IsNextBusy, counted_times};
 ghost use Rattle.mcs_core.specs.State.{Fits, IsExpected, opening_state, made_by, state_after};
 ghost use Rattle.mcs_core.specs.Views.{views_of};
 
 use crate::agenda::Agenda;
+use crate::events::sooner;
 use crate::local::Local;
 use crate::log::{Here, Log};
 use mcs_control::ContextView;
 use mcs_mail::{Mail, Mailbox};
 use mcs_system::System;
-use mcs_ticks::{CoreId, NoMemory, Row, Tick};
+use mcs_ticks::{CoreId, Limits, NoMemory, Row, Tick};
 use std::alloc::Global;
 use std::marker::Model;
 
-/// The state of one core between two turns: the moment whose turn is next, what stands on the core, and the orders that
-/// it is yet to obey. After a call was refused memory the state is spent.
+/// The state of one core between two turns: the moment whose turn is next, what stands on the core, the orders that it is
+/// yet to obey, and how long its signals are under way. After a call was refused memory the state is spent.
 #[derive(Drop)]
 pub struct CoreState {
     number: CoreId,
@@ -21,6 +23,8 @@ pub struct CoreState {
     failed: bool,
     local: Local,
     agenda: Agenda,
+    // The delay of a signal of this core to each core.
+    delays: [u64; Limits::CORES],
 }
 
 impl Model for CoreState {
@@ -33,6 +37,7 @@ impl Model for CoreState {
       clock = a.clock;
       core = a.local;
       orders = a.agenda;
+      delays = a.delays;
       failed = a.failed;
     } };
 }
@@ -54,6 +59,7 @@ impl CoreState {
             failed: false,
             local,
             agenda,
+            delays: system.delays_from(core),
         })
     }
 
@@ -82,6 +88,66 @@ impl CoreState {
         ensures { result ≡ self.now.failed }
     {
         self.failed
+    }
+
+    /// The next busy moment, with this mail as arrivals: the first moment whose turn does more than count a tick, or
+    /// None where no turn up to 2^42 does. It looks at the thread that runs, the best ready one, the least date, the
+    /// next order and the first mail.
+    pub fn next_busy(&self, system: &System, mail: &Mailbox) -> Option<Tick>
+        requires fits { Fits system.now self.now }
+        requires going { self.now.failed ≡ false }
+        requires expected { All (IsExpected system.now self.now) mail.now.mails }
+        ensures { IsNextBusy system.now self.now.number self.now.clock mail.now.mails self.now.core result }
+    {
+        let here = Here {
+            system: system.parts(),
+            core: self.number,
+            delays: &self.delays,
+            moment: self.clock,
+        };
+        let ends = self.local.next_end(&here);
+        let better = self.local.next_choice(&here);
+        let date = self.local.next_date();
+        let order = self.agenda.next();
+        let arrival = mail.next();
+        sooner(sooner(sooner(sooner(ends, better), date), order), arrival)
+    }
+
+    /// Takes the turns from the clock up to, not including, moment `to`, all of which are quiet, at once: the thread
+    /// that runs counts their ticks. Moment `to` may be the clock.
+    pub fn skip(&mut self, system: &System, to: Tick)
+        requires fits { Fits system.now self.old }
+        requires going { self.old.failed ≡ false }
+        requires later { self.old.clock ≤ to }
+        requires in_time { to ≤ 2 ^ 40 + 1 }
+        requires quiet { AreQuiet system.now self.old.number self.old.clock [] self.old.core (to - self.old.clock) }
+        ensures state { self.new ≡ record self.old {
+          clock = to;
+          core = counted_times system.now self.old.number (to - self.old.clock) self.old.core;
+        } }
+        ensures fits { Fits system.now self.new }
+    {
+        let _parts = system.parts();
+        let ticks = to.get() - self.clock.get();
+        self.local.count_many(ticks);
+        self.clock = to;
+    }
+
+    /// The next busy moment, or `to` where it isn't before that.
+    fn quiet_until(&self, system: &System, mail: &Mailbox, to: Tick) -> Tick
+        requires fits { Fits system.now self.now }
+        requires going { self.now.failed ≡ false }
+        requires expected { All (IsExpected system.now self.now) mail.now.mails }
+        requires later { self.now.clock ≤ to }
+        requires in_time { to ≤ 2 ^ 40 + 1 }
+        ensures later { self.now.clock ≤ result }
+        ensures within { result ≤ to }
+        ensures quiet { AreQuiet system.now self.now.number self.now.clock mail.now.mails self.now.core (result - self.now.clock) }
+    {
+        let Some(moment) = self.next_busy(system, mail) else {
+            return to;
+        };
+        if moment < to { moment } else { to }
     }
 
     /// Whether the clock is before a moment.
@@ -120,12 +186,53 @@ impl CoreState {
         let here = Here {
             system: system.parts(),
             core: self.number,
+            delays: &self.delays,
             moment: self.clock,
         };
         let mut log = Log { rows, signals };
         self.local.turn(&here, &mut self.agenda, mail, &mut log)?;
         self.clock = self.clock.plus(1).unwrap();
         Ok(())
+    }
+
+    /// The quiet turns up to the next busy one, and that one, of those before moment `to`.
+    fn advance(
+        &mut self,
+        system: &System,
+        mail: &mut Mailbox,
+        to: Tick,
+        rows: &mut Vec<Row>,
+        signals: &mut Vec<Mail>,
+    ) -> Result<(), NoMemory>
+        requires going { self.old.failed ≡ false }
+        requires fits { Fits system.now self.old }
+        requires before { self.old.clock < to }
+        requires in_time { to ≤ 2 ^ 40 + 1 }
+        requires expected { All (IsExpected system.now self.old) mail.old.mails }
+        ensures state { OnOk result
+            (self.new
+            ≡ state_after self.old self.new.clock (made_by system.now self.old self.new.clock mail.old.mails)) }
+        ensures rows { OnOk result
+            (rows.new.items
+            ≡ rows.old.items ++ (made_by system.now self.old self.new.clock mail.old.mails).rows) }
+        ensures signals { OnOk result
+            (signals.new.items
+            ≡ signals.old.items ++ (made_by system.now self.old self.new.clock mail.old.mails).mails) }
+        ensures mail { OnOk result
+            (mail.new.mails ≡ (made_by system.now self.old self.new.clock mail.old.mails).box) }
+        ensures fits { OnOk result (Fits system.now self.new) }
+        ensures later { OnOk result (self.old.clock < self.new.clock) }
+        ensures kept { (self.new.number ≡ self.old.number)
+            × (self.old.clock ≤ self.new.clock)
+            × (self.new.clock ≤ to) }
+    {
+        let until = self.quiet_until(system, mail, to);
+        self.skip(system, until);
+        if until < to {
+            self.step(system, mail, rows, signals)
+        } else {
+            Ok(())
+        }
     }
 
     /// Takes the turns from the clock up to, not including, moment `to`, with the mail of the box as arrivals. Rows are
@@ -164,7 +271,7 @@ impl CoreState {
             return Err(NoMemory);
         }
         'turns: while self.is_before(to) {
-            if self.step(system, mail, rows, signals).is_err() {
+            if self.advance(system, mail, to, rows, signals).is_err() {
                 self.failed = true;
                 return Err(NoMemory);
             }

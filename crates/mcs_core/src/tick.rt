@@ -2,9 +2,10 @@ ghost use Rattle.std.specs.Prelude.{◌≡◌, ◌^◌, ◌≤◌, ◌<◌, OnOk
 ghost use Rattle.mcs_ticks.specs.Queue.{by_priority};
 ghost use Rattle.mcs_notify.specs.Note.{waited};
 ghost use Rattle.mcs_core.specs.Core.{note_of};
+ghost use Rattle.mcs_core.specs.State.{delays_from};
 ghost use Rattle.mcs_core.specs.Turn.{counts, mail_to, signals, waits_as, takes_effect, item_of, after_item, after_move, after_waited, finishes, tick};
 ghost use Rattle.mcs_core.specs.stored.Items.{IsNoted, CanTakeEffect};
-ghost use Rattle.mcs_core.specs.stored.Parts.{Makes};
+ghost use Rattle.mcs_core.specs.stored.Parts.{HasDelays, Makes};
 ghost use Rattle.mcs_core.specs.stored.Sound.{IsPlaced, IsFree, WakesFree, IsSound};
 ghost use Rattle.mcs_core.specs.Places.{times_waiting};
 ghost use Rattle.mcs_core.specs.stored.Sound.Phase.{Between, InTick};
@@ -88,7 +89,7 @@ impl Local {
         requires part { note < length here.now.system.now.notes }
         requires free { WakesFree here.now.system.now note badge self.old }
         requires soon { here.now.moment ≤ 2 ^ 40 }
-        requires delay { here.now.system.now.delay ≤ 2 ^ 20 }
+        requires delays { HasDelays here.now }
         ensures { OnOk result
             (Makes here.now
             (signals by_priority here.now.system.now here.now.core here.now.moment thread note badge self.old)
@@ -145,7 +146,7 @@ impl Local {
     ) -> Result<(), NoMemory>
         requires can { CanTakeEffect here.now.system.now here.now.core here.now.moment thread item.now self.old }
         requires soon { here.now.moment ≤ 2 ^ 40 }
-        requires delay { here.now.system.now.delay ≤ 2 ^ 20 }
+        requires delays { HasDelays here.now }
         ensures { OnOk result
             (Makes here.now
             (takes_effect by_priority here.now.system.now here.now.core here.now.moment thread item.now self.old)
@@ -174,6 +175,7 @@ impl Local {
         requires well_formed { IsWellFormed here.now.system.now }
         requires sound { IsSound here.now.system.now here.now.core here.now.moment InTick None self.old }
         requires running { self.old.running ≡ Some (record { thread = thread; using = used }) }
+        requires delays { here.now.delays.now ≡ delays_from here.now.system.now here.now.core }
         requires soon { here.now.moment ≤ 2 ^ 40 }
         ensures { OnOk result
             (Makes here.now
@@ -191,6 +193,7 @@ impl Local {
     pub(crate) fn tick(&mut self, here: &Here<'_>, log: &mut Log<'_>) -> Result<(), NoMemory>
         requires well_formed { IsWellFormed here.now.system.now }
         requires sound { IsSound here.now.system.now here.now.core here.now.moment Between None self.old }
+        requires delays { here.now.delays.now ≡ delays_from here.now.system.now here.now.core }
         requires soon { here.now.moment ≤ 2 ^ 40 }
         ensures { OnOk result
             (Makes here.now (tick by_priority here.now.system.now here.now.core here.now.moment self.old)
@@ -213,11 +216,14 @@ impl Local {
 /// A signal to a notification of another core.
 fn mail_to(here: &Here<'_>, note: NoteId, badge: u32) -> Mail
     requires soon { here.now.moment ≤ 2 ^ 40 }
-    requires delay { here.now.system.now.delay ≤ 2 ^ 20 }
+    requires part { note < length here.now.system.now.notes }
+    requires delays { HasDelays here.now }
     ensures { result ≡ mail_to here.now.system.now here.now.core here.now.moment note badge }
 {
+    let home = here.system.note(note).core;
+    let delay = here.delays[home.0];
     Mail {
-        arrives: here.moment.plus(here.system.delay).unwrap(),
+        arrives: here.moment.plus(delay).unwrap(),
         made: here.moment,
         maker: here.core,
         note,

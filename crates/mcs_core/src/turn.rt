@@ -1,6 +1,7 @@
 ghost use Rattle.std.specs.Prelude.{◌≡◌, ◌+◌, ◌^◌, ◌≤◌, ◌<◌, OnOk, All, None, length};
 ghost use Rattle.mcs_mail.specs.Box.{arriving, staying};
 ghost use Rattle.mcs_core.specs.Orders.{orders_of, to_come};
+ghost use Rattle.mcs_core.specs.State.{delays_from};
 ghost use Rattle.mcs_core.specs.Turn.{turn};
 ghost use Rattle.mcs_core.specs.stored.Parts.{Makes};
 ghost use Rattle.mcs_core.specs.stored.Sound.{IsSound};
@@ -28,6 +29,7 @@ impl Local {
         requires planned { agenda.old ≡ to_come here.now.moment (orders_of here.now.system.now here.now.core) }
         requires known { All (λ mail. mail.note < length here.now.system.now.notes) mail.old.mails }
         requires come { All (λ mail. here.now.moment ≤ mail.arrives) mail.old.mails }
+        requires delays { here.now.delays.now ≡ delays_from here.now.system.now here.now.core }
         requires soon { here.now.moment ≤ 2 ^ 40 }
         ensures makes { OnOk result
             (Makes here.now

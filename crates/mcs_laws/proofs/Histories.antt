@@ -16,6 +16,7 @@ use Rattle.mcs_core.proofs.Clock.{core_at-world}
 use Rattle.mcs_laws.specs.Changes.{IsBudget, KeepsItsBudget, changed_by}
 use Rattle.mcs_laws.specs.Histories as told
 use Rattle.mcs_laws.proofs.Ranges.{by_recursion}
+use Rattle.mcs_system.proofs.Linked.{takes_time}
 use Rattle.mcs_system.specs.WellFormed.{IsWellFormed}
 use Rattle.mcs_laws.proofs.Kept.{accepted-gives, keeps-new, keeps-changes}
 use Rattle.mcs_laws.proofs.Traces as traces
@@ -42,7 +43,7 @@ opening-at system c number (part ∷ parts) (suc i) l e =
 
 -- a well-formed system: its signals take time, and its configurations give budgets
 pub takes-time : (system : System) → IsWellFormed system → TakesTime system
-takes-time system well maker to = well.limits.delay.0
+takes-time = takes_time
 
 pub gives-budgets : (system : System) → IsWellFormed system → told.GivesBudgets system
 gives-budgets system well =

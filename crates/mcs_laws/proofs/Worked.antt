@@ -44,7 +44,7 @@ thread context priority script = record { name = []; context = context; priority
 
 abbrev one_core : List ContextPart → List ThreadPart → System
 one_core contexts threads =
-    record { cores = 1; delay = 1; call = 1; min_budget = 1; contexts = contexts; notes = record { name = []; core = 0 } ∷ []; threads = threads; orders = [] }
+    record { cores = 1; delay = 1; call = 1; min_budget = 1; contexts = contexts; notes = record { name = []; core = 0 } ∷ []; threads = threads; orders = []; links = [] }
 
 -- budget 2 of 5 for five ticks of work
 abbrev depletes : System
@@ -120,6 +120,7 @@ ordered =
       notes = [];
       threads = [];
       orders = order 9 0 (config 4 20) ∷ order 4 0 (config 6 50) ∷ order 2 1 (config 3 30) ∷ order 4 0 (config 8 40) ∷ [];
+      links = [];
     }
 
 -- up to the moment of an order its turn is still to come

@@ -1,5 +1,6 @@
 ghost use Rattle.mcs_system.specs.System.{System, TakesTime};
 ghost use Rattle.mcs_system.specs.WellFormed.{IsWellFormed};
+ghost use Rattle.mcs_core.specs.Quiet.{OnlyCount};
 ghost use Rattle.mcs_laws.specs.Turns.{CoresAreOfTurns, RowsAreOfTurns, SignalsAreOfTurns, ArrivalsAreOfTurns};
 ghost use Rattle.mcs_laws.specs.Disciplines.{DisciplinesAgree};
 ghost use Rattle.mcs_laws.specs.Places.{ThreadsHaveOnePlace};
@@ -33,6 +34,11 @@ pub fn rows_are_of_turns()
 pub fn signals_are_of_turns()
     ensures under_way { (system : System) → IsWellFormed system → SignalsAreOfTurns system }
     ensures arriving { (system : System) → IsWellFormed system → ArrivalsAreOfTurns system }
+{}
+
+/// A law of single cores: quiet turns make no row and no signal, leave the box as it was, and count their ticks.
+pub fn quiet_turns_only_count()
+    ensures { OnlyCount }
 {}
 
 /// A law of ready queues: one list in order of entering, from which the first of greatest priority is taken, and the queue by

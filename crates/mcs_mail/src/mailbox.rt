@@ -98,7 +98,8 @@ impl Mailbox {
 
     /// When the first mail arrives, or None where there is none.
     pub fn next(&self) -> Option<Tick>
-        ensures { result ≡ first_arrival self.now.mails }
+        ensures first { result ≡ first_arrival self.now.mails }
+        ensures in_order { IsOrdered self.now.mails }
     {
         let first = self.first()?;
         Some(first.arrives)

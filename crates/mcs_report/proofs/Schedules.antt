@@ -11,6 +11,7 @@ use Rattle.mcs_ticks.specs.declared.row.What.{What}
 use Rattle.mcs_release.specs.declared.dated.Dated.{Dated}
 use Rattle.mcs_core.specs.declared.standing.Chosen.{Chosen}
 use Rattle.mcs_system.specs.declared.part.ThreadPart.{ThreadPart}
+use Rattle.mcs_system.proofs.Linked.{takes_time}
 use Rattle.mcs_system.specs.System.{System, TakesTime, no_thread, no_context, thread_part, context_part, core_of}
 use Rattle.mcs_core.specs.Core.{Core, opening_core, opening_releases}
 use Rattle.mcs_core.specs.Clock as clocks
@@ -209,7 +210,7 @@ own_core_known system well x = core_of_context system well (thread_part system x
 pub apart : SchedulesRunApart
 apart system well horizon x =
     (apart-walks x (clocks.schedule system horizon) false _
-    (walks-clock system (λ maker home. well.limits.delay.0) x (own_core_known system well x) (suc horizon))).0
+    (walks-clock system (takes_time system well) x (own_core_known system well x) (suc horizon))).0
 
 pub reported : SchedulesAreReported
 reported system well horizon = agree system horizon (clocks.schedule system horizon) (apart system well horizon)

@@ -6,6 +6,7 @@ use Rattle.mcs_ticks.specs.declared.row.Row.{Row}
 use Rattle.mcs_ticks.specs.declared.row.What.{What}
 use Rattle.mcs_ticks.specs.declared.row.What.TheVariants as row
 use Rattle.mcs_core.specs.declared.standing.Chosen.{Chosen}
+use Rattle.mcs_system.proofs.Linked.{takes_time}
 use Rattle.mcs_system.specs.System.{System, TakesTime}
 use Rattle.mcs_core.specs.Clock as clocks
 use Rattle.mcs_core.proofs.Clock.{rows-clock}
@@ -264,4 +265,4 @@ module _ (system : System) (takes_time : TakesTime system) (x : ℕ) (known : ow
   ticks h = omega (arith, total x h None (clocks.schedule system h) _ (walks-clock system takes_time x known (suc h)), ran-now h, counted h)
 
 pub runs-ticks : RunsAreTicks
-runs-ticks system well h x = ticks system (λ maker home. well.limits.delay.0) x (own_core_known system well x) h
+runs-ticks system well h x = ticks system (takes_time system well) x (own_core_known system well x) h

@@ -34,6 +34,7 @@ one_core contexts threads =
       notes = record { name = []; core = 0 } ∷ [];
       threads = threads;
       orders = [];
+      links = [];
     }
 
 abbrev of_schedule : System → ℕ → Reports

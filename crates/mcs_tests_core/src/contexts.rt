@@ -2,7 +2,7 @@ ghost use Rattle.std.specs.Prelude.{◌+◌, ◌^◌, ◌≤◌};
 ghost use Rattle.mcs_core.specs.State.{Fits};
 
 use super::play::{go_on, moment, nothing, opened};
-use super::systems::system;
+use super::systems::{DEPLETES, system};
 use mcs_control::ContextView;
 use mcs_core::CoreState;
 use mcs_mail::Mailbox;
@@ -65,14 +65,6 @@ fn sees_at(
     }
     Ok(())
 }
-
-const DEPLETES: &str = r#"
-version = 1
-cores = 1
-delay = 1
-context = [{ name = "a", core = 0, budget = 2, period = 5 }]
-thread = [{ name = "A", context = "a", priority = 5, rounds = 1, script = ["compute 5"] }]
-"#;
 
 // Ticks in use are not charged yet.
 #[test]

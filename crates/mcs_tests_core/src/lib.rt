@@ -6,6 +6,8 @@ mod arrivals;
 #[cfg(test)]
 mod contexts;
 #[cfg(test)]
+mod events;
+#[cfg(test)]
 mod play;
 #[cfg(test)]
 mod stretches;

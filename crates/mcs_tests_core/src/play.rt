@@ -77,7 +77,7 @@ fn post(system: &System, state: &CoreState, mailbox: &mut Mailbox, mail: Mail) -
 }
 
 /// The box of a core with these letters.
-fn posted(
+pub fn posted(
     alloc: Global,
     system: &System,
     state: &CoreState,

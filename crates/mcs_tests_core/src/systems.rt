@@ -10,6 +10,15 @@ pub fn system(alloc: Global, text: &str) -> Result<System, Fail> {
     Ok(load(alloc, text.as_bytes())?)
 }
 
+/// One thread spends its budget twice, and is done at 11.
+pub const DEPLETES: &str = r#"
+version = 1
+cores = 1
+delay = 1
+context = [{ name = "a", core = 0, budget = 2, period = 5 }]
+thread = [{ name = "A", context = "a", priority = 5, rounds = 1, script = ["compute 5"] }]
+"#;
+
 /// Two cores signal a third one, on which a thread waits.
 pub const TWO_MAKERS: &str = r#"
 version = 1

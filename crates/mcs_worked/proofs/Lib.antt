@@ -3,3 +3,4 @@ mod Contexts
 mod Turns
 mod Orders
 mod Random
+mod Busy

@@ -26,6 +26,7 @@ random_one_01_system = record {
       ∷ thread (codes "R00") 1 2 4 0 0 ((Compute 3) ∷ (Signal 0 6) ∷ (Compute 12) ∷ (Signal 0 9) ∷ [])
       ∷ [];
   orders = [];
+  links = [];
 }
 
 abbrev pub random_one_01_rows : List Row
@@ -108,6 +109,7 @@ random_one_02_system = record {
       ∷ thread (codes "R01") 2 1 1 0 0 ((Compute 9) ∷ (Signal 0 9) ∷ [])
       ∷ [];
   orders = [];
+  links = [];
 }
 
 abbrev pub random_one_02_rows : List Row
@@ -196,6 +198,7 @@ random_one_03_system = record {
       ∷ thread (codes "R00") 2 7 5 0 0 ((Compute 6) ∷ (Signal 1 5) ∷ [])
       ∷ [];
   orders = [];
+  links = [];
 }
 
 abbrev pub random_one_03_rows : List Row
@@ -270,6 +273,7 @@ random_one_04_system = record {
       ∷ thread (codes "R01") 3 1 1 0 0 ((Compute 1) ∷ (Signal 1 5) ∷ [])
       ∷ [];
   orders = [];
+  links = [];
 }
 
 abbrev pub random_one_04_rows : List Row
@@ -369,6 +373,7 @@ random_one_05_system = record {
       ∷ order 145 0 1 22 2
       ∷ order 79 0 10 14 0
       ∷ [];
+  links = [];
 }
 
 abbrev pub random_one_05_rows : List Row
@@ -479,6 +484,7 @@ random_one_06_system = record {
       order 1 1 7 8 3
       ∷ order 4 2 2 3 0
       ∷ [];
+  links = [];
 }
 
 abbrev pub random_one_06_rows : List Row
@@ -531,6 +537,7 @@ random_one_07_system = record {
       order 7 2 3 6 0
       ∷ order 19 3 5 6 0
       ∷ [];
+  links = [];
 }
 
 abbrev pub random_one_07_rows : List Row
@@ -603,6 +610,7 @@ random_one_08_system = record {
   orders =
       order 44 0 7 32 0
       ∷ [];
+  links = [];
 }
 
 abbrev pub random_one_08_rows : List Row
@@ -685,6 +693,7 @@ random_one_09_system = record {
       order 16 2 3 3 3
       ∷ order 1 2 4 4 0
       ∷ [];
+  links = [];
 }
 
 abbrev pub random_one_09_rows : List Row
@@ -770,6 +779,7 @@ random_one_10_system = record {
       ∷ order 30 0 8 14 2
       ∷ order 19 0 2 9 0
       ∷ [];
+  links = [];
 }
 
 abbrev pub random_one_10_rows : List Row
@@ -899,6 +909,7 @@ random_one_11_system = record {
       order 0 1 9 28 0
       ∷ order 1 1 6 29 0
       ∷ [];
+  links = [];
 }
 
 abbrev pub random_one_11_rows : List Row
@@ -947,6 +958,7 @@ random_one_12_system = record {
       ∷ thread (codes "R01") 2 10 5 0 0 ((Compute 3) ∷ (Signal 0 2) ∷ (Compute 1) ∷ (Signal 0 3) ∷ (Compute 5) ∷ (Signal 0 9) ∷ [])
       ∷ [];
   orders = [];
+  links = [];
 }
 
 abbrev pub random_one_12_rows : List Row
@@ -1024,6 +1036,7 @@ random_one_13_system = record {
       ∷ thread (codes "C") 2 2 0 0 4 (Yield ∷ [])
       ∷ [];
   orders = [];
+  links = [];
 }
 
 abbrev pub random_one_13_rows : List Row
@@ -1089,6 +1102,7 @@ random_one_14_system = record {
       ∷ thread (codes "R00") 2 7 0 0 0 ((Compute 3) ∷ (Signal 1 8) ∷ (Compute 9) ∷ (Signal 0 7) ∷ (Compute 4) ∷ (Signal 1 8) ∷ [])
       ∷ [];
   orders = [];
+  links = [];
 }
 
 abbrev pub random_one_14_rows : List Row
@@ -1192,6 +1206,7 @@ random_one_15_system = record {
       ∷ thread (codes "T3") 3 0 2 2 0 ((Wait 0) ∷ (Compute 1) ∷ (Compute 1) ∷ (Compute 1) ∷ (Compute 2) ∷ (Wait 0) ∷ (Signal 0 5) ∷ (Compute 3) ∷ [])
       ∷ [];
   orders = [];
+  links = [];
 }
 
 abbrev pub random_one_15_rows : List Row
@@ -1243,6 +1258,7 @@ random_one_16_system = record {
   orders =
       order 7 3 3 5 0
       ∷ [];
+  links = [];
 }
 
 abbrev pub random_one_16_rows : List Row
@@ -1334,6 +1350,7 @@ random_one_17_system = record {
       ∷ thread (codes "R01") 2 1 4 0 0 ((Compute 5) ∷ (Signal 0 8) ∷ [])
       ∷ [];
   orders = [];
+  links = [];
 }
 
 abbrev pub random_one_17_rows : List Row
@@ -1437,6 +1454,7 @@ random_one_18_system = record {
       ∷ thread (codes "R01") 2 10 2 0 0 ((Compute 7) ∷ (Signal 0 4) ∷ (Compute 2) ∷ (Signal 0 6) ∷ [])
       ∷ [];
   orders = [];
+  links = [];
 }
 
 abbrev pub random_one_18_rows : List Row
@@ -1552,6 +1570,7 @@ random_one_19_system = record {
       ∷ thread (codes "T0") 0 1 0 3 5 (Yield ∷ [])
       ∷ [];
   orders = [];
+  links = [];
 }
 
 abbrev pub random_one_19_rows : List Row
@@ -1601,6 +1620,7 @@ random_one_20_system = record {
       order 118 0 9 19 0
       ∷ order 118 2 9 10 0
       ∷ [];
+  links = [];
 }
 
 abbrev pub random_one_20_rows : List Row
@@ -1661,6 +1681,7 @@ random_one_21_system = record {
   orders =
       order 2 0 7 14 0
       ∷ [];
+  links = [];
 }
 
 abbrev pub random_one_21_rows : List Row
@@ -1721,6 +1742,7 @@ random_one_22_system = record {
       ∷ thread (codes "T2") 2 3 5 1 5 ((Compute 5) ∷ Yield ∷ [])
       ∷ [];
   orders = [];
+  links = [];
 }
 
 abbrev pub random_one_22_rows : List Row
@@ -1765,6 +1787,7 @@ random_one_23_system = record {
       ∷ thread (codes "R01") 3 10 0 0 0 ((Compute 9) ∷ (Signal 1 4) ∷ [])
       ∷ [];
   orders = [];
+  links = [];
 }
 
 abbrev pub random_one_23_rows : List Row
@@ -1828,6 +1851,7 @@ random_one_24_system = record {
   orders =
       order 54 0 5 7 0
       ∷ [];
+  links = [];
 }
 
 abbrev pub random_one_24_rows : List Row
@@ -1870,6 +1894,7 @@ random_one_25_system = record {
       ∷ thread (codes "B") 1 2 0 0 0 (Yield ∷ (Compute 5) ∷ (Compute 4) ∷ (Compute 8) ∷ [])
       ∷ [];
   orders = [];
+  links = [];
 }
 
 abbrev pub random_one_25_rows : List Row
@@ -1965,6 +1990,7 @@ random_one_26_system = record {
   orders =
       order 182 0 3 7 0
       ∷ [];
+  links = [];
 }
 
 abbrev pub random_one_26_rows : List Row
@@ -2063,6 +2089,7 @@ random_one_27_system = record {
       ∷ order 2 0 12 26 2
       ∷ order 37 0 2 24 0
       ∷ [];
+  links = [];
 }
 
 abbrev pub random_one_27_rows : List Row
@@ -2130,6 +2157,7 @@ random_one_28_system = record {
       ∷ order 30 1 5 15 0
       ∷ order 0 1 6 21 0
       ∷ [];
+  links = [];
 }
 
 abbrev pub random_one_28_rows : List Row
@@ -2233,6 +2261,7 @@ random_one_29_system = record {
       order 0 0 6 9 0
       ∷ order 0 1 3 9 0
       ∷ [];
+  links = [];
 }
 
 abbrev pub random_one_29_rows : List Row
@@ -2324,6 +2353,7 @@ random_one_30_system = record {
       ∷ thread (codes "E") 4 3 0 1 0 ((Wait 0) ∷ (Compute 1) ∷ (Signal 0 4) ∷ (Compute 2) ∷ (Compute 2) ∷ Yield ∷ [])
       ∷ [];
   orders = [];
+  links = [];
 }
 
 abbrev pub random_one_30_rows : List Row
@@ -2443,6 +2473,7 @@ random_several_01_system = record {
       ∷ thread (codes "W0") 2 1 0 0 0 ((Wait 0) ∷ (Compute 1) ∷ [])
       ∷ [];
   orders = [];
+  links = [];
 }
 
 abbrev pub random_several_01_rows : List Row
@@ -2587,6 +2618,7 @@ random_several_02_system = record {
   orders =
       order 15 0 8 18 3
       ∷ [];
+  links = [];
 }
 
 abbrev pub random_several_02_rows : List Row
@@ -2708,6 +2740,7 @@ random_several_03_system = record {
       order 3 0 1 2 0
       ∷ order 3 3 5 14 1
       ∷ [];
+  links = [];
 }
 
 abbrev pub random_several_03_rows : List Row
@@ -2861,6 +2894,7 @@ random_several_04_system = record {
       ∷ thread (codes "W0") 3 3 0 0 0 ((Wait 0) ∷ (Compute 1) ∷ [])
       ∷ [];
   orders = [];
+  links = [];
 }
 
 abbrev pub random_several_04_rows : List Row
@@ -3030,6 +3064,7 @@ random_several_05_system = record {
       ∷ thread (codes "T4") 4 255 0 3 5 ((Signal 4 5) ∷ (Compute 4) ∷ (Signal 2 5) ∷ (Signal 2 4) ∷ [])
       ∷ [];
   orders = [];
+  links = [];
 }
 
 abbrev pub random_several_05_rows : List Row
@@ -3188,6 +3223,7 @@ random_several_06_system = record {
       ∷ thread (codes "T0") 0 2 14 0 1 ((Compute 3) ∷ Yield ∷ [])
       ∷ [];
   orders = [];
+  links = [];
 }
 
 abbrev pub random_several_06_rows : List Row
@@ -3258,6 +3294,7 @@ random_several_07_system = record {
       ∷ thread (codes "T5") 5 2 0 1 0 ((Wait 2) ∷ (Signal 8 1) ∷ [])
       ∷ [];
   orders = [];
+  links = [];
 }
 
 abbrev pub random_several_07_rows : List Row
@@ -3335,6 +3372,7 @@ random_several_08_system = record {
       ∷ thread (codes "B") 1 2 0 2 0 (Yield ∷ (Wait 2) ∷ (Compute 4) ∷ (Wait 2) ∷ (Compute 2) ∷ Yield ∷ [])
       ∷ [];
   orders = [];
+  links = [];
 }
 
 abbrev pub random_several_08_rows : List Row
@@ -3437,6 +3475,7 @@ random_several_09_system = record {
   orders =
       order 2 6 1 1 0
       ∷ [];
+  links = [];
 }
 
 abbrev pub random_several_09_rows : List Row
@@ -3609,6 +3648,7 @@ random_several_10_system = record {
       ∷ order 61 3 11 29 1
       ∷ order 1 3 5 25 0
       ∷ [];
+  links = [];
 }
 
 abbrev pub random_several_10_rows : List Row
@@ -3748,6 +3788,7 @@ random_several_11_system = record {
   orders =
       order 0 1 6 26 0
       ∷ [];
+  links = [];
 }
 
 abbrev pub random_several_11_rows : List Row
@@ -3838,6 +3879,7 @@ random_several_12_system = record {
       ∷ thread (codes "D") 3 3 1 0 10 ((Compute 24) ∷ (Wait 2) ∷ (Compute 4) ∷ (Compute 22) ∷ [])
       ∷ [];
   orders = [];
+  links = [];
 }
 
 abbrev pub random_several_12_rows : List Row
@@ -3917,6 +3959,7 @@ random_several_13_system = record {
       ∷ thread (codes "E") 4 255 0 0 1 ((Compute 5) ∷ [])
       ∷ [];
   orders = [];
+  links = [];
 }
 
 abbrev pub random_several_13_rows : List Row
@@ -4050,6 +4093,7 @@ random_several_14_system = record {
   orders =
       order 3 2 6 11 0
       ∷ [];
+  links = [];
 }
 
 abbrev pub random_several_14_rows : List Row
@@ -4170,6 +4214,7 @@ random_several_15_system = record {
       order 2 1 8 23 0
       ∷ order 2 0 3 5 0
       ∷ [];
+  links = [];
 }
 
 abbrev pub random_several_15_rows : List Row
@@ -4307,6 +4352,7 @@ random_several_16_system = record {
       ∷ thread (codes "T2") 2 1 1 0 17 ((Wait 2) ∷ (Compute 25) ∷ (Compute 3) ∷ (Signal 1 1) ∷ (Compute 2) ∷ (Signal 1 1) ∷ Yield ∷ [])
       ∷ [];
   orders = [];
+  links = [];
 }
 
 abbrev pub random_several_16_rows : List Row
@@ -4359,6 +4405,7 @@ random_several_17_system = record {
       ∷ thread (codes "T0") 0 2 1 0 1 ((Compute 4) ∷ (Wait 4) ∷ (Signal 2 7) ∷ (Wait 3) ∷ (Compute 1) ∷ (Signal 2 3811281368) ∷ [])
       ∷ [];
   orders = [];
+  links = [];
 }
 
 abbrev pub random_several_17_rows : List Row
@@ -4424,6 +4471,7 @@ random_several_18_system = record {
       ∷ order 18 2 5 6 1
       ∷ order 14 4 4 13 0
       ∷ [];
+  links = [];
 }
 
 abbrev pub random_several_18_rows : List Row
@@ -4515,6 +4563,7 @@ random_several_19_system = record {
   orders =
       order 1 7 6 18 0
       ∷ [];
+  links = [];
 }
 
 abbrev pub random_several_19_rows : List Row
@@ -4672,6 +4721,7 @@ random_several_20_system = record {
       ∷ thread (codes "C") 2 1 1 0 5 ((Compute 8) ∷ (Compute 2) ∷ (Compute 3) ∷ Yield ∷ [])
       ∷ [];
   orders = [];
+  links = [];
 }
 
 abbrev pub random_several_20_rows : List Row
@@ -4795,6 +4845,7 @@ random_several_21_system = record {
       ∷ thread (codes "T4") 4 255 2 0 10 (Yield ∷ (Signal 0 5) ∷ [])
       ∷ [];
   orders = [];
+  links = [];
 }
 
 abbrev pub random_several_21_rows : List Row
@@ -4882,6 +4933,7 @@ random_several_22_system = record {
       order 1 0 4 9 1
       ∷ order 0 0 8 17 0
       ∷ [];
+  links = [];
 }
 
 abbrev pub random_several_22_rows : List Row
@@ -4953,6 +5005,7 @@ random_several_23_system = record {
       ∷ thread (codes "T3") 3 3 25 4 38 (Yield ∷ [])
       ∷ [];
   orders = [];
+  links = [];
 }
 
 abbrev pub random_several_23_rows : List Row
@@ -5131,6 +5184,7 @@ random_several_24_system = record {
   orders =
       order 36 5 7 8 0
       ∷ [];
+  links = [];
 }
 
 abbrev pub random_several_24_rows : List Row
@@ -5270,6 +5324,7 @@ random_several_25_system = record {
       ∷ order 6 1 6 51 1
       ∷ order 93 5 13 13 0
       ∷ [];
+  links = [];
 }
 
 abbrev pub random_several_25_rows : List Row
@@ -5434,6 +5489,7 @@ random_several_26_system = record {
       ∷ thread (codes "T1") 1 255 1 1 0 ((Signal 0 1) ∷ [])
       ∷ [];
   orders = [];
+  links = [];
 }
 
 abbrev pub random_several_26_rows : List Row
@@ -5525,6 +5581,7 @@ random_several_27_system = record {
       ∷ thread (codes "B") 1 2 22 9 0 ((Compute 2) ∷ Yield ∷ (Compute 1) ∷ (Compute 1) ∷ [])
       ∷ [];
   orders = [];
+  links = [];
 }
 
 abbrev pub random_several_27_rows : List Row
@@ -5604,6 +5661,7 @@ random_several_28_system = record {
       ∷ thread (codes "T1") 1 3 0 2 1 ((Compute 1) ∷ [])
       ∷ [];
   orders = [];
+  links = [];
 }
 
 abbrev pub random_several_28_rows : List Row
@@ -5656,6 +5714,7 @@ random_several_29_system = record {
       ∷ thread (codes "A") 0 2 0 1 5 ((Compute 2) ∷ (Compute 8) ∷ (Compute 2) ∷ [])
       ∷ [];
   orders = [];
+  links = [];
 }
 
 abbrev pub random_several_29_rows : List Row
@@ -5735,6 +5794,7 @@ random_several_30_system = record {
       ∷ thread (codes "R10") 4 7 4 0 0 ((Compute 4) ∷ (Signal 0 4) ∷ (Compute 2) ∷ (Signal 2 7) ∷ [])
       ∷ [];
   orders = [];
+  links = [];
 }
 
 abbrev pub random_several_30_rows : List Row

@@ -6,7 +6,7 @@ use Rattle.mcs_ticks.specs.declared.row.Why.TheVariants as why
 use Rattle.mcs_script.specs.declared.item.Item.TheVariants.{Compute, Signal, Wait, Yield}
 use Rattle.mcs_system.specs.System.{System}
 use Rattle.mcs_core.specs.Clock.{schedule}
-use Rattle.mcs_worked.specs.Parts.{context, note, thread, order, at}
+use Rattle.mcs_worked.specs.Parts.{context, note, thread, order, link, at}
 
 abbrev pub arrival_before_order_before_release_system : System
 arrival_before_order_before_release_system = record {
@@ -32,6 +32,7 @@ arrival_before_order_before_release_system = record {
   orders =
       order 4 1 2 8 0
       ∷ [];
+  links = [];
 }
 
 abbrev pub arrival_before_order_before_release_rows : List Row
@@ -73,6 +74,7 @@ call_costs_ticks_system = record {
       thread (codes "A") 0 5 0 1 0 ((Signal 0 1) ∷ [])
       ∷ [];
   orders = [];
+  links = [];
 }
 
 abbrev pub call_costs_ticks_rows : List Row
@@ -108,6 +110,7 @@ delivery_in_order_of_cores_system = record {
       ∷ thread (codes "W") 2 5 0 1 0 ((Wait 0) ∷ (Compute 1) ∷ [])
       ∷ [];
   orders = [];
+  links = [];
 }
 
 abbrev pub delivery_in_order_of_cores_rows : List Row
@@ -151,6 +154,7 @@ delivery_in_order_of_making_system = record {
       thread (codes "S") 0 5 0 1 0 ((Compute 1) ∷ (Signal 0 1) ∷ (Signal 0 2) ∷ (Signal 0 4) ∷ [])
       ∷ [];
   orders = [];
+  links = [];
 }
 
 abbrev pub delivery_in_order_of_making_rows : List Row
@@ -187,6 +191,7 @@ depletes_and_refills_system = record {
       thread (codes "A") 0 5 0 1 0 ((Compute 5) ∷ [])
       ∷ [];
   orders = [];
+  links = [];
 }
 
 abbrev pub depletes_and_refills_rows : List Row
@@ -226,6 +231,7 @@ driver_beside_a_loop_system = record {
       ∷ thread (codes "Logger") 2 5 0 1 0 ((Compute 6) ∷ [])
       ∷ [];
   orders = [];
+  links = [];
 }
 
 abbrev pub driver_beside_a_loop_rows : List Row
@@ -273,6 +279,7 @@ idle_cores_system = record {
   notes = [];
   threads = [];
   orders = [];
+  links = [];
 }
 
 abbrev pub idle_cores_rows : List Row
@@ -281,6 +288,56 @@ idle_cores_rows =
 
 idle_cores : schedule idle_cores_system 1 ≡ idle_cores_rows
 idle_cores = refl
+
+abbrev pub made_before_maker_system : System
+made_before_maker_system = record {
+  cores = 3;
+  delay = 2;
+  call = 1;
+  min_budget = 1;
+  contexts =
+      context (codes "s") 0 5 10 0
+      ∷ context (codes "t") 1 5 10 0
+      ∷ context (codes "w") 2 5 10 0
+      ∷ [];
+  notes =
+      note (codes "n") 2
+      ∷ [];
+  threads =
+      thread (codes "S") 0 5 0 1 0 ((Compute 1) ∷ (Signal 0 1) ∷ [])
+      ∷ thread (codes "T") 1 5 0 1 0 ((Signal 0 2) ∷ [])
+      ∷ thread (codes "W") 2 5 0 1 0 ((Wait 0) ∷ (Compute 1) ∷ [])
+      ∷ [];
+  orders = [];
+  links =
+      link 1 2 3
+      ∷ [];
+}
+
+abbrev pub made_before_maker_rows : List Row
+made_before_maker_rows =
+    at 0 0 (row.Release 0)
+    ∷ at 0 0 (row.Run 0)
+    ∷ at 0 1 (row.Release 1)
+    ∷ at 0 1 (row.Run 1)
+    ∷ at 0 2 (row.Release 2)
+    ∷ at 0 2 (row.Run 2)
+    ∷ at 1 1 (row.Signal 1 0 2)
+    ∷ at 1 1 (row.Round 1 1 1)
+    ∷ at 1 1 (row.Stop 1 why.Done 1 None)
+    ∷ at 1 2 (row.Stop 2 why.Wait 1 None)
+    ∷ at 2 0 (row.Signal 0 0 1)
+    ∷ at 2 0 (row.Round 0 1 2)
+    ∷ at 2 0 (row.Stop 0 why.Done 2 None)
+    ∷ at 4 2 (row.Arrive 0 2 1)
+    ∷ at 4 2 (row.Wake 2 0 2)
+    ∷ at 4 2 (row.Arrive 0 1 0)
+    ∷ at 4 2 (row.Hold 0 1)
+    ∷ at 4 2 (row.Run 2)
+    ∷ []
+
+made_before_maker : schedule made_before_maker_system 4 ≡ made_before_maker_rows
+made_before_maker = refl
 
 abbrev pub order_stops_the_runner_system : System
 order_stops_the_runner_system = record {
@@ -298,6 +355,7 @@ order_stops_the_runner_system = record {
   orders =
       order 4 0 6 50 0
       ∷ [];
+  links = [];
 }
 
 abbrev pub order_stops_the_runner_rows : List Row
@@ -329,6 +387,7 @@ overload_throttles_the_stream_system = record {
       ∷ thread (codes "Brake") 1 5 0 1 8 ((Compute 4) ∷ [])
       ∷ [];
   orders = [];
+  links = [];
 }
 
 abbrev pub overload_throttles_the_stream_rows : List Row
@@ -374,6 +433,7 @@ ring_of_three_cores_system = record {
       ∷ thread (codes "C") 2 1 0 1 0 ((Wait 2) ∷ (Signal 0 1) ∷ [])
       ∷ [];
   orders = [];
+  links = [];
 }
 
 abbrev pub ring_of_three_cores_rows : List Row
@@ -428,6 +488,7 @@ round_robin_takes_turns_system = record {
       ∷ thread (codes "C") 2 9 1 1 0 ((Compute 1) ∷ [])
       ∷ [];
   orders = [];
+  links = [];
 }
 
 abbrev pub round_robin_takes_turns_rows : List Row
@@ -470,6 +531,7 @@ signals_beyond_the_horizon_system = record {
       ∷ thread (codes "W") 2 5 0 1 0 ((Wait 0) ∷ (Compute 1) ∷ [])
       ∷ [];
   orders = [];
+  links = [];
 }
 
 abbrev pub signals_beyond_the_horizon_rows : List Row
@@ -506,6 +568,7 @@ slice_refills_at_once_system = record {
       thread (codes "A") 0 5 0 1 0 ((Compute 7) ∷ [])
       ∷ [];
   orders = [];
+  links = [];
 }
 
 abbrev pub slice_refills_at_once_rows : List Row
@@ -539,6 +602,7 @@ small_head_joins_system = record {
       ∷ thread (codes "B") 1 9 7 1 0 ((Compute 1) ∷ [])
       ∷ [];
   orders = [];
+  links = [];
 }
 
 abbrev pub small_head_joins_rows : List Row
@@ -569,6 +633,7 @@ starts_late_system = record {
       thread (codes "A") 0 5 3 1 0 ((Compute 2) ∷ [])
       ∷ [];
   orders = [];
+  links = [];
 }
 
 abbrev pub starts_late_rows : List Row
@@ -601,6 +666,7 @@ two_cores_signal_each_other_system = record {
       ∷ thread (codes "Right") 1 5 0 1 0 ((Wait 0) ∷ (Compute 1) ∷ (Signal 1 2) ∷ [])
       ∷ [];
   orders = [];
+  links = [];
 }
 
 abbrev pub two_cores_signal_each_other_rows : List Row
@@ -643,6 +709,7 @@ two_orders_at_one_moment_system = record {
       order 4 0 6 50 0
       ∷ order 4 0 8 40 0
       ∷ [];
+  links = [];
 }
 
 abbrev pub two_orders_at_one_moment_rows : List Row
@@ -672,6 +739,7 @@ wait_takes_a_held_word_system = record {
       ∷ thread (codes "W") 1 1 0 1 0 ((Wait 0) ∷ (Compute 1) ∷ [])
       ∷ [];
   orders = [];
+  links = [];
 }
 
 abbrev pub wait_takes_a_held_word_rows : List Row
@@ -714,6 +782,7 @@ wake_preempts_system = record {
       ∷ thread (codes "C") 2 9 0 1 0 ((Wait 0) ∷ (Compute 1) ∷ [])
       ∷ [];
   orders = [];
+  links = [];
 }
 
 abbrev pub wake_preempts_rows : List Row
@@ -759,6 +828,7 @@ woken_but_not_ready_system = record {
       ∷ thread (codes "S") 1 5 0 1 0 ((Signal 0 1) ∷ [])
       ∷ [];
   orders = [];
+  links = [];
 }
 
 abbrev pub woken_but_not_ready_rows : List Row
@@ -795,6 +865,7 @@ yield_gives_the_head_away_system = record {
       thread (codes "A") 0 5 0 2 0 ((Compute 1) ∷ Yield ∷ [])
       ∷ [];
   orders = [];
+  links = [];
 }
 
 abbrev pub yield_gives_the_head_away_rows : List Row

@@ -1,10 +1,11 @@
 -- The parts of a worked system, and its rows, in one line each.
-use Rattle.std.specs.Prelude.{ℕ, List}
+use Rattle.std.specs.Prelude.{ℕ, List, []}
 use Rattle.mcs_ticks.specs.declared.row.Row.{Row}
 use Rattle.mcs_ticks.specs.declared.row.What.{What}
 use Rattle.mcs_control.specs.declared.config.Order.{Order}
 use Rattle.mcs_script.specs.declared.item.Item.{Item}
 use Rattle.mcs_system.specs.declared.part.ContextPart.{ContextPart}
+use Rattle.mcs_system.specs.declared.part.Link.{Link}
 use Rattle.mcs_system.specs.declared.part.NotePart.{NotePart}
 use Rattle.mcs_system.specs.declared.part.ThreadPart.{ThreadPart}
 use Rattle.mcs_system.specs.System.{System}
@@ -36,6 +37,10 @@ abbrev pub order : ℕ → ℕ → ℕ → ℕ → ℕ → Order
 order moment context budget period extra =
     record { moment = moment; context = context; config = record { budget = budget; period = period; extra = extra } }
 
+-- a link: its maker, its home, and how long a signal of the one is under way to the other
+abbrev pub link : ℕ → ℕ → ℕ → Link
+link maker home delay = record { maker = maker; home = home; delay = delay }
+
 -- a row: its moment, its core, and what happens
 abbrev pub at : ℕ → ℕ → What → Row
 at moment core what = record { moment = moment; core = core; what = what }
@@ -52,6 +57,7 @@ one_core contexts notes threads orders =
       notes = notes;
       threads = threads;
       orders = orders;
+      links = [];
     }
 
 -- a system of two cores, with signals under way for two ticks

@@ -1,12 +1,24 @@
 -- One part of a turn in the hands of the code: where and when it is taken, and what it adds to the lists that it was
 -- lent.
-use Rattle.std.specs.Prelude.{◌≡◌, List, ◌++◌}
+use Rattle.std.specs.Prelude.{◌≡◌, ℕ, ◌<◌, ◌≤◌, ◌^◌, List, ◌++◌, length, slice_index}
 use Rattle.mcs_ticks.specs.declared.row.What.{What}
 use Rattle.mcs_mail.specs.declared.mail.Mail.{Mail}
+use Rattle.mcs_system.specs.System.{note_part, delay_between}
 use Rattle.mcs_core.specs.Core.{Core}
 use Rattle.mcs_core.specs.Turn.{stamped, Turn}
 use Rattle.mcs_core.specs.declared.log.Here.{Here}
 use Rattle.mcs_core.specs.declared.log.Log.{Log}
+
+-- the delay to a core stands in the row
+pub record HasDelayTo (here : Here) (home : ℕ) : Type 0 where
+  pub known : home < 64
+  pub is : slice_index here.delays.now home ≡ delay_between here.system.now here.core home
+  pub short : slice_index here.delays.now home ≤ 2 ^ 20
+
+-- and so does that to the home of each notification
+abbrev pub HasDelays : Here → Type 0
+HasDelays here =
+    (note : ℕ) → note < length here.system.now.notes → HasDelayTo here (note_part here.system.now note).core
 
 -- these rows, with the core and the moment, and these signals are added to the lists, which are still those that were
 -- lent

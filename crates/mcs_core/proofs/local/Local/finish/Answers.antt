@@ -10,7 +10,7 @@ use Rattle.mcs_core.specs.Turn.{item_of, takes_effect, after_item, may_stop, fin
 use Rattle.mcs_core.proofs.Effects.{can_take_effect, can_stop_after}
 use Rattle.mcs_core.proofs.Loops.{then-makes}
 use Rattle.mcs_core.proofs.Whole.{on_ok-map}
-use Rattle.mcs_core.proofs.Systems.{one-each, all-noted}
+use Rattle.mcs_core.proofs.Systems.{one-each, all-noted, has-delays}
 use Rattle.mcs_core.proofs.local.Local.finish.Goals as goal
 
 pub take_effect-requires-clause-can : goal.take_effect-requires-clause-can
@@ -19,6 +19,9 @@ take_effect-requires-clause-can c =
     (can_take_effect c.args.here.now.system.now c.args.here.now.core c.args.here.now.moment (one-each c.args.here.now.system.now c.requires.well_formed) c.args.here.now.moment (record { thread = c.args.thread; using = c.args.used })
     (item_of c.args.here.now.system.now c.args.thread c.args.self.now) c.args.self.now c.requires.soon (omega arith)
     (all-noted c.args.here.now.system.now c.requires.well_formed c.args.thread (thread_of c.args.self.now c.args.thread).place.item) c.requires.sound c.requires.running)
+
+pub take_effect-requires-clause-delays : goal.take_effect-requires-clause-delays
+take_effect-requires-clause-delays c = has-delays c.args.here.now c.requires.well_formed c.requires.delays
 
 pub may_stop-requires : goal.may_stop-requires
 may_stop-requires c =

@@ -1,34 +1,35 @@
-use Rattle.std.proofs.Common.{◌≡◌, ◌-◌, ◌+◌, [], refl, sym, ap, ◌∙◌, arith, rules, false}
+use Rattle.std.proofs.Common.{◌≡◌, ◌-◌, ◌≤◌, [], refl, sym, ap, ◌∙◌, arith, rules, false}
 use Rattle.std.specs.Prelude.{max}
 use Rattle.mcs_core.specs.Orders.{orders_of, to_come}
-use Rattle.mcs_core.specs.State.{State, made_by}
-use Rattle.mcs_core.proofs.Runs.{RunsOn, runs-turn, runs-end, told-all, made-all, not_before, if_ok, same_state, to_come-twice, left_expected}
+use Rattle.mcs_core.specs.State.{State, made_by, delays_from}
+use Rattle.mcs_core.proofs.Runs.{RunsOn, runs-on, runs-end, told-all, made-all, not_before, if_ok, same_state, to_come-twice, expected-after}
 use Rattle.mcs_core.proofs.state.CoreState.run.Goals as goal
 
 pub turns-preserved : goal.turns-preserved
 turns-preserved c =
     let i = c.turns.invariant in
     let fine = sym c.is_err.ensures.value ∙ c.if-is_err.false in
-    let state = if_ok c.step.result _ fine c.step.ensures.state in
-    let mail = if_ok c.step.result _ fine c.step.ensures.mail in
-    let next : max c.turns.self.clock (c.turns.self.clock + 1) ≡ c.turns.self.clock + 1 = omega arith in
-    let time : c.step.new.self.clock ≡ c.turns.self.clock + 1 = ap (λ (s : State). s.clock) state ∙ next in
+    let state = if_ok c.advance.result _ fine c.advance.ensures.state in
+    let mail = if_ok c.advance.result _ fine c.advance.ensures.mail in
+    let number : c.advance.new.self.number ≡ c.turns.self.number = ap (λ (s : State). s.number) state in
+    let past : c.advance.new.self.clock ≤ c.args.to = c.advance.ensures.kept.2 in
+    let from : c.turns.self.clock ≤ c.advance.new.self.clock = c.advance.ensures.kept.1 in
     record {
-      number = ap (λ (s : State). s.number) state ∙ i.number;
+      number = number ∙ i.number;
       going = ap (λ (s : State). s.failed) state ∙ i.going;
       from = omega arith;
       past = omega arith;
-      fits = if_ok c.step.result _ fine c.step.ensures.fits;
-      expected = rw (state, mail) (left_expected c.args.system.now c.turns.self (c.turns.self.clock + 1) c.turns.mail.mails i.expected);
-      runs = runs-turn c.args.system.now c.args.to c.turns.self c.step.new.self c.turns.mail.mails c.step.new.mail.mails
-          c.args.rows.now.items c.turns.rows.items c.step.new.rows.items c.args.signals.now.items c.turns.signals.items c.step.new.signals.items
-          (made_by c.args.system.now c.args.self.now c.args.to c.args.mail.now.mails) (omega arith) i.runs state mail
-          (if_ok c.step.result _ fine c.step.ensures.rows) (if_ok c.step.result _ fine c.step.ensures.signals);
+      fits = if_ok c.advance.result _ fine c.advance.ensures.fits;
+      expected = expected-after c.args.system.now c.turns.self c.advance.new.self c.advance.new.self.clock c.turns.mail.mails c.advance.new.mail.mails state mail i.expected;
+      runs = runs-on c.args.system.now c.args.to c.advance.new.self.clock c.turns.self c.advance.new.self c.turns.mail.mails c.advance.new.mail.mails
+          c.args.rows.now.items c.turns.rows.items c.advance.new.rows.items c.args.signals.now.items c.turns.signals.items c.advance.new.signals.items
+          (made_by c.args.system.now c.args.self.now c.args.to c.args.mail.now.mails) from past i.runs state mail
+          (if_ok c.advance.result _ fine c.advance.ensures.rows) (if_ok c.advance.result _ fine c.advance.ensures.signals);
     }
 
 -- a state that was refused memory owes nothing but its number and its clock
 pub returns-then-is_err-clause-fits : goal.returns-then-is_err-clause-fits
-returns-then-is_err-clause-fits c = record { known = search rules; early = search rules; sound = λ f. cc; orders = λ f. cc }
+returns-then-is_err-clause-fits c = record { known = search rules; early = search rules; sound = λ f. cc; orders = λ f. cc; delays = λ f. cc }
 
 pub returns-then-is_err-clause-failed : goal.returns-then-is_err-clause-failed
 returns-then-is_err-clause-failed c = refl
@@ -52,12 +53,13 @@ returns-clause-state c =
     let none = over c in
     let time : c.turns.self.clock ≡ max c.args.self.now.clock c.args.to = omega (arith, i.from, i.past, none) in
     let core = (ends c).core in
-    same_state c.turns.self c.args.self.now.number (max c.args.self.now.clock c.args.to) _ (to_come c.args.to c.args.self.now.orders) c.args.self.now.failed
+    same_state c.turns.self c.args.self.now.number (max c.args.self.now.clock c.args.to) _ (to_come c.args.to c.args.self.now.orders) _ c.args.self.now.failed
     i.number time core
     (i.fits.orders i.going ∙ ap (λ n. to_come c.turns.self.clock (orders_of c.args.system.now n)) i.number
     ∙ ap (λ n. to_come n (orders_of c.args.system.now c.args.self.now.number)) time
     ∙ sym (to_come-twice c.args.to c.args.self.now.clock (orders_of c.args.system.now c.args.self.now.number))
     ∙ ap (to_come c.args.to) (sym (c.requires.fits.orders going)))
+    (i.fits.delays i.going ∙ ap (delays_from c.args.system.now) i.number ∙ sym (c.requires.fits.delays going))
     (i.going ∙ sym going)
 
 pub returns-clause-rows : goal.returns-clause-rows

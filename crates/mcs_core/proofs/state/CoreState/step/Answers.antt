@@ -19,5 +19,6 @@ returns-clause-signals c = rw (sent-turn c.args.system.now c.args.self.now c.arg
 pub returns-clause-fits : goal.returns-clause-fits
 returns-clause-fits c =
     let orders = c.requires.fits.orders c.requires.going in
+    let delays = c.requires.fits.delays c.requires.going in
     let next = to_come-next c.args.self.now.clock (orders_of c.args.system.now c.args.self.now.number) in
-    record { known = search rules; early = search rules; sound = λ _. search rules; orders = λ _. search rules }
+    record { known = search rules; early = search rules; sound = λ _. search rules; orders = λ _. search rules; delays = λ _. search rules }

@@ -1,0 +1,263 @@
+-- Many quiet turns at once, and the next busy moment, on a sound core.
+use Rattle.std.proofs.Common.{◌≡◌, ℕ, zero, suc, ◌+◌, ◌-◌, ◌<◌, ◌≤◌, ◌^◌, Bool, true, false, cond, List, [], ◌∷◌, refl, sym, ap, subst, ◌∙◌, arith, ◌++◌}
+use Rattle.std.specs.Prelude.{◌==◌, nat_le, max, filter, All, Option, Some, None, IfSome, Result, Ok, Err, OnOk}
+use Rattle.std.proofs.lemmas.Bool.Decides.{nat_tests}
+use Rattle.mcs_ticks.specs.Queue.{first_of}
+use Rattle.mcs_ticks.specs.declared.memory.NoMemory.{NoMemory}
+use Rattle.mcs_control.specs.declared.config.Order.{Order}
+use Rattle.mcs_mail.specs.declared.mail.Mail.{Mail}
+use Rattle.mcs_mail.specs.Box.{arriving, first_arrival, IsOrdered}
+use Rattle.mcs_release.specs.Release.{is_due, next_date}
+use Rattle.mcs_core.specs.declared.standing.Chosen.{Chosen}
+use Rattle.mcs_system.specs.System.{System}
+use Rattle.mcs_core.specs.Core.{Core}
+use Rattle.mcs_core.specs.Orders.{due_now, to_come, orders_of}
+use Rattle.mcs_core.specs.Turn.{Turn, is_for_now}
+use Rattle.mcs_core.specs.stored.Sound.{IsSound}
+use Rattle.mcs_core.specs.stored.Sound.Phase.{Between}
+use Rattle.mcs_system.specs.WellFormed.{IsWellFormed}
+use Rattle.mcs_core.specs.State.{State, Fits, IsExpected, made_by, state_after}
+use Rattle.mcs_core.specs.Run.{Ran, ran}
+use Rattle.mcs_core.proofs.Runs.{left_expected, joined, ran-more, same_state, to_come-twice}
+use Rattle.mcs_core.specs.Busy.{IsFirst, sooner, first_moment, IsBest, GoesOnAfter, counted_for}
+use Rattle.mcs_core.specs.Quiet.{counted_times, IsQuiet, AreQuiet, IsNextBusy}
+use Rattle.mcs_core.proofs.Effects.{runner_small}
+use Rattle.mcs_core.proofs.Plans.{orders_of-by_moment, to_come-by_moment, due-of, due-to_come}
+use Rattle.mcs_core.proofs.Systems.{one-each, orders-proper, all-noted}
+use Rattle.mcs_core.proofs.Ticks.{runner-placed}
+use Rattle.mcs_core.proofs.Turning.{turn-sound}
+use Rattle.mcs_core.proofs.Quiet.{no_mail, no_order, counted-for, quiet-ran}
+use Rattle.mcs_core.proofs.Busy.{IsKnown, stays-quiet, quiet-stays, next-busy, first-mail, first-order-of, first-release}
+
+abbrev pub IsEarlyTick : Option ℕ → Type 0
+IsEarlyTick o = IfSome o (λ m. m ≤ 2 ^ 42)
+
+early-some : (o : Option ℕ) → IsEarlyTick o → (m : ℕ) → o ≡ Some m → m ≤ 2 ^ 42
+early-some None h m e = cc
+early-some (Some n) h m e = let same : n ≡ m = cc in omega arith
+
+-- where no order is for this moment, those to come at it are those to come after it
+none-now : (t : ℕ) (os : List Order) → due_now t os ≡ [] → to_come t os ≡ to_come (t + 1) os
+none-now t [] e = refl
+none-now t (o ∷ os) e = by (o.moment == t) (nat_le t o.moment) (nat_le (t + 1) o.moment) refl refl refl e (none-now t os)
+  where
+    by : (a b d : Bool) → (o.moment == t) ≡ a → nat_le t o.moment ≡ b → nat_le (t + 1) o.moment ≡ d → cond a (o ∷ due_now t os) (due_now t os) ≡ [] → (due_now t os ≡ [] → to_come t os ≡ to_come (t + 1) os) →
+        cond b (o ∷ to_come t os) (to_come t os) ≡ cond d (o ∷ to_come (t + 1) os) (to_come (t + 1) os)
+    by true b d f g h e i = cc
+    by false true true f g h e i = ap (λ xs. o ∷ xs) (i e)
+    by false false false f g h e i = i e
+    by false true false f g h e i = absurd (no o.moment t f g h)
+      where
+        no : (m t : ℕ) → (m == t) ≡ false → nat_le t m ≡ true → nat_le (t + 1) m ≡ false → ⊥
+        no m t f g h = grind (arith, nat_tests)
+    by false false true f g h e i = absurd (no o.moment t f g h)
+      where
+        no : (m t : ℕ) → (m == t) ≡ false → nat_le t m ≡ false → nat_le (t + 1) m ≡ true → ⊥
+        no m t f g h = grind (arith, nat_tests)
+
+module _ (system : System) (c : ℕ) (w : IsWellFormed system) where
+  -- quiet turns keep a sound core sound
+  pub quiet-sound : (n t : ℕ) (core : Core) → IsSound system c t Between None core → AreQuiet system c t [] core n → t + n ≤ 2 ^ 40 + 1 → IsSound system c (t + n) Between None (counted_times system c n core)
+  quiet-sound zero t core h q l = let e : t ≡ t + zero = omega arith in let P : ℕ → Type 0 = λ u. IsSound system c u Between None core in subst P e h
+  quiet-sound (suc n) t core h q l =
+      let before = quiet-sound n t core h (λ m k. q m (omega arith)) (omega arith) in
+      let soon : t + n ≤ 2 ^ 40 = omega arith in
+      let made = turn-sound system c (one-each system w) (t + n) soon [] (counted_times system c n core) (all-noted system w) (orders-proper system w) tt before in
+      let same = ap (λ (turn : Turn). turn.core) (q n (omega arith)) in
+      let e : t + n + 1 ≡ t + suc n = omega arith in
+      let P : Core → Type 0 = λ k. IsSound system c (t + n + 1) Between None k in
+      let Q : ℕ → Type 0 = λ u. IsSound system c u Between None (counted_times system c (suc n) core) in
+      subst Q e (subst P same made)
+
+  -- and no order is obeyed in them
+  pub quiet-orders : (n t : ℕ) (core : Core) → AreQuiet system c t [] core n → to_come t (orders_of system c) ≡ to_come (t + n) (orders_of system c)
+  quiet-orders zero t core q = let e : t ≡ t + zero = omega arith in ap (λ u. to_come u (orders_of system c)) e
+  quiet-orders (suc n) t core q =
+      let e : t + n + 1 ≡ t + suc n = omega arith in
+      let none = no_order system c (t + n) [] (counted_times system c n core) (q n (omega arith)) in
+      quiet-orders n t core (λ m k. q m (omega arith))
+      ∙ none-now (t + n) (orders_of system c) (sym (due-to_come (t + n) (orders_of system c)) ∙ due-of system c (t + n) ∙ none)
+      ∙ ap (λ u. to_come u (orders_of system c)) e
+
+  known : (t : ℕ) (core : Core) → IsSound system c t Between None core → (chosen : Chosen) → core.running ≡ Some chosen → IsKnown system core chosen
+  known t core h chosen e =
+      let p = runner-placed system c t (one-each system w) Between chosen core h e in
+      record { thread = rw h.threads p.known; item = p.item }
+
+  -- on a sound core a turn is quiet when the thread that runs goes on, no ready thread is better, no date has come, and there is no
+  -- order and no mail ..
+  pub quiet-when-sound : (t : ℕ) (mails : List Mail) (core : Core) → IsSound system c t Between None core →
+      GoesOnAfter system 0 core.running core → IsBest system core.running (first_of core.ready) → filter (is_due t) core.releases ≡ [] →
+      filter (is_for_now system c t) system.orders ≡ [] → mails ≡ [] → IsQuiet system c t mails core
+  quiet-when-sound t mails core h goes best date order mail =
+      let e : t + 0 ≡ t = omega arith in
+      let P : ℕ → Type 0 = λ u. filter (is_due u) core.releases ≡ [] in
+      let Q : ℕ → Type 0 = λ u. filter (is_for_now system c u) system.orders ≡ [] in
+      let R : ℕ → Type 0 = λ u. IsQuiet system c u [] core in
+      let S : List Mail → Type 0 = λ ms. IsQuiet system c t ms core in
+      subst S (sym mail) (subst R e (stays-quiet system c t [] 0 core (known t core h) (goes, best, subst P (sym e) date, subst Q (sym e) order, refl)))
+
+  -- .. and then alone
+  pub quiet-only-when : (t : ℕ) (mails : List Mail) (core : Core) → IsSound system c t Between None core → IsQuiet system c t mails core →
+      GoesOnAfter system 0 core.running core × IsBest system core.running (first_of core.ready) × (filter (is_due t) core.releases ≡ [])
+      × (filter (is_for_now system c t) system.orders ≡ []) × (mails ≡ [])
+  quiet-only-when t mails core h q =
+      let e : t + 0 ≡ t = omega arith in
+      let none = no_mail system c t mails core q in
+      let P : ℕ → Type 0 = λ u. filter (is_due u) core.releases ≡ [] in
+      let Q : ℕ → Type 0 = λ u. filter (is_for_now system c u) system.orders ≡ [] in
+      let R : ℕ → Type 0 = λ u. IsQuiet system c u [] core in
+      let S : List Mail → Type 0 = λ ms. IsQuiet system c t ms core in
+      let stays = quiet-stays system c t [] 0 core (known t core h) (subst R (sym e) (subst S none q)) in
+      (stays.0, stays.1, subst P e stays.2, subst Q e stays.3, none)
+
+  pub counts-many : (n t : ℕ) (core : Core) → IsSound system c t Between None core → counted_times system c n core ≡ counted_for n core.running core
+  counts-many n t core h = counted-for system c n core (λ chosen e. (known t core h chosen e).thread)
+
+  pub counts-fit : (ticks t : ℕ) (core : Core) → IsSound system c t Between None core → ticks ≤ 2 ^ 42 → IfSome core.running (λ chosen. chosen.using + ticks < 2 ^ 64)
+  counts-fit ticks t core h l = by core.running refl
+    where
+      small : (chosen : Chosen) → core.running ≡ Some chosen → chosen.using < 2 ^ 40
+      small chosen e = runner_small system c t (one-each system w) chosen core h e
+
+      by : (o : Option Chosen) → core.running ≡ o → IfSome o (λ chosen. chosen.using + ticks < 2 ^ 64)
+      by None e = tt
+      by (Some chosen) e = let k = small chosen e in omega arith
+
+  pub next-busy-of : (clock : ℕ) (box : List Mail) (core : Core) (orders : List Order) (ends better date order mail : Option ℕ) →
+      IsSound system c clock Between None core → orders ≡ to_come clock (orders_of system c) → IsOrdered box → All (λ (mail : Mail). clock ≤ mail.arrives) box →
+      IsFirst clock (λ n. GoesOnAfter system n core.running core) ends →
+      IsFirst clock (λ n. IsBest system core.running (first_of core.ready)) better →
+      date ≡ next_date core.releases → IsEarlyTick date → order ≡ first_moment orders → IsEarlyTick order → mail ≡ first_arrival box → IsEarlyTick mail →
+      IsNextBusy system c clock box core (sooner (sooner (sooner (sooner ends better) date) order) mail)
+  next-busy-of clock box core orders ends better date order mail h planned ordered come h1 h2 e3 l3 e4 l4 e5 l5 =
+      next-busy system c clock box core ends better date order mail (known clock core h) h1 h2
+      (rw e3 (first-release clock core.releases h.later (λ m e. early-some date l3 m (e3 ∙ e))))
+      (rw e4 (first-order-of system c clock orders planned (rw planned (to_come-by_moment 0 clock (orders_of system c) (orders_of-by_moment system c))) (λ m e. early-some order l4 m (e4 ∙ e))))
+      (rw e5 (first-mail clock box ordered come (λ m e. early-some mail l5 m (e5 ∙ e))))
+
+  -- a state after quiet turns
+  pub skipped-fits : (state : State) (to : ℕ) (core : Core) → c ≡ state.number → Fits system state → state.failed ≡ false → state.clock ≤ to → to ≤ 2 ^ 40 + 1 →
+      AreQuiet system c state.clock [] state.core (to - state.clock) → core ≡ counted_times system c (to - state.clock) state.core →
+      Fits system (record state { clock = to; core = core })
+  skipped-fits state to core number fits going later in_time quiet e =
+      let there : state.clock + (to - state.clock) ≡ to = omega arith in
+      let P : ℕ → Type 0 = λ x. IsSound system x state.clock Between None state.core in
+      let Q : ℕ → Type 0 = λ x. IsSound system x to Between None core in
+      let R : ℕ → Type 0 = λ u. IsSound system c u Between None (counted_times system c (to - state.clock) state.core) in
+      let S : Core → Type 0 = λ k. IsSound system c to Between None k in
+      let sound : IsSound system c state.clock Between None state.core = subst P (sym number) (fits.sound going) in
+      let after = subst R there (quiet-sound (to - state.clock) state.clock state.core sound quiet (omega arith)) in
+      record {
+        known = fits.known;
+        early = in_time;
+        sound = λ f. subst Q number (subst S (sym e) after);
+        orders = λ f.
+            fits.orders going ∙ ap (λ x. to_come state.clock (orders_of system x)) (sym number) ∙ quiet-orders (to - state.clock) state.clock state.core quiet
+            ∙ ap (λ u. to_come u (orders_of system c)) there ∙ ap (λ x. to_come to (orders_of system x)) number;
+        delays = λ f. fits.delays going;
+      }
+
+-- turns that are quiet with this mail are quiet with none
+pub quiet-alone : (system : System) (c t n : ℕ) (core : Core) (box : List Mail) → AreQuiet system c t box core n → AreQuiet system c t [] core n
+quiet-alone system c t n core box q = λ m l.
+    let at = q m l in
+    let P : List Mail → Type 0 = λ mails. IsQuiet system c (t + m) mails (counted_times system c m core) in
+    subst P (no_mail system c (t + m) (arriving (t + m) box) (counted_times system c m core) at) at
+
+-- up to the next busy moment, or up to a sooner one
+pub quiet-to : (system : System) (c t to : ℕ) (core : Core) (box : List Mail) (o : Option ℕ) → IsNextBusy system c t box core o → ((m : ℕ) → o ≡ Some m → to ≤ m) → to ≤ 2 ^ 42 → AreQuiet system c t box core (to - t)
+quiet-to system c t to core box None h late l = λ n k. h n (omega arith)
+quiet-to system c t to core box (Some moment) h late l = λ n k. (let e = late moment refl in let f = h.1 in h.3 n (omega arith))
+
+pub quiet-at : (system : System) (c t moment : ℕ) (core : Core) (box : List Mail) → IsNextBusy system c t box core (Some moment) → AreQuiet system c t box core (moment - t)
+quiet-at system c t moment core box h = λ n k. (let f = h.1 in h.3 n (omega arith))
+
+pub later-busy : (system : System) (c t moment : ℕ) (core : Core) (box : List Mail) → IsNextBusy system c t box core (Some moment) → t ≤ moment
+later-busy system c t moment core box h = let f = h.1 in omega arith
+
+module _ (system : System) (state : State) (box : List Mail) (until : ℕ) (later : state.clock ≤ until) (quiet : AreQuiet system state.number state.clock box state.core (until - state.clock)) where
+  -- the state after quiet turns
+  abbrev pub quiet_state : State
+  quiet_state = record state { clock = until; core = counted_times system state.number (until - state.clock) state.core }
+
+  -- what turns make of which all are quiet
+  made-quiet : made_by system state until box ≡ record { core = quiet_state.core; rows = []; mails = []; box = box }
+  made-quiet = quiet-ran system state.number (until - state.clock) state.clock state.core box quiet
+
+  -- what turns make from the clock on, they make from the state after the quiet ones on
+  pub made-on : (to : ℕ) → until ≤ to → made_by system state to box ≡ made_by system quiet_state to box
+  made-on to l =
+      let n = until - state.clock in
+      let many : to - state.clock ≡ n + (to - until) = omega arith in
+      let there : state.clock + n ≡ until = omega arith in
+      ap (λ x. ran system state.number x state.clock state.core box) many
+      ∙ ran-more system state.number n (to - until) state.clock state.core box
+      ∙ ap (λ (before : Ran). joined before (ran system state.number (to - until) (state.clock + n) before.core before.box)) made-quiet
+      ∙ ap (λ t. ran system state.number (to - until) t quiet_state.core box) there
+
+  -- and so is the state after them
+  pub after-on : (to : ℕ) → until ≤ to → state_after quiet_state to (made_by system quiet_state to box) ≡ state_after state to (made_by system state to box)
+  after-on to l =
+      let late : max until to ≡ max state.clock to = omega arith in
+      ap (λ (made : Ran). state_after quiet_state to made) (sym (made-on to l))
+      ∙ ap (λ t. let made : State = record { number = state.number; clock = t; core = (made_by system state to box).core; orders = to_come to state.orders; delays = state.delays; failed = state.failed } in made) late
+
+  -- mail that is expected is expected after them
+  pub expected-on : All (IsExpected system state) box → All (IsExpected system quiet_state) box
+  expected-on h =
+      let after = left_expected system state until box h in
+      let P : List Mail → Type 0 = λ mails. All (IsExpected system (state_after state until (made_by system state until box))) mails in
+      let kept = subst P (ap (λ (made : Ran). made.box) made-quiet) after in
+      λ k d l. record { known = (kept k d l).known; home = (kept k d l).home; arrives = (let a = (kept k d l).arrives in omega arith) }
+
+  -- a turn that is taken after them: with them it is one stretch, up to the clock
+  module _ (skipped new : State) (same : skipped ≡ quiet_state) (r : Result (Unit {0}) NoMemory) (took : OnOk r (new ≡ state_after skipped (skipped.clock + 1) (made_by system skipped (skipped.clock + 1) box))) where
+    whole-stretch : new ≡ state_after skipped (skipped.clock + 1) (made_by system skipped (skipped.clock + 1) box) →
+        made_by system skipped (skipped.clock + 1) box ≡ made_by system state new.clock box
+    whole-stretch e =
+        let next : max skipped.clock (skipped.clock + 1) ≡ skipped.clock + 1 = omega arith in
+        let time : new.clock ≡ skipped.clock + 1 = ap (λ (s : State). s.clock) e ∙ next in
+        let there : skipped.clock ≡ until = ap (λ (s : State). s.clock) same in
+        ap (λ (s : State). made_by system s (skipped.clock + 1) box) same ∙ sym (made-on (skipped.clock + 1) (omega arith))
+        ∙ ap (λ t. made_by system state t box) (sym time)
+
+    pub stretch-state : OnOk r (new ≡ state_after state new.clock (made_by system state new.clock box))
+    stretch-state = by r took
+      where
+        by : (r : Result (Unit {0}) NoMemory) → OnOk r (new ≡ state_after skipped (skipped.clock + 1) (made_by system skipped (skipped.clock + 1) box)) →
+            OnOk r (new ≡ state_after state new.clock (made_by system state new.clock box))
+        by (Err x) e = tt
+        by (Ok x) e =
+            let next : max skipped.clock (skipped.clock + 1) ≡ skipped.clock + 1 = omega arith in
+            let time : new.clock ≡ skipped.clock + 1 = ap (λ (s : State). s.clock) e ∙ next in
+            let there : skipped.clock ≡ until = ap (λ (s : State). s.clock) same in
+            e ∙ ap (λ (s : State). state_after s (skipped.clock + 1) (made_by system s (skipped.clock + 1) box)) same ∙ after-on (skipped.clock + 1) (omega arith)
+            ∙ ap (λ t. state_after state t (made_by system state t box)) (sym time)
+
+    pub stretch-told : {A : Type 0} (part : Ran → List A) (before after : List A) →
+        OnOk r (after ≡ before ++ part (made_by system skipped (skipped.clock + 1) box)) → OnOk r (after ≡ before ++ part (made_by system state new.clock box))
+    stretch-told {A} part before after told = by r took told
+      where
+        by : (r : Result (Unit {0}) NoMemory) → OnOk r (new ≡ state_after skipped (skipped.clock + 1) (made_by system skipped (skipped.clock + 1) box)) →
+            OnOk r (after ≡ before ++ part (made_by system skipped (skipped.clock + 1) box)) → OnOk r (after ≡ before ++ part (made_by system state new.clock box))
+        by (Err x) e f = tt
+        by (Ok x) e f = f ∙ ap (λ (made : Ran). before ++ part made) (whole-stretch e)
+
+  -- where no turn is taken after them
+  module _ (skipped : State) (same : skipped ≡ quiet_state) where
+    pub quiet-made : made_by system state skipped.clock box ≡ record { core = skipped.core; rows = []; mails = []; box = box }
+    quiet-made =
+        let P : State → Type 0 = λ s. made_by system state s.clock box ≡ record { core = s.core; rows = []; mails = []; box = box } in
+        subst P (sym same) made-quiet
+
+    pub quiet-state : Fits system state → state.failed ≡ false → Fits system skipped → skipped ≡ state_after state skipped.clock (made_by system state skipped.clock box)
+    quiet-state fits going after =
+        let there : skipped.clock ≡ until = ap (λ (s : State). s.clock) same in
+        let late : skipped.clock ≡ max state.clock skipped.clock = omega arith in
+        let number = ap (λ (s : State). s.number) same in
+        let failed = ap (λ (s : State). s.failed) same in
+        same_state skipped _ _ _ _ _ _ number late (ap (λ (made : Ran). made.core) (sym quiet-made))
+        (after.orders (failed ∙ going) ∙ ap (λ n. to_come skipped.clock (orders_of system n)) number ∙ ap (λ t. to_come t (orders_of system state.number)) late
+        ∙ sym (to_come-twice skipped.clock state.clock (orders_of system state.number)) ∙ ap (to_come skipped.clock) (sym (fits.orders going)))
+        (ap (λ (s : State). s.delays) same) failed

@@ -1,0 +1,57 @@
+-- The first moment at which something does not hold, and what a busy moment may come from: the end of an item or of a
+-- head, a better thread, a date, an order, an arrival.
+use Rattle.std.specs.Prelude.{◌≡◌, ◌≢◌, ℕ, ◌+◌, ◌-◌, ◌<◌, ◌≤◌, ◌^◌, false, nat_lt, if◌then◌else◌, Option, Some, None, List, [], ◌∷◌}
+use Rattle.mcs_ticks.specs.declared.queue.Queued.{Queued}
+use Rattle.mcs_control.specs.declared.config.Order.{Order}
+use Rattle.mcs_control.specs.Context.{head_amount}
+use Rattle.mcs_system.specs.System.{System, thread_part}
+use Rattle.mcs_core.specs.declared.standing.Chosen.{Chosen}
+use Rattle.mcs_core.specs.Core.{Core, thread_of, with_thread}
+use Rattle.mcs_core.specs.Turn.{its_context}
+
+-- from the clock on, the first moment at which it does not hold, and none where it holds at all moments up to 2^42
+abbrev pub IsFirst : ℕ → (ℕ → Type 0) → Option ℕ → Type 0
+IsFirst clock P (Some moment) =
+    (n : ℕ)
+    × (moment ≡ clock + n)
+    × (moment ≤ 2 ^ 42)
+    × ((m : ℕ) → m < n → P m)
+    × (¬ P n)
+IsFirst clock P None = (n : ℕ) → clock + n ≤ 2 ^ 42 → P n
+
+-- the sooner of two moments
+abbrev pub sooner : Option ℕ → Option ℕ → Option ℕ
+sooner None other = other
+sooner (Some moment) None = Some moment
+sooner (Some moment) (Some other) = Some (if nat_lt other moment then other else moment)
+
+-- the moment of the first order
+abbrev pub first_moment : List Order → Option ℕ
+first_moment [] = None
+first_moment (order ∷ orders) = Some order.moment
+
+-- so many ticks were used by this thread, which runs
+abbrev pub counted_by : ℕ → Chosen → Core → Core
+counted_by n chosen core =
+    let state = thread_of core chosen.thread in
+    with_thread chosen.thread (record state { place = record (state.place) { left = state.place.left - n } })
+    (record core { running = Some (record { thread = chosen.thread; using = chosen.using + n }) })
+
+abbrev pub counted_for : ℕ → Option Chosen → Core → Core
+counted_for n None core = core
+counted_for n (Some chosen) core = counted_by n chosen core
+
+module _ (system : System) where
+  -- no ready thread is to run instead of the one that runs
+  abbrev pub IsBest : Option Chosen → Option Queued → Type 0
+  IsBest (Some chosen) (Some best) = nat_lt (thread_part system chosen.thread).priority best.priority ≡ false
+  IsBest (Some chosen) None = Unit {0}
+  IsBest None (Some best) = ⊥
+  IsBest None None = Unit {0}
+
+  -- after so many ticks, the thread that runs neither ends its item nor uses up its head with one more
+  abbrev pub GoesOnAfter : ℕ → Option Chosen → Core → Type 0
+  GoesOnAfter n None core = Unit {0}
+  GoesOnAfter n (Some chosen) core =
+      (n + 1 < (thread_of core chosen.thread).place.left)
+      × (chosen.using + n + 1 ≢ head_amount (its_context system chosen.thread core))
