@@ -1,4 +1,10 @@
 pub mod Joins
 pub mod Merges
 pub mod Pushes
+pub mod Trees
+pub mod Passing
+pub mod Kept
+pub mod Helds
+pub mod Pops
+pub mod Calls
 mod Worked

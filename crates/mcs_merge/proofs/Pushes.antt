@@ -17,7 +17,7 @@ pub AreUntil-append : (t : ℕ) (rows more : List Row) → AreUntil t rows → A
 AreUntil-append t [] more h k = k
 AreUntil-append t (row ∷ rows) more h k = (h.0, AreUntil-append t rows more h.1 k)
 
-AreFrom-append : (t : ℕ) (rows more : List Row) → AreFrom t rows → AreFrom t more → AreFrom t (rows ++ more)
+pub AreFrom-append : (t : ℕ) (rows more : List Row) → AreFrom t rows → AreFrom t more → AreFrom t (rows ++ more)
 AreFrom-append t [] more h k = k
 AreFrom-append t (row ∷ rows) more h k = (h.0, AreFrom-append t rows more h.1 k)
 

@@ -1,8 +1,10 @@
--- A merge that is worked by hand.
-use Rattle.std.proofs.Common.{◌≡◌, ℕ, [], ◌∷◌, refl}
+-- Merges that are worked by hand.
+use Rattle.std.proofs.Common.{◌≡◌, ℕ, List, [], ◌∷◌, ◌++◌, Some, None, ◌<◌, ◌≤◌, length, slice_index, lit<, lit≤, refl}
 use Rattle.mcs_ticks.specs.declared.row.Row.{Row}
 use Rattle.mcs_ticks.specs.declared.row.What.TheVariants as row
-use Rattle.mcs_merge.specs.Merge.{merged}
+use Rattle.mcs_merge.specs.Merge.{merged, AreFrom}
+use Rattle.mcs_merge.specs.Merging.{Merging, starting, next_row, CanAdd, IsListOf}
+use Rattle.mcs_merge.specs.laws.Calls.{Call, Add, Pop, after, taken, MayBeMade}
 
 -- a row of this core at this moment
 abbrev at : ℕ → ℕ → ℕ → Row
@@ -13,3 +15,44 @@ cores_take_turns :
     merged ((at 0 0 1 ∷ at 3 0 2 ∷ []) ∷ (at 0 1 3 ∷ at 2 1 4 ∷ at 2 1 5 ∷ []) ∷ [] ∷ (at 2 3 6 ∷ at 3 3 7 ∷ []) ∷ [])
     ≡ at 0 0 1 ∷ at 0 1 3 ∷ at 2 1 4 ∷ at 2 1 5 ∷ at 2 3 6 ∷ at 3 0 2 ∷ at 3 3 7 ∷ []
 cores_take_turns = refl
+
+-- two cores: what comes while the clocks go on
+abbrev first_calls : List Call
+first_calls = Add 0 (at 1 0 1 ∷ at 3 0 2 ∷ []) 4 ∷ []
+
+abbrev second_calls : List Call
+second_calls = Add 0 (at 1 0 1 ∷ at 3 0 2 ∷ []) 4 ∷ Pop ∷ Add 1 (at 1 1 3 ∷ []) 2 ∷ []
+
+abbrev third_calls : List Call
+third_calls = Add 0 (at 1 0 1 ∷ at 3 0 2 ∷ []) 4 ∷ Pop ∷ Add 1 (at 1 1 3 ∷ []) 2 ∷ Pop ∷ Pop ∷ Pop ∷ Add 1 [] 5 ∷ []
+
+-- the second core's clock is 0: no row is below it
+none_before_all_clocks : next_row (after first_calls (starting 2)) ≡ None
+none_before_all_clocks = refl
+
+-- at one moment the first core's row comes first
+lower_core_first : next_row (after second_calls (starting 2)) ≡ Some (at 1 0 1)
+lower_core_first = refl
+
+both_of_a_moment : taken (second_calls ++ Pop ∷ Pop ∷ Pop ∷ []) (starting 2) ≡ at 1 0 1 ∷ at 1 1 3 ∷ []
+both_of_a_moment = refl
+
+-- a clock that goes on lets the row of the other core pass
+clock_alone : taken (third_calls ++ Pop ∷ Pop ∷ []) (starting 2) ≡ at 1 0 1 ∷ at 1 1 3 ∷ at 3 0 2 ∷ []
+clock_alone = refl
+
+none_is_left : next_row (after (third_calls ++ Pop ∷ []) (starting 2)) ≡ None
+none_is_left = refl
+
+-- all of these calls may be made
+they_may_be_made : MayBeMade third_calls (starting 2)
+they_may_be_made = (
+  may (lit< tt) (lit≤ tt) (lit≤ tt, (lit≤ tt, tt)) (record { of_core = (refl, (refl, tt)); in_order = ((lit≤ tt, tt), (tt, tt)); before = (lit< tt, (lit< tt, tt)) }),
+  (
+    may (lit< tt) (lit≤ tt) (lit≤ tt, tt) (record { of_core = (refl, tt); in_order = (tt, tt); before = (lit< tt, tt) }),
+    (may (lit< tt) (lit≤ tt) tt (record { of_core = tt; in_order = tt; before = tt }), tt),
+  ),
+)
+  where
+    may : {core clock : ℕ} {rows : List Row} {m : Merging} → core < length m.clocks → slice_index m.clocks core ≤ clock → AreFrom (slice_index m.clocks core) rows → IsListOf core rows clock → CanAdd core rows clock m
+    may a b c d = record { is_core = a; no_earlier = b; from_clock = c; is_list = d }

@@ -8,6 +8,8 @@ mod mail;
 #[cfg(test)]
 mod merge;
 #[cfg(test)]
+mod merger;
+#[cfg(test)]
 mod notify;
 #[cfg(test)]
 mod ready;

@@ -1,5 +1,5 @@
 use mcs_mail::{Mail, Mailbox};
-use mcs_ticks::{CoreId, NoteId, Tick};
+use mcs_ticks::{CoreId, NoMemory, NoteId, Tick};
 use std::process::Abort;
 use std::test::Fail;
 
@@ -8,7 +8,11 @@ fn tick(rt: &impl Abort, ticks: u64) -> Tick {
 }
 
 // Puts mail, by its arrival, making, maker and badge. The badge tells it apart.
-fn put_all(rt: &impl Abort, mailbox: &mut Mailbox, rows: &[(u64, u64, usize, u32)]) {
+fn put_all(
+    rt: &impl Abort,
+    mailbox: &mut Mailbox,
+    rows: &[(u64, u64, usize, u32)],
+) -> Result<(), NoMemory> {
     for (arrives, made, maker, badge) in rows {
         let mail = Mail {
             arrives: tick(rt, *arrives),
@@ -17,8 +21,11 @@ fn put_all(rt: &impl Abort, mailbox: &mut Mailbox, rows: &[(u64, u64, usize, u32
             note: NoteId(0),
             badge: *badge,
         };
-        assert!(rt; mailbox.put(mail).is_ok());
+        if let Err((_, refusal)) = mailbox.put(mail) {
+            return Err(refusal);
+        }
     }
+    Ok(())
 }
 
 // What leaves by the given moment, in order: each mail once, with `next` as its arrival.
@@ -47,13 +54,13 @@ fn mail_is_taken_in_order_of_delivery(rt: HostRuntime) -> Result<(), Fail> {
             (7, 5, 1, 5),
             (8, 1, 1, 8),
         ],
-    );
+    )?;
     mailbox.reserve(4)?;
     put_all(
         &rt,
         &mut mailbox,
         &[(7, 6, 0, 7), (6, 5, 9, 1), (7, 5, 1, 6), (8, 2, 0, 9)],
-    );
+    )?;
     leaves(&rt, &mut mailbox, tick(&rt, 6), &[1]);
     leaves(
         &rt,

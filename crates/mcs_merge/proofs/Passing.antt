@@ -1,0 +1,86 @@
+-- The first of the rows that all clocks have passed.
+use Rattle.std.proofs.Common.{◌≡◌, ◌≢◌, ℕ, zero, suc, ◌+◌, ◌<◌, ◌≤◌, Bool, true, false, cond, List, [], ◌∷◌, ◌++◌, length, get_or, set, inl, inr, refl, sym, ap, ◌∙◌, arith}
+use Rattle.std.specs.Prelude.{flat_map, ◌==◌}
+use Rattle.std.specs.List.{range_with_len}
+use Rattle.std.proofs.lemmas.Bool.{cases_eq}
+use Rattle.std.proofs.lemmas.Bool.Decides.{nat_tests}
+use Rattle.mcs_ticks.specs.declared.row.Row.{Row}
+use Rattle.mcs_merge.specs.Merge.{rows_at, merged_before}
+use Rattle.mcs_merge.specs.Merging.{least_clock}
+use Rattle.mcs_merge.proofs.Merges.{flat_map-same}
+
+-- what is put together part by part, where each part is empty
+pub flat_map-none : {A : Type 0} (f : ℕ → List A) (n a : ℕ) → ((i : ℕ) → a ≤ i → i < a + n → f i ≡ []) → flat_map f (range_with_len a n) ≡ []
+flat_map-none f zero a h = refl
+flat_map-none f (suc n) a h = rw (h a (omega arith) (omega arith)) (flat_map-none f n (a + 1) (λ i p q. h i (omega arith) (omega arith)))
+
+-- .. and where one part has one more in front, and those before it are empty
+pub flat_map-first : {A : Type 0} (f g : ℕ → List A) (x : A) (t n a : ℕ) → a ≤ t → t < a + n → ((i : ℕ) → i < t → f i ≡ []) → f t ≡ x ∷ g t → ((i : ℕ) → i ≢ t → f i ≡ g i) →
+    flat_map f (range_with_len a n) ≡ x ∷ flat_map g (range_with_len a n)
+flat_map-first f g x t zero a l m none one same = absurd (omega arith)
+flat_map-first {A} f g x t (suc n) a l m none one same =
+    elim (cases_eq a t) [
+      | inl e ↦ here (f a) (g a) _ _ (ap f e ∙ one ∙ ap (λ i. x ∷ g i) (sym e)) (flat_map-same f g n (a + 1) (λ i p q. same i (omega arith)))
+      | inr e ↦ later (f a) (g a) _ _ (none a (omega arith)) (sym (same a e) ∙ none a (omega arith)) (flat_map-first f g x t n (a + 1) (omega arith) (omega arith) none one same)
+    ]
+  where
+    here : (xs ys us vs : List A) → xs ≡ x ∷ ys → us ≡ vs → xs ++ us ≡ x ∷ (ys ++ vs)
+    here xs ys us vs e i = rw (e, i)
+
+    later : (xs ys us vs : List A) → xs ≡ [] → ys ≡ [] → us ≡ x ∷ vs → xs ++ us ≡ x ∷ (ys ++ vs)
+    later xs ys us vs e i k = rw (e, i, k)
+
+pub head_same : (t : ℕ) (row : Row) (rows : List Row) → row.moment ≡ t → rows_at t (row ∷ rows) ≡ row ∷ rows_at t rows
+head_same t row rows e = by (row.moment == t) refl
+  where
+    by : (b : Bool) → (row.moment == t) ≡ b → cond b (row ∷ rows_at t rows) (rows_at t rows) ≡ row ∷ rows_at t rows
+    by true f = refl
+    by false f = absurd (grind (arith, nat_tests))
+
+pub head_apart : (t : ℕ) (row : Row) (rows : List Row) → t ≢ row.moment → rows_at t (row ∷ rows) ≡ rows_at t rows
+head_apart t row rows e = by (row.moment == t) refl
+  where
+    by : (b : Bool) → (row.moment == t) ≡ b → cond b (row ∷ rows_at t rows) (rows_at t rows) ≡ rows_at t rows
+    by true f = absurd (grind (arith, nat_tests))
+    by false f = refl
+
+-- no list has a row of this moment
+pub none-at : (t : ℕ) (lists : List (List Row)) → ((d : ℕ) → d < length lists → rows_at t (get_or lists d []) ≡ []) → flat_map (rows_at t) lists ≡ []
+none-at t [] h = refl
+none-at t (rows ∷ lists) h = rw (h 0 (omega arith)) (none-at t lists (λ d l. h (suc d) (omega arith)))
+
+-- of the moment of a list's first row, where no earlier list has one
+first-at : (t : ℕ) (lists : List (List Row)) (c : ℕ) (row : Row) (rows : List Row) → c < length lists → get_or lists c [] ≡ row ∷ rows → row.moment ≡ t →
+    ((d : ℕ) → d < c → rows_at t (get_or lists d []) ≡ []) → flat_map (rows_at t) lists ≡ row ∷ flat_map (rows_at t) (set lists c rows)
+first-at t [] c row rows l e m h = absurd (omega arith)
+first-at t (xs ∷ lists) zero row rows l e m h = ap (λ us. us ++ flat_map (rows_at t) lists) (ap (rows_at t) e ∙ head_same t row rows m)
+first-at t (xs ∷ lists) (suc c) row rows l e m h =
+    rw (h 0 (omega arith)) (first-at t lists c row rows (omega arith) e m (λ d k. h (suc d) (omega arith)))
+
+-- of another moment nothing changes
+pub other-at : (t : ℕ) (lists : List (List Row)) (c : ℕ) (row : Row) (rows : List Row) → get_or lists c [] ≡ row ∷ rows → t ≢ row.moment →
+    flat_map (rows_at t) lists ≡ flat_map (rows_at t) (set lists c rows)
+other-at t [] c row rows e m = refl
+other-at t (xs ∷ lists) zero row rows e m = ap (λ us. us ++ flat_map (rows_at t) lists) (ap (rows_at t) e ∙ head_apart t row rows m)
+other-at t (xs ∷ lists) (suc c) row rows e m = ap (λ us. rows_at t xs ++ us) (other-at t lists c row rows e m)
+
+-- the first row of a list comes first, where no row is earlier and no earlier list has one of its moment
+pub merged-first : (end : ℕ) (lists : List (List Row)) (c : ℕ) (row : Row) (rows : List Row) → c < length lists → get_or lists c [] ≡ row ∷ rows → row.moment < end →
+    ((i : ℕ) → i < row.moment → flat_map (rows_at i) lists ≡ []) → ((d : ℕ) → d < c → rows_at row.moment (get_or lists d []) ≡ []) →
+    merged_before end lists ≡ row ∷ merged_before end (set lists c rows)
+merged-first end lists c row rows l e m before none =
+    flat_map-first (λ t. flat_map (rows_at t) lists) (λ t. flat_map (rows_at t) (set lists c rows)) row row.moment end 0 (omega arith) (omega arith)
+    before (first-at row.moment lists c row rows l e refl none) (λ i k. other-at i lists c row rows e k)
+
+pub least-above : (clocks : List ℕ) (t : ℕ) → 1 ≤ length clocks → ((d : ℕ) → d < length clocks → t < get_or clocks d 0) → t < least_clock clocks
+least-above [] t l h = absurd (omega arith)
+least-above (clock ∷ []) t l h = h 0 (omega arith)
+least-above (clock ∷ other ∷ clocks) t l h =
+    omega (arith, h 0 (omega arith), least-above (other ∷ clocks) t (omega arith) (λ d k. h (suc d) (omega arith)))
+
+pub least-of : (clocks : List ℕ) (d : ℕ) → d < length clocks → least_clock clocks ≤ get_or clocks d 0
+least-of [] d l = absurd (omega arith)
+least-of (clock ∷ []) zero l = omega arith
+least-of (clock ∷ []) (suc d) l = absurd (omega arith)
+least-of (clock ∷ other ∷ clocks) zero l = omega arith
+least-of (clock ∷ other ∷ clocks) (suc d) l = omega (arith, least-of (other ∷ clocks) d (omega arith))

@@ -1,0 +1,193 @@
+-- A tree of heads with the least at its root.
+use Rattle.std.proofs.Common.{◌≡◌, ◌≢◌, ℕ, zero, suc, ◌+◌, ◌-◌, ◌⊎◌, ◌*◌, ◌/◌, ◌%◌, ◌<◌, ◌≤◌, Bool, true, false, cond, ltb, List, length, set, drop, replicate, inl, inr, refl, sym, ap, ◌∙◌, subst, arith, get_or-set_same, get_or-set_other, length-drop}
+use Rattle.std.specs.Prelude.{Contains}
+use Rattle.std.proofs.lemmas.Bool.{cases_eq, cases_lt}
+use Rattle.std.proofs.lemmas.Bool.Decides.{nat_tests}
+use Rattle.std.proofs.lemmas.List.{length-set, length-replicate, get_or-drop, get_or-replicate, get_or_default, get_or_past, drop-set-add, drop-set-lt, drop-replicate}
+use Rattle.mcs_merge.specs.declared.heads.Head.{Head}
+use Rattle.mcs_merge.specs.stored.Heads.{blank, head_at, lesser, rank, IsTree}
+
+trans : (a b c : ℕ) → a ≤ b → b ≤ c → a ≤ c
+trans a b c l m = omega arith
+
+itself : (a : ℕ) → a ≤ a
+itself a = omega arith
+
+-- the lesser comes no later than each, and is one of them
+lesser-first : (a b : Head) → rank (lesser a b) ≤ rank a
+lesser-first a b = by (ltb (rank b) (rank a)) refl
+  where
+    by : (t : Bool) → ltb (rank b) (rank a) ≡ t → rank (cond t b a) ≤ rank a
+    by true e = grind (arith, nat_tests)
+    by false e = omega arith
+
+lesser-second : (a b : Head) → rank (lesser a b) ≤ rank b
+lesser-second a b = by (ltb (rank b) (rank a)) refl
+  where
+    by : (t : Bool) → ltb (rank b) (rank a) ≡ t → rank (cond t b a) ≤ rank b
+    by true e = omega arith
+    by false e = grind (arith, nat_tests)
+
+lesser-small : (a b : Head) → a.core < 64 → b.core < 64 → (lesser a b).core < 64
+lesser-small a b l m = by (ltb (rank b) (rank a))
+  where
+    by : (t : Bool) → (cond t b a).core < 64
+    by true = m
+    by false = l
+
+halves : (j : ℕ) → (j ≡ 2 * (j / 2)) ⊎ (j ≡ 2 * (j / 2) + 1)
+halves j = elim (cases_eq (j % 2) 0) [ inl e ↦ inl (omega arith) | inr e ↦ inr (omega arith) ]
+
+-- while a place is written, all but what stands above it is as in a tree
+pub record IsPlaying (cores place core : ℕ) (head : Head) (old nodes : List Head) : Type 0 where
+  pub from : 1 ≤ place
+  pub until : place < 2 * cores
+  pub some : 1 ≤ cores
+  pub few : cores ≤ 64
+  pub wide : length nodes ≡ 2 * cores
+  pub small : (i : ℕ) → (head_at i nodes).core < 64
+  pub others : (i : ℕ) → 1 ≤ i → i < cores → 2 * i ≢ place → 2 * i + 1 ≢ place →
+      head_at i nodes ≡ lesser (head_at (2 * i) nodes) (head_at (2 * i + 1) nodes)
+  pub leaves : drop cores nodes ≡ set (drop cores old) core head
+
+set-small : (nodes : List Head) (place : ℕ) (head : Head) → head.core < 64 → ((i : ℕ) → (head_at i nodes).core < 64) → (i : ℕ) → (head_at i (set nodes place head)).core < 64
+set-small nodes place head l h i =
+    elim (cases_eq i place) [
+      | inl e ↦ elim (cases_lt place (length nodes)) [
+        | inl m ↦ subst (λ (x : Head). x.core < 64) (sym (ap (λ k. head_at k (set nodes place head)) e ∙ get_or-set_same nodes place head blank m)) l
+        | inr m ↦ subst (λ (x : Head). x.core < 64) (sym (get_or_past (set nodes place head) i blank (omega (arith, length-set nodes place head)))) (omega arith)
+      ]
+      | inr e ↦ subst (λ (x : Head). x.core < 64) (sym (get_or-set_other nodes place i head blank e)) (h i)
+    ]
+
+pub IsPlaying-starts : (cores core : ℕ) (head : Head) (old : List Head) → IsTree cores old → core < cores → head.core < 64 →
+    IsPlaying cores (cores + core) core head old (set old (cores + core) head)
+IsPlaying-starts cores core head old h l m =
+    record {
+      from = let some = h.some in omega arith;
+      until = omega arith;
+      some = h.some;
+      few = h.few;
+      wide = length-set old (cores + core) head ∙ h.wide;
+      small = set-small old (cores + core) head m h.small;
+      others = λ i p q e f. at i _ _ _ (get_or-set_other old (cores + core) i head blank (omega arith)) (get_or-set_other old (cores + core) (2 * i) head blank e)
+          (get_or-set_other old (cores + core) (2 * i + 1) head blank f) (h.least i p q);
+      leaves = drop-set-add cores old core head;
+    }
+  where
+    at : (i : ℕ) (a b c : Head) → a ≡ head_at i old → b ≡ head_at (2 * i) old → c ≡ head_at (2 * i + 1) old → head_at i old ≡ lesser (head_at (2 * i) old) (head_at (2 * i + 1) old) → a ≡ lesser b c
+    at i a b c e f g k = rw (e, f, g) k
+
+pub IsPlaying-up : (cores place core : ℕ) (head : Head) (old nodes : List Head) (q : ℕ) (best : Head) → IsPlaying cores place core head old nodes → 1 < place → q ≡ place / 2 →
+    best ≡ lesser (head_at (2 * q) nodes) (head_at (2 * q + 1) nodes) → IsPlaying cores q core head old (set nodes q best)
+IsPlaying-up cores place core head old nodes q best h l e b =
+    record {
+      from = omega arith;
+      until = omega arith;
+      some = h.some;
+      few = h.few;
+      wide = length-set nodes q best ∙ h.wide;
+      small = set-small nodes q best (subst (λ (x : Head). x.core < 64) (sym b) (lesser-small _ _ (h.small (2 * q)) (h.small (2 * q + 1)))) h.small;
+      others = λ i p k f g.
+          at i _ _ _ (get_or-set_other nodes q (2 * i) best blank f) (get_or-set_other nodes q (2 * i + 1) best blank g)
+          (elim (cases_eq i q) [
+            | inl s ↦ ap (λ k. head_at k (set nodes q best)) s ∙ get_or-set_same nodes q best blank (let until = h.until in let wide = h.wide in omega arith) ∙ b
+                ∙ sym (ap (λ k. lesser (head_at (2 * k) nodes) (head_at (2 * k + 1) nodes)) s)
+            | inr s ↦ get_or-set_other nodes q i best blank s ∙ h.others i p k (apart i s) (apart_odd i s)
+          ]);
+      leaves = drop-set-lt cores nodes q best (let until = h.until in omega arith) ∙ h.leaves;
+    }
+  where
+    at : (i : ℕ) (a b c : Head) → b ≡ head_at (2 * i) nodes → c ≡ head_at (2 * i + 1) nodes → a ≡ lesser (head_at (2 * i) nodes) (head_at (2 * i + 1) nodes) → a ≡ lesser b c
+    at i a b c f g k = rw (f, g) k
+
+    apart : (i : ℕ) → i ≢ q → 2 * i ≢ place
+    apart i s f = omega arith
+
+    apart_odd : (i : ℕ) → i ≢ q → 2 * i + 1 ≢ place
+    apart_odd i s f = omega arith
+
+pub IsPlaying-ends : (cores place core : ℕ) (head : Head) (old nodes : List Head) → IsPlaying cores place core head old nodes → place ≤ 1 → IsTree cores nodes
+IsPlaying-ends cores place core head old nodes h l =
+    record {
+      some = h.some;
+      few = h.few;
+      wide = h.wide;
+      small = h.small;
+      least = λ i p q. h.others i p q (λ e. let from = h.from in omega arith) (λ e. omega arith);
+    }
+
+module _ (cores : ℕ) (nodes : List Head) (h : IsTree cores nodes) where
+  -- the root comes no later than any place ..
+  root-above : (j : ℕ) → 1 < j → j < 2 * cores → rank (head_at (j / 2) nodes) ≤ rank (head_at j nodes)
+  root-above j o k =
+      let below = h.least (j / 2) (omega arith) (omega arith) in
+      elim (halves j) [
+        | inl e ↦ subst (λ i. rank (head_at (j / 2) nodes) ≤ rank (head_at i nodes)) (sym e)
+            (subst (λ x. rank x ≤ rank (head_at (2 * (j / 2)) nodes)) (sym below) (lesser-first _ _))
+        | inr e ↦ subst (λ i. rank (head_at (j / 2) nodes) ≤ rank (head_at i nodes)) (sym e)
+            (subst (λ x. rank x ≤ rank (head_at (2 * (j / 2) + 1) nodes)) (sym below) (lesser-second _ _))
+      ]
+
+  root-first : (fuel j : ℕ) → j ≤ fuel → 1 ≤ j → j < 2 * cores → rank (head_at 1 nodes) ≤ rank (head_at j nodes)
+  root-first zero j l m k = absurd (omega arith)
+  root-first (suc fuel) j l m k = by (cases_lt 1 j) (root-first fuel (j / 2))
+    where
+      by : (1 < j) ⊎ (j ≤ 1) → (j / 2 ≤ fuel → 1 ≤ j / 2 → j / 2 < 2 * cores → rank (head_at 1 nodes) ≤ rank (head_at (j / 2) nodes)) →
+          rank (head_at 1 nodes) ≤ rank (head_at j nodes)
+      by (inl o) i = trans _ _ _ (i (omega arith) (omega arith) (omega arith)) (root-above j o k)
+      by (inr o) i = subst (λ i. rank (head_at 1 nodes) ≤ rank (head_at i nodes)) (let e : 1 ≡ j = omega arith in e) (itself _)
+
+  pub root-least : (core : ℕ) → core < cores → rank (head_at 1 nodes) ≤ rank (head_at core (drop cores nodes))
+  root-least core l =
+      subst (λ x. rank (head_at 1 nodes) ≤ rank x) (sym (get_or-drop cores nodes core blank))
+      (root-first (cores + core) (cores + core) (omega arith) (let some = h.some in omega arith) (omega arith))
+
+  -- .. and is a leaf
+  leaf-below : (fuel j : ℕ) → 2 * cores ≤ j + fuel → 1 ≤ j → j < 2 * cores → (k : ℕ) × (k < cores) × (head_at (cores + k) nodes ≡ head_at j nodes)
+  leaf-below zero j l m o = absurd (omega arith)
+  leaf-below (suc fuel) j l m o = by (cases_lt j cores) (leaf-below fuel)
+    where
+      one : (t : Bool) → ((i : ℕ) → 2 * cores ≤ i + fuel → 1 ≤ i → i < 2 * cores → (k : ℕ) × (k < cores) × (head_at (cores + k) nodes ≡ head_at i nodes)) → j < cores →
+          head_at j nodes ≡ cond t (head_at (2 * j + 1) nodes) (head_at (2 * j) nodes) → (k : ℕ) × (k < cores) × (head_at (cores + k) nodes ≡ head_at j nodes)
+      one true i p e = let r = i (2 * j + 1) (omega arith) (omega arith) (omega arith) in (r.0, r.1, r.2 ∙ sym e)
+      one false i p e = let r = i (2 * j) (omega arith) (omega arith) (omega arith) in (r.0, r.1, r.2 ∙ sym e)
+
+      by : (j < cores) ⊎ (cores ≤ j) → ((i : ℕ) → 2 * cores ≤ i + fuel → 1 ≤ i → i < 2 * cores → (k : ℕ) × (k < cores) × (head_at (cores + k) nodes ≡ head_at i nodes)) →
+          (k : ℕ) × (k < cores) × (head_at (cores + k) nodes ≡ head_at j nodes)
+      by (inl p) i = one (ltb (rank (head_at (2 * j + 1) nodes)) (rank (head_at (2 * j) nodes))) i p (h.least j m p)
+      by (inr p) i =
+          let e : j ≡ cores + (j - cores) = omega arith in
+          (j - cores, omega arith, ap (λ i. head_at i nodes) (sym e))
+
+  pub root-among : (root : Head) → root ≡ head_at 1 nodes → Contains (drop cores nodes) root
+  root-among root e =
+      let r = leaf-below (2 * cores) 1 (omega arith) (omega arith) (let some = h.some in omega arith) in (
+        r.0,
+        (let l = r.1 in let wide = h.wide in omega (arith, length-drop cores nodes)),
+        get_or-drop cores nodes r.0 root ∙ get_or_default nodes (cores + r.0) root blank (let l = r.1 in let wide = h.wide in omega arith) ∙ r.2 ∙ sym e,
+      )
+
+-- blank nodes are a tree
+pub IsTree-blank : (cores : ℕ) → 1 ≤ cores → cores ≤ 64 → IsTree cores (replicate (2 * cores) blank)
+IsTree-blank cores l m =
+    record {
+      some = l;
+      few = m;
+      wide = length-replicate (2 * cores) blank;
+      small = λ i. subst (λ (x : Head). x.core < 64) (sym (all i)) (omega arith);
+      least = λ i p q. all i ∙ sym (rw (all (2 * i), all (2 * i + 1)) (same (ltb (rank blank) (rank blank))));
+    }
+  where
+    all : (i : ℕ) → head_at i (replicate (2 * cores) blank) ≡ blank
+    all i = elim (cases_lt i (2 * cores)) [
+      | inl k ↦ get_or-replicate (2 * cores) i blank blank k
+      | inr k ↦ get_or_past (replicate (2 * cores) blank) i blank (omega (arith, length-replicate (2 * cores) blank))
+    ]
+
+    same : (t : Bool) → cond t blank blank ≡ blank
+    same true = refl
+    same false = refl
+
+pub leaves-blank : (cores : ℕ) → drop cores (replicate (2 * cores) blank) ≡ replicate cores blank
+leaves-blank cores = drop-replicate cores (2 * cores) blank ∙ ap (λ n. replicate n blank) (let e : 2 * cores - cores ≡ cores = omega arith in e)

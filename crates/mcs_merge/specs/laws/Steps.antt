@@ -1,0 +1,45 @@
+-- What one call of a merger does to what was taken, of all rows that were added.
+use Rattle.std.specs.Prelude.{◌≡◌, ℕ, ◌<◌, ◌≤◌, List, [], ◌++◌, length, replicate, Option, None, option_to_list}
+use Rattle.mcs_ticks.specs.declared.row.Row.{Row}
+use Rattle.mcs_merge.specs.Merge.{rows_at, merged_before, merged, last_of_all}
+use Rattle.mcs_merge.specs.Merging.{Merging, starting, list_of, least_clock, passed, next_row}
+use Rattle.mcs_merge.specs.Merging.{without_row, with_rows, after_add, CanAdd, IsInOrder}
+
+-- these rows were taken, of all these lists: with those that all clocks have passed they are all rows before the least
+-- clock, merged; and the rows of each core from the least clock on are left
+pub record HasTaken (all : List (List Row)) (taken : List Row) (m : Merging) : Type 0 where
+  pub count : length all ≡ length m.left
+  pub begun : taken ++ passed m ≡ merged_before (least_clock m.clocks) all
+  pub later : (t core : ℕ) → least_clock m.clocks ≤ t → core < length m.left →
+      rows_at t (list_of core m.left) ≡ rows_at t (list_of core all)
+
+-- at first no row was taken of none
+abbrev pub BeginsMerged : Type 0
+BeginsMerged = (cores : ℕ) → IsInOrder (starting cores) × HasTaken (replicate cores []) [] (starting cores)
+
+-- rows that are added are more of all rows, and what was taken stays ..
+abbrev pub AddsMerged : Type 0
+AddsMerged =
+    (m : Merging) (all : List (List Row)) (taken : List Row) (core : ℕ) (rows : List Row) (clock : ℕ) →
+    IsInOrder m → HasTaken all taken m → CanAdd core rows clock m →
+    IsInOrder (after_add core rows clock m) × HasTaken (with_rows core rows all) taken (after_add core rows clock m)
+
+-- .. and the next row is taken behind it
+abbrev pub PopsMerged : Type 0
+PopsMerged =
+    (m : Merging) (all : List (List Row)) (taken : List Row) →
+    IsInOrder m → HasTaken all taken m →
+    IsInOrder (without_row (next_row m) m)
+    × HasTaken all (taken ++ option_to_list (next_row m)) (without_row (next_row m) m)
+
+-- where there is no next row, what was taken is all rows before the least clock, merged ..
+abbrev pub PausesMerged : Type 0
+PausesMerged =
+    (m : Merging) (all : List (List Row)) (taken : List Row) →
+    HasTaken all taken m → next_row m ≡ None → taken ≡ merged_before (least_clock m.clocks) all
+
+-- .. and all rows, where all clocks have passed each of them
+abbrev pub EndsMerged : Type 0
+EndsMerged =
+    (m : Merging) (all : List (List Row)) (taken : List Row) →
+    HasTaken all taken m → next_row m ≡ None → last_of_all all < least_clock m.clocks → taken ≡ merged all

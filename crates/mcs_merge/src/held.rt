@@ -1,0 +1,63 @@
+ghost use Rattle.std.specs.Prelude.{◌≡◌, ◌++◌, [], drop, slice_get, IfErr, IsOk, OnErr, OnOk};
+ghost use Rattle.mcs_merge.specs.stored.Heads.{head_of};
+
+use crate::heads::Head;
+use mcs_ticks::{NoMemory, Row, Tick};
+use std::collections::VecDeque;
+
+/// The rows of a core that are left, and its clock.
+#[derive(Debug, Drop)]
+pub(crate) struct Held {
+    pub(crate) rows: VecDeque<Row>,
+    pub(crate) clock: Tick,
+}
+
+impl Held {
+    /// What comes next of this core.
+    pub(crate) fn head(&self, core: usize) -> Head
+        ensures { result ≡ head_of core self.now.rows.items self.now.clock }
+    {
+        match self.rows.front() {
+            Some(row) => Head {
+                moment: row.moment,
+                has_row: true,
+                core,
+            },
+            None => Head {
+                moment: self.clock,
+                has_row: false,
+                core,
+            },
+        }
+    }
+
+    /// Takes the first row.
+    pub(crate) fn take_first(&mut self) -> Option<Row>
+        ensures taken { result ≡ slice_get self.old.rows.items 0 }
+        ensures left { self.new.rows.items ≡ drop 1 self.old.rows.items }
+        ensures clock { self.new.clock ≡ self.old.clock }
+    {
+        self.rows.pop_front()
+    }
+
+    /// Puts rows behind those that are left, and sets the clock. Where there is no memory the rows are handed back and
+    /// all is as it was. It takes none where no row is left, or none is added.
+    pub(crate) fn append(&mut self, rows: Vec<Row>, clock: Tick) -> Result<(), (Vec<Row>, NoMemory)>
+        ensures rows { OnOk result (self.new.rows.items ≡ self.old.rows.items ++ rows.items) }
+        ensures clock { OnOk result (self.new.clock ≡ clock) }
+        ensures handed_back { IfErr result (λ back. back.0.items ≡ rows.items) }
+        ensures unchanged { OnErr result (self.new.rows.items ≡ self.old.rows.items) }
+        ensures moved { self.old.rows.items ≡ [] → IsOk result }
+        ensures none { rows.items ≡ [] → IsOk result }
+        ensures same_clock { OnErr result (self.new.clock ≡ self.old.clock) }
+    {
+        let mut more = VecDeque::from_vec(rows);
+        if self.rows.is_empty() {
+            self.rows = more;
+        } else if self.rows.append(&mut more).is_err() {
+            return Err((more.into_vec(), NoMemory));
+        }
+        self.clock = clock;
+        Ok(())
+    }
+}

@@ -1,0 +1,21 @@
+ghost use Rattle.mcs_merge.specs.laws.Calls.{TakesMerged, TakesPrefix};
+ghost use Rattle.mcs_merge.specs.laws.Steps.{AddsMerged, BeginsMerged, EndsMerged, PausesMerged, PopsMerged};
+
+/// A law of mergers, step by step: at first, after rows are added and after the next row is taken, the rows taken so
+/// far and then those that all clocks have passed are all rows added before the least clock, merged; and where no row
+/// is next, those taken are.
+pub fn steps_are_merged()
+    ensures begins { BeginsMerged }
+    ensures adds { AddsMerged }
+    ensures pops { PopsMerged }
+    ensures pauses { PausesMerged }
+    ensures ends { EndsMerged }
+{}
+
+/// A law of mergers, for every list of calls: the rows taken so far and then those that all clocks have passed are all
+/// rows added before the least clock, merged; and whatever is called later, all rows merged begin with those taken so
+/// far.
+pub fn calls_are_merged()
+    ensures so_far { TakesMerged }
+    ensures prefix { TakesPrefix }
+{}
