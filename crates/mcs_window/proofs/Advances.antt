@@ -14,10 +14,11 @@ use Rattle.mcs_core.specs.Run.{Ran}
 use Rattle.mcs_core.specs.State.{State, Fits, IsExpected, made_by, state_after}
 use Rattle.mcs_window.specs.stored.Delivery.{is_home, AreDelivered}
 use Rattle.mcs_window.specs.Inbox.{inbox, signals_between, IsMade, IsFor, Rises}
-use Rattle.mcs_window.specs.stored.Cores.{IsHere, AreHere, AreKept}
+use Rattle.mcs_window.specs.stored.Cores.{IsHere, AreHere, AreSince}
 use Rattle.mcs_window.specs.Stretch.{StandsAt, rows_between, NothingArrivesBefore, IsAfter}
 use Rattle.mcs_window.proofs.Deliveries.{signals_from, flat_map-one, inbox-delivered}
 use Rattle.mcs_window.proofs.Inboxes.{from_inbox, of_turn}
+use Rattle.mcs_system.proofs.Linked.{delays_within}
 use Rattle.mcs_core.proofs.Known.{known-said}
 use Rattle.mcs_window.proofs.Ranges.{rows-join}
 use Rattle.mcs_window.proofs.Stretches.{stretches}
@@ -27,7 +28,7 @@ all_in P [] h = All-nil P
 all_in P (mail ∷ mails) h = All-cons P mail mails (h mail (inl refl)) (all_in P mails (λ next k. h next (inr k)))
 
 takes_time_of : (system : System) → IsWellFormed system → TakesTime system
-takes_time_of system well maker home = well.limits.delay.0
+takes_time_of system well maker home = (delays_within system well maker home).0
 
 module _ (system : System) (well : IsWellFormed system) where
   pub takes_time : TakesTime system
@@ -142,7 +143,7 @@ module _ (system : System) (well : IsWellFormed system) where
       ]
 
     -- the clocks, and the rows since the last taking
-    module _ (horizon : ℕ) (taken : List ℕ) (rows : List (Vec Row Global)) (kept : AreKept system horizon front taken rows) (h : c < system.cores) (l : slice_index front c ≤ to) (in_time : to ≤ horizon + 1)
+    module _ (horizon : ℕ) (taken : List ℕ) (rows : List (Vec Row Global)) (kept : AreSince system horizon front taken rows) (h : c < system.cores) (l : slice_index front c ≤ to) (in_time : to ≤ horizon + 1)
         (old new : Vec Row Global) (at : old ≡ get_or rows c old) (more : new.items ≡ old.items ++ rows_between system c (slice_index front c) to) where
       rows_own : new.items ≡ rows_between system c (slice_index taken c) to
       rows_own =
@@ -167,11 +168,9 @@ module _ (system : System) (well : IsWellFormed system) where
       in_order_later : (b : ℕ) → b < system.cores → slice_index taken b ≤ slice_index later b
       in_order_later b p = let f = rises l b p in let g = kept.in_order b p in omega arith
 
-      pub kept_later : AreKept system horizon later taken (set rows c new)
-      kept_later =
+      pub since_later : AreSince system horizon later taken (set rows c new)
+      since_later =
           record {
-            clocks_of = length-set front c to ∙ kept.clocks_of;
-            taken_of = kept.taken_of;
             rows_of = length-set rows c new ∙ kept.rows_of;
             in_time = in_time_later;
             in_order = in_order_later;

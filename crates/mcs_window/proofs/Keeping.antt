@@ -16,13 +16,13 @@ use Rattle.mcs_window.specs.stored.Cores.{AreHere, AreWhole, IsKept}
 use Rattle.mcs_window.specs.Stretch.{StandsAt, rows_between, NothingArrivesBefore, IsAfter}
 use Rattle.mcs_window.specs.declared.cores.Cores.TheInside.{Inside}
 use Rattle.mcs_window.proofs.Deliveries.{signals_from}
-use Rattle.mcs_window.proofs.Advances.{ran_here, state_here, signals_own, here_later, kept_later}
+use Rattle.mcs_window.proofs.Advances.{ran_here, state_here, signals_own, here_later, since_later}
 
 -- what a core has made, its turns taken
-pub record HasRun (system : System) (to : ℕ) (state after : State) (box left : Content) (fresh rows : List Row) (signals made : List Mail) : Type 0 where
+pub record HasRun (system : System) (to : ℕ) (state after : State) (box left : Content) (rows : List Row) (signals made : List Mail) : Type 0 where
   pub state_is : after ≡ state_after state to (made_by system state to box.mails)
   pub fits : Fits system after
-  pub rows_are : rows ≡ fresh ++ (made_by system state to box.mails).rows
+  pub rows_are : rows ≡ (made_by system state to box.mails).rows
   pub signals_are : made ≡ signals ++ (made_by system state to box.mails).mails
   pub box_is : left.mails ≡ (made_by system state to box.mails).box
 
@@ -34,62 +34,69 @@ module _ (a : Inside) (kept : IsKept a) where
   boxes_are k box full e = with_items_is (with_item a.boxes k box) full (let ok = (with_item a.boxes k box).ok.0 in omega arith)
 
   -- the rows of a core stay, whatever became of its turns
-  pub spent_kept : (k : ℕ) (state : State) (box : Content) (full : List Content) (old new fresh : Vec Row Global) (signals : Vec Mail Global) → k < system.cores → length full ≡ length (set a.boxes.items k box) →
+  pub spent_kept : (k : ℕ) (state : State) (box : Content) (full : List Content) (old new : Vec Row Global) (signals : Vec Mail Global) → k < system.cores → length full ≡ length (set a.boxes.items k box) →
       old ≡ get_or a.rows.items k old → new.items ≡ old.items →
-      IsKept (record a { states = with_item a.states k state; boxes = with_items (with_item a.boxes k box) full; rows = with_item a.rows k new; failed = true; fresh = fresh; signals = signals })
-  spent_kept k state box full old new fresh signals h many at same =
+      IsKept (record a { states = with_item a.states k state; boxes = with_items (with_item a.boxes k box) full; rows = with_item a.rows k new; failed = true; signals = signals })
+  spent_kept k state box full old new signals h many at same =
       record {
         horizon = kept.horizon;
         well_formed = kept.well_formed;
         states_of = length-set a.states.items k state ∙ kept.states_of;
         boxes_of = ap length (boxes_are k box full many) ∙ many ∙ length-set a.boxes.items k box ∙ kept.boxes_of;
+        delays_are = kept.delays_are;
         kept = record {
           clocks_of = kept.kept.clocks_of;
           taken_of = kept.kept.taken_of;
-          rows_of = length-set a.rows.items k new ∙ kept.kept.rows_of;
-          in_time = kept.kept.in_time;
-          in_order = kept.kept.in_order;
-          rows_are = rows_same;
+          since = record {
+            rows_of = length-set a.rows.items k new ∙ kept.kept.since.rows_of;
+            in_time = kept.kept.since.in_time;
+            in_order = kept.kept.since.in_order;
+            rows_are = rows_same;
+          };
         };
         whole = λ e. cc;
       }
     where
       rows_same : (b : ℕ) (x : Vec Row Global) → b < system.cores → (get_or (set a.rows.items k new) b x).items ≡ rows_between system b (slice_index a.taken.items b) (slice_index a.clocks.items b)
       rows_same b x p = elim (eqb_tells b k) [
-        | inl e ↦ ap (λ d. (get_or (set a.rows.items k new) d x).items) e.1 ∙ ap (λ (v : Vec Row Global). v.items) (get_or-set_same a.rows.items k new x (let all = kept.kept.rows_of in omega arith))
-            ∙ same ∙ ap (λ (v : Vec Row Global). v.items) at ∙ kept.kept.rows_are k old h
+        | inl e ↦ ap (λ d. (get_or (set a.rows.items k new) d x).items) e.1 ∙ ap (λ (v : Vec Row Global). v.items) (get_or-set_same a.rows.items k new x (let all = kept.kept.since.rows_of in omega arith))
+            ∙ same ∙ ap (λ (v : Vec Row Global). v.items) at ∙ kept.kept.since.rows_are k old h
             ∙ ap (λ d. rows_between system d (slice_index a.taken.items d) (slice_index a.clocks.items d)) (sym e.1)
-        | inr e ↦ ap (λ (v : Vec Row Global). v.items) (get_or-set_other a.rows.items k b new x e.1) ∙ kept.kept.rows_are b x p
+        | inr e ↦ ap (λ (v : Vec Row Global). v.items) (get_or-set_other a.rows.items k b new x e.1) ∙ kept.kept.since.rows_are b x p
       ]
 
   -- the core has taken its turns
-  pub advanced_kept : (k to : ℕ) (state after : State) (box left : Content) (full : List Content) (old new fresh empty : Vec Row Global) (signals none : Vec Mail Global) → a.failed ≡ false →
+  pub advanced_kept : (k to : ℕ) (state after : State) (box left : Content) (full : List Content) (old new fresh : Vec Row Global) (signals none : Vec Mail Global) → a.failed ≡ false →
       k < system.cores → slice_index a.clocks.items k ≤ to → to ≤ a.horizon + 1 → NothingArrivesBefore system k to a.clocks.items →
-      state ≡ get_or a.states.items k state → box ≡ get_or a.boxes.items k box → HasRun system to state after box left a.fresh.items fresh.items a.signals.items signals.items →
-      AreDelivered system signals.items (set a.boxes.items k left) full → old ≡ get_or a.rows.items k old → new.items ≡ old.items ++ fresh.items → empty.items ≡ [] → none.items ≡ [] →
+      state ≡ get_or a.states.items k state → box ≡ get_or a.boxes.items k box → HasRun system to state after box left fresh.items a.signals.items signals.items →
+      AreDelivered system signals.items (set a.boxes.items k left) full → old ≡ get_or a.rows.items k old → new.items ≡ old.items ++ fresh.items → none.items ≡ [] →
       IsKept (record a {
         clocks = with_item a.clocks k to;
         states = with_item a.states k after;
         boxes = with_items (with_item a.boxes k left) full;
         rows = with_item a.rows k new;
         failed = false;
-        fresh = empty;
         signals = none;
       })
-  advanced_kept k to state after box left full old new fresh empty signals none unspent h l in_time reached s_at b_at run delivered r_at more no_rows no_signals =
+  advanced_kept k to state after box left full old new fresh signals none unspent h l in_time reached s_at b_at run delivered r_at more no_signals =
       record {
         horizon = kept.horizon;
         well_formed = kept.well_formed;
         states_of = length-set a.states.items k after ∙ kept.states_of;
         boxes_of = ap length boxes_full ∙ delivered.many ∙ length-set a.boxes.items k left ∙ kept.boxes_of;
-        kept = kept_later system kept.well_formed a.clocks.items k to there a.horizon a.taken.items a.rows.items kept.kept h l in_time old new r_at rows_more;
-        whole = λ e. record { here = subst (λ boxes. AreHere system (set a.clocks.items k to) (set a.states.items k after) boxes) (sym boxes_full) here; no_rows = no_rows; no_signals = no_signals };
+        delays_are = kept.delays_are;
+        kept = record {
+          clocks_of = length-set a.clocks.items k to ∙ kept.kept.clocks_of;
+          taken_of = kept.kept.taken_of;
+          since = since_later system kept.well_formed a.clocks.items k to there a.horizon a.taken.items a.rows.items kept.kept.since h l in_time old new r_at rows_more;
+        };
+        whole = λ e. record { here = subst (λ boxes. AreHere system (set a.clocks.items k to) (set a.states.items k after) boxes) (sym boxes_full) here; no_signals = no_signals };
       }
     where
       there : k < length a.clocks.items
       there = let all = kept.kept.clocks_of in omega arith
 
-      whole : AreWhole system a.clocks.items a.states.items a.boxes.items a.fresh.items a.signals.items
+      whole : AreWhole system a.clocks.items a.states.items a.boxes.items a.signals.items
       whole = kept.whole unspent
 
       stood : StandsAt system k (slice_index a.clocks.items k) state
@@ -101,7 +108,7 @@ module _ (a : Inside) (kept : IsKept a) where
           (ap (λ (y : Content). y.mails) b_at ∙ (whole.here k state box h).box_is) h l reached
 
       fresh_is : fresh.items ≡ rows_between system k (slice_index a.clocks.items k) to
-      fresh_is = run.rows_are ∙ ap (λ xs. xs ++ (made_by system state to box.mails).rows) whole.no_rows ∙ ran.rows_are
+      fresh_is = run.rows_are ∙ ran.rows_are
 
       signals_are : signals.items ≡ signals_from system a.clocks.items (set a.clocks.items k to)
       signals_are =

@@ -1,6 +1,6 @@
 -- The rows of the cores, each in order of its moments, merge into the schedule.
 use Rattle.std.proofs.Common.{◌≡◌, ◌≢◌, ℕ, zero, suc, ◌+◌, ◌-◌, ◌<◌, ◌≤◌, Bool, true, false, cond, List, [], ◌∷◌, ◌++◌, map, refl, sym, ap, ◌∙◌, append-nil, arith}
-use Rattle.std.specs.Prelude.{flat_map, ◌==◌, nat_lt}
+use Rattle.std.specs.Prelude.{flat_map, ◌==◌, nat_lt, slice_index}
 use Rattle.std.specs.List.{range_with_len}
 use Rattle.std.proofs.lemmas.Bool.Decides.{nat_tests}
 use Rattle.std.proofs.lemmas.List.Elements.{filter-append}
@@ -8,6 +8,7 @@ use Rattle.std.proofs.lemmas.List.Folds.{flat_map-map}
 use Rattle.mcs_ticks.specs.declared.row.Row.{Row}
 use Rattle.mcs_ticks.specs.declared.row.What.{What}
 use Rattle.mcs_merge.specs.Merge.{rows_at, AreFrom, DoNotFall}
+use Rattle.mcs_merge.specs.Merging.{AreOf, AreBefore, IsListOf}
 use Rattle.mcs_merge.proofs.Joins.{AreFrom-earlier}
 use Rattle.mcs_merge.proofs.Pushes.{AreUntil, DoNotFall-append}
 use Rattle.mcs_merge.proofs.Merges.{merged-is, flat_map-same}
@@ -16,7 +17,7 @@ use Rattle.mcs_core.specs.Clock as clocks
 use Rattle.mcs_core.specs.Clock.{rows_of, schedule}
 use Rattle.mcs_core.proofs.Clock.{rows-clock}
 use Rattle.mcs_window.specs.laws.Merging as merging
-use Rattle.mcs_window.specs.laws.Merging.{rows_of_cores}
+use Rattle.mcs_window.specs.laws.Merging.{rows_of_cores, rows_until}
 use Rattle.mcs_window.specs.Stretch.{rows_between}
 use Rattle.mcs_window.proofs.Ranges.{flat_map-join}
 
@@ -40,6 +41,10 @@ AreAt-map t c (what ∷ whats) = (refl, AreAt-map t c whats)
 from_at : (t : ℕ) (rows : List Row) → AreAt t rows → AreFrom t rows
 from_at t [] h = tt
 from_at t (row ∷ rows) h = (let e = h.0 in omega arith, from_at t rows h.1)
+
+before_at : (t u : ℕ) (rows : List Row) → t < u → AreAt t rows → AreBefore u rows
+before_at t u [] l h = tt
+before_at t u (row ∷ rows) l h = (let e = h.0 in omega arith, before_at t u rows l h.1)
 
 until_at : (t : ℕ) (rows : List Row) → AreAt t rows → AreUntil t rows
 until_at t [] h = tt
@@ -70,12 +75,21 @@ rows_at-other t u (row ∷ rows) n h = by (row.moment == t) refl (rows_at-other 
 
 -- parts of which each has the rows of one moment
 module _ (f : ℕ → List Row) (at : (t : ℕ) → AreAt t (f t)) where
-  from_parts : (n a b : ℕ) → b ≤ a → AreFrom b (flat_map f (range_with_len a n))
+  pub from_parts : (n a b : ℕ) → b ≤ a → AreFrom b (flat_map f (range_with_len a n))
   from_parts zero a b l = tt
   from_parts (suc n) a b l =
       both (f a) (flat_map f (range_with_len (a + 1) n)) (AreFrom-earlier b a (f a) l (from_at a (f a) (at a))) (from_parts n (a + 1) b (omega arith))
     where
       both : (xs ys : List Row) → AreFrom b xs → AreFrom b ys → AreFrom b (xs ++ ys)
+      both [] ys h k = k
+      both (x ∷ xs) ys h k = (h.0, both xs ys h.1 k)
+
+  pub before_parts : (n a b : ℕ) → a + n ≤ b → AreBefore b (flat_map f (range_with_len a n))
+  before_parts zero a b l = tt
+  before_parts (suc n) a b l =
+      both (f a) (flat_map f (range_with_len (a + 1) n)) (before_at a b (f a) (omega arith) (at a)) (before_parts n (a + 1) b (omega arith))
+    where
+      both : (xs ys : List Row) → AreBefore b xs → AreBefore b ys → AreBefore b (xs ++ ys)
       both [] ys h k = k
       both (x ∷ xs) ys h k = (h.0, both xs ys h.1 k)
 
@@ -123,6 +137,31 @@ module _ (system : System) where
   pub order-between : (c a b : ℕ) → DoNotFall (rows_between system c a b)
   order-between c a b = order_parts (rows_of system c) (row_moments c) (b - a) a
 
+  of-stamped : (c t : ℕ) (whats : List What) → AreOf c (map (λ what. record { moment = t; core = c; what = what }) whats)
+  of-stamped c t [] = tt
+  of-stamped c t (what ∷ whats) = (refl, of-stamped c t whats)
+
+  of-between : (c n a : ℕ) → AreOf c (flat_map (rows_of system c) (range_with_len a n))
+  of-between c zero a = tt
+  of-between c (suc n) a =
+      both (rows_of system c a) (flat_map (rows_of system c) (range_with_len (a + 1) n)) (of-stamped c a (clocks.turn_of system c a).rows) (of-between c n (a + 1))
+    where
+      both : (xs ys : List Row) → AreOf c xs → AreOf c ys → AreOf c (xs ++ ys)
+      both [] ys h k = k
+      both (x ∷ xs) ys h k = (h.0, both xs ys h.1 k)
+
+  -- they are the core's, in order, before its clock, and none is before the first moment
+  pub list-between : (c a b : ℕ) → a ≤ b → IsListOf c (rows_between system c a b) b
+  list-between c a b l =
+      record {
+        of_core = of-between c (b - a) a;
+        in_order = order-between c a b;
+        before = before_parts (rows_of system c) (row_moments c) (b - a) a b (omega arith);
+      }
+
+  pub from-between : (c a b : ℕ) → AreFrom a (rows_between system c a b)
+  from-between c a b = from_parts (rows_of system c) (row_moments c) (b - a) a a (omega arith)
+
   abbrev moment_rows : ℕ → List Row
   moment_rows t = flat_map (λ c. rows_of system c t) (range_with_len 0 system.cores)
 
@@ -162,3 +201,33 @@ module _ (system : System) where
       sym (merged-is (rows_of_cores system horizon) (flat_map moment_rows (range_with_len 0 (suc horizon)))
       (record { in_order = order_parts moment_rows moment_moments (suc horizon) 0; at_each = at_each horizon }))
       ∙ sym (by_clock takes_time (suc horizon))
+
+  pub rows-so_far : TakesTime system → merging.RowsMergeSoFar system
+  rows-so_far takes_time clks t h =
+      flat_map-same (λ m. flat_map (rows_at m) (rows_until system clks)) moment_rows t 0 (λ m k l. at m (omega arith)) ∙ sym (by_clock takes_time t)
+    where
+      at : (m : ℕ) → m < t → flat_map (rows_at m) (rows_until system clks) ≡ moment_rows m
+      at m l =
+          flat_map-map (rows_at m) (λ c. rows_between system c 0 (slice_index clks c)) (range_with_len 0 system.cores)
+          ∙ flat_map-same (λ c. rows_at m (rows_between system c 0 (slice_index clks c))) (λ c. rows_of system c m) system.cores 0
+          (λ c i j. let u : t ≤ slice_index clks c = h c (omega arith) in
+          inside (rows_of system c) (row_moments c) m (slice_index clks c - 0) 0 (omega arith) (omega arith))
+
+  -- the rows from one moment to before another
+  abbrev pub rows-later : ℕ → ℕ → List Row
+  rows-later a b = flat_map moment_rows (range_with_len a (b - a))
+
+  -- the clock's rows before a moment, and then those from it on
+  pub clock-later : TakesTime system → (a b : ℕ) → a ≤ b → (clocks.clock system b).rows ≡ (clocks.clock system a).rows ++ rows-later a b
+  clock-later takes_time a b l =
+      let e : a + (b - a) ≡ b = omega arith in
+      let g : 0 + a ≡ a = omega arith in
+      by_clock takes_time b ∙ ap (λ m. flat_map moment_rows (range_with_len 0 m)) (sym e)
+      ∙ sym (flat_map-join moment_rows a (b - a) 0) ∙ ap (λ m. flat_map moment_rows (range_with_len 0 a) ++ flat_map moment_rows (range_with_len m (b - a))) g
+      ∙ ap (λ xs. xs ++ rows-later a b) (sym (by_clock takes_time a))
+
+  pub clock-before : TakesTime system → (a : ℕ) → AreBefore a (clocks.clock system a).rows
+  clock-before takes_time a = rw (by_clock takes_time a) (before_parts moment_rows moment_moments a 0 a (omega arith))
+
+  pub later-from : (a b : ℕ) → AreFrom a (rows-later a b)
+  later-from a b = from_parts moment_rows moment_moments (b - a) a a (omega arith)

@@ -1,5 +1,5 @@
 -- The views of the clock show the whole budgets.
-use Rattle.std.proofs.Common.{ℕ, ◌+◌, length, map, get_or, sym, subst, arith}
+use Rattle.std.proofs.Common.{ℕ, length, sym, subst, arith}
 use Rattle.std.proofs.lemmas.List.FromFn.{length-map-range_with_len, get_or-map-range_with_len}
 use Rattle.mcs_control.specs.declared.view.ContextView.{ContextView}
 use Rattle.mcs_system.specs.System.{System}

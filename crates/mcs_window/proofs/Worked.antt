@@ -23,6 +23,7 @@ mixed =
       notes = [];
       threads = [];
       orders = record { moment = 3; context = 2; config = config 6 30 } ∷ [];
+      links = [];
     }
 
 -- each context once, in file order, whichever its core

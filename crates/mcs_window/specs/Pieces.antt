@@ -2,7 +2,6 @@
 use Rattle.std.specs.Prelude.{◌≡◌, ℕ, ◌+◌, ◌<◌, ◌≤◌, ◌^◌, List, slice_index}
 use Rattle.mcs_ticks.specs.declared.row.Row.{Row}
 use Rattle.mcs_mail.specs.declared.mail.Mail.{Mail}
-use Rattle.mcs_mail.specs.Box.{Content}
 use Rattle.mcs_system.specs.System.{System}
 use Rattle.mcs_core.specs.State.{State}
 use Rattle.mcs_window.specs.Inbox.{inbox, signals_between}
@@ -15,7 +14,7 @@ pub record Work : Type 0 where
   pub past : ℕ
   pub front : List ℕ
   pub state : State
-  pub mail : Content
+  pub mail : List Mail
 
 pub record Outcome : Type 0 where
   pub system : System
@@ -26,7 +25,7 @@ pub record Outcome : Type 0 where
   pub state : State
   pub rows : List Row
   pub out : List Mail
-  pub mail : Content
+  pub mail : List Mail
 
 -- the moments from `first` to before `past`, which the clocks in `front` allow; it has 0 past the last core
 pub record IsStretch (system : System) (core first past : ℕ) (front : List ℕ) : Type 0 where
@@ -40,14 +39,14 @@ pub record IsStretch (system : System) (core first past : ℕ) (front : List ℕ
 pub record IsWork (work : Work) : Type 0 where
   pub stretch : IsStretch work.system work.core work.first work.past work.front
   pub state_is : StandsAt work.system work.core work.first work.state
-  pub mail_is : work.mail.mails ≡ inbox work.system work.core work.first work.front
+  pub mail_is : work.mail ≡ inbox work.system work.core work.first work.front
 
 pub record IsOutcome (outcome : Outcome) : Type 0 where
   pub stretch : IsStretch outcome.system outcome.core outcome.first outcome.past outcome.front
   pub state_is : StandsAt outcome.system outcome.core outcome.past outcome.state
   pub rows_are : outcome.rows ≡ rows_between outcome.system outcome.core outcome.first outcome.past
   pub out_is : outcome.out ≡ signals_between outcome.system outcome.core outcome.first outcome.past
-  pub mail_is : outcome.mail.mails ≡ inbox outcome.system outcome.core outcome.past outcome.front
+  pub mail_is : outcome.mail ≡ inbox outcome.system outcome.core outcome.past outcome.front
 
 -- a piece and a result of one stretch of one system
 pub record IsOf (work : Work) (outcome : Outcome) : Type 0 where

@@ -1,5 +1,5 @@
 -- How far each core of a system has come: every core has a clock of its own, the next moment that it takes.
-use Rattle.std.specs.Prelude.{◌≡◌, ◌≢◌, ◌⊎◌, ℕ, suc, ◌+◌, ◌<◌, ◌≤◌, Bool, true, false, List, [], ◌∷◌, replicate, slice_index, slice_set}
+use Rattle.std.specs.Prelude.{◌≡◌, ◌≢◌, ◌⊎◌, ℕ, suc, ◌+◌, ◌<◌, ◌≤◌, Bool, true, false, List, [], ◌∷◌, map, max, replicate, slice_index, slice_set}
 use Rattle.mcs_system.specs.System.{System, delay_between}
 use Rattle.mcs_window.specs.declared.fault.StepFault.{StepFault}
 use Rattle.mcs_window.specs.declared.fault.StepFault.TheVariants.{Ended, NotSafe, NoMemory}
@@ -35,6 +35,10 @@ advanced progress c to = record progress { clocks = slice_set progress.clocks c 
 
 abbrev pub stepped : Progress → ℕ → Progress
 stepped progress c = advanced progress c (suc (clock_of progress c))
+
+-- each clock that is before the moment is set to it
+abbrev pub skipped : Progress → ℕ → Progress
+skipped progress moment = record progress { clocks = map (λ clock. max clock moment) progress.clocks }
 
 -- the rows of core c are taken
 abbrev pub with_taken : Progress → ℕ → Progress

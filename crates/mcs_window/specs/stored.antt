@@ -2,3 +2,4 @@ pub mod Cores
 pub mod Views
 pub mod Opening
 pub mod Delivery
+pub mod Slots

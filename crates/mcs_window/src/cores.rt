@@ -1,18 +1,21 @@
-ghost use Rattle.std.specs.Prelude.{◌≡◌, ◌≤◌, ◌<◌, ◌^◌, ◌+◌, ℕ, true, false, IfOk, OnOk, OnErr, IfErr, IfSome, IfNone, IsErr, IsTrue};
+ghost use Rattle.std.specs.Prelude.{◌≡◌, ◌≤◌, ◌<◌, ◌^◌, ◌+◌, ◌++◌, ℕ, true, false, IfOk, OnOk, OnErr, IfErr, IfSome, IfNone, IsErr, IsTrue};
 ghost use Rattle.std.specs.Arc.{arc_value};
+ghost use Rattle.mcs_system.specs.System.{delay_between};
+ghost use Rattle.mcs_window.specs.Idle.{IsIdleUntil};
 ghost use Rattle.mcs_window.specs.Stretch.{rows_between, NothingArrivesBefore};
 ghost use Rattle.mcs_window.specs.Views.{views_at, AreShownAt};
-ghost use Rattle.mcs_window.specs.Progress.{Progress, opening_progress, clock_of, taken_of, advanced, stepped, with_taken, with_failed, after_fault, IsReady, IsFault, IsBehind, IsFirstBehind};
+ghost use Rattle.mcs_window.specs.Progress.{Progress, opening_progress, clock_of, taken_of, advanced, stepped, skipped, with_taken, with_failed, after_fault, IsReady, IsFault, IsBehind, IsFirstBehind};
 
 use crate::StepFault;
 use crate::delivery::deliver;
-use crate::opening::{empty_boxes, empty_rows, opening_states};
+use crate::opening::{delay_rows, empty_boxes, empty_rows, opening_states};
+use crate::skip::skip_all;
 use crate::views::all_views;
 use mcs_control::ContextView;
 use mcs_core::CoreState;
 use mcs_mail::{Mail, Mailbox};
 use mcs_system::System;
-use mcs_ticks::{CoreId, NoMemory, Row, Tick};
+use mcs_ticks::{CoreId, Limits, NoMemory, Row, Tick};
 use std::alloc::Global;
 use std::marker::Model;
 use std::mem;
@@ -28,8 +31,9 @@ pub struct Cores {
     states: Vec<CoreState>,
     boxes: Vec<Mailbox>,
     rows: Vec<Vec<Row>>,
+    // For each core the delays of the signals to it.
+    delays: Vec<[u64; Limits::CORES]>,
     failed: bool,
-    fresh: Vec<Row>,
     signals: Vec<Mail>,
 }
 
@@ -57,6 +61,7 @@ impl Cores {
         let states = opening_states(alloc, &system)?;
         let boxes = empty_boxes(alloc, cores)?;
         let rows = empty_rows(alloc, cores)?;
+        let delays = delay_rows(alloc, &system)?;
         Ok(Cores {
             system,
             horizon,
@@ -65,8 +70,8 @@ impl Cores {
             states,
             boxes,
             rows,
+            delays,
             failed: false,
-            fresh: Vec::new(alloc),
             signals: Vec::new(alloc),
         })
     }
@@ -79,16 +84,27 @@ impl Cores {
         self.clocks[core.0]
     }
 
+    // How long a signal of this core is under way to another.
+    fn delay(&self, maker: CoreId, home: CoreId) -> u64
+        requires maker { maker < self.now.system.cores }
+        requires home { home < self.now.system.cores }
+        ensures value { result ≡ delay_between self.now.system maker home }
+        ensures short { result ≤ 2 ^ 20 }
+    {
+        self.delays[home.0][maker.0]
+    }
+
     // The first other core from which a signal could still reach the core at its clock.
     fn first_behind(&self, core: CoreId) -> Option<CoreId>
         requires { core < self.now.system.cores }
         ensures some { IfSome result (IsFirstBehind self.now core) }
         ensures none { IfNone result ((b : ℕ) → ¬ IsBehind self.now core b) }
     {
-        let delay = self.system.parts().delay;
         let clock = self.clocks[core.0].get();
         for (other, earlier) in self.clocks.iter().enumerate() {
-            if other != core.0 && earlier.get() + delay <= clock {
+            if other != core.0
+                && earlier.get() + self.delay(CoreId(other), CoreId(core.0)) <= clock
+            {
                 return Some(CoreId(other));
             }
         }
@@ -118,6 +134,40 @@ impl Cores {
         Ok(())
     }
 
+    /// Idle time: all cores whose clocks are earlier go at once to the first moment at which some core does more than
+    /// count a tick, or to the moment after the horizon where that comes first. Until then no core makes a row. Answers
+    /// that moment. After a step's `NoMemory` it answers it too, and nothing changes.
+    pub fn skip_idle(&mut self) -> Result<Tick, NoMemory>
+        ensures going { OnOk result (self.old.failed ≡ false) }
+        ensures moment { IfOk result (IsIdleUntil self.old.system self.old.clocks (self.old.horizon + 1)) }
+        ensures clocks { IfOk result (λ moment. self.new ≡ skipped self.old moment) }
+        ensures err { OnErr result ((self.old.failed ≡ true) × (self.new ≡ self.old)) }
+    {
+        if self.failed {
+            return Err(NoMemory);
+        }
+        let moment = self.idle_until();
+        skip_all(&self.system, &mut self.clocks, &mut self.states, moment);
+        Ok(moment)
+    }
+
+    // The first moment at which some core does more than count a tick, or the moment after the horizon where that comes
+    // first.
+    fn idle_until(&self) -> Tick
+        requires { self.now.failed ≡ false }
+        ensures { IsIdleUntil self.now.system self.now.clocks (self.now.horizon + 1) result }
+    {
+        let mut until = self.horizon.plus(1).unwrap();
+        for (core, state) in self.states.iter().enumerate() {
+            if let Some(busy) = state.next_busy(&self.system, &self.boxes[core]) {
+                if busy.get() < until.get() {
+                    until = busy;
+                }
+            }
+        }
+        until
+    }
+
     /// The contexts of all cores in file order, each once, as its core has it at its clock: it shows its whole budget in force then, and no
     /// ticks in use unless its thread runs. After a step's `NoMemory` it answers it too.
     pub fn contexts(&self, alloc: Global) -> Result<Vec<ContextView>, NoMemory>
@@ -139,7 +189,7 @@ impl Cores {
             ≡ rows_between self.old.system core (taken_of self.old core) (clock_of self.old core) }
         ensures taken { self.new ≡ with_taken self.old core }
     {
-        let alloc: Global = *self.fresh.allocator();
+        let alloc: Global = *self.signals.allocator();
         self.taken[core.0] = self.clocks[core.0];
         mem::replace(&mut self.rows[core.0], Vec::new(alloc))
     }
@@ -157,15 +207,29 @@ impl Cores {
             return Err(NoMemory);
         }
         self.failed = true;
+        let alloc: Global = *self.signals.allocator();
+        let mut rows = Vec::new(alloc);
         let state = &mut self.states[core.0];
         let mail = &mut self.boxes[core.0];
-        state.run(&self.system, mail, to, &mut self.fresh, &mut self.signals)?;
+        state.run(&self.system, mail, to, &mut rows, &mut self.signals)?;
         deliver(&self.system, &mut self.boxes, &self.signals)?;
-        let rows = &mut self.rows[core.0];
-        rows.append(&mut self.fresh)?;
+        keep_rows(&mut self.rows[core.0], rows)?;
         self.signals.clear();
         self.clocks[core.0] = to;
         self.failed = false;
         Ok(())
     }
+}
+
+// Puts rows behind those that are kept. Where none are kept no row is copied.
+fn keep_rows(kept: &mut Vec<Row>, mut rows: Vec<Row>) -> Result<(), NoMemory>
+    ensures kept { OnOk result (kept.new.items ≡ kept.old.items ++ rows.items) }
+    ensures refused { OnErr result (kept.new.items ≡ kept.old.items) }
+{
+    if kept.is_empty() {
+        *kept = rows;
+        return Ok(());
+    }
+    kept.append(&mut rows)?;
+    Ok(())
 }

@@ -1,11 +1,11 @@
-ghost use Rattle.std.specs.Prelude.{◌≡◌, ◌<◌, length, OnOk};
-ghost use Rattle.mcs_window.specs.stored.Delivery.{home_of, AreDelivered};
+ghost use Rattle.std.specs.Prelude.{◌≡◌, ◌≤◌, ◌<◌, ◌^◌, ℕ, length, slice_index, OnOk};
+ghost use Rattle.mcs_window.specs.stored.Delivery.{count_for, AreDelivered, AreSameMail, HaveRoom};
 
 use mcs_mail::{Mail, Mailbox};
 use mcs_system::System;
 use mcs_ticks::{CoreId, NoMemory};
 
-// Puts each signal into the box of its home.
+// Puts each signal into the box of its home. Where there is no memory no box has got any.
 pub(crate) fn deliver(
     system: &System,
     boxes: &mut [Mailbox],
@@ -14,11 +14,48 @@ pub(crate) fn deliver(
     requires { length boxes.old ≡ system.now.cores }
     ensures { OnOk result (AreDelivered system.now signals.now boxes.old boxes.new) }
 {
-    for mail in signals {
-        let mailbox = &mut boxes[system.home_of(mail.note).0];
-        let Ok(()) = mailbox.put(*mail) else {
-            return Err(NoMemory);
-        };
+    make_room(system, boxes, signals)?;
+    deliver_reserved(system, boxes, signals);
+    Ok(())
+}
+
+// Makes room for the signals in the boxes of their homes.
+pub(crate) fn make_room(
+    system: &System,
+    boxes: &mut [Mailbox],
+    signals: &[Mail],
+) -> Result<(), NoMemory>
+    requires { length boxes.old ≡ system.now.cores }
+    ensures mails { AreSameMail boxes.old boxes.new }
+    ensures room { OnOk result (HaveRoom system.now signals.now boxes.new) }
+{
+    let counts = counts_for(system, signals);
+    for core in 0..system.parts().cores {
+        boxes[core].reserve(counts[core])?;
     }
     Ok(())
+}
+
+// How many of the signals are for each core.
+fn counts_for(system: &System, signals: &[Mail]) -> [usize; 64]
+    ensures { (c : ℕ) → c < 64 → slice_index result c ≡ count_for system.now c signals.now }
+{
+    let _parts = system.parts();
+    let mut counts = [0; 64];
+    for mail in signals {
+        counts[system.home_of(mail.note).0] += 1;
+    }
+    counts
+}
+
+// Puts each signal into the box of its home, which has room for it.
+pub(crate) fn deliver_reserved(system: &System, boxes: &mut [Mailbox], signals: &[Mail])
+    requires many { length boxes.old ≡ system.now.cores }
+    requires room { HaveRoom system.now signals.now boxes.old }
+    ensures { AreDelivered system.now signals.now boxes.old boxes.new }
+{
+    for mail in signals {
+        let put = boxes[system.home_of(mail.note).0].put(*mail).is_ok();
+        prove!(put);
+    }
 }

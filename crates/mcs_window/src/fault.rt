@@ -25,3 +25,20 @@ impl From<NoMemory> for StepFault {
         StepFault::NoMemory
     }
 }
+
+/// Why a stretch is not taken back. The tests come in this order.
+#[derive(Clone, Copy, Debug, PartialEq, Eq, Error)]
+pub enum SettleFault {
+    /// It is of another system.
+    #[error("another system")]
+    Foreign,
+    /// Its core is not lent.
+    #[error("the core is not lent")]
+    NotLent,
+    /// Its core is lent for another stretch, or by other clocks.
+    #[error("the core is lent for another stretch")]
+    OtherLoan,
+    /// There was no memory.
+    #[error("no memory")]
+    NoMemory,
+}

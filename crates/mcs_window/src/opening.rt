@@ -1,10 +1,10 @@
 ghost use Rattle.std.specs.Prelude.{IfOk};
-ghost use Rattle.mcs_window.specs.stored.Opening.{AreOpening, AreEmptyBoxes, AreEmptyRows};
+ghost use Rattle.mcs_window.specs.stored.Opening.{AreOpening, AreDelays, AreEmptyBoxes, AreEmptyRows};
 
 use mcs_core::CoreState;
 use mcs_mail::Mailbox;
 use mcs_system::System;
-use mcs_ticks::{CoreId, NoMemory, Row};
+use mcs_ticks::{CoreId, Limits, NoMemory, Row};
 use std::alloc::Global;
 
 // The first state of each core.
@@ -18,6 +18,21 @@ pub(crate) fn opening_states(alloc: Global, system: &System) -> Result<Vec<CoreS
         states.push(state)?;
     }
     Ok(states)
+}
+
+// For each core the delays of the signals to it, by their makers.
+pub(crate) fn delay_rows(
+    alloc: Global,
+    system: &System,
+) -> Result<Vec<[u64; Limits::CORES]>, NoMemory>
+    ensures { IfOk result (λ rows. AreDelays system.now system.now.cores rows.items) }
+{
+    let cores = system.parts().cores;
+    let mut rows = Vec::with_capacity(alloc, cores)?;
+    for core in 0..cores {
+        rows.push(system.delays_to(CoreId(core)))?;
+    }
+    Ok(rows)
 }
 
 // As many empty boxes.

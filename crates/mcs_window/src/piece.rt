@@ -41,7 +41,7 @@ impl Model for Piece {
       past = a.past;
       front = a.front;
       state = a.state;
-      mail = a.mail;
+      mail = a.mail.mails;
     } };
 
     ghost invariant = { λ a. IsWork (record {
@@ -51,7 +51,7 @@ impl Model for Piece {
       past = a.past;
       front = a.front;
       state = a.state;
-      mail = a.mail;
+      mail = a.mail.mails;
     }) };
 }
 
@@ -87,7 +87,7 @@ impl Model for Done {
       state = a.state;
       rows = a.rows.items;
       out = a.out.items;
-      mail = a.mail;
+      mail = a.mail.mails;
     } };
 
     ghost invariant = { λ a. IsOutcome (record {
@@ -99,7 +99,7 @@ impl Model for Done {
       state = a.state;
       rows = a.rows.items;
       out = a.out.items;
-      mail = a.mail;
+      mail = a.mail.mails;
     }) };
 }
 

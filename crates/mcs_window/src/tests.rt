@@ -45,6 +45,7 @@ fn system(alloc: Global) -> Result<Arc<System>, Fail> {
         notes: Sequence::new(Vec::new(alloc)),
         threads: Sequence::new(vec![in alloc; thread]?),
         orders: Sequence::new(Vec::new(alloc)),
+        links: Sequence::new(Vec::new(alloc)),
     };
     if !parts.is_well_formed() {
         return Err(Fail::from("a well-formed system"));
@@ -52,12 +53,12 @@ fn system(alloc: Global) -> Result<Arc<System>, Fail> {
     Ok(Arc::new(alloc, System::new(parts))?)
 }
 
-// The first piece of a core, one moment less than the delay long.
+// The first piece of a core, one moment less than the least delay long.
 fn first_piece(alloc: Global, system: Arc<System>, core: CoreId) -> Result<Piece, Fail>
     requires { core < (arc_value system).cores }
     ensures { IfOk result (λ piece. piece.core ≡ core) }
 {
-    let delay = system.parts().delay;
+    let delay = system.least_delay();
     let past = Tick::new(delay - 1).ok_or("a moment")?;
     let state = CoreState::new(alloc, &system, core)?;
     Ok(Piece {
@@ -80,7 +81,7 @@ fn a_piece_is_the_core_s_turns(rt: HostRuntime) -> Result<(), Fail> {
     assert_eq!(rt; cores, 2);
     let piece = first_piece(alloc, system, CoreId(1))?;
     let Ok(done) = piece.run() else {
-        return Err(Fail::from("memory"));
+        return Err(Fail::from("no memory"));
     };
     assert_eq!(rt;
         (done.core, done.first.get(), done.past.get()),

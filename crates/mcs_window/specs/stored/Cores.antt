@@ -1,5 +1,5 @@
 -- What `Cores` keeps between its calls: each core stands as the clock has it at the moment of its own clock.
-use Rattle.std.specs.Prelude.{◌≡◌, ℕ, ◌+◌, ◌<◌, ◌≤◌, ◌^◌, false, List, [], length, slice_index, slice_index_or, Vec}
+use Rattle.std.specs.Prelude.{◌≡◌, ℕ, ◌+◌, ◌<◌, ◌≤◌, ◌^◌, max, false, List, [], length, slice_index, slice_index_or, Vec}
 use Rattle.std.specs.Arc.{arc_value}
 use Rattle.std.specs.declared.alloc.Global.{Global}
 use Rattle.mcs_ticks.specs.declared.row.Row.{Row}
@@ -9,8 +9,10 @@ use Rattle.mcs_system.specs.System.{System}
 use Rattle.mcs_system.specs.WellFormed.{IsWellFormed}
 use Rattle.mcs_core.specs.State.{State}
 use Rattle.mcs_window.specs.Inbox.{inbox}
+use Rattle.mcs_window.specs.Idle.{IsIdle}
 use Rattle.mcs_window.specs.Stretch.{StandsAt, rows_between, NothingArrivesBefore}
 use Rattle.mcs_window.specs.Progress.{Progress}
+use Rattle.mcs_window.specs.stored.Opening.{AreDelays}
 use Rattle.mcs_window.specs.declared.cores.Cores.TheInside.{Inside}
 
 abbrev pub progress_of : Inside → Progress
@@ -37,28 +39,57 @@ AreHere system clocks states boxes =
     IsHere system core (slice_index clocks core) clocks (slice_index_or states core state)
     (slice_index_or boxes core box).mails
 
+-- the state of each core at its clock
+abbrev pub AreAt : System → List ℕ → List State → Type 0
+AreAt system clocks states =
+    (core : ℕ) (state : State) → core < system.cores →
+    StandsAt system core (slice_index clocks core) (slice_index_or states core state)
+
+-- the moment until which the cores below this number are idle, or `past` where that comes first
+pub record AreIdleBelow (system : System) (clocks : List ℕ) (past many moment : ℕ) : Type 0 where
+  pub in_time : moment ≤ past
+  pub idle : (core : ℕ) → core < many → IsIdle system clocks moment core
+  pub busy : moment < past → ¬ ((core : ℕ) → core < many → IsIdle system clocks (moment + 1) core)
+
+-- the clocks of the cores below this number that were before the moment are set to it, and the others stay
+pub record AreSetBelow (clocks : List ℕ) (moment many : ℕ) (later : List ℕ) : Type 0 where
+  pub many_are : length later ≡ length clocks
+  pub done : (core : ℕ) → core < many → slice_index later core ≡ max (slice_index clocks core) moment
+  pub left : (core : ℕ) → many ≤ core → slice_index later core ≡ slice_index clocks core
+
+-- and each core below this number has gone there
+pub record AreSkipped (system : System) (clocks : List ℕ) (states : List State) (moment many : ℕ) (later : List ℕ)
+    (after : List State) : Type 0 where
+  pub clocks_are : AreSetBelow clocks moment many later
+  pub many_are : length after ≡ length states
+  pub states_are : AreAt system later after
+
 -- no turn is half taken
-pub record AreWhole (system : System) (clocks : List ℕ) (states : List State) (boxes : List Content) (rows : List Row)
+pub record AreWhole (system : System) (clocks : List ℕ) (states : List State) (boxes : List Content)
     (signals : List Mail) : Type 0 where
   pub here : AreHere system clocks states boxes
-  pub no_rows : rows ≡ []
   pub no_signals : signals ≡ []
 
--- the clocks, and the rows since the last taking
-pub record AreKept (system : System) (horizon : ℕ) (clocks taken : List ℕ) (rows : List (Vec Row Global)) : Type 0 where
-  pub clocks_of : length clocks ≡ system.cores
-  pub taken_of : length taken ≡ system.cores
+-- no clock is later than one past the horizon, and the rows are those since the last taking
+pub record AreSince (system : System) (horizon : ℕ) (clocks taken : List ℕ) (rows : List (Vec Row Global)) : Type 0 where
   pub rows_of : length rows ≡ system.cores
   pub in_time : (c : ℕ) → c < system.cores → slice_index clocks c ≤ horizon + 1
   pub in_order : (c : ℕ) → c < system.cores → slice_index taken c ≤ slice_index clocks c
   pub rows_are : (c : ℕ) (x : Vec Row Global) → c < system.cores → (slice_index_or rows c x).items
       ≡ rows_between system c (slice_index taken c) (slice_index clocks c)
 
+-- the clocks, and the rows since the last taking
+pub record AreKept (system : System) (horizon : ℕ) (clocks taken : List ℕ) (rows : List (Vec Row Global)) : Type 0 where
+  pub clocks_of : length clocks ≡ system.cores
+  pub taken_of : length taken ≡ system.cores
+  pub since : AreSince system horizon clocks taken rows
+
 pub record IsKept (a : Inside) : Type 0 where
   pub horizon : a.horizon ≤ 2 ^ 40
   pub well_formed : IsWellFormed (arc_value a.system)
   pub states_of : length a.states.items ≡ (arc_value a.system).cores
   pub boxes_of : length a.boxes.items ≡ (arc_value a.system).cores
+  pub delays_are : AreDelays (arc_value a.system) (arc_value a.system).cores a.delays.items
   pub kept : AreKept (arc_value a.system) a.horizon a.clocks.items a.taken.items a.rows.items
   pub whole : a.failed ≡ false
-      → AreWhole (arc_value a.system) a.clocks.items a.states.items a.boxes.items a.fresh.items a.signals.items
+      → AreWhole (arc_value a.system) a.clocks.items a.states.items a.boxes.items a.signals.items

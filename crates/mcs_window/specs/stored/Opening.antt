@@ -1,9 +1,9 @@
--- What each core has at the beginning: its first state, an empty box and no rows.
-use Rattle.std.specs.Prelude.{◌≡◌, ℕ, ◌<◌, List, [], length, slice_index_or, Vec}
+-- What each core has at the beginning: its first state, an empty box, no rows, and the delays of the signals to it.
+use Rattle.std.specs.Prelude.{◌≡◌, ℕ, ◌<◌, ◌≤◌, ◌^◌, List, [], length, slice_index, slice_index_or, Vec}
 use Rattle.std.specs.declared.alloc.Global.{Global}
 use Rattle.mcs_ticks.specs.declared.row.Row.{Row}
 use Rattle.mcs_mail.specs.Box.{Content}
-use Rattle.mcs_system.specs.System.{System}
+use Rattle.mcs_system.specs.System.{System, delay_between}
 use Rattle.mcs_core.specs.State.{State, Fits, opening_state}
 
 -- the first states of the cores below this number
@@ -19,3 +19,9 @@ pub record AreEmptyBoxes (many : ℕ) (boxes : List Content) : Type 0 where
 pub record AreEmptyRows (many : ℕ) (rows : List (Vec Row Global)) : Type 0 where
   pub many_are : length rows ≡ many
   pub each : (c : ℕ) (x : Vec Row Global) → c < many → (slice_index_or rows c x).items ≡ []
+
+-- for each home below this number the delay of a signal of each core
+pub record AreDelays (system : System) (many : ℕ) (rows : List (List ℕ)) : Type 0 where
+  pub many_are : length rows ≡ many
+  pub each : (home maker : ℕ) (x : List ℕ) → home < many → maker < 64 →
+      slice_index (slice_index_or rows home x) maker ≡ delay_between system maker home

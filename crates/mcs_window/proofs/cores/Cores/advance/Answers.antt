@@ -18,14 +18,14 @@ run-requires-clause-expected c =
     (subst (StandsAt (arc_value a.system) k (slice_index a.clocks.items k)) (sym c.index_mut-state.ensures.value) here.state_is)
     (ap (λ (box : Content). box.mails) c.index_mut-mail.ensures.value ∙ here.box_is))
 
-pub invariant_of-self-in_err-append : goal.invariant_of-self-in_err-append
-invariant_of-self-in_err-append c =
+pub invariant_of-self-in_err-keep_rows : goal.invariant_of-self-in_err-keep_rows
+invariant_of-self-in_err-keep_rows c =
     let a = c.self.inside in
     let k = c.core.inside.0 in
     let h : k < (arc_value a.system).cores = search rules in
     let many : length c.deliver.new.boxes ≡ length (set a.boxes.items k c.run.new.mail) = c.in_ok-deliver.ensures.many ∙ ap length c.deref_mut.ensures.value in
-    spent_kept a c.self.invariant k c.run.new.self c.run.new.mail c.deliver.new.boxes c.index_mut-rows.result.now c.append.new.self c.append.new.other c.run.new.signals
-    h many c.index_mut-rows.ensures.value c.in_err-append.ensures.items
+    spent_kept a c.self.invariant k c.run.new.self c.run.new.mail c.deliver.new.boxes c.index_mut.result.now c.keep_rows.new.kept c.run.new.signals
+    h many c.index_mut.ensures.value c.in_err-keep_rows.ensures.refused
 
 pub invariant_of-self-2 : goal.invariant_of-self-2
 invariant_of-self-2 c =
@@ -36,14 +36,14 @@ invariant_of-self-2 c =
     let in_time : c.args.to ≤ a.horizon + 1 = search rules in
     let reached : NothingArrivesBefore (arc_value a.system) k c.args.to a.clocks.items = search rules in
     advanced_kept a c.self.invariant k c.args.to c.index_mut-state.result.now c.run.new.self c.index_mut-mail.result.now c.run.new.mail c.deliver.new.boxes
-    c.index_mut-rows.result.now c.append.new.self c.run.new.rows c.append.new.other c.run.new.signals c.clear.new.self
+    c.index_mut.result.now c.keep_rows.new.kept c.run.new.rows c.run.new.signals c.clear.new.self
     c.if-self.false h l in_time reached c.index_mut-state.ensures.value c.index_mut-mail.ensures.value
     (record {
       state_is = rw c.deref.ensures at c.in_ok-run.ensures.state;
       fits = rw c.deref.ensures at c.in_ok-run.ensures.fits;
-      rows_are = rw c.deref.ensures at c.in_ok-run.ensures.rows;
+      rows_are = rw (c.deref.ensures, c.new-rows.ensures.items) at c.in_ok-run.ensures.rows;
       signals_are = rw c.deref.ensures at c.in_ok-run.ensures.signals;
       box_is = rw c.deref.ensures at c.in_ok-run.ensures.mail;
     })
     (rw (c.deref-2.ensures, c.deref-3.ensures.value, c.deref_mut.ensures.value) at c.in_ok-deliver.ensures)
-    c.index_mut-rows.ensures.value c.in_ok-append.ensures.items c.in_ok-append.ensures.other_items c.clear.ensures.items
+    c.index_mut.ensures.value c.in_ok-keep_rows.ensures.kept c.clear.ensures.items

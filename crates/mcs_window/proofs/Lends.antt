@@ -1,0 +1,118 @@
+-- A desk of which a core is lent.
+use Rattle.std.proofs.Common.{◌≡◌, ◌≢◌, ℕ, ◌+◌, ◌<◌, ◌≤◌, Option, Some, None, List, [], length, map, get_or, set, inl, inr, refl, sym, ap, ◌∙◌, subst, arith}
+use Rattle.std.specs.Prelude.{slice_index}
+use Rattle.std.specs.Arc.{arc_value}
+use Rattle.std.specs.Vec.{with_item}
+use Rattle.std.specs.declared.alloc.Global.{Global}
+use Rattle.std.specs.declared.sync.Arc.{Arc}
+use Rattle.std.proofs.lemmas.Bool.Decides.{eqb_tells}
+use Rattle.std.proofs.lemmas.List.{get_or-set_same, get_or-set_other, get_or-map, length-set, map-set}
+use Rattle.mcs_mail.specs.declared.mail.Mail.{Mail}
+use Rattle.mcs_mail.specs.Box.{Content}
+use Rattle.mcs_system.specs.System.{System}
+use Rattle.mcs_core.specs.State.{State}
+use Rattle.mcs_window.specs.Desk.{Table, clock_of, past_of, loan_of, MayLend, lent_at, IsFinished, AllAreHere}
+use Rattle.mcs_window.specs.Pieces.{IsWork}
+use Rattle.mcs_window.specs.stored.Cores.{IsHere}
+use Rattle.mcs_window.specs.stored.Slots.{slot_loan, table_of, IsAway, IsPlaced, ArePlaced, IsKept}
+use Rattle.mcs_window.specs.declared.slot.Loan.{Loan}
+use Rattle.mcs_window.specs.declared.slot.Slot.{Slot}
+use Rattle.mcs_window.specs.declared.slot.Slot.TheVariants.{Here, Away}
+use Rattle.mcs_window.specs.declared.desk.Desk.TheInside.{Inside}
+use Rattle.mcs_window.proofs.Advances.{takes_time}
+use Rattle.mcs_window.proofs.Lending.{past_by-in_time, past_by-reached, goes_on}
+use Rattle.mcs_window.proofs.News.{news-joined}
+
+-- a slot and its box are written, and the others stay
+pub placed-set : (system : System) (horizon : ℕ) (clocks : List ℕ) (slots : List Slot) (boxes : List Content) (k : ℕ) (slot : Slot) (box : Content) → ArePlaced system horizon clocks slots boxes →
+    k < length slots → k < length boxes → IsPlaced system horizon k clocks box.mails slot → ArePlaced system horizon clocks (set slots k slot) (set boxes k box)
+placed-set system horizon clocks slots boxes k slot box old in_slots in_boxes new c x y l = elim (eqb_tells c k) [
+  | inl p ↦ same c _ _ _ _ _ p.1 (ap (λ i. get_or (set slots k slot) i x) p.1 ∙ get_or-set_same slots k slot x in_slots)
+      (ap (λ i. (get_or (set boxes k box) i y).mails) p.1 ∙ ap (λ (z : Content). z.mails) (get_or-set_same boxes k box y in_boxes)) new
+  | inr p ↦ same c _ _ _ _ _ refl (get_or-set_other slots k c slot x p.1) (ap (λ (z : Content). z.mails) (get_or-set_other boxes k c box y p.1)) (old c x y l)
+]
+  where
+    same : (c d : ℕ) (s t : Slot) (m n : List Mail) → c ≡ d → s ≡ t → m ≡ n → IsPlaced system horizon d clocks n t → IsPlaced system horizon c clocks m s
+    same c d s t m n e f g h = rw (e, f, g) h
+
+module _ (a : Inside) (kept : IsKept a) where
+  abbrev system : System
+  system = arc_value a.system
+
+  pub loan_at : (k : ℕ) (x : Slot) → k < system.cores → loan_of (table_of a) k ≡ slot_loan (get_or a.slots.items k x)
+  loan_at k x l = get_or-map slot_loan a.slots.items k x None (omega (arith, kept.slots_of))
+
+  -- a core that is here
+  here_of : (k : ℕ) (slot : Slot) (box : List Mail) (spare : Arc System Global) (state : State) → slot ≡ Here spare state → IsPlaced system a.horizon k a.clocks box slot →
+      (arc_value spare ≡ system) × IsHere system k (slice_index a.clocks k) a.clocks state box
+  here_of k slot box spare state e placed = subst (IsPlaced system a.horizon k a.clocks box) e placed
+
+  pub here_at : (k : ℕ) (slot : Slot) (box : Content) (spare : Arc System Global) (state : State) → k < system.cores → slot ≡ Here spare state → slot ≡ get_or a.slots.items k slot →
+      box ≡ get_or a.boxes.items k box → (arc_value spare ≡ system) × IsHere system k (slice_index a.clocks k) a.clocks state box.mails
+  here_at k slot box spare state l e at b_at =
+      here_of k (get_or a.slots.items k slot) box.mails spare state (sym at ∙ e)
+      (subst (λ (y : Content). IsPlaced system a.horizon k a.clocks y.mails (get_or a.slots.items k slot)) (sym b_at) (kept.placed k slot box l))
+
+  -- the piece that is lent
+  pub lent_work : (k : ℕ) (slot : Slot) (box : Content) (spare : Arc System Global) (state : State) (first past : ℕ) → MayLend (table_of a) k → slot ≡ Here spare state →
+      slot ≡ get_or a.slots.items k slot → box ≡ get_or a.boxes.items k box → first ≡ slice_index a.clocks k → past ≡ past_of (table_of a) k →
+      IsWork (record { system = arc_value spare; core = k; first = first; past = past; front = a.clocks; state = state; mail = box.mails })
+  lent_work k slot box spare state first past may e at b_at first_is past_is =
+      let here = here_at k slot box spare state may.known e at b_at in
+      let far = past_by-in_time (table_of a) k system.cores in
+      rw (here.0, first_is) (record {
+        stretch = record {
+          known = may.known;
+          in_order = (let ahead = may.ahead in omega arith);
+          in_time = (let horizon = kept.horizon in omega arith);
+          reached = λ b l other. let reach = past_by-reached (table_of a) k system.cores b l other in omega arith;
+          idle = kept.idle;
+        };
+        state_is = here.1.state_is;
+        mail_is = here.1.box_is;
+      })
+
+  -- what the desk keeps
+  pub lent_kept : (k : ℕ) (slot : Slot) (loan : Loan) (box : Content) → MayLend (table_of a) k → slot ≡ Away loan → loan.past ≡ past_of (table_of a) k → loan.front ≡ a.clocks → box.mails ≡ [] →
+      IsKept (record a { slots = with_item a.slots k slot; boxes = with_item a.boxes k box })
+  lent_kept k slot loan box may e past front none =
+      record {
+        horizon = kept.horizon;
+        well_formed = kept.well_formed;
+        few = kept.few;
+        clocks_of = kept.clocks_of;
+        taken_of = kept.taken_of;
+        idle = kept.idle;
+        slots_of = length-set a.slots.items k slot ∙ kept.slots_of;
+        boxes_of = length-set a.boxes.items k box ∙ kept.boxes_of;
+        delays_are = kept.delays_are;
+        since = kept.since;
+        placed = placed-set system a.horizon a.clocks a.slots.items a.boxes.items k slot box kept.placed (omega (arith, kept.slots_of, may.known)) (omega (arith, kept.boxes_of, may.known))
+            (subst (IsPlaced system a.horizon k a.clocks box.mails) (sym e) away);
+      }
+    where
+      away : IsAway system a.horizon k a.clocks loan box.mails
+      away =
+          let far = past_by-in_time (table_of a) k system.cores in
+          let ahead = may.ahead in
+          record {
+            in_order = omega arith;
+            in_time = omega arith;
+            reached = λ b l other.
+                let reach = past_by-reached (table_of a) k system.cores b l other in let same : slice_index loan.front b ≡ slice_index a.clocks b = ap (λ xs. slice_index xs b) front in omega arith;
+            rises = λ b _. let same : slice_index loan.front b ≡ slice_index a.clocks b = ap (λ xs. slice_index xs b) front in omega arith;
+            box_are = rw (none, front) (news-joined system k loan.past a.clocks).1;
+          }
+
+  -- what the desk shows
+  pub lent_shows : (k : ℕ) (slot : Slot) (loan : Loan) (box : Content) → slot ≡ Away loan → loan.past ≡ past_of (table_of a) k → loan.front ≡ a.clocks →
+      table_of (record a { slots = with_item a.slots k slot; boxes = with_item a.boxes k box }) ≡ lent_at (table_of a) k
+  lent_shows k slot loan box e past front =
+      ap (λ loans. record (table_of a) { loans = loans }) (map-set slot_loan a.slots.items k slot ∙ ap (set (map slot_loan a.slots.items) k) (ap slot_loan e ∙ one))
+    where
+      one : Some loan ≡ Some (record { past = past_of (table_of a) k; front = a.clocks })
+      one = rw (← past, ← front) refl
+
+  -- where nothing is lent and no core may be lent, all is done
+  pub all_done : AllAreHere (table_of a) → ((c : ℕ) → ¬ MayLend (table_of a) c) → IsFinished (table_of a)
+  all_done = goes_on (table_of a) kept.well_formed.limits.cores.0 (takes_time system kept.well_formed) kept.since.in_time

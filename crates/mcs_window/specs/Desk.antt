@@ -1,0 +1,160 @@
+-- A desk: the cores of a system, of which some are lent, each for a stretch that the clocks of the others allow.
+use Rattle.std.specs.Prelude.{◌≡◌, ◌≢◌, ◌⊎◌, ℕ, ◌+◌, ◌-◌, ◌<◌, ◌≤◌, ◌==◌, min, if◌then◌else◌, Bool, true, false, Option, Some, None, List, fold, sum_by, get_or, replicate, slice_index, slice_set}
+use Rattle.std.specs.List.{range_with_len}
+use Rattle.mcs_system.specs.System.{System, delay_between}
+use Rattle.mcs_window.specs.Idle.{AreSet, IsIdleUntil}
+use Rattle.mcs_window.specs.Pieces.{Outcome}
+use Rattle.mcs_window.specs.declared.slot.Loan.{Loan}
+use Rattle.mcs_window.specs.declared.fault.SettleFault.{SettleFault}
+use Rattle.mcs_window.specs.declared.fault.SettleFault.TheVariants.{Foreign, NotLent, OtherLoan, NoMemory}
+
+-- the clocks and the clocks at the last taking of each core's rows, both 0 past the last core; what each core is lent for, if it is
+-- lent; and whether a piece was lost
+pub record Table : Type 0 where
+  pub system : System
+  pub horizon : ℕ
+  pub lost : Bool
+  pub clocks : List ℕ
+  pub taken : List ℕ
+  pub loans : List (Option Loan)
+
+abbrev pub opening_table : System → ℕ → Table
+opening_table system horizon =
+    record {
+      system = system;
+      horizon = horizon;
+      lost = false;
+      clocks = replicate 64 0;
+      taken = replicate 64 0;
+      loans = replicate system.cores None;
+    }
+
+abbrev pub clock_of : Table → ℕ → ℕ
+clock_of table c = slice_index table.clocks c
+
+abbrev pub taken_of : Table → ℕ → ℕ
+taken_of table c = slice_index table.taken c
+
+abbrev pub loan_of : Table → ℕ → Option Loan
+loan_of table c = get_or table.loans c None
+
+-- the moment up to which core c may be lent: at most one past the horizon, and no signal that another core has still to make, from its
+-- clock on, arrives before it
+abbrev pub past_of : Table → ℕ → ℕ
+past_of table c =
+    fold (λ past b. if b == c then past else min past (clock_of table b + delay_between table.system b c))
+    (table.horizon + 1) (range_with_len 0 table.system.cores)
+
+-- core c is not lent, and it may take at least one turn
+pub record MayLend (table : Table) (c : ℕ) : Type 0 where
+  pub known : c < table.system.cores
+  pub here : loan_of table c ≡ None
+  pub ahead : clock_of table c < past_of table c
+
+-- of the cores that may be lent it has the least clock, and of those with that clock the least number
+pub record IsChosen (table : Table) (c : ℕ) : Type 0 where
+  pub may : MayLend table c
+  pub least : (k : ℕ) → MayLend table k → clock_of table c ≤ clock_of table k
+  pub first : (k : ℕ) → MayLend table k → k < c → clock_of table c < clock_of table k
+
+-- of the cores below number n that may be lent it is the one to be lent, or there is none
+pub record IsChosenBelow (table : Table) (n c : ℕ) : Type 0 where
+  pub below : c < n
+  pub may : MayLend table c
+  pub least : (k : ℕ) → k < n → MayLend table k → clock_of table c ≤ clock_of table k
+  pub first : (k : ℕ) → MayLend table k → k < c → clock_of table c < clock_of table k
+
+abbrev pub IsBest : Table → ℕ → Option ℕ → Type 0
+IsBest table n None = (k : ℕ) → k < n → ¬ MayLend table k
+IsBest table n (Some c) = IsChosenBelow table n c
+
+-- core c is lent, as far as the clocks of all allow
+abbrev pub lent_at : Table → ℕ → Table
+lent_at table c =
+    record table {
+      loans = slice_set table.loans c (Some (record { past = past_of table c; front = table.clocks }));
+    }
+
+-- core c comes back after its stretch
+abbrev pub settled_at : Table → ℕ → ℕ → Table
+settled_at table c past =
+    record table { clocks = slice_set table.clocks c past; loans = slice_set table.loans c None }
+
+-- the rows of core c are taken
+abbrev pub taken_at : Table → ℕ → Table
+taken_at table c = record table { taken = slice_set table.taken c (clock_of table c) }
+
+-- no core is lent
+abbrev pub AllAreHere : Table → Type 0
+AllAreHere table = (c : ℕ) → c < table.system.cores → loan_of table c ≡ None
+
+-- idle time is skipped: each clock that is before the first moment at which some core does more than count a tick is set to it
+pub record IsSkipped (before after : Table) : Type 0 where
+  pub moment : ℕ
+  pub until : IsIdleUntil before.system before.clocks (before.horizon + 1) moment
+  pub clocks : AreSet before.system before.clocks moment after.clocks
+  pub rest : after ≡ record before { clocks = after.clocks }
+
+-- what is there before a core is lent: where no core is lent and no piece was lost idle time was skipped, and else nothing changed
+abbrev pub IsAwake : Table → Table → Type 0
+IsAwake before after =
+    ((before.lost ≡ false) × AllAreHere before × IsSkipped before after)
+    ⊎ ((before.lost ≡ false → ¬ AllAreHere before) × (after ≡ before))
+
+-- then core c is lent
+pub record IsLent (before : Table) (c : ℕ) (after : Table) : Type 0 where
+  pub table : Table
+  pub awake : IsAwake before table
+  pub sound : before.lost ≡ false
+  pub chosen : IsChosen table c
+  pub lent : after ≡ lent_at table c
+
+-- nothing but clocks and loans changed
+pub record IsSameRun (before after : Table) : Type 0 where
+  pub system_is : after.system ≡ before.system
+  pub horizon_is : after.horizon ≡ before.horizon
+  pub lost_is : after.lost ≡ before.lost
+  pub taken_are : after.taken ≡ before.taken
+
+-- a piece was lost
+abbrev pub with_lost : Table → Table
+with_lost table = record table { lost = true }
+
+-- it is what its core is lent for
+pub record IsLoan (table : Table) (done : Outcome) : Type 0 where
+  pub first : done.first ≡ clock_of table done.core
+  pub loan : loan_of table done.core ≡ Some (record { past = done.past; front = done.front })
+
+-- when each fault of a settlement comes, in this order of tests
+abbrev pub IsSettleFault : Table → Outcome → SettleFault → Type 0
+IsSettleFault table done Foreign = done.system ≢ table.system
+IsSettleFault table done NotLent = (done.system ≡ table.system) × (loan_of table done.core ≡ None)
+IsSettleFault table done OtherLoan =
+    (done.system ≡ table.system) × (loan_of table done.core ≢ None) × ¬ IsLoan table done
+IsSettleFault table done NoMemory = (done.system ≡ table.system) × IsLoan table done
+
+-- every core has taken its turn at the horizon
+abbrev pub IsFinished : Table → Type 0
+IsFinished table = (c : ℕ) → c < table.system.cores → clock_of table c ≡ table.horizon + 1
+
+-- no rows were taken
+abbrev pub IsUntaken : Table → Type 0
+IsUntaken table = (c : ℕ) → c < table.system.cores → taken_of table c ≡ 0
+
+-- nothing is away: no piece was lost, no core is lent and no rows were taken
+pub record IsWhole (table : Table) : Type 0 where
+  pub sound : table.lost ≡ false
+  pub here : AllAreHere table
+  pub untaken : IsUntaken table
+
+-- later, with nothing lent or lost at either moment, and no rows taken between them
+pub record IsLater (before after : Table) : Type 0 where
+  pub system_is : after.system ≡ before.system
+  pub horizon_is : after.horizon ≡ before.horizon
+  pub taken_are : after.taken ≡ before.taken
+  pub sound : after.lost ≡ false
+  pub here : AllAreHere after
+
+-- how many turns there are still to be taken
+abbrev pub turns_left : Table → ℕ
+turns_left table = sum_by (λ c. table.horizon + 1 - clock_of table c) (range_with_len 0 table.system.cores)

@@ -1,0 +1,114 @@
+-- What a desk keeps between its calls: each core that is not lent stands as the clock has it, and for each that is lent there lie the
+-- signals that were made for it since.
+use Rattle.std.specs.Prelude.{◌≡◌, ℕ, ◌+◌, ◌-◌, ◌<◌, ◌≤◌, ◌^◌, false, Option, Some, None, List, [], map, length, slice_index, slice_index_or}
+use Rattle.std.specs.Arc.{arc_value}
+use Rattle.std.specs.declared.alloc.Global.{Global}
+use Rattle.mcs_mail.specs.declared.mail.Mail.{Mail}
+use Rattle.mcs_mail.specs.Box.{Content}
+use Rattle.mcs_system.specs.System.{System}
+use Rattle.mcs_system.specs.WellFormed.{IsWellFormed}
+use Rattle.mcs_core.specs.Quiet.{AreQuiet, counted_times}
+use Rattle.mcs_core.specs.State.{Fits, opening_state}
+use Rattle.mcs_window.specs.Inbox.{AreNews, Rises}
+use Rattle.mcs_window.specs.Stretch.{StandsAt, NothingArrivesBefore}
+use Rattle.mcs_window.specs.stored.Cores.{IsHere, AreSince, AreSetBelow}
+use Rattle.mcs_window.specs.stored.Opening.{AreDelays}
+use Rattle.mcs_window.specs.Desk.{Table}
+use Rattle.mcs_window.specs.declared.slot.Loan.{Loan}
+use Rattle.mcs_window.specs.declared.slot.Slot.{Slot}
+use Rattle.mcs_window.specs.declared.slot.Slot.TheVariants.{Here, Away}
+use Rattle.mcs_window.specs.declared.desk.Desk.TheInside.{Inside}
+
+abbrev pub slot_loan : Slot → Option Loan
+slot_loan (Here spare state) = None
+slot_loan (Away loan) = Some loan
+
+abbrev pub table_of : Inside → Table
+table_of a =
+    record {
+      system = arc_value a.system;
+      horizon = a.horizon;
+      lost = a.lost;
+      clocks = a.clocks;
+      taken = a.taken;
+      loans = map slot_loan a.slots.items;
+    }
+
+-- the loan of a core, and the signals that the cores made for it since the front, by the clocks of all
+pub record IsAway (system : System) (horizon core : ℕ) (clocks : List ℕ) (loan : Loan) (box : List Mail) : Type 0 where
+  pub in_order : slice_index clocks core ≤ loan.past
+  pub in_time : loan.past ≤ horizon + 1
+  pub reached : NothingArrivesBefore system core loan.past loan.front
+  pub rises : Rises system loan.front clocks
+  pub box_are : AreNews system core loan.past loan.front clocks box
+
+-- a core that is not lent has its state, its inbox and a copy of the system for its next piece
+abbrev pub IsPlaced : System → ℕ → ℕ → List ℕ → List Mail → Slot → Type 0
+IsPlaced system horizon core clocks box (Here spare state) =
+    (arc_value spare ≡ system) × IsHere system core (slice_index clocks core) clocks state box
+IsPlaced system horizon core clocks box (Away loan) = IsAway system horizon core clocks loan box
+
+-- each core is so
+abbrev pub ArePlaced : System → ℕ → List ℕ → List Slot → List Content → Type 0
+ArePlaced system horizon clocks slots boxes =
+    (core : ℕ) (slot : Slot) (box : Content) → core < system.cores →
+    IsPlaced system horizon core clocks (slice_index_or boxes core box).mails (slice_index_or slots core slot)
+
+pub record IsKept (a : Inside) : Type 0 where
+  pub horizon : a.horizon ≤ 2 ^ 40
+  pub well_formed : IsWellFormed (arc_value a.system)
+  pub few : (arc_value a.system).cores ≤ 64
+  pub clocks_of : length a.clocks ≡ 64
+  pub taken_of : length a.taken ≡ 64
+  pub idle : (b : ℕ) → (arc_value a.system).cores ≤ b → slice_index a.clocks b ≡ 0
+  pub slots_of : length a.slots.items ≡ (arc_value a.system).cores
+  pub boxes_of : length a.boxes.items ≡ (arc_value a.system).cores
+  pub delays_are : AreDelays (arc_value a.system) (arc_value a.system).cores a.delays.items
+  pub since : AreSince (arc_value a.system) a.horizon a.clocks a.taken a.rows.items
+  pub placed : ArePlaced (arc_value a.system) a.horizon a.clocks a.slots.items a.boxes.items
+
+-- the slot of core c at the beginning
+abbrev pub IsFresh : System → ℕ → Slot → Type 0
+IsFresh system c (Here spare state) =
+    (arc_value spare ≡ system) × (state ≡ opening_state system c) × Fits system state
+IsFresh system c (Away loan) = ⊥
+
+-- the slots of the cores below this number, at the beginning
+pub record AreFresh (system : System) (many : ℕ) (slots : List Slot) : Type 0 where
+  pub many_are : length slots ≡ many
+  pub each : (c : ℕ) (x : Slot) → c < many → IsFresh system c (slice_index_or slots c x)
+
+-- the slot of core c, which is here, at moment t
+abbrev pub StandsIn : System → ℕ → ℕ → Slot → Type 0
+StandsIn system c t (Here spare state) = (arc_value spare ≡ system) × StandsAt system c t state
+StandsIn system c t (Away loan) = ⊥
+
+-- every core is here, at its clock
+abbrev pub AllStand : System → List ℕ → List Slot → Type 0
+AllStand system clocks slots =
+    (c : ℕ) (x : Slot) → c < system.cores → StandsIn system c (slice_index clocks c) (slice_index_or slots c x)
+
+-- the core of the slot is here and only counts ticks until the moment, and it has gone there
+abbrev pub MaySkip : System → ℕ → Slot → Type 0
+MaySkip system moment (Here spare state) =
+    Fits system state
+    × (state.failed ≡ false)
+    × (state.clock ≤ moment)
+    × AreQuiet system state.number state.clock [] state.core (moment - state.clock)
+MaySkip system moment (Away loan) = ⊥
+
+abbrev pub HasSkipped : System → ℕ → Slot → Slot → Type 0
+HasSkipped system moment (Here spare state) (Here other after) =
+    (other ≡ spare)
+    × (after
+    ≡ record state { clock = moment; core = counted_times system state.number (moment - state.clock) state.core })
+    × Fits system after
+HasSkipped system moment (Here spare state) (Away loan) = ⊥
+HasSkipped system moment (Away loan) slot = ⊥
+
+-- the cores below this number have gone there, where their clocks were before it
+pub record HaveSkipped (system : System) (clocks : List ℕ) (moment many : ℕ) (later : List ℕ) (slots : List Slot) :
+    Type 0 where
+  pub clocks_are : AreSetBelow clocks moment many later
+  pub many_are : length slots ≡ system.cores
+  pub stand : AllStand system later slots

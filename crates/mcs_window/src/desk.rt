@@ -1,0 +1,485 @@
+ghost use Rattle.std.specs.Prelude.{◌≡◌, ◌≢◌, ◌↔◌, ℕ, ◌+◌, ◌≤◌, ◌<◌, ◌^◌, ◌⊎◌, suc, true, false, None, length, IfOk, IfErr, OnOk, OnErr, IfSome, IfNone, IsTrue, IsFalse};
+ghost use Rattle.std.specs.Arc.{arc_value};
+ghost use Rattle.mcs_core.specs.Clock.{world, core_at};
+ghost use Rattle.mcs_core.specs.Quiet.{IsNextBusy};
+ghost use Rattle.mcs_system.specs.System.{delay_between};
+ghost use Rattle.mcs_window.specs.Idle.{IsIdleUntil};
+ghost use Rattle.mcs_window.specs.Inbox.{inbox};
+ghost use Rattle.mcs_window.specs.Stretch.{rows_between};
+ghost use Rattle.mcs_window.specs.Desk.{opening_table, clock_of, taken_of, past_of, loan_of, MayLend, IsChosen, IsBest, lent_at, settled_at, taken_at, IsSkipped, IsAwake, IsLent, IsSameRun, with_lost, IsLoan, IsSettleFault, AllAreHere, IsFinished, IsUntaken, IsWhole, IsLater, turns_left};
+
+use crate::delivery::{deliver_reserved, make_room};
+use crate::opening::{delay_rows, empty_boxes, empty_rows};
+use crate::settle::{make_own_room, put_box, put_rows, same_front};
+use crate::skip::skip_slots;
+use crate::slot::{Loan, Slot, opening_slots};
+use crate::{Done, Front, Lost, Piece, SettleFault};
+use mcs_mail::Mailbox;
+use mcs_system::System;
+use mcs_ticks::{CoreId, Limits, NoMemory, Row, Tick};
+use std::alloc::Global;
+use std::marker::Model;
+use std::mem;
+use std::sync::Arc;
+
+/// The cores of a system, up to a horizon. Those that lie on it are lent for stretches, and are taken back when these were run.
+#[derive(Drop)]
+pub struct Desk {
+    system: Arc<System>,
+    horizon: Tick,
+    lost: bool,
+    // The clock of a lent core is where its stretch begins.
+    clocks: Front,
+    taken: Front,
+    slots: Vec<Slot>,
+    // The box of a lent core has what was made for it since.
+    boxes: Vec<Mailbox>,
+    rows: Vec<Vec<Row>>,
+    // For each core the delays of the signals to it.
+    delays: Vec<[u64; Limits::CORES]>,
+    alloc: Global,
+}
+
+impl Model for Desk {
+    ghost use Rattle.mcs_window.specs.Desk.{Table};
+
+    ghost Value = { Table };
+
+    ghost use Rattle.mcs_window.specs.stored.Slots.{IsKept, table_of};
+
+    ghost view = { table_of };
+
+    ghost invariant = { IsKept };
+}
+
+impl Desk {
+    /// All cores at moment 0, for a run up to this horizon. No core is lent.
+    pub fn new(alloc: Global, system: Arc<System>, horizon: Tick) -> Result<Desk, NoMemory>
+        requires { horizon ≤ 2 ^ 40 }
+        ensures { IfOk result (λ desk. desk ≡ opening_table (arc_value system) horizon) }
+    {
+        let cores = system.parts().cores;
+        let slots = opening_slots(alloc, &system)?;
+        let boxes = empty_boxes(alloc, cores)?;
+        let rows = empty_rows(alloc, cores)?;
+        let delays = delay_rows(alloc, &system)?;
+        Ok(Desk {
+            system,
+            horizon,
+            lost: false,
+            clocks: [Tick::ZERO; 64],
+            taken: [Tick::ZERO; 64],
+            slots,
+            boxes,
+            rows,
+            delays,
+            alloc,
+        })
+    }
+
+    /// How many cores there are.
+    pub fn cores(&self) -> usize
+        ensures { result ≡ self.now.system.cores }
+    {
+        self.system.parts().cores
+    }
+
+    /// The last moment of the run.
+    pub fn horizon(&self) -> Tick
+        ensures value { result ≡ self.now.horizon }
+        ensures in_range { result ≤ 2 ^ 40 }
+    {
+        self.horizon
+    }
+
+    /// Whether the desk is for this system and horizon. It compares the systems.
+    pub fn is_for(&self, system: &System, horizon: Tick) -> bool
+        ensures { IsTrue result ↔ ((self.now.system ≡ system.now) × (self.now.horizon ≡ horizon)) }
+    {
+        self.is_of(system) && self.horizon == horizon
+    }
+
+    // Whether the desk is for this system.
+    fn is_of(&self, system: &System) -> bool
+        ensures { IsTrue result ↔ (self.now.system ≡ system.now) }
+    {
+        *self.system == *system
+    }
+
+    /// The clock of a core: the next moment that it takes, or the first of its stretch where it is lent.
+    pub fn clock(&self, core: CoreId) -> Tick
+        requires { core < self.now.system.cores }
+        ensures value { result ≡ clock_of self.now core }
+        ensures in_time { result ≤ self.now.horizon + 1 }
+    {
+        let clocks = &self.clocks;
+        clocks[core.0]
+    }
+
+    /// The clock of a core when its rows were last taken, and 0 before that.
+    pub fn taken(&self, core: CoreId) -> Tick
+        requires { core < self.now.system.cores }
+        ensures value { result ≡ taken_of self.now core }
+        ensures in_order { result ≤ clock_of self.now core }
+    {
+        let taken = &self.taken;
+        taken[core.0]
+    }
+
+    /// Whether a piece was lost.
+    pub fn lost(&self) -> bool
+        ensures { result ≡ self.now.lost }
+    {
+        self.lost
+    }
+
+    /// Whether every core has taken its turn at the horizon.
+    pub fn finished(&self) -> bool
+        ensures { IsTrue result ↔ IsFinished self.now }
+    {
+        for core in 0..self.cores() {
+            if self.clocks[core] <= self.horizon {
+                return false;
+            }
+        }
+        true
+    }
+
+    // Whether a core is not lent.
+    fn is_here(&self, core: CoreId) -> bool
+        requires { core < self.now.system.cores }
+        ensures { IsTrue result ↔ (loan_of self.now core ≡ None) }
+    {
+        matches!(self.slots[core.0], Slot::Here { .. })
+    }
+
+    // Whether no core is lent.
+    fn all_are_here(&self) -> bool
+        ensures { IsTrue result ↔ AllAreHere self.now }
+    {
+        for core in 0..self.cores() {
+            if !self.is_here(CoreId(core)) {
+                return false;
+            }
+        }
+        true
+    }
+
+    // Whether no rows were taken.
+    fn is_untaken(&self) -> bool
+        ensures { IsTrue result ↔ IsUntaken self.now }
+    {
+        for core in 0..self.cores() {
+            if self.taken[core] > Tick::ZERO {
+                return false;
+            }
+        }
+        true
+    }
+
+    /// Whether nothing is away: no piece was lost, no core is lent, and no rows were taken.
+    pub fn is_whole(&self) -> bool
+        ensures { IsTrue result ↔ IsWhole self.now }
+    {
+        !self.lost && self.all_are_here() && self.is_untaken()
+    }
+
+    // How long a signal of this core is under way to another.
+    fn delay(&self, maker: CoreId, home: CoreId) -> u64
+        requires maker { maker < self.now.system.cores }
+        requires home { home < self.now.system.cores }
+        ensures value { result ≡ delay_between self.now.system maker home }
+        ensures short { result ≤ 2 ^ 20 }
+    {
+        self.delays[home.0][maker.0]
+    }
+
+    // The moment up to which a core may be lent.
+    fn past(&self, core: CoreId) -> Tick
+        requires { core < self.now.system.cores }
+        ensures { result ≡ past_of self.now core }
+    {
+        let mut past = self.horizon.get() + 1;
+        for other in 0..self.cores() {
+            if other != core.0 {
+                let maker = CoreId(other);
+                past = past.min(self.clock(maker).get() + self.delay(maker, CoreId(core.0)));
+            }
+        }
+        Tick::new(past).unwrap()
+    }
+
+    // Whether a core may be lent.
+    fn may_lend(&self, core: CoreId) -> bool
+        requires { core < self.now.system.cores }
+        ensures { IsTrue result ↔ MayLend self.now core }
+    {
+        self.is_here(core) && self.clock(core) < self.past(core)
+    }
+
+    // A core if it may be lent and is earlier than the one that was chosen before, and else that one.
+    fn better(&self, core: CoreId, chosen: Option<CoreId>) -> Option<CoreId>
+        requires known { core < self.now.system.cores }
+        requires lower { IsBest self.now core chosen }
+        ensures { IsBest self.now (suc core) result }
+    {
+        if let Some(other) = chosen {
+            if self.clock(core) >= self.clock(other) {
+                return chosen;
+            }
+        }
+        if self.may_lend(core) {
+            Some(core)
+        } else {
+            chosen
+        }
+    }
+
+    // The core to be lent.
+    fn choice(&self) -> Option<CoreId>
+        ensures some { IfSome result (IsChosen self.now) }
+        ensures none { IfNone result ((c : ℕ) → ¬ MayLend self.now c) }
+    {
+        let mut chosen = None;
+        for core in 0..self.cores() {
+            chosen = self.better(CoreId(core), chosen);
+        }
+        chosen
+    }
+
+    // The next busy moment of a core that is not lent.
+    fn next_busy(&self, core: CoreId) -> Option<Tick>
+        requires known { core < self.now.system.cores }
+        requires here { loan_of self.now core ≡ None }
+        ensures { IsNextBusy self.now.system core (clock_of self.now core)
+            (inbox self.now.system core (clock_of self.now core) self.now.clocks)
+            (core_at self.now.system (world self.now.system (clock_of self.now core)) core) result }
+    {
+        match &self.slots[core.0] {
+            Slot::Here { state, .. } => state.next_busy(&self.system, &self.boxes[core.0]),
+            Slot::Away(_) => None,
+        }
+    }
+
+    // The first moment at which some core does more than count a tick, or the moment after the horizon where that comes first.
+    fn idle_until(&self) -> Tick
+        requires { AllAreHere self.now }
+        ensures { IsIdleUntil self.now.system self.now.clocks (self.now.horizon + 1) result }
+    {
+        let mut until = self.horizon.plus(1).unwrap();
+        for core in 0..self.cores() {
+            if let Some(busy) = self.next_busy(CoreId(core)) {
+                if busy.get() < until.get() {
+                    until = busy;
+                }
+            }
+        }
+        until
+    }
+
+    /// Idle time, where no core is lent: all cores whose clocks are earlier go at once to the first moment at which some core does more
+    /// than count a tick, or to the moment after the horizon where that comes first. Until then no core makes a row.
+    pub fn skip_idle(&mut self)
+        requires { AllAreHere self.old }
+        ensures { IsSkipped self.old self.new }
+    {
+        let moment = self.idle_until();
+        skip_slots(&self.system, &mut self.clocks, &mut self.slots, moment);
+    }
+
+    /// Whether a core may be lent now.
+    pub fn can_lend(&self) -> bool
+        ensures some { IsTrue result → (self.now.lost ≡ false) × (c : ℕ) × MayLend self.now c }
+        ensures none { IsFalse result → (self.now.lost ≡ true) ⊎ ((c : ℕ) → ¬ MayLend self.now c) }
+    {
+        !self.lost && self.choice().is_some()
+    }
+
+    /// Lends the core with the least clock, and of those the one with the least number, of those that are not lent and may take a turn,
+    /// for as long as the clocks of the others allow. Where nothing is lent and nothing was lost, all cores skip idle time first, as
+    /// `skip_idle` does. None where there is no such core, or a piece was lost; where nothing is lent and nothing was lost, that is only
+    /// where every core has taken its turn at the horizon, or skipped it.
+    pub fn lend(&mut self) -> Option<Piece>
+        ensures some { IfSome result (λ piece. IsLent self.old piece.core self.new) }
+        ensures piece { IfSome result (λ piece. (piece.system ≡ self.old.system)
+            × (piece.first ≡ clock_of self.new piece.core)
+            × (piece.past ≡ past_of self.new piece.core)
+            × (piece.front ≡ self.new.clocks)) }
+        ensures none { IfNone result (IsAwake self.old self.new
+            × ((self.old.lost ≡ true) ⊎ ((c : ℕ) → ¬ MayLend self.new c))) }
+        ensures goes_on { IfNone result (self.old.lost ≡ false → AllAreHere self.old → IsFinished self.new) }
+        ensures same_run { IsSameRun self.old self.new }
+    {
+        if !self.lost && self.all_are_here() {
+            self.skip_idle();
+        }
+        self.lend_now()
+    }
+
+    // The same without the skip.
+    fn lend_now(&mut self) -> Option<Piece>
+        ensures some { IfSome result (λ piece. (self.old.lost ≡ false)
+            × IsChosen self.old piece.core
+            × (self.new ≡ lent_at self.old piece.core)) }
+        ensures piece { IfSome result (λ piece. (piece.system ≡ self.old.system)
+            × (piece.first ≡ clock_of self.old piece.core)
+            × (piece.past ≡ past_of self.old piece.core)
+            × (piece.front ≡ self.old.clocks)) }
+        ensures none { IfNone result ((self.new ≡ self.old)
+            × ((self.old.lost ≡ true) ⊎ ((c : ℕ) → ¬ MayLend self.old c))) }
+        ensures goes_on { IfNone result (self.old.lost ≡ false → AllAreHere self.old → IsFinished self.old) }
+    {
+        if self.lost {
+            return None;
+        }
+        let core = self.choice()?;
+        let first = self.clock(core);
+        let past = self.past(core);
+        let front = self.clocks;
+        let slot = mem::replace(&mut self.slots[core.0], Slot::Away(Loan { past, front }));
+        let mail = mem::replace(&mut self.boxes[core.0], Mailbox::new(self.alloc));
+        let Slot::Here { spare, state } = slot else {
+            return None;
+        };
+        Some(Piece {
+            system: spare,
+            core,
+            first,
+            past,
+            front,
+            state,
+            mail,
+            alloc: self.alloc,
+        })
+    }
+
+    /// Marks a piece as lost: nothing is lent from now on. All loans stay, and stretches that are away may still be settled.
+    pub fn forfeit(&mut self, _lost: Lost)
+        ensures { self.new ≡ with_lost self.old }
+    {
+        self.lost = true;
+    }
+
+    /// The rows of a core since they were last taken.
+    pub fn take_rows(&mut self, core: CoreId) -> Vec<Row>
+        requires { core < self.old.system.cores }
+        ensures rows { result.items
+            ≡ rows_between self.old.system core (taken_of self.old core) (clock_of self.old core) }
+        ensures taken { self.new ≡ taken_at self.old core }
+    {
+        let clock = self.clock(core);
+        self.taken[core.0] = clock;
+        mem::replace(&mut self.rows[core.0], Vec::new(self.alloc))
+    }
+
+    // Why a stretch of the desk's system is not the one that its core is lent for.
+    fn fault_of(&self, done: &Done) -> Option<SettleFault>
+        requires { done.now.system ≡ self.now.system }
+        ensures none { IfNone result (IsLoan self.now done.now) }
+        ensures some { IfSome result (IsSettleFault self.now done.now) }
+    {
+        let Slot::Away(loan) = &self.slots[done.core.0] else {
+            return Some(SettleFault::NotLent);
+        };
+        let first = self.clocks[done.core.0];
+        if done.first != first || done.past != loan.past || !same_front(&done.front, &loan.front) {
+            return Some(SettleFault::OtherLoan);
+        }
+        None
+    }
+
+    /// Takes a stretch back that was run: the core comes to its end, its signals go to their homes, and the mail that collected
+    /// meanwhile joins its own. On each fault the desk is as it was, and the stretch is handed back. It compares the systems.
+    pub fn settle(&mut self, done: Done) -> Result<(), (SettleFault, Done)>
+        ensures ok { OnOk result ((done.system ≡ self.old.system)
+            × IsLoan self.old done
+            × (self.new ≡ settled_at self.old done.core done.past)) }
+        ensures err { OnErr result (self.new ≡ self.old) }
+        ensures fault { IfErr result (λ back. IsSettleFault self.old done back.0) }
+        ensures handed_back { IfErr result (λ back. back.1 ≡ done) }
+    {
+        if !self.is_of(&done.system) {
+            return Err((SettleFault::Foreign, done));
+        }
+        self.take_back(done)
+    }
+
+    /// The same for a stretch of the desk's system. It compares no systems, so that its cost does not grow with the system's size.
+    pub fn take_back(&mut self, done: Done) -> Result<(), (SettleFault, Done)>
+        requires { done.system ≡ self.old.system }
+        ensures ok { OnOk result (IsLoan self.old done × (self.new ≡ settled_at self.old done.core done.past)) }
+        ensures err { OnErr result (self.new ≡ self.old) }
+        ensures fault { IfErr result (λ back. IsSettleFault self.old done back.0) }
+        ensures handed_back { IfErr result (λ back. back.1 ≡ done) }
+    {
+        if let Some(fault) = self.fault_of(&done) {
+            return Err((fault, done));
+        }
+        let core = done.core.0;
+        let mut done = done;
+        if make_room(&self.system, &mut self.boxes, &done.out).is_err() {
+            return Err((SettleFault::NoMemory, done));
+        }
+        let (collected, rows) = (&self.boxes[core], &mut self.rows[core]);
+        if make_own_room(&mut done.mail, collected, rows, done.rows.len()).is_err() {
+            return Err((SettleFault::NoMemory, done));
+        }
+        let Done {
+            system,
+            past,
+            state,
+            rows,
+            out,
+            mail,
+            ..
+        } = done;
+        put_box(&mut self.boxes, core, mail);
+        deliver_reserved(&self.system, &mut self.boxes, &out);
+        put_rows(&mut self.rows[core], rows);
+        self.clocks[core] = past;
+        self.slots[core] = Slot::Here {
+            spare: system,
+            state,
+        };
+        Ok(())
+    }
+
+    // There is a clock for each core.
+    fn knows_clocks(&self)
+        ensures { self.now.system.cores ≤ length self.now.clocks }
+    {
+        let _lost = self.lost;
+    }
+
+    // Runs one stretch and takes it back. Answers whether there was one.
+    fn step(&mut self) -> Result<bool, NoMemory>
+        requires sound { self.old.lost ≡ false }
+        requires here { AllAreHere self.old }
+        ensures later { OnOk result (IsLater self.old self.new) }
+        ensures more { IfOk result (λ more. IsTrue more → turns_left self.new < turns_left self.old) }
+        ensures done { IfOk result (λ more. IsFalse more → IsFinished self.new) }
+    {
+        let Some(piece) = self.lend() else {
+            return Ok(false);
+        };
+        self.knows_clocks();
+        let Ok(done) = piece.run() else {
+            return Err(NoMemory);
+        };
+        let Ok(()) = self.take_back(done) else {
+            return Err(NoMemory);
+        };
+        Ok(true)
+    }
+
+    /// Takes all turns that are left, in the caller's thread. After `NoMemory` a core may be lent for good.
+    pub fn finish(&mut self) -> Result<(), NoMemory>
+        requires sound { self.old.lost ≡ false }
+        requires here { AllAreHere self.old }
+        ensures later { OnOk result (IsLater self.old self.new) }
+        ensures finished { OnOk result (IsFinished self.new) }
+    {
+        while self.step()? {}
+        Ok(())
+    }
+}
