@@ -1,2 +1,10 @@
 pub mod Turns
-pub mod Takings
+mod Begun
+mod Takings
+mod Headlines
+mod Giving
+mod Flowing
+mod Batches
+mod Adding
+mod Streaming
+mod Resting

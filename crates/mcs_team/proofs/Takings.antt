@@ -10,10 +10,10 @@ use Rattle.mcs_merge.specs.Lists.{rows_of_lists}
 use Rattle.mcs_merge.specs.Merge.{DoNotFall}
 use Rattle.mcs_system.specs.System.{System}
 use Rattle.mcs_window.specs.laws.Merging.{rows_of_cores}
-use Rattle.mcs_window.specs.Progress.{Progress, clock_of, taken_of, with_taken}
+use Rattle.mcs_window.specs.Desk.{Table, clock_of, taken_of, taken_at, IsFinished, IsUntaken}
 use Rattle.mcs_window.specs.Stretch.{rows_between}
 use Rattle.mcs_window.proofs.Merging.{order-between}
-use Rattle.mcs_team.specs.Windows.{AllAt, AreUntaken, AreTaken}
+use Rattle.mcs_team.specs.Takings.{AreTaken}
 
 map-range : (f : ℕ → List Row) (n a : ℕ) → map f (range_with_len a (n + 1)) ≡ map f (range_with_len a n) ++ f (a + n) ∷ []
 map-range f zero a = ap (λ m. f m ∷ []) (omega arith)
@@ -29,36 +29,36 @@ map-same f g (suc n) a h = both _ _ _ _ (h a (omega arith) (omega arith)) (map-s
     both : (x y : List Row) (xs ys : List (List Row)) → x ≡ y → xs ≡ ys → x ∷ xs ≡ y ∷ ys
     both x y xs ys e f = cc
 
-pub taken-more : (start : Progress) (n : ℕ) (lists more : List (Vec Row Global)) (rows : Vec Row Global) (progress next : Progress) → AreUntaken start.system start → n < start.system.cores →
-    AreTaken start n lists progress → rows.items ≡ rows_between progress.system n (taken_of progress n) (clock_of progress n) → next ≡ with_taken progress n → more ≡ lists ++ rows ∷ [] →
+pub taken-more : (start : Table) (n : ℕ) (lists more : List (Vec Row Global)) (rows : Vec Row Global) (table next : Table) → IsUntaken start → n < start.system.cores →
+    AreTaken start n lists table → rows.items ≡ rows_between table.system n (taken_of table n) (clock_of table n) → next ≡ taken_at table n → more ≡ lists ++ rows ∷ [] →
     AreTaken start (n + 1) more next
-taken-more start n lists more rows progress next untaken l so_far rows_are is pushed =
+taken-more start n lists more rows table next untaken l so_far rows_are is pushed =
     subst (AreTaken start (n + 1) more) (sym is)
     (record {
       system_is = so_far.system_is;
       clocks_are = so_far.clocks_are;
-      left = λ c k. get_or-set_other progress.taken n c (clock_of progress n) 0 (let e : c ≢ n = omega arith in e) ∙ so_far.left c (omega arith);
+      left = λ c k. get_or-set_other table.taken n c (clock_of table n) 0 (let e : c ≢ n = omega arith in e) ∙ so_far.left c (omega arith);
       rows_are =
           ap rows_of_lists pushed ∙ map_push (λ v. v.items) lists rows
           ∙ both _ _ _ _ so_far.rows_are (rows_are ∙ own)
           ∙ sym (map-range (λ c. rows_between start.system c 0 (clock_of start c)) n 0);
     })
   where
-    own : rows_between progress.system n (taken_of progress n) (clock_of progress n) ≡ rows_between start.system (0 + n) 0 (clock_of start (0 + n))
+    own : rows_between table.system n (taken_of table n) (clock_of table n) ≡ rows_between start.system (0 + n) 0 (clock_of start (0 + n))
     own =
         let e : 0 + n ≡ n = omega arith in
-        let from : taken_of progress n ≡ 0 = so_far.left n (omega arith) ∙ untaken n l in
+        let from : taken_of table n ≡ 0 = so_far.left n (omega arith) ∙ untaken n l in
         rw (e, so_far.system_is, so_far.clocks_are, from) refl
 
     both : (xs ys : List (List Row)) (x y : List Row) → xs ≡ ys → x ≡ y → xs ++ x ∷ [] ≡ ys ++ y ∷ []
     both xs ys x y e f = cc
 
-pub all-taken : (start : Progress) (lists : List (Vec Row Global)) (progress : Progress) → AllAt start.system start.horizon (start.horizon + 1) start → AreTaken start start.system.cores lists progress →
+pub all-taken : (start : Table) (lists : List (Vec Row Global)) (table : Table) → IsFinished start → AreTaken start start.system.cores lists table →
     rows_of_lists lists ≡ rows_of_cores start.system start.horizon
-all-taken start lists progress at taken =
+all-taken start lists table at taken =
     taken.rows_are
     ∙ map-same (λ c. rows_between start.system c 0 (clock_of start c)) (λ c. rows_between start.system c 0 (suc start.horizon)) start.system.cores 0
-    (λ c _ l. ap (λ t. rows_between start.system c 0 t) (at.clocks_are c (omega arith) ∙ end))
+    (λ c _ l. ap (λ t. rows_between start.system c 0 t) (at c (omega arith) ∙ end))
   where
     end : start.horizon + 1 ≡ suc start.horizon
     end = omega arith

@@ -1,6 +1,6 @@
--- The headline: for every accepted system and every horizon the schedule and the reports that are given are those of one clock that takes
--- all cores' turns singly, by moment, then core, with signals in order of making; and at each moment every context's refills, with the ticks
--- in use counted, sum to its budget and do not overlap.
+-- The headline: for every accepted system, every horizon and every number of workers the schedule and the reports that are given are those of
+-- one clock that takes all cores' turns singly, by moment, then core, with signals in order of making; and at each moment every context's
+-- refills, with the ticks in use counted, sum to its budget and do not overlap.
 --
 -- Its premises: the system is accepted, which is to be well formed (`System` holds no other); the horizon is at most 2^40, which is a
 -- condition of the calls; and the call has succeeded, which being out of memory alone prevents.
@@ -23,7 +23,8 @@ module _ (system : System) where
   abbrev pub BudgetsStand : ℕ → List ContextView → Type 0
   BudgetsStand t views = AreShownBefore system (suc t) views
 
-  -- Both halves. `simulate_alone` promises this of its rows and its reports; `run` of `mcs_cli` writes their text and nothing else.
+  -- Both halves. `simulate` promises this of its rows and its reports for every number of workers, and `simulate_alone` on the caller's
+  -- thread; `run` of `mcs_cli` writes their text and nothing else.
   pub record Headline (horizon : ℕ) (rows : List Row) (reports : Reports) : Type 0 where
     -- the first
     pub rows_are : rows ≡ schedule system horizon

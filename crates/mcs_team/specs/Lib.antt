@@ -1,2 +1,5 @@
+pub mod Flow
 pub mod Headline
+pub mod NoSystem
+pub mod Takings
 pub mod Windows

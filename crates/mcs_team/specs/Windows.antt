@@ -1,19 +1,16 @@
 -- All cores at one moment, window after window.
-use Rattle.std.specs.Prelude.{◌≡◌, ◌≢◌, ℕ, ◌+◌, ◌<◌, ◌≤◌, List, length, map, Vec}
-use Rattle.std.specs.List.{range_with_len}
-use Rattle.std.specs.declared.alloc.Global.{Global}
-use Rattle.mcs_ticks.specs.declared.row.Row.{Row}
-use Rattle.mcs_merge.specs.Lists.{rows_of_lists}
-use Rattle.mcs_system.specs.System.{System, delay_between}
+use Rattle.std.specs.Prelude.{◌≡◌, ℕ, ◌+◌, ◌<◌, ◌≤◌, length}
+use Rattle.mcs_system.specs.System.{System, IsLeastDelay}
 use Rattle.mcs_team.specs.declared.windows.Windows.{Windows}
-use Rattle.mcs_window.specs.Stretch.{NothingArrivesBefore, rows_between}
-use Rattle.mcs_window.specs.Progress.{Progress, clock_of, taken_of}
+use Rattle.mcs_window.specs.Stretch.{NothingArrivesBefore}
+use Rattle.mcs_window.specs.Progress.{Progress, clock_of}
 
--- the windows of a system up to a horizon: in their delay no signal goes from one core to another
+-- the windows of a system up to a horizon: their delay is the least of two different cores, so in it no signal goes from one core to
+-- another
 pub record AreOf (windows : Windows) (system : System) (horizon : ℕ) : Type 0 where
   pub cores_are : windows.cores ≡ system.cores
   pub long : 1 ≤ windows.delay
-  pub short : (maker home : ℕ) → maker ≢ home → windows.delay ≤ delay_between system maker home
+  pub least : IsLeastDelay system windows.delay
   pub end_is : windows.end ≡ horizon + 1
 
 abbrev pub AreFor : Windows → Progress → Type 0
@@ -40,15 +37,3 @@ pub record AreBetween (start : Progress) (past many : ℕ) (progress : Progress)
   pub many_are : length progress.clocks ≡ length start.clocks
   pub done : (c : ℕ) → c < many → clock_of progress c ≡ past
   pub left : (c : ℕ) → many ≤ c → clock_of progress c ≡ clock_of start c
-
--- the rows of no core were taken
-abbrev pub AreUntaken : System → Progress → Type 0
-AreUntaken system progress = (c : ℕ) → c < system.cores → taken_of progress c ≡ 0
-
--- the rows of the cores below this number were taken, and stand in the lists
-pub record AreTaken (start : Progress) (many : ℕ) (lists : List (Vec Row Global)) (progress : Progress) : Type 0 where
-  pub system_is : progress.system ≡ start.system
-  pub clocks_are : progress.clocks ≡ start.clocks
-  pub left : (c : ℕ) → many ≤ c → taken_of progress c ≡ taken_of start c
-  pub rows_are : rows_of_lists lists
-      ≡ map (λ c. rows_between start.system c 0 (clock_of start c)) (range_with_len 0 many)

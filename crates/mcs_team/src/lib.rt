@@ -1,13 +1,27 @@
-//! Whole simulations.
+//! Whole simulations, on one thread or on several.
 #![tactic(auto)]
 
 mod alone;
+mod batch;
+mod crew;
 mod fault;
+mod flow;
+mod gate;
+mod room;
+mod seat;
+mod sink;
 mod snapshot;
+mod stream;
+mod to_sink;
+mod together;
 mod whole;
 mod windows;
 
 pub use alone::simulate_alone;
 pub use fault::SimFault;
+pub use gate::{Gate, Open};
+pub use sink::{FlowFault, Refused, Sink};
 pub use snapshot::probe;
+pub use to_sink::simulate_to;
+pub use together::simulate;
 pub use whole::Whole;

@@ -14,7 +14,7 @@ const LONGEST: u64 = 65_536;
 pub(crate) struct Windows {
     /// How many cores there are.
     pub cores: usize,
-    /// How long a signal is under way, in ticks: no window of several cores is longer.
+    /// The least delay of two different cores, in ticks: no window of several cores is longer.
     pub delay: u64,
     /// The moment after the last.
     pub end: Tick,
@@ -30,7 +30,7 @@ impl Windows {
         let parts = system.parts();
         Windows {
             cores: parts.cores,
-            delay: parts.delay,
+            delay: system.least_delay(),
             end: horizon.plus(1).unwrap(),
         }
     }
@@ -69,32 +69,34 @@ impl Windows {
         Ok(past)
     }
 
-    /// All windows from moment 0 on.
+    /// All windows from moment 0 on, without the idle time between them.
     pub(crate) fn run_all(&self, cores: &mut Cores) -> Result<(), NoMemory>
         requires windows { AreFor self.now cores.old }
         requires at_first { AllAt cores.old.system cores.old.horizon 0 cores.old }
         ensures at_end { OnOk result (AllAt cores.old.system cores.old.horizon self.now.end cores.new) }
         ensures taken { OnOk result (cores.new.taken ≡ cores.old.taken) }
     {
-        let mut first = Tick::ZERO;
         let end = self.end;
+        let mut first = cores.skip_idle()?;
         'windows: while first < end {
-            first = self.run(cores, first)?;
+            self.run(cores, first)?;
+            first = cores.skip_idle()?;
         }
         Ok(())
     }
 
-    /// All windows from moment 0 on. The rows of a window are dropped at its end.
+    /// All windows from moment 0 on, without the idle time between them. The rows of a window are dropped at its end.
     pub(crate) fn pass_all(&self, cores: &mut Cores) -> Result<(), NoMemory>
         requires windows { AreFor self.now cores.old }
         requires at_first { AllAt cores.old.system cores.old.horizon 0 cores.old }
         ensures at_end { OnOk result (AllAt cores.old.system cores.old.horizon self.now.end cores.new) }
     {
         let end = self.end;
-        let mut first = Tick::ZERO;
+        let mut first = cores.skip_idle()?;
         'windows: while first < end {
-            first = self.run(cores, first)?;
+            self.run(cores, first)?;
             drop_rows(cores, self.cores);
+            first = cores.skip_idle()?;
         }
         Ok(())
     }

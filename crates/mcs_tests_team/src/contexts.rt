@@ -30,9 +30,7 @@ fn steps(cores: &mut Cores, core: usize, many: usize) -> Result<(), Fail>
     ensures { cores.new.system ≡ cores.old.system }
 {
     for _ in 0..many {
-        if step(cores, core).is_err() {
-            return Err(Fail::from("a safe step"));
-        }
+        step(cores, core)?;
     }
     Ok(())
 }

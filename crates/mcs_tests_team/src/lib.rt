@@ -4,8 +4,16 @@
 #[cfg(test)]
 mod contexts;
 #[cfg(test)]
+mod desks;
+#[cfg(test)]
+mod idle;
+#[cfg(test)]
 mod orders;
 #[cfg(test)]
+mod sinks;
+#[cfg(test)]
 mod systems;
+#[cfg(test)]
+mod team;
 #[cfg(test)]
 mod whole;

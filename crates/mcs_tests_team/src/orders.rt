@@ -2,7 +2,7 @@
 ghost use Rattle.std.specs.Prelude.{◌≡◌, ◌<◌, ◌≤◌, ◌^◌, All, IfOk};
 ghost use Rattle.mcs_merge.specs.Merge.{DoNotFall};
 
-use super::systems::{IDLE, SIGNALS, TWO_MAKERS, moment, system};
+use super::systems::{IDLE, RING_OF_LINKS, SIGNALS, TWO_MAKERS, moment, system};
 use mcs_merge::merge;
 use mcs_system::System;
 use mcs_team::simulate_alone;
@@ -35,8 +35,8 @@ fn taken(alloc: Global, cores: &mut Cores, many: usize) -> Result<Vec<Vec<Row>>,
     Ok(lists)
 }
 
-// Cores step as a generator of numbers names them. Answers how many steps were taken.
-fn step_at_random(cores: &mut Cores, many: usize, seed: usize) -> usize
+// Cores step as a generator of numbers names them. Answers how many steps were taken, or that there was no memory.
+fn step_at_random(cores: &mut Cores, many: usize, seed: usize) -> Result<usize, NoMemory>
     requires some { 1 ≤ many }
     requires many { many ≡ cores.old.system.cores }
     ensures { cores.new.system ≡ cores.old.system }
@@ -46,11 +46,13 @@ fn step_at_random(cores: &mut Cores, many: usize, seed: usize) -> usize
     for _ in 0..2_000 {
         number = (number * 25_173 + 13_849) % 65_536;
         let core = number / 7 % many;
-        if step(cores, core).is_ok() {
-            steps = steps.saturating_add(1);
+        match step(cores, core) {
+            Ok(()) => steps = steps.saturating_add(1),
+            Err(StepFault::NoMemory) => return Err(NoMemory),
+            Err(_) => {}
         }
     }
-    steps
+    Ok(steps)
 }
 
 // The rows of all cores, merged, after steps up to the horizon.
@@ -65,7 +67,7 @@ fn rows_of_steps(
 {
     let many = system.parts().cores;
     let mut cores = Cores::new(alloc, system, horizon)?;
-    let steps = step_at_random(&mut cores, many, seed);
+    let steps = step_at_random(&mut cores, many, seed)?;
     assert_eq!(rt; steps as u64, (horizon.get() + 1) * many as u64);
     let lists = taken(alloc, &mut cores, many)?;
     Ok(merge(alloc, lists)?)
@@ -112,6 +114,21 @@ fn safe_steps(rt: HostRuntime) -> Result<(), Fail> {
     assert_eq!(rt; step(&mut cores, 0), Err(StepFault::NotSafe(CoreId(1))));
     assert_eq!(rt; step(&mut cores, 1), Ok(()));
     assert_eq!(rt; step(&mut cores, 0), Ok(()));
+    Ok(())
+}
+
+#[test]
+fn steps_are_safe_by_links(rt: HostRuntime) -> Result<(), Fail> {
+    let alloc = rt.alloc();
+    let system = system(alloc, RING_OF_LINKS)?;
+    assert_eq!(rt; system.parts().cores, 3);
+    let mut cores = Cores::new(alloc, system, moment(6)?)?;
+    assert_eq!(rt; step(&mut cores, 0), Ok(()));
+    assert_eq!(rt; step(&mut cores, 0), Err(StepFault::NotSafe(CoreId(1))));
+    assert_eq!(rt; step(&mut cores, 2), Ok(()));
+    assert_eq!(rt; step(&mut cores, 2), Ok(()));
+    assert_eq!(rt; step(&mut cores, 2), Ok(()));
+    assert_eq!(rt; step(&mut cores, 2), Err(StepFault::NotSafe(CoreId(1))));
     Ok(())
 }
 

@@ -55,3 +55,40 @@ thread = [
     { name = "W", context = "w", priority = 5, script = ["wait n", "compute 1"] },
 ]
 "#;
+
+/// Each of three cores signals the next one when the last one has signalled it, and the first one begins.
+pub const RING: &str = r#"
+version = 1
+cores = 3
+delay = 1
+context = [
+    { name = "a", core = 0, budget = 5, period = 10 },
+    { name = "b", core = 1, budget = 5, period = 10 },
+    { name = "c", core = 2, budget = 5, period = 10 },
+]
+note = [{ name = "p", core = 0 }, { name = "q", core = 1 }, { name = "r", core = 2 }]
+thread = [
+    { name = "A", context = "a", priority = 5, rounds = 1, script = ["signal q 1", "wait p", "compute 1"] },
+    { name = "B", context = "b", priority = 5, rounds = 1, script = ["wait q", "signal r 1"] },
+    { name = "C", context = "c", priority = 5, rounds = 1, script = ["wait r", "signal p 1"] },
+]
+"#;
+
+/// The same, with signals under way for longer but between the first two cores.
+pub const RING_OF_LINKS: &str = r#"
+version = 2
+cores = 3
+delay = 3
+link = [{ maker = 0, home = 1, delay = 1 }, { maker = 1, home = 0, delay = 1 }]
+context = [
+    { name = "a", core = 0, budget = 5, period = 10 },
+    { name = "b", core = 1, budget = 5, period = 10 },
+    { name = "c", core = 2, budget = 5, period = 10 },
+]
+note = [{ name = "p", core = 0 }, { name = "q", core = 1 }, { name = "r", core = 2 }]
+thread = [
+    { name = "A", context = "a", priority = 5, script = ["signal q 1", "wait p", "compute 1"] },
+    { name = "B", context = "b", priority = 5, script = ["wait q", "signal r 1"] },
+    { name = "C", context = "c", priority = 5, script = ["wait r", "signal p 1"] },
+]
+"#;

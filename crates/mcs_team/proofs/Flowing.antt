@@ -1,0 +1,81 @@
+-- Rows on their way from the merger to the sink.
+use Rattle.std.proofs.Common.{◌≡◌, ◌<◌, Bool, true, false, inl, List, [], ◌∷◌, ◌++◌, length, drop, refl, sym, ap, ◌∙◌, subst, arith}
+use Rattle.std.proofs.Common.{Some, None}
+use Rattle.std.specs.Prelude.{fold, slice_get, option_to_list}
+use Rattle.std.proofs.lemmas.List.{length-append}
+use Rattle.mcs_ticks.specs.declared.row.Row.{Row}
+use Rattle.mcs_merge.specs.Merge.{merged_before}
+use Rattle.mcs_merge.specs.Merging.{Merging, least_clock, passed, next_row, without_row, IsInOrder}
+use Rattle.mcs_merge.specs.laws.Steps.{HasTaken, PopsMerged, PausesMerged}
+use Rattle.mcs_report.specs.Tally.{Tally, added}
+use Rattle.mcs_team.specs.Flow.{Given, GivenUntil}
+use Rattle.mcs_team.proofs.Giving.{given-one, until-append}
+
+fold-one : (c : Tally) (xs : List Row) (row : Row) → fold added c (xs ++ row ∷ []) ≡ added (fold added c xs) row
+fold-one c [] row = refl
+fold-one c (x ∷ xs) row = fold-one (added c x) xs row
+
+first-of : {A : Type 0} (xs : List A) (x : A) → slice_get xs 0 ≡ Some x → xs ≡ x ∷ drop 1 xs
+first-of [] x e = absurd (cc e)
+first-of (y ∷ ys) x e = by e
+  where
+    by : {A : Type 0} {x y : A} {ys : List A} → Some y ≡ Some x → y ∷ ys ≡ x ∷ ys
+    by f = cc
+
+-- while rows are poured: these rows were given and counted, and the others are left
+module _ {S : Type 0} (takes : S → Row → Bool → S → Type 0) (s : S) (first : Merging) (start : Tally) where
+  pub record IsPouring (t : S) (m : Merging) (tally : Tally) : Type 0 where
+    pub rows : List Row
+    pub in_order : IsInOrder m
+    pub clocks_are : m.clocks ≡ first.clocks
+    pub taken : HasTaken first.left rows m
+    pub given : Given takes s rows t
+    pub counted : tally ≡ fold added start rows
+
+  pub pours-first : IsInOrder first → IsPouring s first start
+  pours-first in_order =
+      record {
+        rows = [];
+        in_order = in_order;
+        clocks_are = refl;
+        taken = record { count = refl; begun = refl; later = λ t core l k. refl };
+        given = refl;
+        counted = refl;
+      }
+
+  module _ (t : S) (m : Merging) (tally : Tally) (is : IsPouring t m tally) where
+    all-passed : is.rows ++ passed m ≡ passed first
+    all-passed = is.taken.begun ∙ ap (λ clocks. merged_before (least_clock clocks) first.left) is.clocks_are
+
+    pub pours-more : PopsMerged → (row : Row) (u : S) (n : Merging) (next : Tally) → Some row ≡ next_row m → n ≡ without_row (next_row m) m → n.clocks ≡ m.clocks →
+        takes t row true u → next ≡ added tally row → IsPouring u n next × (length (passed n) < length (passed m))
+    pours-more pops row u n next e left clocks taken counted =
+        let popped = pops m first.left is.rows is.in_order is.taken in
+        let out : option_to_list (next_row m) ≡ row ∷ [] = ap option_to_list (sym e) in
+        let same : n.clocks ≡ first.clocks = clocks ∙ is.clocks_are in
+        let has : HasTaken first.left (is.rows ++ row ∷ []) n = rw (left, ← out) popped.1 in
+        let more : IsPouring u n next =
+        record {
+          rows = is.rows ++ row ∷ [];
+          in_order = rw left popped.0;
+          clocks_are = same;
+          taken = has;
+          given = given-one takes s t u is.rows row is.given taken;
+          counted = counted ∙ ap (λ c. added c row) is.counted ∙ sym (fold-one start is.rows row);
+        }
+        in
+        let now : (is.rows ++ row ∷ []) ++ passed n ≡ is.rows ++ passed m =
+        has.begun ∙ ap (λ clocks. merged_before (least_clock clocks) first.left) same ∙ sym all-passed
+        in
+        let a = ap length now in
+        (more, omega (arith, length-append {A = Row}))
+
+    pub pours-last : PausesMerged → None ≡ next_row m → is.rows ≡ passed first
+    pours-last pauses e =
+        pauses m first.left is.rows is.taken (sym e) ∙ ap (λ clocks. merged_before (least_clock clocks) first.left) is.clocks_are
+
+    pub pours-until : (row : Row) (u : S) → Some row ≡ next_row m → takes t row false u → GivenUntil takes s (passed first) u
+    pours-until row u e refused =
+        let front : passed m ≡ row ∷ drop 1 (passed m) = first-of (passed m) row (sym e) in
+        subst (λ xs. GivenUntil takes s xs u) (ap (λ xs. is.rows ++ xs) (sym front) ∙ all-passed)
+        (until-append takes s t u is.rows (row ∷ drop 1 (passed m)) is.given (inl refused))

@@ -1,0 +1,9 @@
+use Rattle.mcs_core.specs.Clock.{clock}
+use Rattle.mcs_team.specs.Flow.{Given, IsAt}
+use Rattle.mcs_team.proofs.stream.flow_all.Given as goal
+
+abbrev pub invariant-loop : goal.invariant-loop
+invariant-loop g l =
+    (goal.iterator-loop g).can_next l.iterator' × (goal.iterator-loop g).is_finite l.iterator'
+    × IsAt g.B.Run.system g.B.Run.horizon l.reached l.batches l.merger l.tally
+    × Given g.S.Sink.takes l.initial.sink (clock g.B.Run.system l.reached).rows l.sink

@@ -1,0 +1,94 @@
+-- Rows that go to a sink as soon as the clocks of all cores have passed them.
+use Rattle.std.specs.Prelude.{◌≡◌, ℕ, ◌+◌, ◌<◌, ◌≤◌, ◌⊎◌, nat_le, Bool, true, false}
+use Rattle.std.specs.Prelude.{List, [], ◌∷◌, ◌++◌, length, map, filter, fold}
+use Rattle.std.specs.Prelude.{Result, Ok, Err, slice_index, slice_index_or}
+use Rattle.std.specs.List.{FoldsTo}
+use Rattle.mcs_ticks.specs.declared.row.Row.{Row}
+use Rattle.mcs_merge.specs.Merging.{Merging, IsInOrder}
+use Rattle.mcs_merge.specs.laws.Steps.{HasTaken}
+use Rattle.mcs_report.specs.Tally.{Tally, added, opened_tally}
+use Rattle.mcs_report.specs.Reports.{reports_of}
+use Rattle.mcs_report.specs.declared.reports.Reports.{Reports}
+use Rattle.mcs_system.specs.System.{System}
+use Rattle.mcs_core.specs.Clock.{clock, schedule}
+use Rattle.mcs_window.specs.Stretch.{rows_between}
+use Rattle.mcs_window.specs.laws.Merging.{rows_until}
+use Rattle.mcs_team.specs.declared.batch.Batch.{Batch}
+use Rattle.mcs_team.specs.declared.sink.Stop.{Stop}
+use Rattle.mcs_team.specs.declared.sink.Stop.TheVariants.{Refused, NoMemory, Odd}
+use Rattle.mcs_team.specs.declared.sink.FlowFault.{FlowFault}
+use Rattle.mcs_team.specs.declared.sink.FlowFault.TheVariants as fault
+
+-- what a sink tells of itself: the sink before, the row, whether it took it, and the sink after
+module _ {S : Type 0} (takes : S → Row → Bool → S → Type 0) where
+  -- it took these rows, in order
+  abbrev pub Given : S → List Row → S → Type 0
+  Given s rows t = FoldsTo (λ a row b. takes a row true b) s rows t
+
+  -- it took some first ones of these rows, and then refused the next
+  abbrev pub GivenUntil : S → List Row → S → Type 0
+  GivenUntil s [] t = ⊥
+  GivenUntil s (row ∷ rows) t = takes s row false t ⊎ ((m : S) × takes s row true m × GivenUntil m rows t)
+
+  -- it took some first ones of these rows, none or all of them too
+  abbrev pub GivenSome : S → List Row → S → Type 0
+  GivenSome s rows t = (first : List Row) × (rest : List Row) × (rows ≡ first ++ rest) × Given s first t
+
+-- the rows at this moment or later
+abbrev pub rows_from : ℕ → List Row → List Row
+rows_from t rows = filter (λ row. nat_le t row.moment) rows
+
+-- to before which moment the rows of each core were taken
+abbrev pub pasts_of : List Batch → List ℕ
+pasts_of batches = map (λ batch. batch.past) batches
+
+-- the rows of a core from a moment on
+pub record IsBatch (system : System) (horizon core first : ℕ) (batch : Batch) : Type 0 where
+  pub in_order : first ≤ batch.past
+  pub in_time : batch.past ≤ horizon + 1
+  pub rows_are : batch.rows.items ≡ rows_between system core first batch.past
+
+-- for each core its rows from a moment of its own on
+pub record AreBatches (system : System) (horizon : ℕ) (firsts : List ℕ) (batches : List Batch) : Type 0 where
+  pub many_are : length batches ≡ length firsts
+  pub each : (core : ℕ) (batch : Batch) → core < length firsts →
+      IsBatch system horizon core (slice_index firsts core) (slice_index_or batches core batch)
+
+-- what was taken, of all rows of the cores before their clocks, stays so
+abbrev pub GoesOn : System → Merging → Merging → Type 0
+GoesOn system before after =
+    (rows : List Row) → HasTaken (rows_until system before.clocks) rows before →
+    HasTaken (rows_until system after.clocks) rows after
+
+-- all rows of the schedule before moment t were given and counted, and the merger has those that some core made since
+pub record IsAt (system : System) (horizon t : ℕ) (batches : List Batch) (merging : Merging) (tally : Tally) : Type 0
+  where
+    pub many_are : length batches ≡ system.cores
+    pub clocks_are : merging.clocks ≡ pasts_of batches
+    pub early : (core : ℕ) → core < system.cores → slice_index (pasts_of batches) core ≤ horizon + 1
+    pub in_time : t ≤ horizon + 1
+    pub in_order : IsInOrder merging
+    pub given : HasTaken (rows_until system merging.clocks) (clock system t).rows merging
+    pub counted : tally ≡ fold added (opened_tally system horizon) (clock system t).rows
+
+-- how a flow ends: with the whole schedule and its reports; or the sink refused a row; or there was no memory; or the
+-- desk is another one, and the rows before a moment were given
+abbrev pub Flows : {S : Type 0} → (S → Row → Bool → S → Type 0) →
+    System → ℕ → S → S → Result Reports Stop → Type 0
+Flows takes system horizon s t (Ok reports) =
+    Given takes s (schedule system horizon) t × (reports ≡ reports_of system horizon (schedule system horizon))
+Flows takes system horizon s t (Err Refused) = GivenUntil takes s (schedule system horizon) t
+Flows takes system horizon s t (Err NoMemory) = GivenSome takes s (schedule system horizon) t
+Flows takes system horizon s t (Err (Odd m)) = (m ≤ horizon + 1) × Given takes s (clock system m).rows t
+
+-- what the sink was given where there are no reports
+abbrev pub IsFlowFault : {S : Type 0} → (S → Row → Bool → S → Type 0) →
+    System → ℕ → S → S → FlowFault → Type 0
+IsFlowFault takes system horizon s t fault.Sink = GivenUntil takes s (schedule system horizon) t
+IsFlowFault takes system horizon s t fault.NoMemory = GivenSome takes s (schedule system horizon) t
+
+-- the same of these rows, of which none is given where there is no memory
+abbrev pub IsRestFault : {S : Type 0} → (S → Row → Bool → S → Type 0) →
+    List Row → S → S → FlowFault → Type 0
+IsRestFault takes rows s t fault.Sink = GivenUntil takes s rows t
+IsRestFault takes rows s t fault.NoMemory = s ≡ t

@@ -1,0 +1,7 @@
+-- A system without anything, which stands where one must be named and none is meant.
+use Rattle.std.specs.Prelude.{[]}
+use Rattle.mcs_system.specs.System.{System}
+
+abbrev pub no_system : System
+no_system =
+    record { cores = 0; delay = 0; call = 0; min_budget = 0; contexts = []; notes = []; threads = []; orders = []; links = [] }

@@ -1,0 +1,100 @@
+ghost use Rattle.std.specs.Prelude.{◌≡◌, ◌≤◌, ◌+◌, ◌^◌, IfErr, IfOk, OnErr, OnOk};
+ghost use Rattle.std.specs.Arc.{arc_value};
+ghost use Rattle.mcs_core.specs.Clock.{schedule};
+ghost use Rattle.mcs_report.specs.Reports.{reports_of};
+ghost use Rattle.mcs_report.specs.laws.Demand.{AreWithinDemand};
+ghost use Rattle.mcs_team.specs.Flow.{rows_from, Given, GivenUntil, IsFlowFault, IsRestFault};
+ghost use Rattle.mcs_team.specs.Headline.{Headline};
+
+use crate::sink::Stop;
+use crate::stream::flow;
+use crate::{FlowFault, Gate, Refused, Sink, simulate_alone};
+use mcs_report::{Reports, demand_is_bounded};
+use mcs_system::System;
+use mcs_ticks::{Row, Tick};
+use mcs_window::Desk;
+use std::alloc::Global;
+use std::marker::Brand;
+use std::sync::{Arc, Wait};
+use std::thread::Threads;
+
+/// The whole simulation up to the horizon, at most 2^40, whose rows go to a sink: the schedule's, in order, each as soon
+/// as the clocks of all cores have passed its moment. It gives the reports of the schedule. Threads work at one desk, as
+/// many as the lesser of `workers` and the number of cores, and this one where none can be started. `Sink` is answered
+/// where the sink has refused a row, after which it's given no other; and after `NoMemory` it has taken some first rows of
+/// the schedule. The gate is told of each piece of work.
+pub fn simulate_to<R: Threads + Wait + Sync, G: Gate + Sync, S: Sink>(
+    rt: &R,
+    alloc: Global,
+    system: Arc<System>,
+    horizon: Tick,
+    workers: usize,
+    gate: &G,
+    sink: &mut S,
+) -> Result<Reports, FlowFault>
+    requires { horizon ≤ 2 ^ 40 }
+    ensures given { OnOk result (Given S.takes sink.old (schedule (arc_value system) horizon) sink.new) }
+    ensures fault { IfErr result (IsFlowFault S.takes (arc_value system) horizon sink.old sink.new) }
+    ensures reports { IfOk result
+        (λ reports. reports ≡ reports_of (arc_value system) horizon (schedule (arc_value system) horizon)) }
+    ensures demand { IfOk result (λ reports. AreWithinDemand (arc_value system) horizon reports) }
+    ensures headline { IfOk result
+        (λ reports. Headline (arc_value system) horizon (schedule (arc_value system) horizon) reports) }
+{
+    demand_is_bounded();
+    let Ok(shared) = Arc::try_clone(&system) else {
+        return Err(FlowFault::NoMemory);
+    };
+    let cores = system.parts().cores;
+    let Ok(desk) = Desk::new(alloc, shared, horizon) else {
+        return Err(FlowFault::NoMemory);
+    };
+    let workers = workers.min(cores);
+    let stop = match flow::<Brand, R, G, S>(rt, alloc, &system, desk, workers, gate, sink) {
+        Ok(reports) => return Ok(reports),
+        Err(stop) => stop,
+    };
+    match stop {
+        Stop::Refused => return Err(FlowFault::Sink),
+        Stop::NoMemory => return Err(FlowFault::NoMemory),
+        Stop::Odd(from) => return rest_alone(alloc, system, horizon, from, sink),
+    }
+}
+
+// Simulates on this thread, and gives the rows at this moment or later.
+fn rest_alone<S: Sink>(
+    alloc: Global,
+    system: Arc<System>,
+    horizon: Tick,
+    from: Tick,
+    sink: &mut S,
+) -> Result<Reports, FlowFault>
+    requires { horizon ≤ 2 ^ 40 }
+    ensures given { OnOk result (Given S.takes sink.old (rows_from from (schedule (arc_value system) horizon)) sink.new) }
+    ensures fault { IfErr result
+        (IsRestFault S.takes (rows_from from (schedule (arc_value system) horizon)) sink.old sink.new) }
+    ensures reports { IfOk result
+        (λ reports. reports ≡ reports_of (arc_value system) horizon (schedule (arc_value system) horizon)) }
+{
+    let Ok(whole) = simulate_alone(alloc, system, horizon) else {
+        return Err(FlowFault::NoMemory);
+    };
+    let Ok(()) = give_from(sink, whole.rows.as_slice(), from) else {
+        return Err(FlowFault::Sink);
+    };
+    Ok(whole.reports)
+}
+
+// Gives the rows at this moment or later, in order.
+fn give_from<S: Sink>(sink: &mut S, rows: &[Row], from: Tick) -> Result<(), Refused>
+    ensures given { OnOk result (Given S.takes sink.old (rows_from from rows.now) sink.new) }
+    ensures refused { OnErr result (GivenUntil S.takes sink.old (rows_from from rows.now) sink.new) }
+{
+    for row in rows {
+        if row.moment < from {
+            continue;
+        }
+        sink.row(row)?;
+    }
+    Ok(())
+}

@@ -1,0 +1,76 @@
+//! Teams of all sizes, and workers at work at once.
+
+use super::systems::{SIGNALS, TWO_MAKERS, moment, system};
+use mcs_team::{Gate, Open, Whole, simulate, simulate_alone};
+use mcs_ticks::{CoreId, Tick};
+use std::process::Abort;
+use std::sync::atomic::{AtomicU64, Ordering};
+use std::test::Fail;
+use std::thread;
+
+// Whether two runs gave the same rows.
+fn are_same(one: &Whole, other: &Whole) -> bool {
+    one.rows.as_slice() == other.rows.as_slice()
+}
+
+#[test]
+fn teams_of_all_sizes_give_what_one_thread_gives(rt: HostRuntime) -> Result<(), Fail> {
+    let alloc = rt.alloc();
+    for text in [SIGNALS, TWO_MAKERS] {
+        let alone = simulate_alone(alloc, system(alloc, text)?, moment(20)?)?;
+        assert!(rt; alone.rows.len() > 10);
+        for workers in [0, 1, 2, 64] {
+            let system = system(alloc, text)?;
+            let whole = simulate(&rt, alloc, system, moment(20)?, workers, &Open)?;
+            assert!(rt; are_same(&whole, &alone), "{workers} workers");
+        }
+    }
+    Ok(())
+}
+
+/// Holds the first pieces of cores 0 and 1 until both have begun, and counts those that waited in vain.
+#[derive(Drop)]
+struct Both {
+    begun: AtomicU64,
+    alone: AtomicU64,
+}
+
+impl Gate for Both {
+    fn before(&self, core: CoreId, first: Tick) {
+        if first.get() != 0 || core.0 > 1 {
+            return;
+        }
+        self.begun.fetch_add(1, Ordering::SeqCst);
+        for _ in 0..100_000_000u64 {
+            if self.begun.load(Ordering::SeqCst) >= 2 {
+                return;
+            }
+            thread::yield_now();
+        }
+        self.alone.store(1, Ordering::SeqCst);
+    }
+
+    fn after(&self, _core: CoreId, _past: Tick) {}
+}
+
+// A run that lends one piece at a time, or that holds the lock while a piece runs, ends with a piece that waited alone.
+#[test]
+fn two_pieces_run_at_once(rt: HostRuntime) -> Result<(), Fail> {
+    let alloc = rt.alloc();
+    let gate = Both {
+        begun: AtomicU64::new(0),
+        alone: AtomicU64::new(0),
+    };
+    let whole = simulate(
+        &rt,
+        alloc,
+        system(alloc, TWO_MAKERS)?,
+        moment(20)?,
+        2,
+        &gate,
+    )?;
+    assert!(rt; !whole.rows.is_empty());
+    assert_eq!(rt; gate.begun.load(Ordering::SeqCst), 2);
+    assert_eq!(rt; gate.alone.load(Ordering::SeqCst), 0);
+    Ok(())
+}
