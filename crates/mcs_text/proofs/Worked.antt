@@ -19,6 +19,7 @@ one_thread =
       threads =
           record { name = codes "A"; context = 0; priority = 5; start = 0; rounds = 1; deadline = 0; script = Compute 5 ∷ [] } ∷ [];
       orders = [];
+      links = [];
     }
 
 stop_line : row_text one_thread (record { moment = 2; core = 0; what = row.Stop 0 why.Spent 2 (Some 5) }) ≡ codes "2 0 stop A spent 2 until 5\n"

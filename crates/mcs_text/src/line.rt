@@ -24,15 +24,6 @@ pub(crate) fn append_number(text: &mut Vec<u8>, number: u64) -> Result<(), NoMem
     append_word(text, buffer.format(number))
 }
 
-/// Appends a word and a name, each after a space.
-pub(crate) fn append_named(text: &mut Vec<u8>, word: &str, name: &str) -> Result<(), NoMemory>
-    ensures ok { OnOk result (text.new.items ≡ text.old.items ++ after (word.now ∷ name.now ∷ [])) }
-    ensures kept { StartsWith text.new.items text.old.items }
-{
-    append_word(text, word)?;
-    append_word(text, name)
-}
-
 /// Appends a word and a number, each after a space.
 pub(crate) fn append_counted(text: &mut Vec<u8>, word: &str, number: u64) -> Result<(), NoMemory>
     ensures ok { OnOk result (text.new.items ≡ text.old.items ++ after (word.now ∷ decimal number ∷ [])) }

@@ -1,4 +1,4 @@
-ghost use Rattle.std.specs.Prelude.{◌≡◌};
+ghost use Rattle.std.specs.Prelude.{◌≡◌, ◌≤◌, length};
 ghost use Rattle.mcs_text.specs.Text.{context_name, note_name, thread_name};
 
 use mcs_system::System;
@@ -6,7 +6,8 @@ use mcs_ticks::{ContextId, NoteId, ThreadId};
 
 /// The name of a thread, or the empty text where the system has no such thread.
 pub(crate) fn thread_name(system: &System, thread: ThreadId) -> &str
-    ensures { result.now ≡ thread_name system.now thread }
+    ensures name { result.now ≡ thread_name system.now thread }
+    ensures short { length result.now ≤ 32 }
 {
     match system.parts().threads.as_slice().get(thread.0) {
         Some(part) => part.name.as_str(),
@@ -16,7 +17,8 @@ pub(crate) fn thread_name(system: &System, thread: ThreadId) -> &str
 
 /// The name of a notification, or the empty text where the system has no such notification.
 pub(crate) fn note_name(system: &System, note: NoteId) -> &str
-    ensures { result.now ≡ note_name system.now note }
+    ensures name { result.now ≡ note_name system.now note }
+    ensures short { length result.now ≤ 32 }
 {
     match system.parts().notes.as_slice().get(note.0) {
         Some(part) => part.name.as_str(),
@@ -26,7 +28,8 @@ pub(crate) fn note_name(system: &System, note: NoteId) -> &str
 
 /// The name of a scheduling context, or the empty text where the system has no such context.
 pub(crate) fn context_name(system: &System, context: ContextId) -> &str
-    ensures { result.now ≡ context_name system.now context }
+    ensures name { result.now ≡ context_name system.now context }
+    ensures short { length result.now ≤ 32 }
 {
     match system.parts().contexts.as_slice().get(context.0) {
         Some(part) => part.name.as_str(),
