@@ -18,6 +18,7 @@ one_thread =
       threads =
           record { name = codes "A"; context = 0; priority = 5; start = 0; rounds = 1; deadline = 0; script = Compute 5 ∷ [] } ∷ [];
       orders = [];
+      links = [];
     }
 
 -- a horizon of 2: the first head is spent

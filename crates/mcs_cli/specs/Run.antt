@@ -1,5 +1,5 @@
 -- What a run reads and writes.
-use Rattle.std.specs.Prelude.{Result, Ok, Err, Option, ◌≡◌, ◌≢◌, ◌≤◌, ◌^◌, List, ℕ, ◌++◌, length, ⊤}
+use Rattle.std.specs.Prelude.{Result, Ok, Err, Option, ◌≡◌, ◌≢◌, ◌≤◌, ◌<◌, ◌^◌, ◌⊎◌, List, ℕ, Bool, true, false, ◌++◌, length}
 use Rattle.std.specs.Io.KnownBytes.{Appends, Consumes, IsAtEnd, Keeps}
 use Rattle.mcs_ticks.specs.declared.row.Row.{Row}
 use Rattle.mcs_system.specs.System.{System}
@@ -11,6 +11,7 @@ use Rattle.mcs_load.specs.Walk.{file}
 use Rattle.mcs_load.specs.Memory.{no_memory}
 use Rattle.mcs_load.specs.declared.fault.LoadFault.{LoadFault}
 use Rattle.mcs_text.specs.Text.{schedule_text, reports_text}
+use Rattle.mcs_cli.specs.Devices.{AppendsPrefix}
 use Rattle.mcs_cli.specs.declared.asked.Options.{Options}
 use Rattle.mcs_cli.specs.declared.asked.Show.{Show}
 use Rattle.mcs_cli.specs.declared.asked.Show.TheVariants.{Schedule, Reports, Both}
@@ -33,9 +34,9 @@ output_of show system horizon =
 abbrev pub loaded : List ℕ → Result System LoadFault
 loaded bytes = answer (file bytes)
 
--- the bytes that a reader knows before and after the run
+-- the bytes that a source knows before and after the run
 module _ (read_old read_new : Option (List ℕ)) where
-  -- the bytes that were read, which are all there were where the reader tells its bytes
+  -- the bytes that were read, which are all there were where the source tells its bytes
   abbrev pub IsInput : List ℕ → Type 0
   IsInput bytes = Consumes read_old read_new bytes × IsAtEnd read_new × (length bytes ≤ 2 ^ 26)
 
@@ -47,27 +48,39 @@ module _ (read_old read_new : Option (List ℕ)) where
   abbrev pub IsFaultOfInput : LoadFault → Type 0
   IsFaultOfInput f = (bytes : List ℕ) × IsInput bytes × (loaded bytes ≡ Err f)
 
-  -- why no system was read
-  abbrev pub IsReadFault : RunFault → Type 0
-  IsReadFault fault.Read = ⊤
-  IsReadFault (fault.Load f) = f ≢ no_memory → IsFaultOfInput f
-  IsReadFault (fault.Sim f) = ⊥
-  IsReadFault fault.Write = ⊥
+  -- more was read than a text may have
+  abbrev pub IsTooLong : Type 0
+  IsTooLong = (bytes : List ℕ) × Consumes read_old read_new bytes × (2 ^ 26 < length bytes)
 
-  -- the bytes that a writer knows before and after the run, and what is asked for
-  module _ (write_old write_new : Option (List ℕ)) (options : Options) where
-    -- what was written is the output for the bytes that were read, and nothing else
-    abbrev pub IsDone : Type 0
-    IsDone = (system : System) × IsRead system
-        × Appends write_old write_new (output_of options.show system options.horizon)
+  -- whether the source has failed
+  module _ (read_failed : Bool) where
+    -- why no system was read
+    abbrev pub IsReadFault : RunFault → Type 0
+    IsReadFault fault.Read = (read_failed ≡ true) ⊎ IsTooLong
+    IsReadFault (fault.Load f) = (read_failed ≡ false) × (f ≢ no_memory → IsFaultOfInput f)
+    IsReadFault (fault.Sim f) = ⊥
+    IsReadFault fault.Write = ⊥
 
-    -- the file is to blame before anything else; before the text is whole nothing is written
-    abbrev pub IsFault : RunFault → Type 0
-    IsFault fault.Read = Keeps write_old write_new
-    IsFault (fault.Load f) = Keeps write_old write_new × (f ≢ no_memory → IsFaultOfInput f)
-    IsFault (fault.Sim f) = Keeps write_old write_new × ((system : System) × IsRead system)
-    IsFault fault.Write = (system : System) × IsRead system
+    -- the bytes that a target knows before and after the run, whether it has failed, and what is asked for
+    module _ (write_old write_new : Option (List ℕ)) (write_failed : Bool) (options : Options) where
+      -- what was written is the output for the bytes that were read, and nothing else
+      abbrev pub IsDone : Type 0
+      IsDone = (system : System) × IsRead system
+          × Appends write_old write_new (output_of options.show system options.horizon)
 
-    abbrev pub IsRun : Result (Unit {0}) RunFault → Type 0
-    IsRun (Ok done) = IsDone
-    IsRun (Err f) = IsFault f
+      -- what was written is a first part of the output for the bytes that were read
+      abbrev pub IsBegun : Type 0
+      IsBegun = (system : System) × IsRead system
+          × AppendsPrefix write_old write_new (output_of options.show system options.horizon)
+
+      -- The file is to blame before anything else. Before the text is whole nothing is written.
+      -- A device is blamed only where it has failed.
+      abbrev pub IsFault : RunFault → Type 0
+      IsFault fault.Read = Keeps write_old write_new × ((read_failed ≡ true) ⊎ IsTooLong)
+      IsFault (fault.Load f) = Keeps write_old write_new × (f ≢ no_memory → IsFaultOfInput f)
+      IsFault (fault.Sim f) = Keeps write_old write_new × ((system : System) × IsRead system)
+      IsFault fault.Write = (write_failed ≡ true) × IsBegun
+
+      abbrev pub IsRun : Result (Unit {0}) RunFault → Type 0
+      IsRun (Ok done) = IsDone
+      IsRun (Err f) = IsFault f

@@ -8,7 +8,7 @@ use thiserror::Error;
 /// Why a run did not end well. Its text is the line that the program writes to standard error.
 #[derive(Clone, Copy, Debug, PartialEq, Eq, Error)]
 pub enum RunFault {
-    /// The reader failed, or gave more than 2^26 bytes.
+    /// The source failed, or gave more than 2^26 bytes.
     #[error("mcsim: read failed")]
     Read,
     /// The text that was read is no system, or there was no memory for it.
@@ -17,13 +17,13 @@ pub enum RunFault {
     /// There was no memory for the run.
     #[error("mcsim: {0}")]
     Sim(SimFault),
-    /// The writer failed, or took no bytes.
+    /// The target failed, or took no bytes.
     #[error("mcsim: write failed")]
     Write,
 }
 
 impl RunFault {
-    /// The exit status of the program: 1 for a wrong file, 3 for a reader or a writer that failed, 4 where memory has run out.
+    /// The exit status of the program: 1 for a wrong file, 3 for a source or a target that failed, 4 where memory has run out.
     pub fn status(&self) -> u8
         ensures { result ≡ status_of_run self.now }
     {

@@ -1,66 +1,69 @@
-ghost use Rattle.std.specs.Prelude.{◌≡◌, ◌≤◌, ◌^◌, ◌++◌, ◌⊎◌, length, IfErr, IfOk, OnOk};
+ghost use Rattle.std.specs.Prelude.{Err, ◌≡◌, ◌≤◌, ◌^◌, ◌++◌, true, false, length, IfErr, IfOk, OnErr, OnOk};
 ghost use Rattle.std.specs.Io.KnownBytes.{Appends, Consumes, IsAtEnd};
-ghost use Rattle.mcs_load.specs.Memory.{no_memory};
 ghost use Rattle.mcs_text.specs.Text.{schedule_text};
+ghost use Rattle.mcs_cli.specs.Devices.{AppendsPrefix};
 ghost use Rattle.mcs_cli.specs.Run.{IsRead, IsReadFault, IsRun, output_of, shown_text};
 
-use crate::{Options, RunFault, Show};
+use crate::{Gate, Options, RunFault, Show, Source, Target};
 use mcs_load::{LoadFault, load};
 use mcs_system::System;
-use mcs_team::{SimFault, Whole, simulate_alone};
+use mcs_team::{SimFault, Whole, simulate};
 use mcs_text::{put_reports, put_row};
 use mcs_ticks::{Limits, NoMemory, Row};
 use std::alloc::Global;
-use std::io::{Read, Write};
-use std::sync::Arc;
+use std::sync::{Arc, Wait};
+use std::thread::Threads;
 
-/// Reads a file to its end, simulates the system that it describes, and writes what the options ask for. The whole text is made before the
-/// first byte is written.
-pub fn run<R: Read, W: Write>(
+/// Reads a file to its end, simulates the system that it describes by as many workers as the options say, and writes
+/// what they ask for. For every number of workers the same bytes are written. The whole text is made before the first
+/// byte is written. Neither device may have failed before, and one is blamed only where it has failed since. What was
+/// written is a first part of the output after `Write`, and nothing after any other fault.
+pub fn run<H: Threads + Wait + Sync, S: Source, T: Target, G: Gate + Sync>(
+    rt: &H,
     alloc: Global,
-    reader: &mut R,
-    writer: &mut W,
+    source: &mut S,
+    target: &mut T,
     options: &Options,
+    gate: &G,
 ) -> Result<(), RunFault>
-    ensures { IsRun (R.remaining reader.old) (R.remaining reader.new) (W.contents writer.old) (W.contents writer.new)
-        options.now result }
+    requires reads { S.has_failed source.old ≡ false }
+    requires writes { T.has_failed target.old ≡ false }
+    ensures run { IsRun (S.remaining source.old) (S.remaining source.new) (S.has_failed source.new)
+        (T.contents target.old) (T.contents target.new) (T.has_failed target.new) options.now result }
+    ensures source_blamed { S.has_failed source.new ≡ true → result ≡ Err RunFault.Read }
+    ensures target_blamed { T.has_failed target.new ≡ true → result ≡ Err RunFault.Write }
 {
-    let system = read_system(alloc, reader)?;
-    let text = simulated(alloc, system, options).map_err(RunFault::Sim)?;
-    write_text(writer, text.as_slice())
+    let system = read_system(alloc, source)?;
+    let text = simulated(rt, alloc, system, options, gate).map_err(RunFault::Sim)?;
+    write_text(target, text.as_slice())
 }
 
 /// Reads a file to its end, and loads the system that it describes.
-fn read_system<R: Read>(alloc: Global, reader: &mut R) -> Result<System, RunFault>
-    ensures ok { IfOk result (IsRead (R.remaining reader.old) (R.remaining reader.new)) }
-    ensures fault { IfErr result (IsReadFault (R.remaining reader.old) (R.remaining reader.new)) }
+fn read_system<S: Source>(alloc: Global, source: &mut S) -> Result<System, RunFault>
+    requires { S.has_failed source.old ≡ false }
+    ensures ok { IfOk result (IsRead (S.remaining source.old) (S.remaining source.new)) }
+    ensures working { OnOk result (S.has_failed source.new ≡ false) }
+    ensures fault { IfErr result
+        (IsReadFault (S.remaining source.old) (S.remaining source.new) (S.has_failed source.new)) }
 {
-    let bytes = read_text(alloc, reader)?;
+    let bytes = read_text(alloc, source)?;
     load(alloc, bytes.as_slice()).map_err(RunFault::Load)
 }
 
-/// Writes the whole text, and flushes the writer.
-fn write_text<W: Write>(writer: &mut W, text: &[u8]) -> Result<(), RunFault>
-    ensures ok { OnOk result (Appends (W.contents writer.old) (W.contents writer.new) text.now) }
-    ensures fault { IfErr result (λ f. f ≡ RunFault.Write) }
-{
-    if writer.write_all(text).is_err() || writer.flush().is_err() {
-        return Err(RunFault::Write);
-    }
-    Ok(())
-}
-
 /// Reads to the end, at most 2^26 bytes.
-fn read_text<R: Read>(alloc: Global, reader: &mut R) -> Result<Vec<u8>, RunFault>
-    ensures bytes { IfOk result (λ text. Consumes (R.remaining reader.old) (R.remaining reader.new) text.items) }
-    ensures end { OnOk result (IsAtEnd (R.remaining reader.new)) }
+fn read_text<S: Source>(alloc: Global, source: &mut S) -> Result<Vec<u8>, RunFault>
+    requires { S.has_failed source.old ≡ false }
+    ensures bytes { IfOk result (λ text. Consumes (S.remaining source.old) (S.remaining source.new) text.items) }
+    ensures end { OnOk result (IsAtEnd (S.remaining source.new)) }
     ensures short { IfOk result (λ text. length text.items ≤ 2 ^ 26) }
-    ensures fault { IfErr result (λ f. (f ≡ RunFault.Read) ⊎ (f ≡ RunFault.Load no_memory)) }
+    ensures working { OnOk result (S.has_failed source.new ≡ false) }
+    ensures fault { IfErr result
+        (IsReadFault (S.remaining source.old) (S.remaining source.new) (S.has_failed source.new)) }
 {
     let mut text = Vec::new(alloc);
     let mut buffer = [0u8; 4096];
     for _ in 0..Limits::FILE + 1 {
-        match reader.read(&mut buffer) {
+        match source.read(&mut buffer) {
             Ok(0) => return Ok(text),
             Ok(n) => {
                 if let Err(refusal) = text.extend_from_slice(&buffer[..n]) {
@@ -76,13 +79,52 @@ fn read_text<R: Read>(alloc: Global, reader: &mut R) -> Result<Vec<u8>, RunFault
     Err(RunFault::Read)
 }
 
+/// Writes the whole text, and flushes the target.
+fn write_text<T: Target>(target: &mut T, text: &[u8]) -> Result<(), RunFault>
+    requires { T.has_failed target.old ≡ false }
+    ensures ok { OnOk result (Appends (T.contents target.old) (T.contents target.new) text.now) }
+    ensures working { OnOk result (T.has_failed target.new ≡ false) }
+    ensures prefix { OnErr result (AppendsPrefix (T.contents target.old) (T.contents target.new) text.now) }
+    ensures fault { IfErr result (λ f. (f ≡ RunFault.Write) × (T.has_failed target.new ≡ true)) }
+{
+    write_bytes(target, text)?;
+    if target.flush().is_err() {
+        return Err(RunFault::Write);
+    }
+    Ok(())
+}
+
+/// Writes all bytes, or a first part of them.
+fn write_bytes<T: Target>(target: &mut T, bytes: &[u8]) -> Result<(), RunFault>
+    requires { T.has_failed target.old ≡ false }
+    ensures ok { OnOk result (Appends (T.contents target.old) (T.contents target.new) bytes.now) }
+    ensures working { OnOk result (T.has_failed target.new ≡ false) }
+    ensures prefix { OnErr result (AppendsPrefix (T.contents target.old) (T.contents target.new) bytes.now) }
+    ensures fault { IfErr result (λ f. (f ≡ RunFault.Write) × (T.has_failed target.new ≡ true)) }
+{
+    let mut at = 0;
+    while at < bytes.len() {
+        match target.write(&bytes[at..]) {
+            Ok(0) | Err(_) => return Err(RunFault::Write),
+            Ok(n) => at += n,
+        }
+    }
+    Ok(())
+}
+
 /// The text of a system's run, as the options ask for it.
-fn simulated(alloc: Global, system: System, options: &Options) -> Result<Vec<u8>, SimFault>
+fn simulated<H: Threads + Wait + Sync, G: Gate + Sync>(
+    rt: &H,
+    alloc: Global,
+    system: System,
+    options: &Options,
+    gate: &G,
+) -> Result<Vec<u8>, SimFault>
     ensures { IfOk result (λ text. text.items ≡ output_of options.now.show system options.now.horizon) }
 {
     let system = Arc::new(alloc, system).map_err(|_| SimFault::NoMemory)?;
     let shared = Arc::try_clone(&system).map_err(|_| SimFault::NoMemory)?;
-    let whole = simulate_alone(alloc, shared, options.horizon)?;
+    let whole = simulate(rt, alloc, shared, options.horizon, options.workers, gate)?;
     shown(alloc, &system, &whole, options.show).map_err(|_| SimFault::NoMemory)
 }
 

@@ -12,9 +12,12 @@ ghost use Rattle.mcs_cli.specs.Run.{loaded, output_of};
 ghost use Rattle.mcs_cli.specs.declared.fault.RunFault.TheVariants.{Load};
 ghost use Rattle.mcs_corpus.specs.declared.Outcome.TheVariants.{Agrees, Differs, Fails};
 
-use mcs_cli::{Options, RunFault, options, run};
+use mcs_cli::{FromRead, IntoWrite, Open, Options, RunFault, options, run};
 use std::alloc::Global;
 use std::fs::{read, read_dir, read_to_string};
+use std::rt::Files;
+use std::sync::Wait;
+use std::thread::Threads;
 use std::{fmt, io};
 
 /// The folders of systems.
@@ -54,31 +57,40 @@ impl fmt::Display for Outcome {
 
 fn main(rt: HostRuntime) -> io::Result<()> {
     for part in PARTS {
-        for name in names_in(&rt, part, ".toml")?.as_slice() {
+        for name in names_in(&rt, rt.alloc(), part, ".toml")?.as_slice() {
             let system = format!(in rt.alloc(); "{part}/{name}")?;
-            tell_runs(&rt, system.as_str())?;
+            tell_runs(&rt, rt.alloc(), system.as_str())?;
         }
     }
     Ok(())
 }
 
 /// Runs a system once for each file of words in its folder, and prints what came of it.
-fn tell_runs(rt: &HostRuntime, system: &str) -> io::Result<()> {
-    let text = read(rt, format!(in rt.alloc(); "{system}.toml")?)?;
-    for name in names_in(rt, system, ".words")?.as_slice() {
-        let run = format!(in rt.alloc(); "{system}/{name}")?;
-        let outcome = outcome_of(rt, text.as_slice(), run.as_str())?;
+fn tell_runs(
+    rt: &(impl Files + Print + Alloc + Clone + Threads + Wait + Sync),
+    alloc: Global,
+    system: &str,
+) -> io::Result<()> {
+    let text = read(rt, format!(in alloc; "{system}.toml")?)?;
+    for name in names_in(rt, alloc, system, ".words")?.as_slice() {
+        let run = format!(in alloc; "{system}/{name}")?;
+        let outcome = outcome_of(rt, alloc, text.as_slice(), run.as_str())?;
         println!(rt; "{run}: {outcome}")?;
     }
     Ok(())
 }
 
 /// The names in a folder that have this ending, without it, in order.
-fn names_in(rt: &HostRuntime, folder: &str, ending: &str) -> io::Result<Vec<String>> {
-    let mut names = Vec::new(rt.alloc());
+fn names_in(
+    rt: &(impl Files + Alloc + Clone),
+    alloc: Global,
+    folder: &str,
+    ending: &str,
+) -> io::Result<Vec<String>> {
+    let mut names = Vec::new(alloc);
     for entry in read_dir(rt, folder)? {
         if let Some(name) = entry?.file_name().strip_suffix(ending) {
-            names.push(String::from_str(rt.alloc(), name)?)?;
+            names.push(String::from_str(alloc, name)?)?;
         }
     }
     names.sort()?;
@@ -86,8 +98,12 @@ fn names_in(rt: &HostRuntime, folder: &str, ending: &str) -> io::Result<Vec<Stri
 }
 
 /// What came of a run of the system that a text describes.
-fn outcome_of(rt: &HostRuntime, system: &[u8], run: &str) -> io::Result<Outcome> {
-    let alloc = rt.alloc();
+fn outcome_of(
+    rt: &(impl Files + Alloc + Threads + Wait + Sync),
+    alloc: Global,
+    system: &[u8],
+    run: &str,
+) -> io::Result<Outcome> {
     let text = read_to_string(rt, format!(in alloc; "{run}.words")?)?;
     let wanted = read(rt, format!(in alloc; "{run}.stdout")?)?;
     let mut words = Vec::new(alloc);
@@ -95,23 +111,29 @@ fn outcome_of(rt: &HostRuntime, system: &[u8], run: &str) -> io::Result<Outcome>
         words.push(String::from_str(alloc, word)?)?;
     }
     match options(alloc, words.as_slice()) {
-        Ok(options) => Ok(compared(alloc, system, &options, wanted.as_slice())),
+        Ok(options) => Ok(compared(rt, alloc, system, &options, wanted.as_slice())),
         Err(_) => Ok(Outcome::NoWords),
     }
 }
 
 /// Compares what a run of the system that a text describes writes with what it must write.
-fn compared(alloc: Global, system: &[u8], options: &Options, wanted: &[u8]) -> Outcome
+fn compared(
+    rt: &(impl Threads + Wait + Sync),
+    alloc: Global,
+    system: &[u8],
+    options: &Options,
+    wanted: &[u8],
+) -> Outcome
     ensures agrees { result ≡ Agrees → (s : System) × (loaded system.now ≡ Ok s)
         × (output_of options.now.show s options.now.horizon ≡ wanted.now) }
     ensures differs { (line : ℕ) → result ≡ Differs line → (s : System) × (loaded system.now ≡ Ok s)
         × (output_of options.now.show s options.now.horizon ≢ wanted.now) }
     ensures refused { (f : LoadFault) → result ≡ Fails (Load f) → f ≢ no_memory → loaded system.now ≡ Err f }
 {
-    let mut reader = system;
-    let mut written = Vec::new(alloc);
-    match run(alloc, &mut reader, &mut written, options) {
-        Ok(()) => match line_of_difference(written.as_slice(), wanted) {
+    let mut source = FromRead::new(system);
+    let mut target = IntoWrite::new(Vec::new(alloc));
+    match run(rt, alloc, &mut source, &mut target, options, &Open) {
+        Ok(()) => match line_of_difference(target.into_inner().as_slice(), wanted) {
             None => Outcome::Agrees,
             Some(line) => Outcome::Differs(line),
         },

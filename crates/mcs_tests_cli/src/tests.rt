@@ -1,3 +1,5 @@
+mod devices;
+mod failing;
 mod faults;
 mod runs;
 mod words;

@@ -1,7 +1,7 @@
 //! The program: it reads its words, opens the file or takes standard input, and ends with the status of what happened.
 #![tactic(auto)]
 
-use mcs_cli::{WordsFault, options, run_with};
+use mcs_cli::{FromRead, IntoWrite, Open, WordsFault, options, run_with};
 use std::io::ErrorKind;
 use std::process::ExitCode;
 use std::{env, io};
@@ -22,9 +22,10 @@ fn main(rt: HostRuntime) -> ExitCode {
         Ok(options) => match run_with(
             &rt,
             rt.alloc(),
-            &mut rt.stdin(),
-            &mut rt.stdout(),
+            &mut FromRead::new(rt.stdin()),
+            &mut IntoWrite::new(rt.stdout()),
             &options,
+            &Open,
         ) {
             Ok(()) => ExitCode::SUCCESS,
             Err(fault) => {

@@ -1,13 +1,14 @@
-ghost use Rattle.std.specs.Prelude.{◌≡◌, ◌≤◌, ◌^◌};
-ghost use Rattle.std.specs.Io.{ReadsAtMost, WritesAtMost};
-ghost use Rattle.std.specs.Io.KnownBytes.{Keeps, ReadConsumes, WriteAppends};
+ghost use Rattle.std.specs.Prelude.{◌≡◌, false};
 
-use mcs_cli::{Options, Show, run, run_with};
+use mcs_cli::{FromRead, IntoWrite, Open, Options, RunFault, Show, Source, run, run_with};
 use mcs_ticks::Tick;
 use std::alloc::Global;
-use std::io;
-use std::io::{ErrorKind, Read, Write};
+use std::io::Read;
+use std::rt::Files;
+use std::sync::Wait;
 use std::test::Fail;
+use std::thread::Threads;
+use std::{io, str};
 
 const SPENT: &str = "\
 version = 1
@@ -37,14 +38,26 @@ fn to_six(file: Option<String>) -> Options {
     }
 }
 
+/// What was written, and behind it the line of the fault.
+fn told(alloc: Global, written: &[u8], ended: Result<(), RunFault>) -> Result<String, Fail> {
+    let text = str::from_utf8(written).unwrap_or("bytes that are no text");
+    let told = match ended {
+        Ok(()) => String::from_str(alloc, text)?,
+        Err(fault) => format!(in alloc; "{text}{fault}")?,
+    };
+    Ok(told)
+}
+
 /// What is written where a file is named, or else the input run, and behind it the line of the fault.
-fn written_with(rt: &HostRuntime, file: Option<String>) -> Result<Vec<u8>, Fail> {
-    let alloc = rt.alloc();
-    let mut text = Vec::new(alloc);
-    if let Err(fault) = run_with(rt, alloc, &mut SPENT.as_bytes(), &mut text, &to_six(file)) {
-        text.extend_from_slice(fault.to_string(alloc)?.as_bytes())?;
-    }
-    Ok(text)
+fn written_with(
+    rt: &(impl Files + Threads + Wait + Sync),
+    alloc: Global,
+    file: Option<String>,
+) -> Result<String, Fail> {
+    let mut source = FromRead::new(SPENT.as_bytes());
+    let mut target = IntoWrite::new(Vec::with_capacity(alloc, 4096)?);
+    let ended = run_with(rt, alloc, &mut source, &mut target, &to_six(file), &Open);
+    told(alloc, target.into_inner().as_slice(), ended)
 }
 
 // No file has the first name, and the second is that of a folder.
@@ -52,58 +65,30 @@ fn written_with(rt: &HostRuntime, file: Option<String>) -> Result<Vec<u8>, Fail>
 fn files_that_are_not_read(rt: HostRuntime) -> Result<(), Fail> {
     for name in ["no_folder/no_file.toml", "."] {
         let name = String::from_str(rt.alloc(), name)?;
-        let text = written_with(&rt, Some(name))?;
-        assert_eq!(rt; text.as_slice(), b"mcsim: read failed".as_slice());
+        let text = written_with(&rt, rt.alloc(), Some(name))?;
+        assert_eq!(rt; text.as_str(), "mcsim: read failed");
     }
     Ok(())
 }
 
 #[test]
 fn the_input_is_run(rt: HostRuntime) -> Result<(), Fail> {
-    let text = written_with(&rt, None)?;
-    assert_eq!(rt; text.as_slice(), TO_SIX.as_bytes());
+    let text = written_with(&rt, rt.alloc(), None)?;
+    assert_eq!(rt; text.as_str(), TO_SIX);
     Ok(())
 }
 
-/// What is written of the system that a reader gives, and behind it the line of the fault.
-fn written<R: Read>(alloc: Global, reader: &mut R) -> Result<Vec<u8>, Fail> {
-    let mut text = Vec::new(alloc);
-    if let Err(fault) = run(alloc, reader, &mut text, &to_six(None)) {
-        text.extend_from_slice(fault.to_string(alloc)?.as_bytes())?;
-    }
-    Ok(text)
-}
-
-/// Gives the bytes of a text until a call fails.
-#[derive(Drop)]
-struct FailingReader<'a> {
-    rest: &'a [u8],
-    calls: usize,
-}
-
-impl<'a> Read for FailingReader<'a> {
-    fn read(&mut self, buffer: &mut [u8]) -> io::Result<usize> {
-        if self.calls == 0 {
-            return Err(io::Error::from(ErrorKind::Other));
-        }
-        self.calls -= 1;
-        self.rest.read(buffer)
-    }
-}
-
-// The text is read in one call, and the next one finds its end.
-#[test]
-fn each_read_fails(rt: HostRuntime) -> Result<(), Fail> {
-    let failed = "mcsim: read failed";
-    for (calls, want) in [(0, failed), (1, failed), (2, TO_SIX)] {
-        let mut reader = FailingReader {
-            rest: SPENT.as_bytes(),
-            calls,
-        };
-        let text = written(rt.alloc(), &mut reader)?;
-        assert_eq!(rt; text.as_slice(), want.as_bytes(), "call {calls}");
-    }
-    Ok(())
+/// What is written of the system that a source gives, and behind it the line of the fault.
+fn written<S: Source>(
+    rt: &(impl Threads + Wait + Sync),
+    alloc: Global,
+    source: &mut S,
+) -> Result<String, Fail>
+    requires { S.has_failed source.old ≡ false }
+{
+    let mut target = IntoWrite::new(Vec::with_capacity(alloc, 4096)?);
+    let ended = run(rt, alloc, source, &mut target, &to_six(None), &Open);
+    told(alloc, target.into_inner().as_slice(), ended)
 }
 
 #[test]
@@ -112,92 +97,10 @@ fn the_longest_text_is_read(rt: HostRuntime) -> Result<(), Fail> {
         (67_108_864, "mcsim: not TOML at file"),
         (67_108_865, "mcsim: read failed"),
     ] {
-        let text = written(rt.alloc(), &mut io::repeat(0xff).take(length))?;
-        assert_eq!(rt; text.as_slice(), want.as_bytes(), "{length} bytes");
-    }
-    Ok(())
-}
-
-/// Keeps what is written, a few bytes a call, until a call fails.
-#[derive(Drop)]
-struct FailingWriter {
-    bytes: Vec<u8>,
-    calls: usize,
-    most: usize,
-}
-
-impl Write for FailingWriter {
-    fn write(&mut self, bytes: &[u8]) -> io::Result<usize> {
-        if self.calls == 0 {
-            return Err(io::Error::from(ErrorKind::Other));
-        }
-        self.calls -= 1;
-        let count = bytes.len().min(self.most);
-        self.bytes.extend_from_slice(&bytes[..count])?;
-        Ok(count)
-    }
-
-    fn flush(&mut self) -> io::Result<()> {
-        if self.calls == 0 {
-            return Err(io::Error::from(ErrorKind::Other));
-        }
-        self.calls -= 1;
-        Ok(())
-    }
-}
-
-/// What a writer kept that takes so many bytes a call until a call fails, and behind it the line of the fault.
-fn kept(alloc: Global, calls: usize, most: usize) -> Result<Vec<u8>, Fail> {
-    let mut writer = FailingWriter {
-        bytes: Vec::new(alloc),
-        calls,
-        most,
-    };
-    let ended = run(alloc, &mut SPENT.as_bytes(), &mut writer, &to_six(None));
-    let mut text = writer.bytes;
-    if let Err(fault) = ended {
-        text.extend_from_slice(fault.to_string(alloc)?.as_bytes())?;
-    }
-    Ok(text)
-}
-
-// The text has 184 bytes, of which a call takes 163: two writes, and the flush. The last writer takes nothing.
-static KEPT: [(usize, usize, &str); 5] = [
-    (0, 163, "mcsim: write failed"),
-    (
-        1,
-        163,
-        "\
-0 0 release A
-0 0 run A
-2 0 stop A spent 2 until 5
-5 0 release A
-5 0 run A
-thread A ran 3 rounds 0 least 0 greatest 0 total 0 late 0 spent 1 throttled 3 longest 3
-mcsim: write failed",
-    ),
-    (
-        2,
-        163,
-        "\
-0 0 release A
-0 0 run A
-2 0 stop A spent 2 until 5
-5 0 release A
-5 0 run A
-thread A ran 3 rounds 0 least 0 greatest 0 total 0 late 0 spent 1 throttled 3 longest 3
-core 0 busy 3 idle 3
-mcsim: write failed",
-    ),
-    (3, 163, TO_SIX),
-    (9, 0, "mcsim: write failed"),
-];
-
-#[test]
-fn each_write_fails(rt: HostRuntime) -> Result<(), Fail> {
-    for (calls, most, want) in KEPT.as_slice() {
-        let text = kept(rt.alloc(), *calls, *most)?;
-        assert_eq!(rt; text.as_slice(), want.as_bytes(), "call {calls}");
+        let mut source = FromRead::new(io::repeat(0xff).take(length));
+        let text = written(&rt, rt.alloc(), &mut source)?;
+        assert_eq!(rt; text.as_str(), want, "{length} bytes");
+        assert!(rt; !source.failed(), "{length} bytes");
     }
     Ok(())
 }

@@ -65,8 +65,8 @@ static REFUSED: [(&str, &str); 12] = [
 fn other_words_are_refused(rt: HostRuntime) -> Result<(), Fail> {
     for (line, part) in REFUSED.as_slice() {
         let found = answer_to(rt.alloc(), line)?;
-        assert!(rt; found.as_str().starts_with("error: "), "{line}");
-        assert!(rt; found.as_str().contains(*part), "{line}");
+        assert!(rt; found.as_str().starts_with("error: "), "{line}: {found}");
+        assert!(rt; found.as_str().contains(*part), "{line}: {found}");
     }
     Ok(())
 }
@@ -87,7 +87,7 @@ fn help_is_given(rt: HostRuntime) -> Result<(), Fail> {
     for line in ["--help", "-h", "in.toml --help"] {
         let found = answer_to(rt.alloc(), line)?;
         for part in HELP.as_slice() {
-            assert!(rt; found.as_str().contains(*part), "{part}");
+            assert!(rt; found.as_str().contains(*part), "{part}: {found}");
         }
     }
     Ok(())

@@ -1,10 +1,11 @@
-use Rattle.std.proofs.Common.{◌≤◌, ◌^◌, length}
+use Rattle.std.proofs.Common.{◌≡◌, ◌≤◌, ◌^◌, false, length}
 use Rattle.std.specs.Io.KnownBytes.{Consumes}
 use Rattle.mcs_cli.proofs.streams.read_text.Given as goal
 
 abbrev pub invariant-loop : goal.invariant-loop
 invariant-loop g l = record {
-  read : Consumes (g.R.Read.remaining l.initial.reader) (g.R.Read.remaining l.reader) l.text.items;
+  read : Consumes (g.S.Source.remaining l.initial.source) (g.S.Source.remaining l.source) l.text.items;
   counted : l.counter ≤ length l.text.items;
   short : length l.text.items ≤ 2 ^ 26;
+  working : g.S.Source.has_failed l.source ≡ false;
 }

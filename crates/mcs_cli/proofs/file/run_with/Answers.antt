@@ -1,0 +1,5 @@
+use Rattle.mcs_cli.proofs.file.run_with.Goals as goal
+
+-- the file is the source, from its opening to the end of the run
+pub returns-in-Ok-clause-file : goal.returns-in-Ok-clause-file
+returns-in-Ok-clause-file g c = rw c.in-Some.is (_, _, _, c.run.ensures.run)

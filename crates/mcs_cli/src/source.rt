@@ -1,0 +1,77 @@
+ghost use Rattle.std.specs.Prelude.{◌≡◌, ◌≢◌, ◌||◌, ℕ, Bool, false, List, Option, IfErr, is_err};
+ghost use Rattle.std.specs.Io.{ReadsAtMost};
+ghost use Rattle.std.specs.Io.KnownBytes.{ReadConsumes};
+ghost use Rattle.std.specs.IoError.{error_kind};
+
+use std::io;
+use std::io::{ErrorKind, Read};
+
+/// Where bytes are read from. Contracts see the bytes that are left, where they are known, and whether a read has
+/// failed so far.
+pub trait Source {
+    ghost remaining: { Self → Option (List ℕ) };
+
+    ghost has_failed: { Self → Bool };
+
+    /// Reads at most as many bytes as there is room for, and gives their number. None are read only at the end, or into
+    /// no room; a read that fails takes nothing.
+    fn read(&mut self, buffer: &mut [u8]) -> io::Result<usize>
+        ensures bound { ReadsAtMost result buffer.new }
+        ensures bytes { ReadConsumes (remaining self.old) (remaining self.new) result buffer.new }
+        ensures failed { has_failed self.new ≡ (has_failed self.old || is_err result) };
+
+    /// Whether a read has failed so far.
+    fn failed(&self) -> bool
+        ensures { result ≡ has_failed self.now };
+}
+
+/// A reader of std as a source. A read that a signal interrupts is made again, and is no failure.
+#[derive(Drop)]
+pub struct FromRead<R: Read> {
+    inner: R,
+    failed: bool,
+}
+
+impl<R: Read> FromRead<R> {
+    /// The reader as it is, which has not failed yet.
+    pub fn new(inner: R) -> FromRead<R>
+        ensures bytes { ⟦<FromRead<R> as Source>⟧.remaining result ≡ R.remaining inner }
+        ensures failed { ⟦<FromRead<R> as Source>⟧.has_failed result ≡ false }
+    {
+        FromRead {
+            inner,
+            failed: false,
+        }
+    }
+}
+
+impl<R: Read> Source for FromRead<R> {
+    ghost remaining = { λ s. R.remaining s.inner };
+
+    ghost has_failed = { λ s. s.failed };
+
+    fn read(&mut self, buffer: &mut [u8]) -> io::Result<usize> {
+        let result = read_again(&mut self.inner, buffer);
+        self.failed = self.failed || result.is_err();
+        result
+    }
+
+    fn failed(&self) -> bool {
+        self.failed
+    }
+}
+
+/// One read, made again where a signal interrupts it.
+fn read_again<R: Read>(reader: &mut R, buffer: &mut [u8]) -> io::Result<usize>
+    ensures bound { ReadsAtMost result buffer.new }
+    ensures bytes { ReadConsumes (R.remaining reader.old) (R.remaining reader.new) result buffer.new }
+    ensures again { IfErr result (λ e. error_kind e ≢ ErrorKind.Interrupted) }
+{
+    for _ in 0..u64::MAX {
+        match reader.read(buffer) {
+            Err(fault) if fault.kind() == ErrorKind::Interrupted => {}
+            result => return result,
+        }
+    }
+    Err(io::Error::from(ErrorKind::TimedOut))
+}

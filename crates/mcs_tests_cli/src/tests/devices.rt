@@ -1,0 +1,147 @@
+//! Sources and targets in memory that fail when they are told to, and readers and writers of std that do.
+ghost use Rattle.std.specs.Prelude.{◌≡◌, ◌||◌, false, Some, is_err};
+ghost use Rattle.std.specs.Io.{ReadsAtMost, WritesAtMost};
+ghost use Rattle.std.specs.Io.KnownBytes.{Keeps, ReadConsumes, WriteAppends};
+ghost use Rattle.mcs_cli.specs.Devices.{has_write_failed};
+
+use mcs_cli::{Source, Target};
+use std::io;
+use std::io::{ErrorKind, Read, Write};
+
+/// Gives the bytes of a slice, at most so many a call and at least one, for so many calls; each later call fails.
+#[derive(Drop)]
+pub struct FailingSlice<'a> {
+    rest: &'a [u8],
+    most: usize,
+    calls: usize,
+    failed: bool,
+}
+
+impl<'a> FailingSlice<'a> {
+    pub fn new(rest: &'a [u8], most: usize, calls: usize) -> FailingSlice<'a>
+        ensures { result.failed ≡ false }
+    {
+        FailingSlice {
+            rest,
+            most,
+            calls,
+            failed: false,
+        }
+    }
+}
+
+impl<'a> Source for FailingSlice<'a> {
+    ghost remaining = { λ s. Some s.rest.now };
+
+    ghost has_failed = { λ s. s.failed };
+
+    fn read(&mut self, buffer: &mut [u8]) -> io::Result<usize> {
+        if self.calls == 0 {
+            self.failed = true;
+            return Err(io::Error::from(ErrorKind::Other));
+        }
+        self.calls -= 1;
+        let end = buffer.len().min(self.most.max(1));
+        let result = self.rest.read(&mut buffer[..end]);
+        self.failed = self.failed || result.is_err();
+        result
+    }
+
+    fn failed(&self) -> bool {
+        self.failed
+    }
+}
+
+/// Keeps what is written, at most so many bytes a call, for so many calls; each later call fails.
+#[derive(Drop)]
+pub struct FailingVec {
+    pub bytes: Vec<u8>,
+    most: usize,
+    calls: usize,
+    failed: bool,
+}
+
+impl FailingVec {
+    pub fn new(bytes: Vec<u8>, most: usize, calls: usize) -> FailingVec
+        ensures { result.failed ≡ false }
+    {
+        FailingVec {
+            bytes,
+            most,
+            calls,
+            failed: false,
+        }
+    }
+}
+
+impl Target for FailingVec {
+    ghost contents = { λ v. Some v.bytes.items };
+
+    ghost has_failed = { λ v. v.failed };
+
+    fn write(&mut self, bytes: &[u8]) -> io::Result<usize> {
+        if self.calls == 0 {
+            self.failed = true;
+            return Err(io::Error::from(ErrorKind::Other));
+        }
+        self.calls -= 1;
+        let count = bytes.len().min(self.most);
+        if self.bytes.extend_from_slice(&bytes[..count]).is_err() {
+            self.failed = true;
+            return Err(io::Error::from(ErrorKind::OutOfMemory));
+        }
+        self.failed = self.failed || (count == 0 && !bytes.is_empty());
+        Ok(count)
+    }
+
+    fn flush(&mut self) -> io::Result<()> {
+        if self.calls == 0 {
+            self.failed = true;
+            return Err(io::Error::from(ErrorKind::Other));
+        }
+        self.calls -= 1;
+        Ok(())
+    }
+
+    fn failed(&self) -> bool {
+        self.failed
+    }
+}
+
+/// A reader or a writer of which one call has a fault, after so many that have none.
+#[derive(Drop)]
+pub struct Faulty<D> {
+    pub inner: D,
+    pub calls: usize,
+    pub kind: ErrorKind,
+}
+
+impl<D> Faulty<D> {
+    fn turn(&mut self) -> io::Result<()> {
+        if self.calls == 0 {
+            self.calls = usize::MAX;
+            return Err(io::Error::from(self.kind));
+        }
+        self.calls -= 1;
+        Ok(())
+    }
+}
+
+impl<R: Read> Read for Faulty<R> {
+    fn read(&mut self, buffer: &mut [u8]) -> io::Result<usize> {
+        self.turn()?;
+        self.inner.read(buffer)
+    }
+}
+
+impl<W: Write> Write for Faulty<W> {
+    fn write(&mut self, bytes: &[u8]) -> io::Result<usize> {
+        self.turn()?;
+        self.inner.write(bytes)
+    }
+
+    fn flush(&mut self) -> io::Result<()> {
+        self.turn()?;
+        self.inner.flush()
+    }
+}
