@@ -5,7 +5,7 @@ usage: theorems.py OUT.antt PART..
 
 Each PART is a folder of crates/mcs_corpus/data. A system NAME is its file `NAME.toml`. In the folder `NAME` its run `schedule`, or else its
 run `both`, has two files: `RUN.words`, of which only `--horizon N` counts, and `RUN.stdout`, of which lines of reports are passed over. All
-systems with such a run are taken, in the order of their names. Run `rt fmt` in the crate afterwards.
+systems with such a run up to moment 10,000 at most are taken, in the order of their names. Run `rt fmt` in the crate afterwards.
 """
 import pathlib
 import re
@@ -24,6 +24,9 @@ use Rattle.mcs_worked.specs.Parts.{{{words}}}
 """
 
 DEFAULT_HORIZON = 1000
+
+# Computing goes over each moment, so runs past this horizon are left out.
+LONGEST = 10_000
 
 CAUSES = {'spent': 'Spent', 'yield': 'Yield', 'wait': 'Wait', 'done': 'Done', 'preempt': 'Preempt', 'order': 'Order'}
 
@@ -81,6 +84,10 @@ def order_term(part, numbers):
     return f'order {part["at"]} {numbers.contexts[part["context"]]} {part["budget"]} {part["period"]} {part.get("extra_refills", 0)}'
 
 
+def link_term(part):
+    return f'link {part["maker"]} {part["home"]} {part["delay"]}'
+
+
 def field(name, terms):
     """A field of the system, a part on a line of its own."""
     if not terms:
@@ -93,12 +100,13 @@ def system_definition(name, system, numbers):
     notes = [note_term(part) for part in system.get('note', [])]
     threads = [thread_term(part, numbers) for part in system.get('thread', [])]
     orders = [order_term(part, numbers) for part in system.get('order', [])]
+    links = [link_term(part) for part in system.get('link', [])]
     return (
         f'abbrev pub {name}_system : System\n{name}_system = record {{\n'
         f'  cores = {system["cores"]};\n  delay = {system["delay"]};\n'
         f'  call = {system.get("call", 1)};\n  min_budget = {system.get("min_budget", 1)};\n'
         + field('contexts', contexts) + field('notes', notes) + field('threads', threads) + field('orders', orders)
-        + '}\n'
+        + field('links', links) + '}\n'
     )
 
 
@@ -138,6 +146,12 @@ def run_of(path):
     return next((run for run in runs if run.with_suffix('.words').exists()), None)
 
 
+def computes(path):
+    """Whether the system has a run with rows that is short enough."""
+    run = run_of(path)
+    return run is not None and horizon_of(run.with_suffix('.words').read_text().split()) <= LONGEST
+
+
 def theorem(path):
     name = path.stem
     system = tomllib.loads(path.read_text())
@@ -161,13 +175,13 @@ def imports(names, text):
 
 def main():
     out, parts = sys.argv[1], [part.rstrip('/') for part in sys.argv[2:]]
-    systems = sorted((path for part in parts for path in pathlib.Path(part).glob('*.toml') if run_of(path)), key=lambda path: path.stem)
+    systems = sorted((path for part in parts for path in pathlib.Path(part).glob('*.toml') if computes(path)), key=lambda path: path.stem)
     body = '\n'.join(theorem(path) for path in systems)
     head = HEAD.format(
         parts=' and '.join(parts),
         prelude='◌≡◌, ' + imports(['List', '[]'], body) + ', ◌∷◌, ' + imports(['Some', 'None', 'refl', 'codes'], body),
         items=imports(['Compute', 'Signal', 'Wait', 'Yield'], body),
-        words=imports(['context', 'note', 'thread', 'order', 'at'], body),
+        words=imports(['context', 'note', 'thread', 'order', 'link', 'at'], body),
     )
     pathlib.Path(out).write_text(head + '\n' + body)
 

@@ -1,0 +1,79 @@
+"""Runs programs whose growths of memory are refused; for refused_runs.py and refused_tests.py.
+
+The growths are the calls of malloc, calloc, realloc and their relatives after the program was loaded. A few lines of C, which cc compiles
+here and the loader puts before the C library, count and refuse them."""
+import os
+import pathlib
+import subprocess
+import tempfile
+
+LIBRARY = r'''
+#include <errno.h>
+#include <stdatomic.h>
+#include <stddef.h>
+#include <stdlib.h>
+#include <unistd.h>
+
+void *__libc_malloc(size_t);
+void *__libc_calloc(size_t, size_t);
+void *__libc_realloc(void *, size_t);
+void *__libc_memalign(size_t, size_t);
+
+static unsigned long first, last; /* of the growths that are refused; 0 until the program is loaded */
+static int told; /* a byte is written here at each refusal */
+static atomic_ulong growths;
+
+__attribute__((constructor)) static void begin(void)
+{
+    told = atoi(getenv("REFUSED_TOLD"));
+    last = strtoul(getenv("REFUSED_LAST"), NULL, 10);
+    first = strtoul(getenv("REFUSED_FIRST"), NULL, 10);
+}
+
+static int refused(void)
+{
+    if (first == 0)
+        return 0;
+    unsigned long growth = atomic_fetch_add(&growths, 1) + 1;
+    if (growth < first || growth > last)
+        return 0;
+    if (write(told, "r", 1) != 1)
+        _exit(99);
+    errno = ENOMEM;
+    return 1;
+}
+
+void *malloc(size_t size) { return refused() ? NULL : __libc_malloc(size); }
+void *calloc(size_t count, size_t size) { return refused() ? NULL : __libc_calloc(count, size); }
+void *realloc(void *old, size_t size) { return refused() ? NULL : __libc_realloc(old, size); }
+void *memalign(size_t align, size_t size) { return refused() ? NULL : __libc_memalign(align, size); }
+void *aligned_alloc(size_t align, size_t size) { return memalign(align, size); }
+
+int posix_memalign(void **to, size_t align, size_t size)
+{
+    void *made = memalign(align, size);
+    if (made == NULL)
+        return ENOMEM;
+    *to = made;
+    return 0;
+}
+'''
+
+
+def compiled(folder):
+    """The library, made in this folder."""
+    source, library = pathlib.Path(folder, 'refusing.c'), pathlib.Path(folder, 'refusing.so')
+    source.write_text(LIBRARY)
+    subprocess.run(['cc', '-O2', '-shared', '-fPIC', '-o', library, source], check=True)
+    return library
+
+
+def answer(command, library, first, last, stdin=b'', folder=None):
+    """Status, standard output and standard error of a run whose growths are refused from the first to the last of these (from 1), and how
+    many were. Where nothing is to be refused, the library is None."""
+    with tempfile.TemporaryFile() as told:
+        env = {'REFUSED_FIRST': str(first), 'REFUSED_LAST': str(last), 'REFUSED_TOLD': str(told.fileno())}
+        if library:
+            env['LD_PRELOAD'] = str(library)
+        ran = subprocess.run(command, input=stdin, capture_output=True, env=env, pass_fds=(told.fileno(),), timeout=60, cwd=folder)
+        return ran.returncode, ran.stdout, ran.stderr, told.seek(0, os.SEEK_END)
