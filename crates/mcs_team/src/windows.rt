@@ -69,22 +69,6 @@ impl Windows {
         Ok(past)
     }
 
-    /// All windows from moment 0 on, without the idle time between them.
-    pub(crate) fn run_all(&self, cores: &mut Cores) -> Result<(), NoMemory>
-        requires windows { AreFor self.now cores.old }
-        requires at_first { AllAt cores.old.system cores.old.horizon 0 cores.old }
-        ensures at_end { OnOk result (AllAt cores.old.system cores.old.horizon self.now.end cores.new) }
-        ensures taken { OnOk result (cores.new.taken ≡ cores.old.taken) }
-    {
-        let end = self.end;
-        let mut first = cores.skip_idle()?;
-        'windows: while first < end {
-            self.run(cores, first)?;
-            first = cores.skip_idle()?;
-        }
-        Ok(())
-    }
-
     /// All windows from moment 0 on, without the idle time between them. The rows of a window are dropped at its end.
     pub(crate) fn pass_all(&self, cores: &mut Cores) -> Result<(), NoMemory>
         requires windows { AreFor self.now cores.old }
