@@ -11,8 +11,10 @@ use Rattle.mcs_refills.proofs.Servers.{servers-kept}
 use Rattle.mcs_refills.proofs.Spaces.{consumed-spaced}
 use Rattle.mcs_control.specs.declared.config.Config.{Config}
 use Rattle.mcs_control.specs.declared.config.Kind.TheVariants as kind
+use Rattle.mcs_control.specs.declared.config.Mode.{Mode}
+use Rattle.mcs_control.specs.declared.config.Mode.TheVariants as modes
 use Rattle.mcs_control.specs.Control.{IsConfig, kind_of}
-use Rattle.mcs_control.specs.Context.{Budget, new_context, first_budget, context_charged, context_unblocked, context_ordered, head_amount, max_refills_of}
+use Rattle.mcs_control.specs.Context.{Context, Budget, new_context, first_budget, context_charged, context_unblocked, woken_by, chosen_by, context_ordered, head_amount, max_refills_of}
 use Rattle.mcs_control.specs.Context.Budget.{Dates, Slice}
 use Rattle.mcs_control.specs.laws.Contexts.{IsBudget, IsContext, ContextsAreKept, ConsumedAreSpaced, consumed_from}
 
@@ -58,8 +60,8 @@ slice-charged k budget left p l = by (left - k == 0) refl
     by true e = (omega arith, omega arith)
     by false e = (grind (arith, nat_tests), omega arith)
 
-new-kept : (config : Config) (at : ℕ) → IsConfig config → IsContext (new_context config at)
-new-kept config at h = record { config = h; budget = by (config.budget == config.period) refl }
+new-kept : (config : Config) (mode : Mode) (at : ℕ) → IsConfig config → IsContext (new_context config mode at)
+new-kept config mode at h = record { config = h; budget = by (config.budget == config.period) refl }
   where
     by : (t : Bool) → (config.budget == config.period) ≡ t → IsBudget config (first_budget (cond t kind.RoundRobin kind.Sporadic) at config.budget)
     by true e = (grind (arith, nat_tests), h.some, omega arith)
@@ -67,62 +69,72 @@ new-kept config at h = record { config = h; budget = by (config.budget == config
         let l : config.budget < config.period = grind (arith, nat_tests, h.within) in
         from-server config (dates_from at config.budget) l (servers-kept.0 at config.budget config.period (max_refills_of config) 0 h.within (omega arith))
 
-charged-kept : (k min_budget : ℕ) (config : Config) (budget : Budget) → IsContext (record { config = config; budget = budget }) → 1 ≤ k → k ≤ head_amount (record { config = config; budget = budget }) →
-    IsContext (context_charged k min_budget (record { config = config; budget = budget }))
-charged-kept k min_budget config (Dates dates) h p l = record {
+charged-kept : (k min_budget : ℕ) (config : Config) (mode : Mode) (budget : Budget) → IsContext (record { config = config; mode = mode; budget = budget }) → 1 ≤ k → k ≤ head_amount (record { config = config; mode = mode; budget = budget }) →
+    IsContext (context_charged k min_budget (record { config = config; mode = mode; budget = budget }))
+charged-kept k min_budget config mode (Dates dates) h p l = record {
   config = h.config;
   budget = from-server config _ h.budget.0 (servers-kept.1 k min_budget config.budget (server_of config dates) (to-server config dates h.budget) p l);
 }
-charged-kept k min_budget config (Slice left) h p l =
+charged-kept k min_budget config mode (Slice left) h p l =
     let s = slice-charged k config.budget left h.budget.1 h.budget.2 in record { config = h.config; budget = (h.budget.0, s.0, s.1) }
 
-unblocked-kept : (t : ℕ) (config : Config) (budget : Budget) → IsContext (record { config = config; budget = budget }) → IsContext (context_unblocked t (record { config = config; budget = budget }))
-unblocked-kept t config (Dates dates) h = record {
+unblocked-kept : (t : ℕ) (config : Config) (mode : Mode) (budget : Budget) → IsContext (record { config = config; mode = mode; budget = budget }) → IsContext (context_unblocked t (record { config = config; mode = mode; budget = budget }))
+unblocked-kept t config mode (Dates dates) h = record {
   config = h.config;
   budget = from-server config _ h.budget.0 (servers-kept.2 t config.budget (server_of config dates) (to-server config dates h.budget));
 }
-unblocked-kept t config (Slice left) h = h
+unblocked-kept t config mode (Slice left) h = h
 
-ordered-kept : (t : ℕ) (next config : Config) (budget : Budget) → IsContext (record { config = config; budget = budget }) → IsConfig next → kind_of next ≡ kind_of config →
-    IsContext (context_ordered t next (record { config = config; budget = budget }))
-ordered-kept t next config (Dates dates) h n e =
+ordered-kept : (t : ℕ) (next config : Config) (mode : Mode) (budget : Budget) → IsContext (record { config = config; mode = mode; budget = budget }) → IsConfig next → kind_of next ≡ kind_of config →
+    IsContext (context_ordered t next (record { config = config; mode = mode; budget = budget }))
+ordered-kept t next config mode (Dates dates) h n e =
     let l : next.budget < next.period = sporadic-less next n.within (e ∙ less-sporadic config h.budget.0) in
     record {
       config = n;
       budget = from-server next _ l (servers-kept.3 t next.budget next.period (max_refills_of next) (server_of config dates) n.within (omega arith));
     }
-ordered-kept t next config (Slice left) h n e =
+ordered-kept t next config mode (Slice left) h n e =
     record { config = n; budget = (round_robin-equal next (e ∙ equal-round_robin config h.budget.0), omega (arith, h.budget.1, n.some), omega arith) }
+
+woken-kept : (t : ℕ) (mode : Mode) (context : Context) → IsContext context → IsContext (woken_by mode t context)
+woken-kept t modes.Sporadic context h = unblocked-kept t context.config context.mode context.budget h
+woken-kept t modes.Bandwidth context h = h
+
+chosen-kept : (t : ℕ) (mode : Mode) (context : Context) → IsContext context → IsContext (chosen_by mode t context)
+chosen-kept t modes.Sporadic context h = h
+chosen-kept t modes.Bandwidth context h = unblocked-kept t context.config context.mode context.budget h
 
 pub contexts-kept : ContextsAreKept
 contexts-kept = (
   new-kept,
-  λ k min_budget context h p l. charged-kept k min_budget context.config context.budget h p l,
-  λ t context h. unblocked-kept t context.config context.budget h,
-  λ t config context h n e. ordered-kept t config context.config context.budget h n e,
+  λ k min_budget context h p l. charged-kept k min_budget context.config context.mode context.budget h p l,
+  λ t context h. unblocked-kept t context.config context.mode context.budget h,
+  λ t context h. woken-kept t context.mode context h,
+  λ t context h. chosen-kept t context.mode context h,
+  λ t config context h n e. ordered-kept t config context.config context.mode context.budget h n e,
 )
 
 -- the dates taken from a sporadic context are those taken from its server
-consumed-same : (config : Config) (steps : List Step) (dates : List ℕ) →
-    consumed config.period (max_refills_of config) steps dates ≡ consumed_from steps (record { config = config; budget = Dates dates })
-consumed-same config [] dates = refl
-consumed-same config (Charge k min_budget ∷ steps) dates = ap (λ xs. take k dates ++ xs) (consumed-same config steps (with_enough min_budget (charged k config.period (max_refills_of config) dates)))
-consumed-same config (Unblock t ∷ steps) dates = consumed-same config steps (unblocked t dates)
+consumed-same : (config : Config) (mode : Mode) (steps : List Step) (dates : List ℕ) →
+    consumed config.period (max_refills_of config) steps dates ≡ consumed_from steps (record { config = config; mode = mode; budget = Dates dates })
+consumed-same config mode [] dates = refl
+consumed-same config mode (Charge k min_budget ∷ steps) dates = ap (λ xs. take k dates ++ xs) (consumed-same config mode steps (with_enough min_budget (charged k config.period (max_refills_of config) dates)))
+consumed-same config mode (Unblock t ∷ steps) dates = consumed-same config mode steps (unblocked t dates)
 
 -- and from a slice none are
-consumed-none : (config : Config) (steps : List Step) (left : ℕ) → consumed_from steps (record { config = config; budget = Slice left }) ≡ []
-consumed-none config [] left = refl
-consumed-none config (Charge k min_budget ∷ steps) left = consumed-none config steps (slice_charged k config.budget left)
-consumed-none config (Unblock t ∷ steps) left = consumed-none config steps left
+consumed-none : (config : Config) (mode : Mode) (steps : List Step) (left : ℕ) → consumed_from steps (record { config = config; mode = mode; budget = Slice left }) ≡ []
+consumed-none config mode [] left = refl
+consumed-none config mode (Charge k min_budget ∷ steps) left = consumed-none config mode steps (slice_charged k config.budget left)
+consumed-none config mode (Unblock t ∷ steps) left = consumed-none config mode steps left
 
-spaced : (config : Config) (budget : Budget) (steps : List Step) → IsContext (record { config = config; budget = budget }) → AreProper steps →
-    IsSpaced config.budget config.period (consumed_from steps (record { config = config; budget = budget }))
-spaced config (Dates dates) steps h p =
+spaced : (config : Config) (mode : Mode) (budget : Budget) (steps : List Step) → IsContext (record { config = config; mode = mode; budget = budget }) → AreProper steps →
+    IsSpaced config.budget config.period (consumed_from steps (record { config = config; mode = mode; budget = budget }))
+spaced config mode (Dates dates) steps h p =
     let P : List ℕ → Type 0 = λ xs. IsSpaced config.budget config.period xs in
-    subst P (consumed-same config steps dates) (consumed-spaced config.budget config.period (max_refills_of config) steps dates h.budget.1 p)
-spaced config (Slice left) steps h p =
+    subst P (consumed-same config mode steps dates) (consumed-spaced config.budget config.period (max_refills_of config) steps dates h.budget.1 p)
+spaced config mode (Slice left) steps h p =
     let P : List ℕ → Type 0 = λ xs. IsSpaced config.budget config.period xs in
-    subst P (sym (consumed-none config steps left)) (λ j l. absurd (omega arith))
+    subst P (sym (consumed-none config mode steps left)) (λ j l. absurd (omega arith))
 
 pub consumed-are-spaced : ConsumedAreSpaced
-consumed-are-spaced context steps h p = spaced context.config context.budget steps h p
+consumed-are-spaced context steps h p = spaced context.config context.mode context.budget steps h p

@@ -4,10 +4,11 @@ use Rattle.std.specs.Prelude.{◌≡◌, ℕ, true, false, [], ◌∷◌, Some, 
 use Rattle.mcs_refills.specs.laws.Spacing.Step.{Charge, Unblock}
 use Rattle.mcs_control.specs.declared.config.Config.{Config}
 use Rattle.mcs_control.specs.declared.config.Kind.TheVariants.{Sporadic, RoundRobin}
+use Rattle.mcs_control.specs.declared.config.Mode.TheVariants as modes
 use Rattle.mcs_control.specs.declared.view.ContextView.{ContextView}
 use Rattle.mcs_control.specs.declared.config.ControlFault.TheVariants.{ZeroBudget, BudgetTooSmall, BudgetOverPeriod, PeriodTooLong, TooManyRefills}
 use Rattle.mcs_control.specs.Control.{checked}
-use Rattle.mcs_control.specs.Context.{Context, new_context, context_charged, context_unblocked, context_ordered, context_ready, head_amount, head_moment, view_of}
+use Rattle.mcs_control.specs.Context.{Context, new_context, context_charged, context_unblocked, context_woken, context_chosen, context_ordered, context_ready, head_amount, head_moment, view_of}
 use Rattle.mcs_control.specs.laws.Contexts.{consumed_from}
 use Rattle.mcs_control.specs.laws.Shown.{ShowsBudget}
 
@@ -16,10 +17,13 @@ config budget period extra = record { budget = budget; period = period; extra = 
 
 -- a sporadic context and a round robin one
 abbrev sporadic : Context
-sporadic = new_context (config 10 100 0) 0
+sporadic = new_context (config 10 100 0) modes.Sporadic 0
 
 abbrev round_robin : Context
-round_robin = new_context (config 3 3 0) 0
+round_robin = new_context (config 3 3 0) modes.Sporadic 0
+
+abbrev bandwidth : Context
+bandwidth = new_context (config 10 100 0) modes.Bandwidth 0
 
 -- the check, fault by fault: the first stands before all others
 zero_budget_is_first : checked 4 (config 0 0 65) ≡ Err ZeroBudget
@@ -54,16 +58,29 @@ slice_is_full_again : head_amount (context_charged 3 1 round_robin) ≡ 3
 slice_is_full_again = refl
 
 -- a wake
-wake_moves_the_head : head_moment (context_unblocked 50 (context_charged 3 1 sporadic)) ≡ 50
+wake_moves_the_head : head_moment (context_woken 50 (context_charged 3 1 sporadic)) ≡ 50
 wake_moves_the_head = refl
 
-wake_leaves_a_slice : context_unblocked 50 round_robin ≡ round_robin
+wake_leaves_a_slice : context_woken 50 round_robin ≡ round_robin
 wake_leaves_a_slice = refl
+
+wake_leaves_a_bandwidth_context : context_woken 50 bandwidth ≡ bandwidth
+wake_leaves_a_bandwidth_context = refl
+
+-- a choice
+choice_moves_the_head_of_a_bandwidth_context : head_moment (context_chosen 50 (context_charged 3 1 bandwidth)) ≡ 50
+choice_moves_the_head_of_a_bandwidth_context = refl
+
+choice_leaves_a_sporadic_context : context_chosen 50 sporadic ≡ sporadic
+choice_leaves_a_sporadic_context = refl
 
 -- an order
 reconfigure_after_unblock : view_of 0 0 (context_ordered 60 (config 12 40 0) (context_unblocked 50 (context_charged 3 1 sporadic)))
     ≡ record { context = 0; refills = record { begins = 60; amount = 7 } ∷ record { begins = 95; amount = 5 } ∷ []; left = None; using = 0 }
 reconfigure_after_unblock = refl
+
+order_leaves_the_mode : (context_ordered 1 (config 12 40 0) bandwidth).mode ≡ modes.Bandwidth
+order_leaves_the_mode = refl
 
 order_shortens_a_slice : head_amount (context_ordered 1 (config 2 2 0) round_robin) ≡ 2
 order_shortens_a_slice = refl

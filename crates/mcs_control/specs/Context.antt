@@ -1,8 +1,10 @@
--- A scheduling context: the configuration in force, and the budget that is left, by kind.
+-- A scheduling context: the configuration in force, its mode, and the budget that is left, by kind.
 use Rattle.std.specs.Prelude.{ℕ, ◌+◌, Bool, true, List, [], Option, Some, None}
 use Rattle.mcs_control.specs.declared.config.Config.{Config}
 use Rattle.mcs_control.specs.declared.config.Kind.{Kind}
 use Rattle.mcs_control.specs.declared.config.Kind.TheVariants.{Sporadic, RoundRobin}
+use Rattle.mcs_control.specs.declared.config.Mode.{Mode}
+use Rattle.mcs_control.specs.declared.config.Mode.TheVariants as modes
 use Rattle.mcs_control.specs.declared.view.ContextView.{ContextView}
 use Rattle.mcs_refills.specs.declared.refill.Refill.{Refill}
 use Rattle.mcs_refills.specs.Server as server
@@ -16,6 +18,7 @@ pub data Budget : Type 0 where
 
 pub record Context : Type 0 where
   pub config : Config
+  pub mode : Mode
   pub budget : Budget
 
 -- a context, and for how many refills there is room
@@ -33,8 +36,9 @@ first_budget Sporadic at budget = Dates (server.dates_from at budget)
 first_budget RoundRobin at budget = Slice budget
 
 -- a new context, whose budget may be used from `at` on
-abbrev pub new_context : Config → ℕ → Context
-new_context config at = record { config = config; budget = first_budget (kind_of config) at config.budget }
+abbrev pub new_context : Config → Mode → ℕ → Context
+new_context config mode at =
+    record { config = config; mode = mode; budget = first_budget (kind_of config) at config.budget }
 
 abbrev pub budget_charged : ℕ → ℕ → Config → Budget → Budget
 budget_charged k min_budget config (Dates dates) =
@@ -54,11 +58,27 @@ budget_unblocked t (Slice left) = Slice left
 abbrev pub context_unblocked : ℕ → Context → Context
 context_unblocked t context = record context { budget = budget_unblocked t context.budget }
 
+abbrev pub woken_by : Mode → ℕ → Context → Context
+woken_by modes.Sporadic t context = context_unblocked t context
+woken_by modes.Bandwidth t context = context
+
+-- its thread is woken at t: this unblocks it, unless it is in bandwidth mode
+abbrev pub context_woken : ℕ → Context → Context
+context_woken t context = woken_by context.mode t context
+
+abbrev pub chosen_by : Mode → ℕ → Context → Context
+chosen_by modes.Sporadic t context = context
+chosen_by modes.Bandwidth t context = context_unblocked t context
+
+-- its thread is chosen at t: this unblocks it in bandwidth mode, and else does nothing
+abbrev pub context_chosen : ℕ → Context → Context
+context_chosen t context = chosen_by context.mode t context
+
 abbrev pub budget_ordered : ℕ → Config → Budget → Budget
 budget_ordered t config (Dates dates) = Dates (server.reconfigured t config.budget config.period dates)
 budget_ordered t config (Slice left) = Slice (slice_reconfigured config.budget left)
 
--- ordered at t to have another configuration
+-- ordered at t to have another configuration; its mode stays
 abbrev pub context_ordered : ℕ → Config → Context → Context
 context_ordered t config context = record context { config = config; budget = budget_ordered t config context.budget }
 

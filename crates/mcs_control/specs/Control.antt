@@ -3,12 +3,19 @@ use Rattle.std.specs.Prelude.{◌≡◌, ℕ, ◌^◌, ◌≤◌, ◌==◌, nat_
 use Rattle.mcs_control.specs.declared.config.Config.{Config}
 use Rattle.mcs_control.specs.declared.config.Kind.{Kind}
 use Rattle.mcs_control.specs.declared.config.Kind.TheVariants.{Sporadic, RoundRobin}
+use Rattle.mcs_control.specs.declared.config.Mode.{Mode}
+use Rattle.mcs_control.specs.declared.config.Mode.TheVariants as modes
 use Rattle.mcs_control.specs.declared.config.ControlFault.{ControlFault}
 use Rattle.mcs_control.specs.declared.config.ControlFault.TheVariants.{ZeroBudget, BudgetTooSmall, BudgetOverPeriod, PeriodTooLong, TooManyRefills}
 
 -- round robin where the budget is the period
 abbrev pub kind_of : Config → Kind
 kind_of config = if config.budget == config.period then RoundRobin else Sporadic
+
+-- a round robin context is never unblocked, so it has no mode but the first
+abbrev pub IsModeOf : Kind → Mode → Type 0
+IsModeOf Sporadic mode = Unit {0}
+IsModeOf RoundRobin mode = mode ≡ modes.Sporadic
 
 -- the first fault of a configuration, or else its kind
 abbrev pub checked : ℕ → Config → Result Kind ControlFault

@@ -1,10 +1,11 @@
 ghost use Rattle.std.specs.Prelude.{◌≡◌, ◌+◌, ◌^◌, ◌≤◌, IfOk};
-ghost use Rattle.mcs_control.specs.Control.{IsConfig, kind_of};
-ghost use Rattle.mcs_control.specs.Context.{new_context, context_charged, context_unblocked, context_ordered, context_ready, head_amount, head_moment, max_refills_of, view_of};
+ghost use Rattle.mcs_control.specs.Control.{IsConfig, kind_of, IsModeOf};
+ghost use Rattle.mcs_control.specs.Context.{new_context, context_charged, context_woken, context_chosen, context_ordered, context_ready, head_amount, head_moment, max_refills_of, view_of};
 ghost use Rattle.mcs_control.specs.laws.Contexts.{IsContext};
+ghost use Rattle.mcs_control.specs.stored.Context.{unblocked};
 ghost use Rattle.mcs_refills.specs.Server.{refills_of};
 
-use crate::{Config, ContextView};
+use crate::{Config, ContextView, Mode};
 use mcs_refills::{Refill, Refills, Slice};
 use mcs_ticks::{ContextId, NoMemory, Sequence, Tick};
 use std::alloc::Global;
@@ -17,12 +18,13 @@ enum Budget {
     RoundRobin(Slice),
 }
 
-/// A scheduling context: the configuration in force, and its refills or its time slice. Contracts see the context, by its budget
-/// dates or by what is left of its slice, and beside it for how many refills there is room. Only [`Context::new`] and
+/// A scheduling context: the configuration in force, its mode, and its refills or its time slice. Contracts see the context, by its
+/// budget dates or by what is left of its slice, and beside it for how many refills there is room. Only [`Context::new`] and
 /// [`Context::view`] take memory.
 #[derive(Drop)]
 pub struct Context {
     config: Config,
+    mode: Mode,
     budget: Budget,
     room: usize,
 }
@@ -34,20 +36,40 @@ impl Model for Context {
 
     ghost use Rattle.mcs_control.specs.stored.Context.{held, IsHeld};
 
-    ghost view = { λ a. record { context = held a.config a.budget; room = a.room } };
+    ghost view = { λ a. record { context = held a.config a.mode a.budget; room = a.room } };
 
-    ghost invariant = { λ a. IsHeld a.config a.budget a.room };
+    ghost invariant = { λ a. IsHeld a.config a.mode a.budget a.room };
+}
+
+impl Budget {
+    /// Unblocks the refills at `t`. A slice does not change.
+    fn unblock(&mut self, t: Tick)
+        requires { t ≤ 2 ^ 40 }
+        ensures { self.new ≡ unblocked t self.old }
+    {
+        match self {
+            Budget::Sporadic(refills) => refills.unblock(t),
+            Budget::RoundRobin(_) => {}
+        }
+    }
 }
 
 impl Context {
-    /// A context that may be used from `at` on. There is room for `room` refills, 2 to 66; a round robin context takes no memory.
-    /// `NoMemory` is answered where the room is refused.
-    pub fn new(alloc: Global, config: Config, at: Tick, room: usize) -> Result<Self, NoMemory>
+    /// A context that may be used from `at` on, at most 2^40. A round robin one has the mode `Sporadic`. There is room for `room`
+    /// refills, 2 to 66; a round robin context takes no memory. `NoMemory` is answered where the room is refused.
+    pub fn new(
+        alloc: Global,
+        config: Config,
+        mode: Mode,
+        at: Tick,
+        room: usize,
+    ) -> Result<Self, NoMemory>
         requires checked { IsConfig config }
+        requires mode { IsModeOf (kind_of config) mode }
         requires early { at ≤ 2 ^ 40 }
         requires fits { max_refills_of config ≤ room }
         requires few { room ≤ 66 }
-        ensures context { IfOk result (λ made. made.context ≡ new_context config at) }
+        ensures context { IfOk result (λ made. made.context ≡ new_context config mode at) }
         ensures room { IfOk result (λ made. made.room ≡ room) }
     {
         let budget = if config.budget == config.period {
@@ -65,6 +87,7 @@ impl Context {
         };
         Ok(Context {
             config,
+            mode,
             budget,
             room,
         })
@@ -85,19 +108,32 @@ impl Context {
         }
     }
 
-    /// A notification wakes the context's thread at `t`: the refills are unblocked. A slice does not change.
+    /// A notification wakes the context's thread at `t`: in mode `Sporadic` the refills are unblocked. Nothing changes in mode
+    /// `Bandwidth`, nor does a slice.
     pub fn wake(&mut self, t: Tick)
         requires { t ≤ 2 ^ 40 }
-        ensures context { self.new.context ≡ context_unblocked t self.old.context }
+        ensures context { self.new.context ≡ context_woken t self.old.context }
         ensures room { self.new.room ≡ self.old.room }
     {
-        match &mut self.budget {
-            Budget::Sporadic(refills) => refills.unblock(t),
-            Budget::RoundRobin(_) => {}
+        match self.mode {
+            Mode::Sporadic => self.budget.unblock(t),
+            Mode::Bandwidth => {}
         }
     }
 
-    /// A SchedControl order at `t`: this configuration, of the same kind, is in force from now on.
+    /// The context's thread is chosen at `t`: in mode `Bandwidth` the refills are unblocked. Nothing changes in mode `Sporadic`.
+    pub fn chosen(&mut self, t: Tick)
+        requires { t ≤ 2 ^ 40 }
+        ensures context { self.new.context ≡ context_chosen t self.old.context }
+        ensures room { self.new.room ≡ self.old.room }
+    {
+        match self.mode {
+            Mode::Sporadic => {}
+            Mode::Bandwidth => self.budget.unblock(t),
+        }
+    }
+
+    /// A SchedControl order at `t`: this configuration, of the same kind, is in force from now on. The mode does not change.
     pub fn order(&mut self, t: Tick, config: Config)
         requires early { t ≤ 2 ^ 40 }
         requires checked { IsConfig config }

@@ -7,14 +7,14 @@ pub fn passed_configs_are_in_range()
     ensures { PassedAreConfigs }
 {}
 
-/// A law of contexts: a new context is in good order, charges and wakes leave it so, and an order makes it so by the new
+/// A law of contexts: a new context is in good order, charges, wakes and choices leave it so, and an order makes it so by the new
 /// configuration. So a sporadic context has as many dates as its budget in force, in refills that neither touch nor overlap, at
 /// most as many as it may have, which span less than its period; and a round robin one has 1 to its budget left.
 pub fn contexts_are_kept()
     ensures { ContextsAreKept }
 {}
 
-/// A law of contexts: of the dates that charges take, whatever charges and wakes come and where no order does, the one
+/// A law of contexts: of the dates that charges take, whatever charges and unblocking come and where no order does, the one
 /// a whole budget later is at least a period later.
 pub fn consumed_dates_are_spaced()
     ensures { ConsumedAreSpaced }

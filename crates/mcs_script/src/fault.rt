@@ -1,18 +1,31 @@
+ghost use Rattle.std.specs.Prelude.{Some};
+ghost use Rattle.mcs_script.specs.Fault.{item_fault_text};
+
+use std::fmt;
 use thiserror::Error;
 
-/// Why a text is no item. Of several faults the first of this list is the answer.
+/// Why a text is no item. Of several faults the first of this list is the answer. Each has a text of its own (profile M).
 #[derive(Clone, Copy, Debug, PartialEq, Eq, Error)]
 pub enum ItemFault {
     /// The first part is none of `compute`, `signal`, `wait` and `yield`, or there is no part.
-    #[error("unknown word")]
     UnknownWord,
     /// There are too few parts after the word.
-    #[error("missing part")]
     MissingPart,
     /// There are too many parts after the word.
-    #[error("extra part")]
     ExtraPart,
     /// A number is not decimal digits without a sign or a leading zero, or it is out of its range.
-    #[error("bad number")]
     BadNumber,
+}
+
+impl fmt::Display for ItemFault {
+    ghost output = { λ fault. Some (item_fault_text fault) };
+
+    fn fmt<W: fmt::Write>(&self, f: &mut fmt::Formatter<W>) -> fmt::Result {
+        match self {
+            ItemFault::UnknownWord => f.write_str("unknown word"),
+            ItemFault::MissingPart => f.write_str("missing part"),
+            ItemFault::ExtraPart => f.write_str("extra part"),
+            ItemFault::BadNumber => f.write_str("bad number"),
+        }
+    }
 }

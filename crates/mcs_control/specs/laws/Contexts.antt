@@ -1,10 +1,11 @@
 -- What holds of each context, and what its charges take.
 use Rattle.std.specs.Prelude.{◌≡◌, ℕ, ◌<◌, ◌≤◌, List, [], ◌∷◌, ◌++◌, length}
 use Rattle.mcs_control.specs.declared.config.Config.{Config}
+use Rattle.mcs_control.specs.declared.config.Mode.{Mode}
 use Rattle.mcs_refills.specs.Server.{refills_of}
 use Rattle.mcs_refills.specs.laws.Spacing.{AreKept, Step, AreProper, IsSpaced, used_by}
 use Rattle.mcs_refills.specs.laws.Spacing.Step.{Charge, Unblock}
-use Rattle.mcs_control.specs.Context.{Budget, Context, new_context, context_charged, context_unblocked, context_ordered, head_amount, max_refills_of}
+use Rattle.mcs_control.specs.Context.{Budget, Context, new_context, context_charged, context_unblocked, context_woken, context_chosen, context_ordered, head_amount, max_refills_of}
 use Rattle.mcs_control.specs.Context.Budget.{Dates, Slice}
 use Rattle.mcs_control.specs.Control.{IsConfig, kind_of}
 
@@ -27,17 +28,20 @@ pub record IsContext (context : Context) : Type 0 where
   pub config : IsConfig context.config
   pub budget : IsBudget context.config context.budget
 
--- a new context is in good order, a charge and unblocking leave it so, and an order makes it so by the new configuration
+-- a new context is in good order, a charge and unblocking, a wake and a choice leave it so, and an order makes it so by the new
+-- configuration
 abbrev pub ContextsAreKept : Type 0
 ContextsAreKept =
-    ((config : Config) (at : ℕ) → IsConfig config → IsContext (new_context config at))
+    ((config : Config) (mode : Mode) (at : ℕ) → IsConfig config → IsContext (new_context config mode at))
     × ((k min_budget : ℕ) (context : Context) → IsContext context → 1 ≤ k → k ≤ head_amount context
     → IsContext (context_charged k min_budget context))
     × ((t : ℕ) (context : Context) → IsContext context → IsContext (context_unblocked t context))
+    × ((t : ℕ) (context : Context) → IsContext context → IsContext (context_woken t context))
+    × ((t : ℕ) (context : Context) → IsContext context → IsContext (context_chosen t context))
     × ((t : ℕ) (config : Config) (context : Context) → IsContext context → IsConfig config → kind_of config
     ≡ kind_of context.config → IsContext (context_ordered t config context))
 
--- what is done to a context: charges, and the unblocking of a wake
+-- what is done to a context: charges, and the unblocking of a wake or a choice
 abbrev pub context_stepped : Step → Context → Context
 context_stepped (Charge k min_budget) context = context_charged k min_budget context
 context_stepped (Unblock t) context = context_unblocked t context
