@@ -3,7 +3,7 @@ use Rattle.std.proofs.Common.{◌≡◌, ◌≢◌, ℕ, zero, suc, ◌+◌, ◌
 use Rattle.std.specs.Prelude.{Contains}
 use Rattle.std.proofs.lemmas.Bool.{cases_eq, cases_lt}
 use Rattle.std.proofs.lemmas.Bool.Decides.{nat_tests}
-use Rattle.std.proofs.lemmas.List.{length-set, length-replicate, get_or-drop, get_or-replicate, get_or_default, get_or_past, drop-set-add, drop-set-lt, drop-replicate}
+use Rattle.std.proofs.lemmas.List.{length-set, length-replicate, get_or-drop, get_or-replicate, get_or_default, get_or_past, drop-set-add, drop-set-lt, drop-replicate, set-get_or}
 use Rattle.mcs_merge.specs.declared.heads.Head.{Head}
 use Rattle.mcs_merge.specs.stored.Heads.{blank, head_at, lesser, rank, IsTree}
 
@@ -59,6 +59,11 @@ set-small nodes place head l h i =
       ]
       | inr e ↦ subst (λ (x : Head). x.core < 64) (sym (get_or-set_other nodes place i head blank e)) (h i)
     ]
+
+-- a leaf that is written as it was changes none
+pub same-leaf : (cores core : ℕ) (nodes : List Head) (head : Head) → head_at (cores + core) nodes ≡ head → drop cores nodes ≡ set (drop cores nodes) core head
+same-leaf cores core nodes head is =
+    sym (ap (set (drop cores nodes) core) (sym (get_or-drop cores nodes core blank ∙ is)) ∙ set-get_or (drop cores nodes) core blank)
 
 pub IsPlaying-starts : (cores core : ℕ) (head : Head) (old : List Head) → IsTree cores old → core < cores → head.core < 64 →
     IsPlaying cores (cores + core) core head old (set old (cores + core) head)

@@ -1,4 +1,4 @@
-ghost use Rattle.std.specs.Prelude.{◌≡◌, ◌<◌, ◌≤◌, ℕ, nat_lt, drop, length, slice_set, replicate, Contains, IfOk};
+ghost use Rattle.std.specs.Prelude.{◌≡◌, ◌<◌, ◌≤◌, ℕ, nat_lt, drop, length, slice_set, replicate, Contains, IfOk, IsTrue};
 ghost use Rattle.mcs_merge.specs.stored.Heads.{blank, head_at, lesser, rank, IsTree};
 
 use mcs_ticks::{NoMemory, Tick};
@@ -75,14 +75,25 @@ impl Heads {
         self.nodes[1]
     }
 
-    /// Changes the head of a core.
+    /// Changes the head of a core. Where it is the same as before, as between rows of one core at one moment, nothing is compared.
     pub(crate) fn set(&mut self, core: usize, head: Head)
         requires core { core < length self.old }
         requires small { head.core < 64 }
         ensures { self.new ≡ slice_set self.old core head }
     {
+        if is_at(self.nodes.as_slice(), self.cores + core, &head) {
+            return;
+        }
         play(self.nodes.as_mut_slice(), self.cores, core, head);
     }
+}
+
+// Whether this head stands in this place.
+fn is_at(nodes: &[Head], place: usize, head: &Head) -> bool
+    requires { place < length nodes.now }
+    ensures { IsTrue result → head_at place nodes.now ≡ head.now }
+{
+    nodes[place] == *head
 }
 
 // Changes a leaf, and what stands above it.
