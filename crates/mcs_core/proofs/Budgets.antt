@@ -11,7 +11,7 @@ use Rattle.mcs_control.specs.laws.Contexts.{IsWhole}
 use Rattle.mcs_control.specs.declared.config.Config.{Config}
 use Rattle.mcs_control.specs.declared.config.ControlFault.TheVariants.{ZeroBudget, BudgetTooSmall, BudgetOverPeriod, PeriodTooLong, TooManyRefills}
 use Rattle.mcs_control.specs.Control.{checked, kind_of}
-use Rattle.mcs_control.specs.Context.{Context, Budget, max_refills_of, head_amount, head_moment, context_charged, context_unblocked, context_ordered}
+use Rattle.mcs_control.specs.Context.{Context, Budget, max_refills_of, amount_of, head_moment, context_charged, context_unblocked, context_ordered}
 use Rattle.mcs_control.specs.Context.Budget.{Dates, Slice}
 
 -- what a configuration that passed its check is like
@@ -53,7 +53,7 @@ head-some date dates = by (refills_of dates)
         joins true = omega arith
         joins false = omega arith
 
-pub kept-head : (config : Config) (budget : Budget) → 1 ≤ config.budget → IsWhole config budget → 1 ≤ head_amount (record { config = config; budget = budget })
+pub kept-head : (config : Config) (budget : Budget) → 1 ≤ config.budget → IsWhole config budget → 1 ≤ amount_of budget
 kept-head config (Dates []) l h = absurd (none h.all)
   where
     none : 0 ≡ config.budget → ⊥
@@ -65,7 +65,7 @@ pub charged-kept : (k min_budget : ℕ) (context : Context) → 1 ≤ k → 1 �
     IsWhole context.config (context_charged k min_budget context).budget
 charged-kept k min_budget context p some h = by context.budget h
   where
-    by : (budget : Budget) → IsWhole context.config budget → IsWhole context.config (context_charged k min_budget (record { config = context.config; budget = budget })).budget
+    by : (budget : Budget) → IsWhole context.config budget → IsWhole context.config (context_charged k min_budget (record { config = context.config; mode = context.mode; budget = budget })).budget
     by (Dates dates) h = (kept-charged context.config.budget context.config.period (max_refills_of context.config) k min_budget dates p h).1
     by (Slice left) h = slice (left - k == 0) refl
       where
@@ -76,7 +76,7 @@ charged-kept k min_budget context p some h = by context.budget h
 pub unblocked-kept : (t : ℕ) (context : Context) → IsWhole context.config context.budget → IsWhole context.config (context_unblocked t context).budget
 unblocked-kept t context h = by context.budget h
   where
-    by : (budget : Budget) → IsWhole context.config budget → IsWhole context.config (context_unblocked t (record { config = context.config; budget = budget })).budget
+    by : (budget : Budget) → IsWhole context.config budget → IsWhole context.config (context_unblocked t (record { config = context.config; mode = context.mode; budget = budget })).budget
     by (Dates dates) h = kept-unblocked context.config.budget context.config.period t dates h
     by (Slice left) h = h
 
@@ -84,7 +84,7 @@ pub ordered-kept : (t min_budget : ℕ) (config : Config) (context : Context) �
     IsWhole config (context_ordered t config context).budget
 ordered-kept t min_budget config context a h = by context.budget h
   where
-    by : (budget : Budget) → IsWhole context.config budget → IsWhole config (context_ordered t config (record { config = context.config; budget = budget })).budget
+    by : (budget : Budget) → IsWhole context.config budget → IsWhole config (context_ordered t config (record { config = context.config; mode = context.mode; budget = budget })).budget
     by (Dates dates) h = kept-reconfigured config.budget config.period t dates a.within
     by (Slice left) h = (least left config.budget h.0 a.some, most left config.budget)
       where
@@ -99,8 +99,8 @@ pub ordered-early : (t min_budget : ℕ) (config : Config) (context : Context) �
     head_moment context ≤ 2 ^ 40 → head_moment (context_ordered t config context) ≤ 2 ^ 40
 ordered-early t min_budget config context l some some_now h early = by context.budget h early
   where
-    by : (budget : Budget) → IsWhole context.config budget → head_moment (record { config = context.config; budget = budget }) ≤ 2 ^ 40 →
-        head_moment (context_ordered t config (record { config = context.config; budget = budget })) ≤ 2 ^ 40
+    by : (budget : Budget) → IsWhole context.config budget → head_moment (record { config = context.config; mode = context.mode; budget = budget }) ≤ 2 ^ 40 →
+        head_moment (context_ordered t config (record { config = context.config; mode = context.mode; budget = budget })) ≤ 2 ^ 40
     by (Dates []) h early = absurd (none h.all)
       where
         none : 0 ≡ context.config.budget → ⊥
@@ -128,6 +128,6 @@ head-most (date ∷ dates) = by (refills_of dates) (head-most dates)
         joins true = omega arith
         joins false = omega arith
 
-pub kept-head-most : (config : Config) (budget : Budget) → IsWhole config budget → head_amount (record { config = config; budget = budget }) ≤ config.budget
+pub kept-head-most : (config : Config) (budget : Budget) → IsWhole config budget → amount_of budget ≤ config.budget
 kept-head-most config (Dates dates) h = omega (arith, head-most dates, h.all)
 kept-head-most config (Slice left) h = h.1

@@ -23,7 +23,7 @@ use Rattle.mcs_core.proofs.Soundness.{re_stands, arrived}
 pub unready-later : (t : ℕ) (context : Context) → context_ready t context ≡ false → t + 1 ≤ head_moment context
 unready-later t context e = by context.budget e
   where
-    by : (budget : Budget) → context_ready t (record { config = context.config; budget = budget }) ≡ false → t + 1 ≤ head_moment (record { config = context.config; budget = budget })
+    by : (budget : Budget) → context_ready t (record { config = context.config; mode = context.mode; budget = budget }) ≡ false → t + 1 ≤ head_moment (record { config = context.config; mode = context.mode; budget = budget })
     by (Dates dates) e = grind (arith, nat_tests)
     by (Slice left) e = cc
 
@@ -31,7 +31,7 @@ unready-later t context e = by context.budget e
 pub ready-early : (t : ℕ) (context : Context) → t ≤ 2 ^ 40 → context_ready t context ≡ true → head_moment context ≤ 2 ^ 40
 ready-early t context l e = by context.budget e
   where
-    by : (budget : Budget) → context_ready t (record { config = context.config; budget = budget }) ≡ true → head_moment (record { config = context.config; budget = budget }) ≤ 2 ^ 40
+    by : (budget : Budget) → context_ready t (record { config = context.config; mode = context.mode; budget = budget }) ≡ true → head_moment (record { config = context.config; mode = context.mode; budget = budget }) ≤ 2 ^ 40
     by (Dates dates) e = grind (arith, nat_tests)
     by (Slice left) e = omega arith
 

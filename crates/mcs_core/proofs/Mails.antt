@@ -5,8 +5,6 @@ use Rattle.std.specs.List.{slice_get}
 use Rattle.std.proofs.lemmas.Bool.Decides.{nat_tests}
 use Rattle.mcs_ticks.specs.Queue.{Discipline}
 use Rattle.mcs_ticks.specs.declared.queue.Queued.{Queued}
-use Rattle.mcs_ticks.specs.declared.row.Why.{Why}
-use Rattle.mcs_ticks.specs.declared.row.Why.TheVariants as why
 use Rattle.mcs_control.specs.declared.config.Order.{Order}
 use Rattle.mcs_control.specs.Context.{head_amount}
 use Rattle.mcs_notify.specs.Note.{posted, waited}

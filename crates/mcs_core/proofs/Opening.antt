@@ -9,6 +9,7 @@ use Rattle.mcs_refills.specs.Server.{first_date, dates_from}
 use Rattle.mcs_refills.proofs.Spaces.{kept-new}
 use Rattle.mcs_control.specs.laws.Contexts.{IsWhole}
 use Rattle.mcs_control.specs.declared.config.Config.{Config}
+use Rattle.mcs_control.specs.declared.config.Mode.{Mode}
 use Rattle.mcs_control.specs.declared.config.Kind.{Kind}
 use Rattle.mcs_control.specs.declared.config.Kind.TheVariants.{Sporadic, RoundRobin}
 use Rattle.mcs_control.specs.Control.{kind_of}
@@ -43,8 +44,8 @@ start-early system (thread ∷ threads) k h = by (thread.context == k) (start-ea
     by false i = i
 
 -- nor is the head of a new context
-new-early : (config : Config) (at : ℕ) → at ≤ 2 ^ 40 → head_moment (new_context config at) ≤ 2 ^ 40
-new-early config at l = by (kind_of config)
+new-early : (config : Config) (mode : Mode) (at : ℕ) → at ≤ 2 ^ 40 → head_moment (new_context config mode at) ≤ 2 ^ 40
+new-early config mode at l = by (kind_of config)
   where
     first : (n : ℕ) → first_date (dates_from at n) ≤ 2 ^ 40
     first zero = omega arith
@@ -55,8 +56,8 @@ new-early config at l = by (kind_of config)
     by RoundRobin = omega arith
 
 -- a new context's budget is kept
-new-kept : (min_budget : ℕ) (config : Config) (at : ℕ) → IsAccepted min_budget config → IsWhole config (new_context config at).budget
-new-kept min_budget config at a = by (kind_of config)
+new-kept : (min_budget : ℕ) (config : Config) (mode : Mode) (at : ℕ) → IsAccepted min_budget config → IsWhole config (new_context config mode at).budget
+new-kept min_budget config mode at a = by (kind_of config)
   where
     by : (kind : Kind) → IsWhole config (first_budget kind at config.budget)
     by Sporadic = kept-new config.budget config.period at a.within
@@ -103,7 +104,7 @@ module _ (system : System) (c : ℕ) where
   many-contexts n (context ∷ contexts) = ap suc (many-contexts (n + 1) contexts)
 
   abbrev own_context : ℕ → ContextPart → Option Context
-  own_context number context = cond (context.core == c) (Some (new_context context.config (start_of system.threads number))) None
+  own_context number context = cond (context.core == c) (Some (new_context context.config context.mode (start_of system.threads number))) None
 
   context-at : (j n k : ℕ) (contexts : List ContextPart) → j ≡ n + k → k < length contexts →
       get_or (opening_contexts system c n contexts) k None ≡ own_context j (get_or contexts k no_context)
@@ -114,7 +115,7 @@ module _ (system : System) (c : ℕ) where
   context-own : (k : ℕ) → k < length system.contexts → has_context k (opening_core system c) ≡ ((context_part system k).core == c)
   context-own k l = ap is_some (context-at k 0 k system.contexts (omega arith) l) ∙ by ((context_part system k).core == c)
     where
-      by : (b : Bool) → is_some (cond b (Some (new_context (context_part system k).config (start_of system.threads k))) None) ≡ b
+      by : (b : Bool) → is_some (cond b (Some (new_context (context_part system k).config (context_part system k).mode (start_of system.threads k))) None) ≡ b
       by true = refl
       by false = refl
 
@@ -127,13 +128,13 @@ module _ (system : System) (c : ℕ) where
       within (suc k) n (context ∷ contexts) h = let i = within k (n + 1) contexts h in omega arith
 
   context-new : (k : ℕ) → has_context k (opening_core system c) ≡ true →
-      context_of (opening_core system c) k ≡ new_context (context_part system k).config (start_of system.threads k)
+      context_of (opening_core system c) k ≡ new_context (context_part system k).config (context_part system k).mode (start_of system.threads k)
   context-new k h =
       let l : k < length system.contexts = context-within k h in
       ap (λ o. unwrap_or o no_server) (context-at k 0 k system.contexts (omega arith) l) ∙ by ((context_part system k).core == c) (sym (context-own k l) ∙ h)
     where
       by : (b : Bool) → b ≡ true →
-          unwrap_or (cond b (Some (new_context (context_part system k).config (start_of system.threads k))) None) no_server ≡ new_context (context_part system k).config (start_of system.threads k)
+          unwrap_or (cond b (Some (new_context (context_part system k).config (context_part system k).mode (start_of system.threads k))) None) no_server ≡ new_context (context_part system k).config (context_part system k).mode (start_of system.threads k)
       by true e = refl
       by false e = cc
 
@@ -208,7 +209,7 @@ module _ (system : System) (c : ℕ) where
           none (Some context) e = cc
 
           by : (b : Bool) → has_context k (opening_core system c) ≡ b → head_moment (context_of (opening_core system c) k) ≤ 2 ^ 40
-          by true e = rw (context-new k e) (new-early (context_part system k).config (start_of system.threads k) (start-early system system.threads k w.threads))
+          by true e = rw (context-new k e) (new-early (context_part system k).config (context_part system k).mode (start_of system.threads k) (start-early system system.threads k w.threads))
           by false e = none (get_or (opening_core system c).contexts k None) e
 
       dates : (ds : List Dated) → AreEarly system (opening_core system c) ds
@@ -226,7 +227,7 @@ module _ (system : System) (c : ℕ) where
           (record {
             accepted = part.accepted;
             same_kind = refl;
-            kept = new-kept system.min_budget (context_part system k).config (start_of system.threads k) (accepted-is system.min_budget (context_part system k).config part.accepted);
+            kept = new-kept system.min_budget (context_part system k).config (context_part system k).mode (start_of system.threads k) (accepted-is system.min_budget (context_part system k).config part.accepted);
           })
 
 -- the core with which a run opens is sound
@@ -286,17 +287,17 @@ module _ (system : System) (c : ℕ) where
   -- and the contexts one by one
   next-context : (n k : ℕ) (contexts : List ContextPart) (i : ℕ) (x : ContextPart) → i < length contexts → x ≡ get_or contexts i x → k ≡ n + i →
       opening_contexts system c n (take (suc i) contexts)
-      ≡ opening_contexts system c n (take i contexts) ++ cond (x.core == c) (Some (new_context x.config (start_of system.threads k))) None ∷ []
+      ≡ opening_contexts system c n (take i contexts) ++ cond (x.core == c) (Some (new_context x.config x.mode (start_of system.threads k))) None ∷ []
   next-context n k [] i x l e f = absurd (omega arith)
   next-context n k (y ∷ contexts) zero x l e f =
       let same : n ≡ k = omega arith in
       rw (← e, ← same) refl
   next-context n k (y ∷ contexts) (suc i) x l e f =
-      ap (λ os. cond (y.core == c) (Some (new_context y.config (start_of system.threads n))) None ∷ os) (next-context (n + 1) k contexts i x (omega arith) e (omega arith))
+      ap (λ os. cond (y.core == c) (Some (new_context y.config y.mode (start_of system.threads n))) None ∷ os) (next-context (n + 1) k contexts i x (omega arith) e (omega arith))
 
   pub made-next : (contexts : List ContextPart) (i : ℕ) (x : ContextPart) (kept : List (Option WithRoom)) (more : Option WithRoom) → i < length contexts → x ≡ get_or contexts i x →
       seen_contexts kept ≡ opening_contexts system c 0 (take i contexts) →
-      option_map (λ own. own.context) more ≡ cond (x.core == c) (Some (new_context x.config (start_of system.threads i))) None →
+      option_map (λ own. own.context) more ≡ cond (x.core == c) (Some (new_context x.config x.mode (start_of system.threads i))) None →
       seen_contexts (kept ++ more ∷ []) ≡ opening_contexts system c 0 (take (i + 1) contexts)
   made-next contexts i x kept more l e f g =
       rw add-one

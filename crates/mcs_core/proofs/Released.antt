@@ -16,7 +16,7 @@ use Rattle.mcs_core.specs.Turn.{silent, says, ◌followed_by◌, enters_back, re
 use Rattle.mcs_core.specs.declared.log.Here.{Here}
 use Rattle.mcs_core.specs.declared.log.Log.{Log}
 use Rattle.mcs_core.specs.stored.Parts.{Makes}
-use Rattle.mcs_core.specs.stored.Sound.{times_ready, times_pending, Phase, IsFree, IsSound}
+use Rattle.mcs_core.specs.stored.Sound.{times_ready, times_pending, Phase, IsFree, IsPlaced, IsSound}
 use Rattle.mcs_core.specs.Places.{times_queued, times_dated}
 use Rattle.mcs_core.specs.stored.Sound.Phase.{PastTick}
 use Rattle.mcs_core.proofs.Counts.{times_queued-rest}
@@ -118,18 +118,18 @@ made-released here due x core core' left before after e f h =
     subst Q (sym e) (subst P f h)
 
 -- the best ready thread is one of the core
-pub best-known : (system : System) (c from : ℕ) (phase : Phase) (x : ℕ) (core : Core) → IsSound system c from phase None core → thread_of_queued (first_of core.ready) ≡ Some x → x < length core.threads
-best-known system c from phase x core h e = by (first_of core.ready) refl e
+pub best-placed : (system : System) (c from : ℕ) (phase : Phase) (x : ℕ) (core : Core) → IsSound system c from phase None core → thread_of_queued (first_of core.ready) ≡ Some x → IsPlaced system x core
+best-placed system c from phase x core h e = by (first_of core.ready) refl e
   where
-    by : (o : Option Queued) → first_of core.ready ≡ o → thread_of_queued o ≡ Some x → x < length core.threads
+    by : (o : Option Queued) → first_of core.ready ≡ o → thread_of_queued o ≡ Some x → IsPlaced system x core
     by None f g = cc
     by (Some best) f g =
         let its : best.thread ≡ x = cc in
         let count = times_queued-rest best.thread best core.ready f in
         let some : 1 ≤ times_queued best.thread core.ready = rw count (own best.thread (times_queued best.thread (rest_of core.ready))) in
         let ready = ready_from_count (state_of core best.thread).standing (times_queued best.thread core.ready) (h.ready best.thread) some in
-        let p = h.here best.thread (rw ready refl) in
-        rw (sym its, h.threads) p.known
+        let P : ℕ → Type 0 = λ y. IsPlaced system y core in
+        subst P its (h.here best.thread (rw ready refl))
       where
         own : (a n : ℕ) → 1 ≤ cond (a == a) 1 0 + n
         own a n = grind (arith, nat_tests)

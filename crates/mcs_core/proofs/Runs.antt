@@ -1,5 +1,5 @@
 -- Turns one after another.
-use Rattle.std.proofs.Common.{◌≡◌, ℕ, zero, suc, ◌+◌, ◌-◌, length, ◌<◌, ◌≤◌, Bool, true, false, cond, List, [], ◌∷◌, ◌++◌, refl, sym, ap, subst, ◌∙◌, append_assoc, append-nil, arith}
+use Rattle.std.proofs.Common.{◌≡◌, ℕ, zero, suc, ◌+◌, ◌-◌, length, ◌<◌, ◌≤◌, Bool, true, false, cond, List, [], ◌∷◌, ◌++◌, refl, sym, ap, subst, ◌∙◌, append_assoc, append-nil, length-append, arith}
 use Rattle.std.specs.Prelude.{◌==◌, nat_le, not, max, All, Result, Ok, Err, OnOk, is_err, IsTrue, ◌↔◌}
 use Rattle.mcs_ticks.specs.declared.memory.NoMemory.{NoMemory}
 use Rattle.mcs_control.specs.declared.config.Order.{Order}
@@ -10,8 +10,8 @@ use Rattle.mcs_mail.specs.declared.mail.Mail.{Mail}
 use Rattle.mcs_mail.specs.Box.{arriving, staying, is_before, put}
 use Rattle.mcs_system.specs.System.{System, note_part}
 use Rattle.mcs_core.specs.Core.{Core}
-use Rattle.mcs_core.specs.Orders.{to_come}
-use Rattle.mcs_core.specs.State.{State, IsExpected, made_by, state_after}
+use Rattle.mcs_core.specs.Orders.{orders_of, to_come}
+use Rattle.mcs_core.specs.State.{State, Fits, IsExpected, made_by, state_after}
 use Rattle.mcs_core.specs.Turn.{stamped, turn}
 use Rattle.mcs_core.specs.Run.{Ran, ran, with_turn}
 
@@ -84,26 +84,30 @@ module _ (system : System) where
   pub left-turn : (state : State) (box : List Mail) → (made_by system state (state.clock + 1) box).box ≡ staying state.clock box
   left-turn state box = ap (λ (made : Ran). made.box) (one-turn state box)
 
+  -- turns from the state after some of them go on from there
+  pub made-through : (u to : ℕ) (state mid : State) (box left : List Mail) → state.clock ≤ u → u ≤ to →
+      mid ≡ state_after state u (made_by system state u box) → left ≡ (made_by system state u box).box →
+      made_by system state to box ≡ joined (made_by system state u box) (made_by system mid to left)
+  made-through u to state mid box left l k e f =
+      let n = u - state.clock in
+      let many : to - state.clock ≡ n + (to - u) = omega arith in
+      let there : state.clock + n ≡ u = omega arith in
+      let time : mid.clock ≡ u = (let s = ap (λ (s : State). s.clock) e in omega arith) in
+      let number = ap (λ (s : State). s.number) e in
+      let core = ap (λ (s : State). s.core) e in
+      let made = made_by system state u box in
+      let rest : made_by system mid to left ≡ ran system state.number (to - u) u made.core made.box = rw (number, time, core, f) refl in
+      ap (λ x. ran system state.number x state.clock state.core box) many ∙ ran-more system state.number n (to - u) state.clock state.core box
+      ∙ ap (λ t. joined made (ran system state.number (to - u) t made.core made.box)) there ∙ ap (joined made) (sym rest)
+
   -- what turns from the state after some of them make with what was made so far is what the whole makes
   pub runs-on : (to u : ℕ) (state state' : State) (box box' : List Mail) (before rows rows' : List Row) (sent signals signals' : List Mail) (whole : Ran) → state.clock ≤ u → u ≤ to →
       RunsOn before sent whole (made_by system state to box) rows signals → state' ≡ state_after state u (made_by system state u box) →
       box' ≡ (made_by system state u box).box → rows' ≡ rows ++ (made_by system state u box).rows →
       signals' ≡ signals ++ (made_by system state u box).mails → RunsOn before sent whole (made_by system state' to box') rows' signals'
   runs-on to u state state' box box' before rows rows' sent signals signals' whole l k h e f g i =
-      let n = u - state.clock in
-      let many : to - state.clock ≡ n + (to - u) = omega arith in
-      let there : state.clock + n ≡ u = omega arith in
-      let time : state'.clock ≡ u = (let s = ap (λ (s : State). s.clock) e in omega arith) in
-      let number = ap (λ (s : State). s.number) e in
-      let core = ap (λ (s : State). s.core) e in
-      let made = made_by system state u box in
-      let all : made_by system state to box ≡ joined made (ran system state.number (to - u) u made.core made.box) =
-      ap (λ x. ran system state.number x state.clock state.core box) many ∙ ran-more system state.number n (to - u) state.clock state.core box
-      ∙ ap (λ t. joined made (ran system state.number (to - u) t made.core made.box)) there in
-      let rest : made_by system state' to box' ≡ ran system state.number (to - u) u made.core made.box = rw (number, time, core, f) refl in
       let P : Ran → Type 0 = λ rest. RunsOn before sent whole rest rows signals in
-      let Q : Ran → Type 0 = λ rest. RunsOn before sent whole rest rows' signals' in
-      subst Q (sym rest) (after made (ran system state.number (to - u) u made.core made.box) (subst P all h) g i)
+      after (made_by system state u box) (made_by system state' to box') (subst P (made-through u to state state' box box' l k e f) h) g i
     where
       after : (first rest : Ran) → RunsOn before sent whole (joined first rest) rows signals → rows' ≡ rows ++ first.rows → signals' ≡ signals ++ first.mails → RunsOn before sent whole rest rows' signals'
       after first rest h i j = record {
@@ -144,6 +148,64 @@ to_come-twice a b (x ∷ xs) = by (nat_le b x.moment) (nat_le a x.moment) (nat_l
         no : (a b m : ℕ) → nat_le b m ≡ false → nat_le (max b a) m ≡ true → ⊥
         no a b m e g = grind (arith, nat_tests)
     by false q false e f g i = i
+
+-- fewer turns make no more rows
+pub rows-grow : (system : System) (state : State) (box : List Mail) (u to : ℕ) → u ≤ to → length (made_by system state u box).rows ≤ length (made_by system state to box).rows
+rows-grow system state box u to l =
+    let n = u - state.clock in
+    let m = (to - state.clock) - n in
+    let many : to - state.clock ≡ n + m = omega arith in
+    let first = ran system state.number n state.clock state.core box in
+    let rest = ran system state.number m (state.clock + n) first.core first.box in
+    let all : (made_by system state to box).rows ≡ first.rows ++ rest.rows =
+    ap (λ x. (ran system state.number x state.clock state.core box).rows) many ∙ ap (λ (made : Ran). made.rows) (ran-more system state.number n m state.clock state.core box) in
+    let both : length (made_by system state to box).rows ≡ length first.rows + length rest.rows = ap (λ (xs : List Row). length xs) all ∙ length-append first.rows rest.rows in
+    omega arith
+
+-- the state after turns, from which more turns were taken, is the state after all of them; so are rows, signals and mail
+module _ (system : System) where
+  -- no turn was taken yet
+  pub none-made : (state : State) (box : List Mail) → made_by system state state.clock box ≡ record { core = state.core; rows = []; mails = []; box = box }
+  none-made state box = let none : state.clock - state.clock ≡ 0 = omega arith in ap (λ n. ran system state.number n state.clock state.core box) none
+
+  pub state-at-first : (state : State) (box : List Mail) → Fits system state → state.failed ≡ false → state ≡ state_after state state.clock (made_by system state state.clock box)
+  state-at-first state box fits going =
+      let time : state.clock ≡ max state.clock state.clock = omega arith in
+      let orders = fits.orders going in
+      same_state state _ _ _ _ _ _ refl time (ap (λ (made : Ran). made.core) (sym (none-made state box)))
+      (orders ∙ ap (λ t. to_come t (orders_of system state.number)) time ∙ sym (to_come-twice state.clock state.clock (orders_of system state.number)) ∙ ap (to_come state.clock) (sym orders))
+      refl refl
+
+  module _ (u to : ℕ) (state mid : State) (box left : List Mail) (l : state.clock ≤ u) (k : u ≤ to) (e : mid ≡ state_after state u (made_by system state u box)) (f : left ≡ (made_by system state u box).box) where
+    pub state-through : state_after mid to (made_by system mid to left) ≡ state_after state to (made_by system state to box)
+    state-through =
+        let all = made-through system u to state mid box left l k e f in
+        let time : max mid.clock to ≡ max state.clock to = (let s = ap (λ (s : State). s.clock) e in omega arith) in
+        let past : max u to ≡ to = omega arith in
+        same_state (state_after mid to (made_by system mid to left)) _ _ _ _ _ _ (ap (λ (s : State). s.number) e) time (ap (λ (made : Ran). made.core) (sym all))
+        (ap (λ (s : State). to_come to s.orders) e ∙ to_come-twice to u state.orders ∙ ap (λ n. to_come n state.orders) past)
+        (ap (λ (s : State). s.delays) e) (ap (λ (s : State). s.failed) e)
+
+    pub rows-through : (before rows rows' : List Row) → rows ≡ before ++ (made_by system state u box).rows → rows' ≡ rows ++ (made_by system mid to left).rows → rows' ≡ before ++ (made_by system state to box).rows
+    rows-through before rows rows' g h =
+        let all = made-through system u to state mid box left l k e f in
+        h ∙ ap (λ (xs : List Row). xs ++ (made_by system mid to left).rows) g
+        ∙ append_assoc before (made_by system state u box).rows (made_by system mid to left).rows ∙ ap (λ (made : Ran). before ++ made.rows) (sym all)
+
+    -- where no row is made after some turns, there are as many after more of them
+    pub rows-rest : (before rows : List Row) → rows ≡ before ++ (made_by system state u box).rows → (made_by system mid to left).rows ≡ [] → length before + length (made_by system state to box).rows ≡ length rows
+    rows-rest before rows g none =
+        let all = rows-through before rows (rows ++ (made_by system mid to left).rows) g refl in
+        sym (length-append before (made_by system state to box).rows) ∙ ap (λ (xs : List Row). length xs) (sym all ∙ ap (λ (xs : List Row). rows ++ xs) none ∙ append-nil rows)
+
+    pub signals-through : (sent signals signals' : List Mail) → signals ≡ sent ++ (made_by system state u box).mails → signals' ≡ signals ++ (made_by system mid to left).mails → signals' ≡ sent ++ (made_by system state to box).mails
+    signals-through sent signals signals' g h =
+        let all = made-through system u to state mid box left l k e f in
+        h ∙ ap (λ (xs : List Mail). xs ++ (made_by system mid to left).mails) g
+        ∙ append_assoc sent (made_by system state u box).mails (made_by system mid to left).mails ∙ ap (λ (made : Ran). sent ++ made.mails) (sym all)
+
+    pub box-through : (made_by system mid to left).box ≡ (made_by system state to box).box
+    box-through = ap (λ (made : Ran). made.box) (sym (made-through system u to state mid box left l k e f))
 
 -- no turn is left
 pub runs-end : (system : System) (c t n : ℕ) (core : Core) (box : List Mail) (before rows : List Row) (sent signals : List Mail) (whole : Ran) →

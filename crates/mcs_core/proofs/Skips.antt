@@ -185,6 +185,10 @@ module _ (system : System) (state : State) (box : List Mail) (until : ℕ) (late
   made-quiet : made_by system state until box ≡ record { core = quiet_state.core; rows = []; mails = []; box = box }
   made-quiet = quiet-ran system state.number (until - state.clock) state.clock state.core box quiet
 
+  -- nor is a row made by fewer of them
+  pub no-rows : (to : ℕ) → to ≤ until → (made_by system state to box).rows ≡ []
+  no-rows to l = ap (λ (made : Ran). made.rows) (quiet-ran system state.number (to - state.clock) state.clock state.core box (λ n k. quiet n (omega arith)))
+
   -- what turns make from the clock on, they make from the state after the quiet ones on
   pub made-on : (to : ℕ) → until ≤ to → made_by system state to box ≡ made_by system quiet_state to box
   made-on to l =
@@ -234,6 +238,19 @@ module _ (system : System) (state : State) (box : List Mail) (until : ℕ) (late
             let there : skipped.clock ≡ until = ap (λ (s : State). s.clock) same in
             e ∙ ap (λ (s : State). state_after s (skipped.clock + 1) (made_by system s (skipped.clock + 1) box)) same ∙ after-on (skipped.clock + 1) (omega arith)
             ∙ ap (λ t. state_after state t (made_by system state t box)) (sym time)
+
+    -- no row is made before that turn
+    pub stretch-last : OnOk r ((made_by system state (new.clock - 1) box).rows ≡ [])
+    stretch-last = by r took
+      where
+        by : (r : Result (Unit {0}) NoMemory) → OnOk r (new ≡ state_after skipped (skipped.clock + 1) (made_by system skipped (skipped.clock + 1) box)) →
+            OnOk r ((made_by system state (new.clock - 1) box).rows ≡ [])
+        by (Err x) e = tt
+        by (Ok x) e =
+            let next : max skipped.clock (skipped.clock + 1) ≡ skipped.clock + 1 = omega arith in
+            let time : new.clock ≡ skipped.clock + 1 = ap (λ (s : State). s.clock) e ∙ next in
+            let there : skipped.clock ≡ until = ap (λ (s : State). s.clock) same in
+            no-rows (new.clock - 1) (omega arith)
 
     pub stretch-told : {A : Type 0} (part : Ran → List A) (before after : List A) →
         OnOk r (after ≡ before ++ part (made_by system skipped (skipped.clock + 1) box)) → OnOk r (after ≡ before ++ part (made_by system state new.clock box))

@@ -6,8 +6,10 @@ use Rattle.std.proofs.lemmas.List.{get_or-set_same}
 use Rattle.std.proofs.Math.ListN.{length-set}
 use Rattle.mcs_ticks.specs.Queue.{by_priority}
 use Rattle.mcs_ticks.specs.declared.row.Why.{Why}
-use Rattle.mcs_control.specs.Context.{Context, Budget, head_moment, context_charged, context_unblocked}
+use Rattle.mcs_control.specs.Context.{Context, Budget, head_moment, context_charged, context_unblocked, woken_by, chosen_by}
 use Rattle.mcs_control.specs.Context.Budget.{Dates, Slice}
+use Rattle.mcs_control.specs.declared.config.Mode.{Mode}
+use Rattle.mcs_control.specs.declared.config.Mode.TheVariants as modes
 use Rattle.mcs_release.specs.declared.dated.Dated.{Dated}
 use Rattle.mcs_script.specs.declared.item.Item.{Item}
 use Rattle.mcs_script.specs.declared.moved.Moved.{Moved}
@@ -21,11 +23,11 @@ use Rattle.mcs_core.specs.declared.standing.Thread.{Thread}
 use Rattle.mcs_system.specs.System.{System, thread_part}
 use Rattle.mcs_core.specs.Core.{Core, thread_of, note_of, with_thread, with_note, off}
 use Rattle.mcs_core.specs.Turn.{its_context, date_of, charged, given, moves, moves_on, move_of, stops, stops_to_back, enters_front}
-use Rattle.mcs_core.specs.stored.Sound.{times_ready, times_pending, times_blocked, is_here, may_run, Phase, IsPlaced, AreEarly, RunsRight, IsSound}
+use Rattle.mcs_core.specs.stored.Sound.{times_ready, times_pending, times_blocked, is_here, may_run, Phase, IsPlaced, AreEarly, IsBudget, RunsRight, IsSound}
 use Rattle.mcs_core.specs.Places.{times_queued, times_dated, times_waiting}
 use Rattle.mcs_core.proofs.Counts.{times_waiting-set}
 use Rattle.mcs_core.proofs.Soundness.{IsOneEach, re_stands, loosened, arrived, recontexted, keeps_alone, thread-other}
-use Rattle.mcs_core.proofs.Budgets.{accepted-is, charged-kept}
+use Rattle.mcs_core.proofs.Budgets.{accepted-is, charged-kept, unblocked-kept}
 use Rattle.mcs_core.proofs.Enters.{EntersEarly, date-early, enters_back-sound, enters_front-sound}
 
 -- a place in a script stays one when the thread moves on
@@ -41,10 +43,30 @@ place-within call rounds script place h = by (nat_lt (place.item + 1) (length sc
 pub unblocked-early : (t : ℕ) (context : Context) → t ≤ 2 ^ 40 → head_moment context ≤ 2 ^ 40 → head_moment (context_unblocked t context) ≤ 2 ^ 40
 unblocked-early t context l h = by context.budget h
   where
-    by : (budget : Budget) → head_moment (record { config = context.config; budget = budget }) ≤ 2 ^ 40 → head_moment (context_unblocked t (record { config = context.config; budget = budget })) ≤ 2 ^ 40
+    by : (budget : Budget) → head_moment (record { config = context.config; mode = context.mode; budget = budget }) ≤ 2 ^ 40 → head_moment (context_unblocked t (record { config = context.config; mode = context.mode; budget = budget })) ≤ 2 ^ 40
     by (Dates []) h = h
     by (Dates (date ∷ dates)) h = omega arith
     by (Slice left) h = omega arith
+
+-- a wake and a choice unblock, or change nothing
+pub woken-early : (t : ℕ) (mode : Mode) (context : Context) → t ≤ 2 ^ 40 → head_moment context ≤ 2 ^ 40 → head_moment (woken_by mode t context) ≤ 2 ^ 40
+woken-early t modes.Sporadic context l h = unblocked-early t context l h
+woken-early t modes.Bandwidth context l h = h
+
+pub chosen-early : (t : ℕ) (mode : Mode) (context : Context) → t ≤ 2 ^ 40 → head_moment context ≤ 2 ^ 40 → head_moment (chosen_by mode t context) ≤ 2 ^ 40
+chosen-early t modes.Sporadic context l h = h
+chosen-early t modes.Bandwidth context l h = unblocked-early t context l h
+
+unblocked-budget : (system : System) (k t : ℕ) (context : Context) → IsBudget system k context → IsBudget system k (context_unblocked t context)
+unblocked-budget system k t context b = record { accepted = b.accepted; same_kind = b.same_kind; kept = unblocked-kept t context b.kept }
+
+pub woken-budget : (system : System) (k t : ℕ) (mode : Mode) (context : Context) → IsBudget system k context → IsBudget system k (woken_by mode t context)
+woken-budget system k t modes.Sporadic context b = unblocked-budget system k t context b
+woken-budget system k t modes.Bandwidth context b = b
+
+pub chosen-budget : (system : System) (k t : ℕ) (mode : Mode) (context : Context) → IsBudget system k context → IsBudget system k (chosen_by mode t context)
+chosen-budget system k t modes.Sporadic context b = b
+chosen-budget system k t modes.Bandwidth context b = unblocked-budget system k t context b
 
 module _ (system : System) (number from : ℕ) (each : IsOneEach system) where
   -- the thread that runs leaves the core

@@ -13,7 +13,7 @@ use Rattle.mcs_system.specs.WellFormed.{IsWellFormed, IsItem, IsOrder}
 use Rattle.mcs_core.specs.State.{delays_from}
 use Rattle.mcs_core.specs.declared.log.Here.{Here}
 use Rattle.mcs_core.specs.stored.Items.{IsNoted}
-use Rattle.mcs_core.specs.stored.Parts.{HasDelayTo, HasDelays}
+use Rattle.mcs_core.specs.stored.Parts.{HasDelays}
 use Rattle.mcs_core.proofs.Soundness.{IsOneEach}
 use Rattle.mcs_core.proofs.Turning.{IsProperOrder}
 

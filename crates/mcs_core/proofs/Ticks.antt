@@ -25,7 +25,7 @@ use Rattle.mcs_core.specs.declared.standing.Standing.TheVariants.{Blocked, Runni
 use Rattle.mcs_system.specs.System.{System, thread_part, note_part}
 use Rattle.mcs_core.specs.Core.{Core, thread_of, note_of, with_note, off}
 use Rattle.mcs_core.specs.stored.Items.{IsNoted}
-use Rattle.mcs_core.specs.Turn.{its_context, date_of, queued, enters_back, unblocked, given, moves, moves_on, move_of, wakes, posts_as, posts, mail_to, signals, waits_as, after_waited, may_stop, after_move, finishes, after_count, counts, item_of, tick_of, tick, stops_to_back}
+use Rattle.mcs_core.specs.Turn.{its_context, date_of, queued, enters_back, with_woken_context, given, moves, moves_on, move_of, wakes, posts_as, posts, mail_to, signals, waits_as, after_waited, may_stop, after_move, finishes, after_count, counts, item_of, tick_of, tick, stops_to_back}
 use Rattle.mcs_core.specs.stored.Sound.{Phase, IsPlaced, IsRunning, RunsRight, AreEarly, IsSound}
 use Rattle.mcs_core.specs.Places.{times_queued}
 use Rattle.mcs_core.specs.stored.Sound.Phase.{Between, InTick, PastTick}
@@ -53,8 +53,8 @@ module _ (system : System) (number from : ℕ) (each : IsOneEach system) where
 
   wakes-running : (t x : ℕ) (core : Core) → (wakes by_priority system t x core).core.running ≡ core.running
   wakes-running t x core =
-      enters_back-running x (date_of system t x (moves_on system t x (given t x (unblocked system t x core))).core) (moves_on system t x (given t x (unblocked system t x core))).core
-      ∙ moves-running t x (given t x (unblocked system t x core))
+      enters_back-running x (date_of system t x (moves_on system t x (given t x (with_woken_context system t x core))).core) (moves_on system t x (given t x (with_woken_context system t x core))).core
+      ∙ moves-running t x (given t x (with_woken_context system t x core))
 
   pub posts-running : (t note badge : ℕ) (core : Core) → (posts by_priority system t note badge core).core.running ≡ core.running
   posts-running t note badge core = by (posted badge (note_of core note))

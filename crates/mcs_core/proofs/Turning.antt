@@ -8,7 +8,7 @@ use Rattle.mcs_ticks.specs.declared.queue.Queued.{Queued}
 use Rattle.mcs_ticks.specs.declared.row.Why.TheVariants as why
 use Rattle.mcs_control.specs.declared.config.Order.{Order}
 use Rattle.mcs_control.specs.Control.{checked, kind_of}
-use Rattle.mcs_control.specs.Context.{head_amount, context_ordered}
+use Rattle.mcs_control.specs.Context.{head_amount, context_ordered, context_chosen}
 use Rattle.mcs_mail.specs.declared.mail.Mail.{Mail}
 use Rattle.mcs_release.specs.declared.dated.Dated.{Dated}
 use Rattle.mcs_release.specs.Release.{without, earlier, earliest, first_due}
@@ -17,8 +17,8 @@ use Rattle.mcs_core.specs.declared.standing.Thread.{Thread}
 use Rattle.mcs_core.specs.declared.standing.Standing.{Standing}
 use Rattle.mcs_core.specs.declared.standing.Standing.TheVariants.{Blocked, Pending, Ready, Running, Done, Elsewhere}
 use Rattle.mcs_system.specs.System.{System, thread_part, context_part}
-use Rattle.mcs_core.specs.Core.{Core, thread_of, context_of, with_thread, off}
-use Rattle.mcs_core.specs.Turn.{silent, ◌followed_by◌, each, its_context, date_of, charged, applied, orders_running, obeys, is_for_now, arrives, released, releases, preempts_by, preempts, chooses_of, chooses, turn, enters_front, stops_to_front}
+use Rattle.mcs_core.specs.Core.{Core, thread_of, context_of, with_thread, stands, off}
+use Rattle.mcs_core.specs.Turn.{silent, ◌followed_by◌, each, its_context, date_of, charged, applied, orders_running, obeys, is_for_now, arrives, released, releases, preempts_by, preempts, chooses_of, chooses, with_chosen_context, turn, enters_front, stops_to_front}
 use Rattle.mcs_release.specs.Release.{is_due}
 use Rattle.mcs_core.specs.stored.Sound.{times_pending, times_ready, is_here, Loose, has_context, IsPlaced, IsEarly, AreEarly, RunsRight, IsSound}
 use Rattle.mcs_core.specs.Places.{times_queued, times_dated}
@@ -27,7 +27,7 @@ use Rattle.mcs_core.proofs.Counts.{one_if_same, times_queued-rest}
 use Rattle.mcs_core.proofs.Soundness.{IsOneEach, re_stands, loosened, arrived, recontexted, keeps_if, runs-other, runs-context, thread-same}
 use Rattle.mcs_core.proofs.Budgets.{accepted-is, kept-head, ordered-kept, ordered-early}
 use Rattle.mcs_core.proofs.Enters.{zero_if, zero_if-zero, enters_back-sound}
-use Rattle.mcs_core.proofs.Stopping.{off-sound, charged-sound, front-sound}
+use Rattle.mcs_core.proofs.Stopping.{off-sound, charged-sound, front-sound, chosen-early, chosen-budget}
 use Rattle.mcs_core.proofs.Wakes.{posts-sound}
 use Rattle.mcs_core.proofs.Ticks.{AreNoted, runner, runner-placed, tick-sound}
 
@@ -427,12 +427,38 @@ module _ (system : System) (number : ℕ) (one_each : IsOneEach system) (t : ℕ
       runs None p = tt
       runs (Some chosen) p = record { stands = p.stands; used = omega arith; unspent = p.unspent; early = p.early }
 
-  pub chosen-sound : (core : Core) (best : Queued) → IsSound system number (t + 1) PastTick None core → core.running ≡ None → first_of core.ready ≡ Some best →
-      IsSound system number (t + 1) Between None (chooses_of by_priority system t None (Some best) core).core
-  chosen-sound core best h none e =
+  -- the best thread is one of the core's
+  best-ready : (core : Core) (best : Queued) → IsSound system number (t + 1) PastTick None core → first_of core.ready ≡ Some best → (thread_of core best.thread).standing ≡ Ready
+  best-ready core best h e =
       let count = times_queued-rest best.thread best core.ready e in
       let some : 1 ≤ times_queued best.thread core.ready = rw count (own best.thread (times_queued best.thread (rest_of core.ready))) in
-      let ready = ready_from_count (thread_of core best.thread).standing (times_queued best.thread core.ready) (h.ready best.thread) some in
+      ready_from_count (thread_of core best.thread).standing (times_queued best.thread core.ready) (h.ready best.thread) some
+    where
+      own : (a n : ℕ) → 1 ≤ cond (a == a) 1 0 + n
+      own a n = grind (arith, nat_tests)
+
+  -- its context is chosen
+  choosing-sound : (core : Core) (best : Queued) → IsSound system number (t + 1) PastTick None core → core.running ≡ None → first_of core.ready ≡ Some best →
+      IsSound system number (t + 1) PastTick None (with_chosen_context system t best.thread core)
+  choosing-sound core best h none e =
+      let p = h.here best.thread (rw (best-ready core best h e) refl) in
+      let now = its_context system best.thread core in
+      recontexted system number (t + 1) PastTick (thread_part system best.thread).context None (context_chosen t now) core h
+      p.has (rw h.contexts p.bound) (chosen-budget system (thread_part system best.thread).context t now.mode now (h.budgets (thread_part system best.thread).context p.has))
+      (keeps_if system number (t + 1) None (thread_part system best.thread).context (context_chosen t now) core (chosen-early t now.mode now soon))
+      (idle core.running none)
+    where
+      idle : (o : Option Chosen) → o ≡ None → RunsRight system PastTick o (with_chosen_context system t best.thread core)
+      idle None e = tt
+      idle (Some chosen) e = cc
+
+  -- and it runs
+  abbrev begun : Queued → Core → Core
+  begun best core = record (stands best.thread Running core) { running = Some (record { thread = best.thread; using = 0 }); ready = rest_of core.ready }
+
+  begun-sound : (core : Core) (best : Queued) → IsSound system number (t + 1) PastTick None core → first_of core.ready ≡ Some best → IsSound system number (t + 1) Between None (begun best core)
+  begun-sound core best h e =
+      let ready = best-ready core best h e in
       let p = h.here best.thread (rw ready refl) in
       let early = h.early best.thread (rw ready refl) in
       let b = h.budgets (thread_part system best.thread).context p.has in
@@ -465,9 +491,6 @@ module _ (system : System) (number : ℕ) (one_each : IsOneEach system) (t : ℕ
         later = stood.later;
       }
     where
-      own : (a n : ℕ) → 1 ≤ cond (a == a) 1 0 + n
-      own a n = grind (arith, nat_tests)
-
       taken : (r d n z : ℕ) → z ≡ 0 → n ≡ d + r → r + d ≡ n + z
       taken r d n z o e = omega arith
 
@@ -475,7 +498,7 @@ module _ (system : System) (number : ℕ) (one_each : IsOneEach system) (t : ℕ
       more n h = omega arith
 
       dates_same : (ds : List Dated) → AreEarly system (with_thread best.thread (record (thread_of core best.thread) { standing = Running }) (record core { running = None; ready = rest_of core.ready })) ds →
-          AreEarly system (chooses_of by_priority system t None (Some best) core).core ds
+          AreEarly system (begun best core) ds
       dates_same [] p = tt
       dates_same (z ∷ ds) p = (p.0, dates_same ds p.1)
 
@@ -485,7 +508,7 @@ module _ (system : System) (number : ℕ) (one_each : IsOneEach system) (t : ℕ
       by : (o : Option Chosen) → core.running ≡ o → (best : Option Queued) → first_of core.ready ≡ best → IsSound system number (t + 1) Between None (chooses_of by_priority system t o best core).core
       by (Some chosen) e best f = between core h
       by None e None f = between core h
-      by None e (Some best) f = chosen-sound core best h e f
+      by None e (Some best) f = begun-sound (with_chosen_context system t best.thread core) best (choosing-sound core best h e f) f
 
   -- the whole turn keeps a sound core sound
   pub turn-sound : (mails : List Mail) (core : Core) → AreNoted system number t one_each → AllByRecursion (IsProperOrder system) system.orders → AllByRecursion (λ mail. mail.note < length system.notes) mails →

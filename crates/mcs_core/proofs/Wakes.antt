@@ -5,7 +5,7 @@ use Rattle.std.proofs.lemmas.Bool.Decides.{nat_tests}
 use Rattle.std.proofs.Math.ListN.{length-set}
 use Rattle.mcs_ticks.specs.Queue.{by_priority, first_of_greatest, without}
 use Rattle.mcs_ticks.specs.declared.queue.Queued.{Queued}
-use Rattle.mcs_control.specs.Context.{context_unblocked}
+use Rattle.mcs_control.specs.Context.{context_woken}
 use Rattle.mcs_notify.specs.Note.{Note, posted, after_post}
 use Rattle.mcs_notify.specs.declared.posted.Posted.{Posted}
 use Rattle.mcs_notify.specs.declared.posted.Posted.TheVariants.{Woke, Held}
@@ -18,14 +18,13 @@ use Rattle.mcs_core.specs.declared.standing.Standing.TheVariants.{Blocked, Pendi
 use Rattle.mcs_core.specs.declared.standing.Thread.{Thread}
 use Rattle.mcs_system.specs.System.{System, thread_part}
 use Rattle.mcs_core.specs.Core.{Core, thread_of, note_of, with_thread, with_note}
-use Rattle.mcs_core.specs.Turn.{its_context, date_of, unblocked, enters_back, given, moves, moves_on, move_of, wakes, posts_as, posts}
+use Rattle.mcs_core.specs.Turn.{its_context, date_of, with_woken_context, enters_back, given, moves, moves_on, move_of, wakes, posts_as, posts}
 use Rattle.mcs_core.specs.stored.Sound.{times_blocked, is_here, Phase, IsPlaced, RunsRight, IsSound}
 use Rattle.mcs_core.specs.Places.{times_queued, times_waiting}
 use Rattle.mcs_core.proofs.Counts.{one_if_same, times_queued-without, greatest-stands, times_waiting-set, times_waiting-at}
 use Rattle.mcs_core.proofs.Soundness.{IsOneEach, re_stands, loosened, recontexted, rethreaded, keeps_if, runs-other, runs-context, thread-same}
-use Rattle.mcs_core.proofs.Budgets.{unblocked-kept}
 use Rattle.mcs_core.proofs.Enters.{zero_if, zero_if-zero, date-early, enters_back-sound}
-use Rattle.mcs_core.proofs.Stopping.{place-within, unblocked-early, reworded}
+use Rattle.mcs_core.proofs.Stopping.{place-within, woken-early, woken-budget, reworded}
 
 -- a thread that waits stands blocked
 blocked_from : (s : Standing) (n : ℕ) → n ≡ times_blocked s → 1 ≤ n → s ≡ Blocked
@@ -81,15 +80,15 @@ module _ (system : System) (number from : ℕ) (each : IsOneEach system) where
   away_from : (phase : Phase) (x : ℕ) (core : Core) → (thread_of core x).standing ≡ Blocked → RunsRight system phase core.running core → (state : Thread) → RunsRight system phase core.running (with_thread x state core)
   away_from phase x core e h state = runs-other system number from phase x state core core.running (λ f. cc) h
 
-  pub unblocked-woken : (phase : Phase) (t x : ℕ) (core : Core) → t ≤ 2 ^ 40 → IsWoken system number from phase x core → IsWoken system number from phase x (unblocked system t x core)
-  unblocked-woken phase t x core l w =
+  pub context-woken : (phase : Phase) (t x : ℕ) (core : Core) → t ≤ 2 ^ 40 → IsWoken system number from phase x core → IsWoken system number from phase x (with_woken_context system t x core)
+  context-woken phase t x core l w =
       let h = w.sound in
       let p = w.placed in
-      let b = h.budgets (thread_part system x).context p.has in
-      let i = recontexted system number from phase (thread_part system x).context (Some (record { thread = x; standing = Done })) (context_unblocked t (its_context system x core)) core h
-      p.has (rw h.contexts p.bound) (record { accepted = b.accepted; same_kind = b.same_kind; kept = unblocked-kept t (its_context system x core) b.kept })
-      (keeps_if system number from (Some (record { thread = x; standing = Done })) (thread_part system x).context (context_unblocked t (its_context system x core)) core (unblocked-early t (its_context system x core) l))
-      (runs-context system number from phase (thread_part system x).context (context_unblocked t (its_context system x core)) core core.running (others core.running h.running) h.running) in
+      let now = its_context system x core in
+      let i = recontexted system number from phase (thread_part system x).context (Some (record { thread = x; standing = Done })) (context_woken t (its_context system x core)) core h
+      p.has (rw h.contexts p.bound) (woken-budget system (thread_part system x).context t now.mode now (h.budgets (thread_part system x).context p.has))
+      (keeps_if system number from (Some (record { thread = x; standing = Done })) (thread_part system x).context (context_woken t (its_context system x core)) core (woken-early t now.mode now l))
+      (runs-context system number from phase (thread_part system x).context (context_woken t (its_context system x core)) core core.running (others core.running h.running) h.running) in
       record { sound = i; stands = w.stands; placed = i.here x (here_x (x == x) (same x)) }
     where
       same : (a : ℕ) → (a == a) ≡ true
@@ -146,7 +145,7 @@ module _ (system : System) (number from : ℕ) (each : IsOneEach system) where
 
   pub wakes-sound : (phase : Phase) (t x : ℕ) (core : Core) → t ≤ 2 ^ 40 → from ≤ t + 1 → IsWoken system number from phase x core → IsSound system number from phase None (wakes by_priority system t x core).core
   wakes-sound phase t x core l f w =
-      entered-woken phase t x _ l f (moves-woken phase t x _ (given-woken phase t x _ (unblocked-woken phase t x core l w)))
+      entered-woken phase t x _ l f (moves-woken phase t x _ (given-woken phase t x _ (context-woken phase t x core l w)))
 
   -- a post
   pub posts-sound : (phase : Phase) (t note badge : ℕ) (core : Core) → t ≤ 2 ^ 40 → from ≤ t + 1 → note < length core.notes → IsSound system number from phase None core →

@@ -6,13 +6,18 @@ use Rattle.mcs_ticks.specs.declared.row.What.TheVariants as row
 use Rattle.mcs_ticks.specs.declared.row.Why.TheVariants as why
 use Rattle.mcs_script.specs.declared.item.Item.{Item}
 use Rattle.mcs_script.specs.declared.item.Item.TheVariants.{Compute, Signal, Wait}
+use Rattle.mcs_control.specs.declared.config.Mode.{Mode}
+use Rattle.mcs_control.specs.declared.config.Mode.TheVariants.{Sporadic, Bandwidth}
 use Rattle.mcs_system.specs.declared.part.ContextPart.{ContextPart}
 use Rattle.mcs_system.specs.declared.part.ThreadPart.{ThreadPart}
 use Rattle.mcs_system.specs.System.{System}
 use Rattle.mcs_core.specs.Clock.{schedule}
 
+abbrev context_in : Mode → ℕ → ℕ → ℕ → ContextPart
+context_in mode core budget period = record { name = []; core = core; config = record { budget = budget; period = period; extra = 0 }; mode = mode }
+
 abbrev context : ℕ → ℕ → ℕ → ContextPart
-context core budget period = record { name = []; core = core; config = record { budget = budget; period = period; extra = 0 } }
+context core budget period = context_in Sporadic core budget period
 
 -- a thread: its context, priority, start and script, which it runs once
 abbrev thread : ℕ → ℕ → ℕ → List Item → ThreadPart
@@ -155,3 +160,28 @@ a_signal_arrives_at_its_home : schedule from_core_0 5 ≡
     ∷ at 5 1 (row.Stop 1 why.Done 1 None)
     ∷ []
 a_signal_arrives_at_its_home = refl
+
+-- Thread 0 is chosen at 3 for the first time: in bandwidth mode its four ticks count from then on, so they return at 13 and no sooner.
+abbrev chosen_late : Mode → System
+chosen_late mode = record {
+  cores = 1;
+  delay = 1;
+  call = 1;
+  min_budget = 1;
+  contexts = context_in mode 0 4 10 ∷ context 0 3 20 ∷ [];
+  notes = [];
+  threads = thread 0 5 0 (Compute 20 ∷ []) ∷ thread 1 9 0 (Compute 3 ∷ []) ∷ [];
+  orders = [];
+  links = [];
+}
+
+bandwidth_unblocks_when_chosen : schedule (chosen_late Bandwidth) 13
+    ≡ at 0 0 (row.Release 0) ∷ at 0 0 (row.Release 1) ∷ at 0 0 (row.Run 1) ∷ at 3 0 (row.Round 1 1 3) ∷ at 3 0 (row.Stop 1 why.Done 3 None) ∷ at 3 0 (row.Run 0)
+    ∷ at 7 0 (row.Stop 0 why.Spent 4 (Some 13)) ∷ at 13 0 (row.Release 0) ∷ at 13 0 (row.Run 0) ∷ []
+bandwidth_unblocks_when_chosen = refl
+
+-- with mode sporadic they count from 0 on
+sporadic_does_not : schedule (chosen_late Sporadic) 10
+    ≡ at 0 0 (row.Release 0) ∷ at 0 0 (row.Release 1) ∷ at 0 0 (row.Run 1) ∷ at 3 0 (row.Round 1 1 3) ∷ at 3 0 (row.Stop 1 why.Done 3 None) ∷ at 3 0 (row.Run 0)
+    ∷ at 7 0 (row.Stop 0 why.Spent 4 (Some 10)) ∷ at 10 0 (row.Release 0) ∷ at 10 0 (row.Run 0) ∷ []
+sporadic_does_not = refl

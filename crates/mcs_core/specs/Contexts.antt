@@ -1,11 +1,12 @@
 -- The contexts of a core: by number, those that it holds. Its code keeps each with room for its refills.
 use Rattle.std.specs.Prelude.{◌≡◌, ℕ, Bool, true, false, List, [], ◌∷◌, map, get_or, Option, Some, None, option_map, unwrap_or}
+use Rattle.mcs_control.specs.declared.config.Mode.TheVariants.{Sporadic}
 use Rattle.mcs_control.specs.Context.{Context, WithRoom}
 use Rattle.mcs_control.specs.Context.Budget.{Slice}
 
 -- what stands where the core holds no context; it is never reached
 abbrev pub no_server : Context
-no_server = record { config = record { budget = 0; period = 0; extra = 0 }; budget = Slice 0 }
+no_server = record { config = record { budget = 0; period = 0; extra = 0 }; mode = Sporadic; budget = Slice 0 }
 
 abbrev pub is_some : Option Context → Bool
 is_some None = false

@@ -78,7 +78,7 @@ abbrev pub opening_contexts : System → ℕ → ℕ → List ContextPart → Li
 opening_contexts system c number [] = []
 opening_contexts system c number (context ∷ contexts) =
     let others = opening_contexts system c (number + 1) contexts in
-    (if context.core == c then Some (new_context context.config (start_of system.threads number)) else None) ∷ others
+    (if context.core == c then Some (new_context context.config context.mode (start_of system.threads number)) else None) ∷ others
 
 abbrev pub opening_core : System → ℕ → Core
 opening_core system c =

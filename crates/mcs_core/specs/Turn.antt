@@ -8,7 +8,7 @@ use Rattle.mcs_ticks.specs.declared.row.What.{What}
 use Rattle.mcs_ticks.specs.declared.row.What.TheVariants as row
 use Rattle.mcs_ticks.specs.declared.row.Why.{Why}
 use Rattle.mcs_ticks.specs.declared.row.Why.TheVariants as why
-use Rattle.mcs_control.specs.Context.{Context, context_charged, context_unblocked, context_ordered, context_ready, head_amount, head_moment}
+use Rattle.mcs_control.specs.Context.{Context, context_charged, context_woken, context_chosen, context_ordered, context_ready, head_amount, head_moment}
 use Rattle.mcs_control.specs.declared.config.Order.{Order}
 use Rattle.mcs_notify.specs.Note.{posted, after_post, waited, after_wait}
 use Rattle.mcs_notify.specs.declared.posted.Posted.{Posted}
@@ -22,7 +22,7 @@ use Rattle.mcs_script.specs.declared.moved.Moved.TheVariants.{Next, RoundEnds, A
 use Rattle.mcs_script.specs.Script.{move_after, place_after}
 use Rattle.mcs_mail.specs.declared.mail.Mail.{Mail}
 use Rattle.mcs_system.specs.declared.part.ThreadPart.{ThreadPart}
-use Rattle.mcs_system.specs.System.{System, thread_part, note_part, context_part, delay_between}
+use Rattle.mcs_system.specs.System.{System, thread_part, note_part, delay_between}
 use Rattle.mcs_core.specs.Orders.{is_of, is_for_core}
 use Rattle.mcs_core.specs.Core.{Core, thread_of, context_of, note_of, with_thread, with_context, with_note, stands, pends, off}
 use Rattle.mcs_release.specs.declared.dated.Dated.{Dated}
@@ -180,17 +180,21 @@ module _ (system : System) (t : ℕ) where
   waits_as thread note Blocks core =
       silent (with_note note (after_wait Blocks (queued system thread) (note_of core note)) core)
 
--- the context of the thread is unblocked at moment t
-abbrev pub unblocked : System → ℕ → ℕ → Core → Core
-unblocked system t thread core =
-    with_its_context system thread (context_unblocked t (its_context system thread core)) core
+-- the thread is woken at moment t, or chosen: so is its context
+abbrev pub with_woken_context : System → ℕ → ℕ → Core → Core
+with_woken_context system t thread core =
+    with_its_context system thread (context_woken t (its_context system thread core)) core
+
+abbrev pub with_chosen_context : System → ℕ → ℕ → Core → Core
+with_chosen_context system t thread core =
+    with_its_context system thread (context_chosen t (its_context system thread core)) core
 
 -- posts at moment t
 module _ (queue : Discipline) (system : System) (t : ℕ) where
-  -- a woken thread: its context is unblocked
+  -- a woken thread: its context is unblocked, unless it is in bandwidth mode
   abbrev pub wakes : ℕ → Core → Turn
   wakes thread core =
-      moves_on system t thread (given t thread (unblocked system t thread core))
+      moves_on system t thread (given t thread (with_woken_context system t thread core))
       followed_by λ core. silent (enters_back queue system thread (date_of system t thread core) core)
 
   abbrev pub posts_as : ℕ → Posted → Core → Turn
@@ -325,12 +329,12 @@ module _ (queue : Discipline) (system : System) (t : ℕ) where
   abbrev pub preempts : Core → Turn
   preempts core = preempts_by core.running (queue.best core.ready) core
 
-  -- .. and where none runs, the best one is chosen
+  -- .. and where none runs, the best one is chosen: in bandwidth mode its context is unblocked
   abbrev pub chooses_of : Option Chosen → Option Queued → Core → Turn
   chooses_of (Some chosen) best core = silent core
   chooses_of None None core = silent core
   chooses_of None (Some best) core =
-      let core = stands best.thread Running core in
+      let core = stands best.thread Running (with_chosen_context system t best.thread core) in
       says (row.Run best.thread)
       (record core { running = Some (record { thread = best.thread; using = 0 }); ready = queue.rest core.ready })
 

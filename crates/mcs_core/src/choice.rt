@@ -37,10 +37,11 @@ impl Local {
         Ok(())
     }
 
-    /// Where no thread runs, the best ready one is chosen.
+    /// Where no thread runs, the best ready one is chosen; in bandwidth mode its context is unblocked.
     pub(crate) fn choose(&mut self, here: &Here<'_>, log: &mut Log<'_>) -> Result<(), NoMemory>
         requires well_formed { IsWellFormed here.now.system.now }
         requires sound { IsSound here.now.system.now here.now.core (here.now.moment + 1) PastTick None self.old }
+        requires soon { here.now.moment ≤ 2 ^ 40 }
         ensures { OnOk result
             (Makes here.now (chooses by_priority here.now.system.now here.now.moment self.old) self.new log.old
             log.new) }
@@ -49,6 +50,7 @@ impl Local {
             return Ok(());
         }
         if let Some(thread) = self.take_best() {
+            self.choose_context(here, thread);
             self.stand(thread, Standing::Running);
             self.set_running(Chosen { thread, using: 0 });
             log.tell(here, What::Run { thread })?;

@@ -1,5 +1,5 @@
 ghost use Rattle.std.specs.Prelude.{◌≡◌, ◌^◌, ◌<◌, ◌≤◌, true, length, get_or, set, Some, None, option_map, IfOk};
-ghost use Rattle.mcs_control.specs.Context.{head_amount, head_moment, context_charged, context_unblocked, context_ordered, context_ready, view_of};
+ghost use Rattle.mcs_control.specs.Context.{head_amount, head_moment, context_charged, context_woken, context_chosen, context_ordered, context_ready, view_of};
 ghost use Rattle.mcs_control.specs.Control.{IsConfig, kind_of};
 ghost use Rattle.mcs_core.specs.Contexts.{is_own, held, seen_contexts, HaveRoom};
 
@@ -45,10 +45,22 @@ impl Contexts {
     pub(crate) fn wake(&mut self, number: ContextId, moment: Tick)
         requires own { is_own number self.old ≡ true }
         requires soon { moment ≤ 2 ^ 40 }
-        ensures { self.new ≡ set self.old number (Some (context_unblocked moment (held number self.old))) }
+        ensures { self.new ≡ set self.old number (Some (context_woken moment (held number self.old))) }
     {
         match &mut self.contexts[number.0] {
             Some(context) => context.wake(moment),
+            None => unreachable!(),
+        }
+    }
+
+    /// The thread of a context is chosen.
+    pub(crate) fn chosen(&mut self, number: ContextId, moment: Tick)
+        requires own { is_own number self.old ≡ true }
+        requires soon { moment ≤ 2 ^ 40 }
+        ensures { self.new ≡ set self.old number (Some (context_chosen moment (held number self.old))) }
+    {
+        match &mut self.contexts[number.0] {
+            Some(context) => context.chosen(moment),
             None => unreachable!(),
         }
     }

@@ -1,6 +1,6 @@
 ghost use Rattle.std.specs.Prelude.{◌≡◌, ◌^◌, ◌<◌, ◌≤◌, true, length, get_or, Some, None, option_map, IfOk};
 ghost use Rattle.mcs_ticks.specs.Queue.{by_priority};
-ghost use Rattle.mcs_control.specs.Context.{head_amount, head_moment, context_unblocked, view_of};
+ghost use Rattle.mcs_control.specs.Context.{head_amount, head_moment, context_woken, view_of};
 ghost use Rattle.mcs_control.specs.Control.{IsConfig, kind_of};
 ghost use Rattle.mcs_notify.specs.Note.{posted, after_post, waited, after_wait};
 ghost use Rattle.mcs_ready.specs.Ready.{priority_of, thread_of as thread_of_queued};
@@ -8,7 +8,7 @@ ghost use Rattle.mcs_release.specs.Release.{first_due, without_first_due, next_d
 ghost use Rattle.mcs_system.specs.System.{thread_part};
 ghost use Rattle.mcs_core.specs.stored.Room.{IsRoomy};
 ghost use Rattle.mcs_core.specs.Core.{thread_of, context_of, note_of, with_thread, with_context, with_note, stands, pends, off};
-ghost use Rattle.mcs_core.specs.Turn.{its_context, applied, charged, queued, date_of, enters_back, enters_front};
+ghost use Rattle.mcs_core.specs.Turn.{its_context, applied, charged, queued, date_of, enters_back, enters_front, with_chosen_context};
 ghost use Rattle.mcs_core.specs.stored.Sound.{has_context};
 ghost use Rattle.mcs_core.specs.Places.{times_queued, times_dated, times_waiting};
 
@@ -175,13 +175,24 @@ impl Local {
         self.threads[thread.0]
     }
 
-    /// A context is unblocked.
+    /// The thread of a context is woken.
     pub(crate) fn wake_context(&mut self, context: ContextId, moment: Tick)
         requires own { has_context context self.old ≡ true }
         requires soon { moment ≤ 2 ^ 40 }
-        ensures { self.new ≡ with_context context (context_unblocked moment (context_of self.old context)) self.old }
+        ensures { self.new ≡ with_context context (context_woken moment (context_of self.old context)) self.old }
     {
         self.contexts.wake(context, moment);
+    }
+
+    /// The thread is chosen: in bandwidth mode its context is unblocked.
+    pub(crate) fn choose_context(&mut self, here: &Here<'_>, thread: ThreadId)
+        requires part { thread < length here.now.system.now.threads }
+        requires has { has_context (thread_part here.now.system.now thread).context self.old ≡ true }
+        requires soon { here.now.moment ≤ 2 ^ 40 }
+        ensures { self.new ≡ with_chosen_context here.now.system.now here.now.moment thread self.old }
+    {
+        self.contexts
+            .chosen(here.system.thread(thread).context, here.moment);
     }
 
     /// An order changes its context.

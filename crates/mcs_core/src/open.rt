@@ -1,6 +1,6 @@
 ghost use Rattle.std.specs.Prelude.{◌≡◌, ℕ, ◌^◌, ◌==◌, ◌<◌, ◌≤◌, if◌then◌else◌, length, get_or, insert, map, option_map, IfOk, OnOk, Some, None};
 ghost use Rattle.mcs_control.specs.Context.{new_context};
-ghost use Rattle.mcs_control.specs.Control.{IsConfig};
+ghost use Rattle.mcs_control.specs.Control.{IsConfig, IsModeOf, kind_of};
 ghost use Rattle.mcs_core.specs.Contexts.{HasRoom};
 ghost use Rattle.mcs_core.specs.Core.{opening_thread, opening_releases, opening_contexts, opening_core};
 ghost use Rattle.mcs_core.specs.Orders.{by_moment, orders_of};
@@ -92,16 +92,17 @@ fn opening_context(
     start: Tick,
 ) -> Result<Option<Context>, NoMemory>
     requires checked { IsConfig part.now.config }
+    requires mode { IsModeOf (kind_of part.now.config) part.now.mode }
     requires early { start ≤ 2 ^ 40 }
     ensures context { IfOk result
         (λ kept. option_map (λ own. own.context) kept
-        ≡ (if part.now.core == core then Some (new_context part.now.config start) else None)) }
+        ≡ (if part.now.core == core then Some (new_context part.now.config part.now.mode start) else None)) }
     ensures room { IfOk result HasRoom }
 {
     if part.core != core {
         return Ok(None);
     }
-    let context = Context::new(alloc, part.config, start, ROOM)?;
+    let context = Context::new(alloc, part.config, part.mode, start, ROOM)?;
     Ok(Some(context))
 }
 

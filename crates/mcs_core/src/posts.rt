@@ -1,6 +1,6 @@
 ghost use Rattle.std.specs.Prelude.{◌≡◌, ◌^◌, ◌≤◌, ◌<◌, OnOk, length};
 ghost use Rattle.mcs_ticks.specs.Queue.{by_priority};
-ghost use Rattle.mcs_core.specs.Turn.{unblocked, wakes, posts};
+ghost use Rattle.mcs_core.specs.Turn.{with_woken_context, wakes, posts};
 ghost use Rattle.mcs_core.specs.stored.Parts.{Makes};
 ghost use Rattle.mcs_core.specs.stored.Sound.{IsFree, WakesFree};
 
@@ -10,11 +10,11 @@ use mcs_notify::Posted;
 use mcs_ticks::{NoMemory, NoteId, ThreadId, What};
 
 impl Local {
-    /// The context of the thread is unblocked.
-    pub(crate) fn unblock(&mut self, here: &Here<'_>, thread: ThreadId)
+    /// The thread is woken: its context is unblocked, unless it is in bandwidth mode.
+    pub(crate) fn wake_its_context(&mut self, here: &Here<'_>, thread: ThreadId)
         requires free { IsFree here.now.system.now thread self.old }
         requires soon { here.now.moment ≤ 2 ^ 40 }
-        ensures core { self.new ≡ unblocked here.now.system.now here.now.moment thread self.old }
+        ensures core { self.new ≡ with_woken_context here.now.system.now here.now.moment thread self.old }
         ensures free { IsFree here.now.system.now thread self.new }
     {
         self.wake_context(here.system.thread(thread).context, here.moment);
@@ -33,7 +33,7 @@ impl Local {
             (Makes here.now (wakes by_priority here.now.system.now here.now.moment thread self.old)
             self.new log.old log.new) }
     {
-        self.unblock(here, thread);
+        self.wake_its_context(here, thread);
         self.give(here.moment, thread);
         self.move_on(here, thread, log)?;
         let until = self.date_of(here, thread);

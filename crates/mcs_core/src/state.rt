@@ -1,4 +1,4 @@
-ghost use Rattle.std.specs.Prelude.{◌≡◌, ◌+◌, ◌-◌, ◌^◌, ◌≤◌, ◌<◌, ◌++◌, max, true, false, [], OnOk, OnErr, IfOk, IsErr, IsTrue, ◌↔◌, All};
+ghost use Rattle.std.specs.Prelude.{◌≡◌, ◌⊎◌, ◌+◌, ◌-◌, ◌^◌, ◌≤◌, ◌<◌, ◌++◌, max, true, false, [], length, OnOk, OnErr, IfOk, IsErr, IsTrue, ◌↔◌, All};
 ghost use Rattle.mcs_core.specs.Quiet.{AreQuiet, IsNextBusy, counted_times};
 ghost use Rattle.mcs_core.specs.State.{Fits, IsExpected, opening_state, made_by, state_after};
 ghost use Rattle.mcs_core.specs.Views.{views_of};
@@ -195,7 +195,8 @@ impl CoreState {
         Ok(())
     }
 
-    /// The quiet turns up to the next busy one, and that one, of those before moment `to`.
+    /// The quiet turns up to the next busy one, and that one, of those before moment `to`. Where memory is refused the
+    /// state is spent.
     fn advance(
         &mut self,
         system: &System,
@@ -220,19 +221,26 @@ impl CoreState {
             ≡ signals.old.items ++ (made_by system.now self.old self.new.clock mail.old.mails).mails) }
         ensures mail { OnOk result
             (mail.new.mails ≡ (made_by system.now self.old self.new.clock mail.old.mails).box) }
-        ensures fits { OnOk result (Fits system.now self.new) }
+        ensures fits { Fits system.now self.new }
+        ensures failed { OnErr result (self.new.failed ≡ true) }
+        ensures going { OnOk result (self.new.failed ≡ false) }
         ensures later { OnOk result (self.old.clock < self.new.clock) }
+        ensures last { OnOk result
+            ((made_by system.now self.old (self.new.clock - 1) mail.old.mails).rows ≡ []) }
         ensures kept { (self.new.number ≡ self.old.number)
             × (self.old.clock ≤ self.new.clock)
             × (self.new.clock ≤ to) }
     {
         let until = self.quiet_until(system, mail, to);
         self.skip(system, until);
-        if until < to {
-            self.step(system, mail, rows, signals)
-        } else {
-            Ok(())
+        if until == to {
+            return Ok(());
         }
+        if self.step(system, mail, rows, signals).is_err() {
+            self.failed = true;
+            return Err(NoMemory);
+        }
+        Ok(())
     }
 
     /// Takes the turns from the clock up to, not including, moment `to`, with the mail of the box as arrivals. Rows are
@@ -271,9 +279,60 @@ impl CoreState {
             return Err(NoMemory);
         }
         'turns: while self.is_before(to) {
-            if self.advance(system, mail, to, rows, signals).is_err() {
-                self.failed = true;
-                return Err(NoMemory);
+            self.advance(system, mail, to, rows, signals)?;
+        }
+        Ok(())
+    }
+
+    /// As `run`, but it ends after the turn with which `rows` holds at least `most` rows: so it takes a turn where the
+    /// clock is before moment `to`, and the caller can hand the rows on before it goes on from the new clock.
+    pub fn run_some(
+        &mut self,
+        system: &System,
+        mail: &mut Mailbox,
+        to: Tick,
+        most: usize,
+        rows: &mut Vec<Row>,
+        signals: &mut Vec<Mail>,
+    ) -> Result<(), NoMemory>
+        requires fits { Fits system.now self.old }
+        requires in_time { to ≤ 2 ^ 40 + 1 }
+        requires expected { All (IsExpected system.now self.old) mail.old.mails }
+        ensures state { OnOk result
+            (self.new
+            ≡ state_after self.old self.new.clock (made_by system.now self.old self.new.clock mail.old.mails)) }
+        ensures rows { OnOk result
+            (rows.new.items
+            ≡ rows.old.items ++ (made_by system.now self.old self.new.clock mail.old.mails).rows) }
+        ensures signals { OnOk result
+            (signals.new.items
+            ≡ signals.old.items ++ (made_by system.now self.old self.new.clock mail.old.mails).mails) }
+        ensures mail { OnOk result
+            (mail.new.mails ≡ (made_by system.now self.old self.new.clock mail.old.mails).box) }
+        ensures reaches { OnOk result
+            ((self.new.clock ≤ max self.old.clock to)
+            × (self.old.clock < to → self.old.clock < self.new.clock)
+            × ((self.new.clock ≡ max self.old.clock to) ⊎ (most ≤ length rows.new.items))) }
+        ensures no_further { OnOk result
+            (length rows.old.items + length (made_by system.now self.old (self.new.clock - 1) mail.old.mails).rows
+            < max most (length rows.old.items + 1)) }
+        ensures fits { Fits system.now self.new }
+        ensures failed { OnErr result (self.new.failed ≡ true) }
+        ensures refused { OnErr result
+            ((self.new.number ≡ self.old.number)
+            × (self.old.clock ≤ self.new.clock)
+            × (self.new.clock ≤ max self.old.clock to)) }
+        ensures going { OnOk result (self.old.failed ≡ false) }
+        ensures spent { self.old.failed ≡ true →
+            (self.new ≡ self.old) × (rows.new ≡ rows.old) × (signals.new ≡ signals.old) × (mail.new ≡ mail.old) }
+    {
+        if self.failed {
+            return Err(NoMemory);
+        }
+        'turns: while self.is_before(to) {
+            self.advance(system, mail, to, rows, signals)?;
+            if rows.len() >= most {
+                return Ok(());
             }
         }
         Ok(())

@@ -2,6 +2,8 @@
 use Rattle.std.specs.Prelude.{Bool, true, false, ◌&&◌, ◌==◌, nat_eq}
 use Rattle.std.specs.Cmp.Lexicographic.{pointwise}
 use Rattle.mcs_control.specs.declared.config.Config.{Config}
+use Rattle.mcs_control.specs.declared.config.Mode.{Mode}
+use Rattle.mcs_control.specs.declared.config.Mode.TheVariants.{Sporadic, Bandwidth}
 use Rattle.mcs_control.specs.declared.config.Order.{Order}
 use Rattle.mcs_script.specs.declared.item.Item.{Item}
 use Rattle.mcs_script.specs.declared.item.Item.TheVariants.{Compute, Signal, Wait, Yield}
@@ -14,6 +16,11 @@ use Rattle.mcs_system.specs.System.{System}
 abbrev pub same_config : Config → Config → Bool
 same_config a b = a.budget == b.budget && a.period == b.period && a.extra == b.extra
 
+abbrev pub same_mode : Mode → Mode → Bool
+same_mode Sporadic Sporadic = true
+same_mode Bandwidth Bandwidth = true
+same_mode _ _ = false
+
 abbrev pub same_item : Item → Item → Bool
 same_item (Compute x) (Compute y) = x == y
 same_item (Signal n x) (Signal m y) = n == m && x == y
@@ -22,7 +29,7 @@ same_item Yield Yield = true
 same_item _ _ = false
 
 abbrev pub same_context : ContextPart → ContextPart → Bool
-same_context a b = pointwise nat_eq a.name b.name && a.core == b.core && same_config a.config b.config
+same_context a b = pointwise nat_eq a.name b.name && a.core == b.core && same_config a.config b.config && same_mode a.mode b.mode
 
 abbrev pub same_note : NotePart → NotePart → Bool
 same_note a b = pointwise nat_eq a.name b.name && a.core == b.core

@@ -1,5 +1,6 @@
 -- A system: what a file describes, each thing numbered by its place in its list.
 use Rattle.std.specs.Prelude.{ℕ, ◌≡◌, ◌≢◌, ◌<◌, ◌≤◌, ◌==◌, ◌&&◌, if◌then◌else◌, List, [], ◌∷◌, get_or}
+use Rattle.mcs_control.specs.declared.config.Mode.TheVariants.{Sporadic}
 use Rattle.mcs_system.specs.declared.part.ContextPart.{ContextPart}
 use Rattle.mcs_system.specs.declared.part.Link.{Link}
 use Rattle.mcs_system.specs.declared.part.NotePart.{NotePart}
@@ -11,7 +12,7 @@ System = SystemParts
 
 -- what stands past the end of each list; it is never reached
 abbrev pub no_context : ContextPart
-no_context = record { name = []; core = 0; config = record { budget = 0; period = 0; extra = 0 } }
+no_context = record { name = []; core = 0; config = record { budget = 0; period = 0; extra = 0 }; mode = Sporadic }
 
 abbrev pub no_thread : ThreadPart
 no_thread = record { name = []; context = 0; priority = 0; start = 0; rounds = 0; deadline = 0; script = [] }

@@ -1,7 +1,7 @@
 -- Which systems are well formed.
 use Rattle.std.specs.Prelude.{◌≡◌, ℕ, ◌<◌, ◌≤◌, ◌^◌, ◌≢◌, List, length, All, AllPairs, IsOk, IsTrue}
 use Rattle.mcs_control.specs.declared.config.Order.{Order}
-use Rattle.mcs_control.specs.Control.{checked, kind_of}
+use Rattle.mcs_control.specs.Control.{checked, kind_of, IsModeOf}
 use Rattle.mcs_script.specs.declared.item.Item.{Item}
 use Rattle.mcs_script.specs.declared.item.Item.TheVariants.{Compute, Signal, Wait, Yield}
 use Rattle.mcs_script.specs.Script.{IsScript}
@@ -30,10 +30,11 @@ module _ (system : System) where
     pub call : (1 ≤ system.call) × (system.call ≤ 2 ^ 16)
     pub min_budget : (1 ≤ system.min_budget) × (system.min_budget ≤ 2 ^ 20)
 
-  -- on a core that there is, with a configuration that SchedControl accepts
+  -- on a core that there is, with a configuration that SchedControl accepts, and a mode of its kind
   pub record IsContext (context : ContextPart) : Type 0 where
     pub core : context.core < system.cores
     pub accepted : IsOk (checked system.min_budget context.config)
+    pub mode : IsModeOf (kind_of context.config) context.mode
 
   -- on a core that there is
   abbrev pub IsNote : NotePart → Type 0

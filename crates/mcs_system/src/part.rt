@@ -1,5 +1,5 @@
 use crate::Name;
-use mcs_control::{Config, Order};
+use mcs_control::{Config, Mode, Order};
 use mcs_script::Script;
 use mcs_ticks::{ContextId, CoreId, Sequence, Tick};
 
@@ -9,6 +9,8 @@ pub struct ContextPart {
     pub name: Name,
     pub core: CoreId,
     pub config: Config,
+    /// When it is unblocked. An order does not change it; a round robin context has the mode `Sporadic`.
+    pub mode: Mode,
 }
 
 /// A notification of a system, at home on a core.

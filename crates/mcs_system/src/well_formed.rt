@@ -119,7 +119,7 @@ fn has_numbers(thread: &ThreadPart) -> bool
 
 impl SystemParts {
     /// Whether the system is well formed: counts and numbers lie in their ranges (profile M), names are 1 to 32 characters of
-    /// `A-Z a-z 0-9 _ -` and distinct in each kind, each configuration passes its check with the system's least budget, no two
+    /// `A-Z a-z 0-9 _ -` and distinct in each kind, each configuration passes its check with the system's least budget, a round robin context has the mode `Sporadic`, no two
     /// threads have one context, a thread waits on notifications of its own core alone, an order keeps the context's kind, and no
     /// two links go from the same core to the same other core. It takes no memory, so names are compared in pairs, in time with the
     /// square of their number; the rest is linear.
@@ -157,7 +157,9 @@ impl SystemParts {
     fn is_context(&self, context: &ContextPart) -> bool
         ensures { IsTrue result ↔ IsContext self.now context.now }
     {
-        context.core.0 < self.cores && context.config.check(self.min_budget).is_ok()
+        context.core.0 < self.cores
+            && context.config.check(self.min_budget).is_ok()
+            && context.config.kind().takes(context.mode)
     }
 
     fn has_contexts(&self) -> bool

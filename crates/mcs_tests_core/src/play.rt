@@ -117,6 +117,26 @@ pub fn go_on(
     Ok(())
 }
 
+/// The turns to a moment, or to the end of the one with which there are so many rows. The core and its box can go on afterwards.
+pub fn go_on_some(
+    system: &System,
+    state: &mut CoreState,
+    mailbox: &mut Mailbox,
+    to: Tick,
+    most: usize,
+    made: &mut Made,
+) -> Result<(), NoMemory>
+    requires fits { Fits system.now state.old }
+    requires in_time { to ≤ 2 ^ 40 + 1 }
+    requires expected { All (IsExpected system.now state.old) mailbox.old.mails }
+    ensures fits { Fits system.now state.new }
+    ensures expected { OnOk result (All (IsExpected system.now state.new) mailbox.new.mails) }
+{
+    state.run_some(system, mailbox, to, most, &mut made.rows, &mut made.signals)?;
+    made.left = mailbox.len();
+    Ok(())
+}
+
 /// What a core makes up to the horizon, in stretches of so many turns; the last one may be shorter.
 pub fn made_by(
     alloc: Global,

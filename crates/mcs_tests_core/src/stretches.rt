@@ -1,6 +1,8 @@
-use super::play::{Letter, Made, made_by};
-use super::systems::{OF_ALL_KINDS, TWO_MAKERS, system};
+use super::play::{Letter, Made, go_on_some, made_by, moment, nothing, opened};
+use super::systems::{DEPLETES, OF_ALL_KINDS, TWO_MAKERS, system};
+use mcs_mail::Mailbox;
 use mcs_system::System;
+use mcs_ticks::CoreId;
 use std::alloc::Global;
 use std::process::Abort;
 use std::test::Fail;
@@ -58,4 +60,51 @@ fn single_turns_take_mail_of_two_makers(rt: HostRuntime) -> Result<(), Fail> {
     let makers = system(alloc, TWO_MAKERS)?;
     let letters = [Letter(4, 2, 0, 1), Letter(4, 1, 1, 2)];
     makes_the_same(&rt, alloc, &makers, 2, &letters)
+}
+
+// A stretch that ends with so many rows, the clock after it, and the rows that there are then.
+#[derive(Clone, Copy)]
+struct Enough(usize, u64, usize);
+
+// Compares where core 0 stands after stretches to moment 40, one after another, that end by their rows.
+fn ends_at(
+    rt: &impl Abort,
+    alloc: Global,
+    system: &System,
+    stretches: &[Enough],
+) -> Result<(), Fail> {
+    let mut state = opened(alloc, system, CoreId(0))?;
+    let mut mailbox = Mailbox::new(alloc);
+    let mut made = nothing(alloc);
+    for stretch in stretches {
+        let Enough(most, clock, rows) = *stretch;
+        go_on_some(
+            system,
+            &mut state,
+            &mut mailbox,
+            moment(40)?,
+            most,
+            &mut made,
+        )?;
+        assert_eq!(rt; state.clock().get(), clock);
+        assert_eq!(rt; made.rows.len(), rows);
+    }
+    Ok(())
+}
+
+// The thread is released and runs at 0, 5 and 10, is spent at 2 and 7, and ends its round and stops at 11. A stretch takes a turn
+// even where there are rows enough before it.
+#[test]
+fn stretches_end_by_their_rows(rt: HostRuntime) -> Result<(), Fail> {
+    let alloc = rt.alloc();
+    let depletes = system(alloc, DEPLETES)?;
+    let stretches = [
+        Enough(1, 1, 2),
+        Enough(2, 3, 3),
+        Enough(5, 6, 5),
+        Enough(7, 11, 8),
+        Enough(100, 40, 10),
+        Enough(100, 40, 10),
+    ];
+    ends_at(&rt, alloc, &depletes, &stretches)
 }

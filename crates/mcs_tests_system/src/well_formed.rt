@@ -1,4 +1,4 @@
-use mcs_control::{Config, Order};
+use mcs_control::{Config, Mode, Order};
 use mcs_script::{Item, Script};
 use mcs_system::{ContextPart, Link, Name, NotePart, SystemParts, ThreadPart};
 use mcs_ticks::{ContextId, CoreId, NoteId, Sequence, Tick};
@@ -16,6 +16,7 @@ struct Sample {
     context: &'static str,
     context_core: usize,
     config: Config,
+    mode: Mode,
     note: &'static str,
     note_core: usize,
     thread: &'static str,
@@ -50,6 +51,7 @@ const SAMPLE: Sample = Sample {
     context: "a",
     context_core: 0,
     config: SPORADIC,
+    mode: Mode::Sporadic,
     note: "n",
     note_core: 0,
     thread: "A",
@@ -87,6 +89,7 @@ fn contexts(alloc: Global, sample: Sample) -> Result<Vec<ContextPart>, Fail> {
         name: name(alloc, sample.context)?,
         core: CoreId(sample.context_core),
         config: sample.config,
+        mode: sample.mode,
     };
     let second = ContextPart {
         name: name(alloc, "b")?,
@@ -96,6 +99,7 @@ fn contexts(alloc: Global, sample: Sample) -> Result<Vec<ContextPart>, Fail> {
             period: 5,
             extra: 0,
         },
+        mode: Mode::Sporadic,
     };
     Ok(vec![in alloc; first, second]?)
 }
@@ -184,6 +188,7 @@ enum Change {
     Context(&'static str),
     ContextCore(usize),
     Configured(u64, u64, u64),
+    InBandwidthMode(u64, u64),
     Note(&'static str),
     NoteCore(usize),
     Thread(&'static str),
@@ -219,6 +224,10 @@ fn apply(change: Change, sample: &mut Sample) {
         Change::Context(name) => sample.context = name,
         Change::ContextCore(core) => sample.context_core = core,
         Change::Configured(budget, period, extra) => sample.config = config(budget, period, extra),
+        Change::InBandwidthMode(budget, period) => {
+            sample.config = config(budget, period, 0);
+            sample.mode = Mode::Bandwidth;
+        }
         Change::Note(name) => sample.note = name,
         Change::NoteCore(core) => sample.note_core = core,
         Change::Thread(name) => sample.thread = name,
@@ -271,6 +280,7 @@ fn limits_are_accepted(rt: HostRuntime) -> Result<(), Fail> {
         Change::MinBudget(4),
         Change::Configured(LONGEST - 1, LONGEST, 64),
         Change::Configured(1, 2, 0),
+        Change::InBandwidthMode(4, 10),
         Change::NoteCore(0),
         Change::Priority(0),
         Change::Priority(255),

@@ -1,14 +1,10 @@
 -- What holds of a core for the system that it runs: where each thread stands, and what its context may be charged.
 use Rattle.std.specs.Prelude.{◌≡◌, ℕ, ◌+◌, ◌^◌, ◌<◌, ◌≤◌, Bool, true, false, ◌==◌, if◌then◌else◌, List, [], ◌∷◌, length, Option, Some, None, IsOk}
 use Rattle.std.specs.List.{AllByRecursion}
-use Rattle.mcs_ticks.specs.declared.queue.Queued.{Queued}
-use Rattle.mcs_refills.specs.laws.Spacing.{AreKept}
 use Rattle.mcs_control.specs.laws.Contexts.{IsWhole}
-use Rattle.mcs_control.specs.declared.config.Config.{Config}
-use Rattle.mcs_control.specs.Context.{Context, Budget, head_amount, head_moment}
-use Rattle.mcs_control.specs.Context.Budget.{Dates, Slice}
+use Rattle.mcs_control.specs.Context.{Context, head_amount, head_moment}
 use Rattle.mcs_control.specs.Control.{checked, kind_of}
-use Rattle.mcs_notify.specs.Note.{Note, posted, after_post}
+use Rattle.mcs_notify.specs.Note.{posted, after_post}
 use Rattle.mcs_notify.specs.declared.posted.Posted.TheVariants.{Woke}
 use Rattle.mcs_release.specs.declared.dated.Dated.{Dated}
 use Rattle.mcs_core.specs.declared.standing.Chosen.{Chosen}

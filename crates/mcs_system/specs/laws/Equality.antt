@@ -4,6 +4,8 @@ use Rattle.std.proofs.lemmas.Bool.Decides.{nat_tests}
 use Rattle.std.specs.Cmp.Lexicographic.{pointwise_decides, bytes_decides}
 use Rattle.std.specs.Cmp.{decided, IsEquivalence}
 use Rattle.mcs_control.specs.declared.config.Config.{Config}
+use Rattle.mcs_control.specs.declared.config.Mode.{Mode}
+use Rattle.mcs_control.specs.declared.config.Mode.TheVariants.{Sporadic, Bandwidth}
 use Rattle.mcs_control.specs.declared.config.Order.{Order}
 use Rattle.mcs_script.specs.declared.item.Item.{Item}
 use Rattle.mcs_script.specs.declared.item.Item.TheVariants.{Compute, Signal, Wait, Yield}
@@ -12,7 +14,7 @@ use Rattle.mcs_system.specs.declared.part.Link.{Link}
 use Rattle.mcs_system.specs.declared.part.NotePart.{NotePart}
 use Rattle.mcs_system.specs.declared.part.ThreadPart.{ThreadPart}
 use Rattle.mcs_system.specs.System.{System}
-use Rattle.mcs_system.specs.Equality.{same_config, same_item, same_context, same_note, same_thread, same_order, same_link, same_system}
+use Rattle.mcs_system.specs.Equality.{same_config, same_mode, same_item, same_context, same_note, same_thread, same_order, same_link, same_system}
 
 pub same_config_decides : (a b : Config) → Decides (same_config a b) (a ≡ b)
 same_config_decides a b = (λ e. grind (arith, nat_tests), λ e. grind (arith, nat_tests))
@@ -35,11 +37,18 @@ same_item_decides Yield (Signal m y) = (λ e. cc, λ e. cc)
 same_item_decides Yield (Wait m) = (λ e. cc, λ e. cc)
 same_item_decides Yield Yield = (λ e. refl, λ e. refl)
 
+pub same_mode_decides : (a b : Mode) → Decides (same_mode a b) (a ≡ b)
+same_mode_decides Sporadic Sporadic = (λ e. refl, λ e. refl)
+same_mode_decides Sporadic Bandwidth = (λ e. cc, λ e. cc)
+same_mode_decides Bandwidth Sporadic = (λ e. cc, λ e. cc)
+same_mode_decides Bandwidth Bandwidth = (λ e. refl, λ e. refl)
+
 pub same_context_decides : (a b : ContextPart) → Decides (same_context a b) (a ≡ b)
 same_context_decides a b =
     let name = bytes_decides a.name b.name in
     let config = same_config_decides a.config b.config in
-    (λ e. grind (arith, nat_tests, name.0, config.0), λ e. grind (arith, nat_tests, name.1, config.1))
+    let mode = same_mode_decides a.mode b.mode in
+    (λ e. grind (arith, nat_tests, name.0, config.0, mode.0), λ e. grind (arith, nat_tests, name.1, config.1, mode.1))
 
 pub same_note_decides : (a b : NotePart) → Decides (same_note a b) (a ≡ b)
 same_note_decides a b =

@@ -1,5 +1,4 @@
-use Rattle.std.proofs.Common.{◌≡◌, ◌+◌, ◌≤◌, ◌^◌, rules, arith}
-use Rattle.mcs_system.specs.System.{note_part}
+use Rattle.std.proofs.Common.{rules}
 use Rattle.mcs_core.proofs.tick.mail_to.Goals as goal
 
 pub unwrap-requires : goal.unwrap-requires

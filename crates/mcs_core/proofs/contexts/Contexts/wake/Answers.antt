@@ -1,4 +1,4 @@
-use Rattle.mcs_control.specs.Context.{context_unblocked}
+use Rattle.mcs_control.specs.Context.{context_woken}
 use Rattle.mcs_core.proofs.Kept.{found, changed-seen, changed-room}
 use Rattle.mcs_core.proofs.contexts.Contexts.wake.Goals as goal
 
@@ -10,6 +10,6 @@ invariant_of-self c =
 
 pub returns : goal.returns
 returns c =
-    changed-seen c.number.inside.0 c.args.number c.self.inside.contexts.items c.args.self.now c.in-Some.context c.wake.new.self (context_unblocked c.args.moment) c.number.view_is
+    changed-seen c.number.inside.0 c.args.number c.self.inside.contexts.items c.args.self.now c.in-Some.context c.wake.new.self (context_woken c.args.moment) c.number.view_is
     (found c.number.inside.0 c.args.number c.self.inside.contexts.items c.args.self.now c.index_mut.result.now c.in-Some.context c.number.view_is c.self.view_is c.requires.own c.index_mut.ensures.value c.in-Some.is)
     c.wake.ensures.context

@@ -2,8 +2,6 @@ use Rattle.std.proofs.Common.{Option, subst, arith}
 use Rattle.std.specs.Prelude.{OnOk}
 use Rattle.mcs_ticks.specs.Queue.{by_priority}
 use Rattle.mcs_script.specs.declared.item.Item.{Item}
-use Rattle.mcs_core.specs.declared.standing.AfterItem.{AfterItem}
-use Rattle.mcs_core.specs.declared.standing.AfterItem.TheVariants as after
 use Rattle.mcs_core.specs.Core.{thread_of}
 use Rattle.mcs_core.specs.stored.Parts.{Makes}
 use Rattle.mcs_core.specs.Turn.{item_of, takes_effect, after_item, may_stop, finishes}

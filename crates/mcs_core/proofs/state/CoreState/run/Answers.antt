@@ -1,38 +1,31 @@
-use Rattle.std.proofs.Common.{◌≡◌, ◌-◌, ◌≤◌, [], refl, sym, ap, ◌∙◌, arith, rules, false}
+use Rattle.std.proofs.Common.{◌≡◌, ◌-◌, ◌≤◌, [], sym, ap, ◌∙◌, arith, false}
 use Rattle.std.specs.Prelude.{max}
 use Rattle.mcs_core.specs.Orders.{orders_of, to_come}
 use Rattle.mcs_core.specs.State.{State, made_by, delays_from}
-use Rattle.mcs_core.proofs.Runs.{RunsOn, runs-on, runs-end, told-all, made-all, not_before, if_ok, same_state, to_come-twice, expected-after}
+use Rattle.mcs_core.proofs.Runs.{RunsOn, runs-on, runs-end, told-all, made-all, not_before, same_state, to_come-twice, expected-after}
 use Rattle.mcs_core.proofs.state.CoreState.run.Goals as goal
 
 pub turns-preserved : goal.turns-preserved
 turns-preserved c =
     let i = c.turns.invariant in
-    let fine = sym c.is_err.ensures.value ∙ c.if-is_err.false in
-    let state = if_ok c.advance.result _ fine c.advance.ensures.state in
-    let mail = if_ok c.advance.result _ fine c.advance.ensures.mail in
+    let step = c.in_ok-advance.ensures in
+    let state = step.state in
+    let mail = step.mail in
     let number : c.advance.new.self.number ≡ c.turns.self.number = ap (λ (s : State). s.number) state in
-    let past : c.advance.new.self.clock ≤ c.args.to = c.advance.ensures.kept.2 in
-    let from : c.turns.self.clock ≤ c.advance.new.self.clock = c.advance.ensures.kept.1 in
+    let past : c.advance.new.self.clock ≤ c.args.to = step.kept.2 in
+    let from : c.turns.self.clock ≤ c.advance.new.self.clock = step.kept.1 in
     record {
       number = number ∙ i.number;
       going = ap (λ (s : State). s.failed) state ∙ i.going;
       from = omega arith;
       past = omega arith;
-      fits = if_ok c.advance.result _ fine c.advance.ensures.fits;
+      fits = step.fits;
       expected = expected-after c.args.system.now c.turns.self c.advance.new.self c.advance.new.self.clock c.turns.mail.mails c.advance.new.mail.mails state mail i.expected;
       runs = runs-on c.args.system.now c.args.to c.advance.new.self.clock c.turns.self c.advance.new.self c.turns.mail.mails c.advance.new.mail.mails
           c.args.rows.now.items c.turns.rows.items c.advance.new.rows.items c.args.signals.now.items c.turns.signals.items c.advance.new.signals.items
           (made_by c.args.system.now c.args.self.now c.args.to c.args.mail.now.mails) from past i.runs state mail
-          (if_ok c.advance.result _ fine c.advance.ensures.rows) (if_ok c.advance.result _ fine c.advance.ensures.signals);
+          step.rows step.signals;
     }
-
--- a state that was refused memory owes nothing but its number and its clock
-pub returns-then-is_err-clause-fits : goal.returns-then-is_err-clause-fits
-returns-then-is_err-clause-fits c = record { known = search rules; early = search rules; sound = λ f. cc; orders = λ f. cc; delays = λ f. cc }
-
-pub returns-then-is_err-clause-failed : goal.returns-then-is_err-clause-failed
-returns-then-is_err-clause-failed c = refl
 
 over : (c : goal.After-turns) → c.args.to - c.turns.self.clock ≡ 0
 over c =

@@ -1,0 +1,21 @@
+use Rattle.std.proofs.Common.{◌≡◌, ◌≤◌, ◌++◌, ◌-◌, ◌+◌, ◌<◌, length, All, false}
+use Rattle.std.specs.Prelude.{max}
+use Rattle.mcs_core.specs.State.{Fits, IsExpected, made_by, state_after}
+use Rattle.mcs_core.proofs.state.CoreState.run_some.Given as goal
+
+abbrev pub invariant-turns : goal.invariant-turns
+invariant-turns l = record {
+  going : l.self.failed ≡ false;
+  from : l.initial.self.clock ≤ l.self.clock;
+  past : l.self.clock ≤ max l.initial.self.clock l.to;
+  fits : Fits l.system l.self;
+  expected : All (IsExpected l.system l.self) l.mail.mails;
+  state : l.self ≡ state_after l.initial.self l.self.clock (made_by l.system l.initial.self l.self.clock l.initial.mail.mails);
+  fewer : length l.rows.items < max l.most (length l.initial.rows.items + 1);
+  rows : l.rows.items ≡ l.initial.rows.items ++ (made_by l.system l.initial.self l.self.clock l.initial.mail.mails).rows;
+  signals : l.signals.items ≡ l.initial.signals.items ++ (made_by l.system l.initial.self l.self.clock l.initial.mail.mails).mails;
+  mail : l.mail.mails ≡ (made_by l.system l.initial.self l.self.clock l.initial.mail.mails).box;
+}
+
+abbrev pub decreases-turns : goal.decreases-turns
+decreases-turns l = l.to - l.self.clock
