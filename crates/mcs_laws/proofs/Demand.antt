@@ -47,7 +47,7 @@ module _ (system : System) (well : IsWellFormed system) (x : ℕ) (known : x < l
   context_known : context < length system.contexts
   context_known = bound system well x known
 
-  is_budget : IsBudget config
+  pub is_budget : IsBudget config
   is_budget = (gives-budgets system well).contexts context no_context context_known
 
   -- at most a tick at each moment
@@ -83,7 +83,7 @@ module _ (system : System) (well : IsWellFormed system) (x : ℕ) (known : x < l
       ∙ sum_by-append (λ n. n) (charges_of (changes t)) (charges_of (history.changes t))
       ∙ ap (λ ks. sum (charges_of (changes t)) + sum ks) (sym (history.charges t))
 
-  less : (t : ℕ) → UsesLess system home t x (running t) (before t)
+  pub less : (t : ℕ) → UsesLess system home t x (running t) (before t)
   less t = by (running t) (budgets-kept system well context t context_known).uses
     where
       by : (o : Option Chosen) → told.UsesLess system context o (told.context_before system context t) → UsesLess system home t x o (before t)

@@ -107,7 +107,7 @@ module _ (system : System) (t : ℕ) where
   wakes-alike x k =
       then_part _ _ (λ core. silent (turns.enters_back in_one_list system x (turns.date_of system t x core) core))
       (λ core. silent (turns.enters_back by_priority system x (turns.date_of system t x core) core))
-      (moves_on-alike system t x (turns.given t x (turns.unblocked system t x k)))
+      (moves_on-alike system t x (turns.given t x (turns.with_woken_context system t x k)))
       (λ core. ap silent (enters_back-alike system x (turns.date_of system t x core) core))
 
   posts_as-alike : (note : ℕ) (p : Posted) (k : Core) → sorted_turn (turns.posts_as in_one_list system t note p k) ≡ turns.posts_as by_priority system t note p (with_queue_sorted k)

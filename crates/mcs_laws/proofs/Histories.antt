@@ -1,12 +1,13 @@
 -- The history of a context from the opening on, and the budget that it has at each moment.
-use Rattle.std.proofs.Common.{◌≡◌, ℕ, zero, suc, ◌+◌, ◌<◌, Bool, true, false, cond, List, [], ◌∷◌, length, get_or, Option, Some, None, refl, sym, ap, ◌∙◌, arith}
+use Rattle.std.proofs.Common.{◌≡◌, ℕ, zero, suc, ◌+◌, ◌<◌, ◌≤◌, Bool, true, false, cond, List, [], ◌∷◌, length, get_or, Option, Some, None, refl, sym, ap, subst, ◌∙◌, arith}
 use Rattle.std.specs.Prelude.{filter, ◌==◌, unwrap_or}
 use Rattle.std.proofs.lemmas.Bool.Decides.{nat_tests}
 use Rattle.std.proofs.lemmas.List.FromFn.{get_or-map-range_with_len}
 use Rattle.mcs_ticks.specs.Queue.{by_priority}
 use Rattle.mcs_control.specs.declared.config.Order.{Order}
-use Rattle.mcs_control.specs.Context.{Context, new_context}
-use Rattle.mcs_system.specs.System.{System, TakesTime, context_part, no_context, start_of}
+use Rattle.mcs_control.specs.declared.config.Mode.TheVariants.{Bandwidth}
+use Rattle.mcs_control.specs.Context.{Context, head_moment, new_context}
+use Rattle.mcs_system.specs.System.{System, TakesTime, thread_part, context_part, no_context, start_of}
 use Rattle.mcs_core.specs.Core.{Core, context_of, opening_core, opening_contexts}
 use Rattle.mcs_core.specs.Contexts.{no_server}
 use Rattle.mcs_system.specs.declared.part.ContextPart.{ContextPart}
@@ -19,6 +20,7 @@ use Rattle.mcs_laws.proofs.Ranges.{by_recursion}
 use Rattle.mcs_system.proofs.Linked.{takes_time}
 use Rattle.mcs_system.specs.WellFormed.{IsWellFormed}
 use Rattle.mcs_laws.proofs.Kept.{accepted-gives, keeps-new, keeps-changes}
+use Rattle.mcs_laws.proofs.Taken.{IsDates}
 use Rattle.mcs_laws.proofs.Traces as traces
 use Rattle.mcs_laws.proofs.Traces.{carry}
 
@@ -28,18 +30,18 @@ opening-many system c number [] = refl
 opening-many system c number (part ∷ parts) = ap suc (opening-many system c (number + 1) parts)
 
 opening-at : (system : System) (c number : ℕ) (parts : List ContextPart) (i : ℕ) → i < length parts → (get_or parts i no_context).core ≡ c →
-    unwrap_or (get_or (opening_contexts system c number parts) i None) no_server ≡ new_context (get_or parts i no_context).config (start_of system.threads (number + i))
+    unwrap_or (get_or (opening_contexts system c number parts) i None) no_server ≡ new_context (get_or parts i no_context).config (get_or parts i no_context).mode (start_of system.threads (number + i))
 opening-at system c number [] i l e = absurd (omega arith)
 opening-at system c number (part ∷ parts) zero l e = by (part.core == c) refl
   where
     own : (a b : ℕ) → a ≡ b → (a == b) ≡ false → ⊥
     own a b e f = grind (arith, nat_tests)
 
-    by : (b : Bool) → (part.core == c) ≡ b → unwrap_or (cond b (Some (new_context part.config (start_of system.threads number))) None) no_server ≡ new_context part.config (start_of system.threads (number + 0))
-    by true f = ap (λ n. new_context part.config (start_of system.threads n)) (omega arith)
+    by : (b : Bool) → (part.core == c) ≡ b → unwrap_or (cond b (Some (new_context part.config part.mode (start_of system.threads number))) None) no_server ≡ new_context part.config part.mode (start_of system.threads (number + 0))
+    by true f = ap (λ n. new_context part.config part.mode (start_of system.threads n)) (omega arith)
     by false f = absurd (own part.core c e f)
 opening-at system c number (part ∷ parts) (suc i) l e =
-    opening-at system c (number + 1) parts i (omega arith) e ∙ ap (λ n. new_context (get_or parts i no_context).config (start_of system.threads n)) (omega arith)
+    opening-at system c (number + 1) parts i (omega arith) e ∙ ap (λ n. new_context (get_or parts i no_context).config (get_or parts i no_context).mode (start_of system.threads n)) (omega arith)
 
 -- a well-formed system: its signals take time, and its configurations give budgets
 pub takes-time : (system : System) → IsWellFormed system → TakesTime system
@@ -75,10 +77,18 @@ module _ (system : System) (well : IsWellFormed system) (x : ℕ) (known : x < l
   before-next t = core_at-world system (takes-time system well) t home home-known
 
   abbrev Uses : ℕ → Option Chosen → Context → Type 0
-  Uses t = traces.Uses by_priority system home t x 0 1
+  Uses t = traces.Uses by_priority system home t x 0 1 1
+
+  -- after the turn at t
+  abbrev After : ℕ → Option Chosen → Context → Type 0
+  After t = traces.Uses by_priority system home t x 0 1 0
+
+  uses-next : (t : ℕ) (o : Option Chosen) (k : Context) → After t o k → Uses (suc t) o k
+  uses-next t None k p = tt
+  uses-next t (Some chosen) k p = λ own. ((p own).0, (p own).1, λ m d. omega (arith, (p own).2 m d))
 
   -- what the turn at t does to the context
-  turn-at : (t : ℕ) → traces.Traced by_priority system home t x (Uses t) (Uses t) (told.orders_at system x t) (before t) (clocks.turn_of system home t)
+  turn-at : (t : ℕ) → traces.Traced by_priority system home t x (Uses t) (After t) (told.orders_at system x t) (before t) (clocks.turn_of system home t)
   turn-at t =
       traces.turn-traced by_priority system home t x (by_recursion (λ (order : Order). IsBudget order.config) system.orders (gives-budgets system well).orders)
       (filter (clocks.arrives_at system t home) (clocks.world system t).mails) (before t)
@@ -86,7 +96,7 @@ module _ (system : System) (well : IsWellFormed system) (x : ℕ) (known : x < l
   pub before-opening : context_of (before 0) x ≡ first
   before-opening =
       ap (λ (k : Core). context_of k x) before-first ∙ opening-at system home 0 system.contexts x known refl
-      ∙ ap (λ n. new_context (context_part system x).config (start_of system.threads n)) (omega arith)
+      ∙ ap (λ n. new_context (context_part system x).config (context_part system x).mode (start_of system.threads n)) (omega arith)
 
   -- what is known before moment t
   record Life (t : ℕ) : Type 0 where
@@ -104,7 +114,7 @@ module _ (system : System) (well : IsWellFormed system) (x : ℕ) (known : x < l
   life zero =
       record {
         many = ap (λ (k : Core). length k.contexts) before-first ∙ opening-many system home 0 system.contexts;
-        keeps = rw before-opening (keeps-new _ (start_of system.threads x) ((gives-budgets system well).contexts x no_context known));
+        keeps = rw before-opening (keeps-new _ _ (start_of system.threads x) ((gives-budgets system well).contexts x no_context known));
         uses = idle (before 0) before-first;
       }
   life (suc t) = next (life t)
@@ -120,7 +130,8 @@ module _ (system : System) (well : IsWellFormed system) (x : ℕ) (known : x < l
             keeps = carry KeepsItsBudget (changed_by least s.changes (context_of (before t) x)) (context_of (before (suc t)) x)
                 (sym (ap (λ (k : Core). context_of k x) (before-next t) ∙ s.after (inside t l)))
                 (keeps-changes least s.changes (context_of (before t) x) l.keeps (s.sound (inside t l) l.keeps l.uses));
-            uses = moved (before (suc t)) (clocks.turn_of system home t).core (before-next t) (s.runs (inside t l) l.keeps l.uses);
+            uses = moved (before (suc t)) (clocks.turn_of system home t).core (before-next t)
+                (uses-next t (clocks.turn_of system home t).core.running (context_of (clocks.turn_of system home t).core x) (s.runs (inside t l) l.keeps l.uses));
           }
 
   history : told.History system x
@@ -130,14 +141,23 @@ module _ (system : System) (well : IsWellFormed system) (x : ℕ) (known : x < l
         opening = before-opening;
         after = λ t. ap (λ (k : Core). context_of k x) (before-next t) ∙ (turn-at t).after (inside t (life t));
         sound = λ t. (turn-at t).sound (inside t (life t)) (life t).keeps (life t).uses;
-        charges = λ t. traces.told-charges by_priority system home t x (Uses t) (Uses t) (told.orders_at system x t) (before t) (clocks.turn_of system home t) (turn-at t);
-        unblocks = λ t. traces.told-unblocks by_priority system home t x (Uses t) (Uses t) (told.orders_at system x t) (before t) (clocks.turn_of system home t) (turn-at t);
+        charges = λ t. traces.told-charges by_priority system home t x (Uses t) (After t) (told.orders_at system x t) (before t) (clocks.turn_of system home t) (turn-at t);
+        wakes = λ t. traces.told-wakes by_priority system home t x (Uses t) (After t) (told.orders_at system x t) (before t) (clocks.turn_of system home t) (turn-at t);
+        choices = λ t. traces.told-choices by_priority system home t x (Uses t) (After t) (told.orders_at system x t) (before t) (clocks.turn_of system home t) (turn-at t);
         orders = λ t. (turn-at t).ordered;
       }
 
   uses_less : (o : Option Chosen) (k : Context) (t : ℕ) → Uses t o k → told.UsesLess system x o k
   uses_less None k t p = tt
   uses_less (Some chosen) k t p = λ own. omega (arith, (p own).1)
+
+-- in bandwidth mode the dates of the head that are in use reach the moment
+pub head-reaches : (system : System) (well : IsWellFormed system) (x t : ℕ) (known : x < length system.contexts) (chosen : Chosen) → (told.home_before system x t).running ≡ Some chosen →
+    (thread_part system chosen.thread).context ≡ x → (told.context_before system x t).mode ≡ Bandwidth → IsDates (told.context_before system x t).budget →
+    t ≤ head_moment (told.context_before system x t) + chosen.using + 1
+head-reaches system well x t known chosen e own m d =
+    let P : Option Chosen → Type 0 = λ o. traces.Uses by_priority system (told.home_of system x) t x 0 1 1 o (told.context_before system x t) in
+    (subst P e (life system well x known t).uses own).2 m d
 
 pub histories : (system : System) → IsWellFormed system → told.ContextsHaveHistories system
 histories system well x known = history system well x known

@@ -1,5 +1,5 @@
 -- At each moment a context has the configuration in force, and is in good order with it.
-use Rattle.std.proofs.Common.{◌≡◌, ℕ, zero, suc, ◌+◌, ◌<◌, ◌≤◌, Bool, true, false, cond, List, [], ◌∷◌, ◌++◌, length, refl, sym, ap, subst, ◌∙◌, append_assoc, append-nil, arith}
+use Rattle.std.proofs.Common.{◌≡◌, ℕ, zero, suc, ◌<◌, ◌≤◌, Bool, true, false, cond, List, [], ◌∷◌, ◌++◌, length, refl, sym, ap, subst, ◌∙◌, append_assoc, append-nil, arith}
 use Rattle.std.specs.Prelude.{filter, fold, ◌==◌, ◌&&◌, nat_lt, Result, Ok, Err, IsOk}
 use Rattle.std.specs.List.{AllByRecursion}
 use Rattle.std.proofs.lemmas.Bool.Decides.{nat_tests}
@@ -8,7 +8,9 @@ use Rattle.mcs_control.specs.declared.config.ControlFault.{ControlFault}
 use Rattle.mcs_control.specs.declared.config.Kind.{Kind}
 use Rattle.mcs_control.specs.declared.config.Order.{Order}
 use Rattle.mcs_control.specs.Control.{checked, kind_of, IsConfig}
-use Rattle.mcs_control.specs.Context.{Context}
+use Rattle.mcs_control.specs.Context.{Context, woken_by, chosen_by}
+use Rattle.mcs_control.specs.declared.config.Mode.{Mode}
+use Rattle.mcs_control.specs.declared.config.Mode.TheVariants as modes
 use Rattle.mcs_control.specs.laws.Contexts.{IsContext}
 use Rattle.mcs_control.proofs.Configs.{passed-configs}
 use Rattle.mcs_control.proofs.Contexts.{contexts-kept}
@@ -16,8 +18,8 @@ use Rattle.mcs_system.specs.System.{System, context_part, no_context}
 use Rattle.mcs_system.specs.WellFormed.{IsWellFormed, IsOrder}
 use Rattle.mcs_core.specs.Orders.{with_order}
 use Rattle.mcs_core.specs.Turn.{is_for_now}
-use Rattle.mcs_laws.specs.Changes.{Change, orders_of, order_of, changed, changed_by, IsSound, AreSound}
-use Rattle.mcs_laws.specs.Changes.Change.{Charged, Unblocked, Ordered}
+use Rattle.mcs_laws.specs.Changes.{Change, orders_of, changed, changed_by, AreSound}
+use Rattle.mcs_laws.specs.Changes.Change.{Charged, Woken, Picked, Ordered}
 use Rattle.mcs_laws.specs.Histories as told
 use Rattle.mcs_laws.specs.InForce.{last_config, orders_before, config_in_force, HasTheBudgetInForce, ContextsHaveTheBudgetInForce}
 use Rattle.mcs_laws.proofs.Ranges.{by_recursion}
@@ -202,11 +204,21 @@ last_config-append : (config : Config) (xs ys : List Order) → last_config conf
 last_config-append config [] ys = refl
 last_config-append config (x ∷ xs) ys = last_config-append x.config xs ys
 
+-- a wake and a choice leave the configuration
+woken-config : (t : ℕ) (mode : Mode) (context : Context) → (woken_by mode t context).config ≡ context.config
+woken-config t modes.Sporadic context = refl
+woken-config t modes.Bandwidth context = refl
+
+chosen-config : (t : ℕ) (mode : Mode) (context : Context) → (chosen_by mode t context).config ≡ context.config
+chosen-config t modes.Sporadic context = refl
+chosen-config t modes.Bandwidth context = refl
+
 -- what changes make of a context
 config-changed : (least : ℕ) (changes : List Change) (context : Context) → (changed_by least changes context).config ≡ last_config context.config (orders_of changes)
 config-changed least [] context = refl
 config-changed least (Charged k ∷ changes) context = config-changed least changes (changed least context (Charged k))
-config-changed least (Unblocked t ∷ changes) context = config-changed least changes (changed least context (Unblocked t))
+config-changed least (Woken t ∷ changes) context = config-changed least changes (changed least context (Woken t)) ∙ ap (λ config. last_config config (orders_of changes)) (woken-config t context.mode context)
+config-changed least (Picked t ∷ changes) context = config-changed least changes (changed least context (Picked t)) ∙ ap (λ config. last_config config (orders_of changes)) (chosen-config t context.mode context)
 config-changed least (Ordered order ∷ changes) context = config-changed least changes (changed least context (Ordered order))
 
 -- an order for a context of this kind that SchedControl accepts
@@ -224,12 +236,16 @@ good-changes least kind [] context g s r = g
 good-changes least kind (Charged k ∷ changes) context g s r =
     good-changes least kind changes (changed least context (Charged k))
     (record { whole = contexts-kept.1 k least context g.whole s.0.0 s.0.1; same_kind = g.same_kind }) s.1 r
-good-changes least kind (Unblocked t ∷ changes) context g s r =
-    good-changes least kind changes (changed least context (Unblocked t)) (record { whole = contexts-kept.2 t context g.whole; same_kind = g.same_kind }) s.1 r
+good-changes least kind (Woken t ∷ changes) context g s r =
+    good-changes least kind changes (changed least context (Woken t))
+    (record { whole = contexts-kept.3 t context g.whole; same_kind = ap kind_of (woken-config t context.mode context) ∙ g.same_kind }) s.1 r
+good-changes least kind (Picked t ∷ changes) context g s r =
+    good-changes least kind changes (changed least context (Picked t))
+    (record { whole = contexts-kept.4 t context g.whole; same_kind = ap kind_of (chosen-config t context.mode context) ∙ g.same_kind }) s.1 r
 good-changes least kind (Ordered order ∷ changes) context g s r =
     good-changes least kind changes (changed least context (Ordered order))
     (record {
-      whole = contexts-kept.3 order.moment order.config context g.whole r.0.accepted (r.0.same_kind ∙ sym g.same_kind);
+      whole = contexts-kept.5 order.moment order.config context g.whole r.0.accepted (r.0.same_kind ∙ sym g.same_kind);
       same_kind = r.0.same_kind;
     }) s.1 r.1
 
@@ -276,7 +292,7 @@ module _ (system : System) (well : IsWellFormed system) (x : ℕ) (known : x < l
   good : (t : ℕ) → IsGood kind (told.context_before system x t)
   good zero =
       subst (IsGood kind) (sym history.opening)
-      (record { whole = contexts-kept.0 (context_part system x).config _ opening-config; same_kind = refl })
+      (record { whole = contexts-kept.0 (context_part system x).config _ _ opening-config; same_kind = refl })
   good (suc t) =
       subst (IsGood kind) (sym (history.after t))
       (good-changes system.min_budget kind (history.changes t) (told.context_before system x t) (good t) (history.sound t) (rights-at t))

@@ -10,12 +10,14 @@ use Rattle.mcs_control.specs.laws.Contexts.{IsWhole}
 use Rattle.mcs_control.specs.declared.config.Config.{Config}
 use Rattle.mcs_control.specs.declared.config.Kind.{Kind}
 use Rattle.mcs_control.specs.declared.config.Kind.TheVariants.{Sporadic, RoundRobin}
+use Rattle.mcs_control.specs.declared.config.Mode.{Mode}
+use Rattle.mcs_control.specs.declared.config.Mode.TheVariants as modes
 use Rattle.mcs_control.specs.Control.{kind_of, checked}
-use Rattle.mcs_control.specs.Context.{Context, Budget, new_context, context_charged, context_unblocked, context_ordered, head_amount, max_refills_of}
+use Rattle.mcs_control.specs.Context.{Context, Budget, new_context, context_charged, context_unblocked, context_woken, woken_by, chosen_by, context_ordered, head_amount, max_refills_of}
 use Rattle.mcs_control.specs.Context.Budget.{Dates, Slice}
 use Rattle.mcs_core.proofs.Budgets.{accepted-is, head-some}
 use Rattle.mcs_laws.specs.Changes.{Change, KeepsItsBudget, IsBudget, changed, changed_by, IsSound, AreSound}
-use Rattle.mcs_laws.specs.Changes.Change.{Charged, Unblocked, Ordered}
+use Rattle.mcs_laws.specs.Changes.Change.{Charged, Woken, Picked, Ordered}
 
 -- the head
 with_date-begins : (date : ℕ) (rs : List Refill) → server.first_moment (server.with_date date rs) ≡ date
@@ -66,6 +68,13 @@ head_amount-unblocked t context = by context.budget
     by (Dates dates) = head-unblocked t dates
     by (Slice left) = omega arith
 
+pub head_amount-woken : (t : ℕ) (context : Context) → head_amount context ≤ head_amount (context_woken t context)
+head_amount-woken t context = by context.mode
+  where
+    by : (mode : Mode) → head_amount context ≤ head_amount (woken_by mode t context)
+    by modes.Sporadic = head_amount-unblocked t context
+    by modes.Bandwidth = omega arith
+
 -- a context that keeps its budget has a head
 pub head_amount-some : (context : Context) → KeepsItsBudget context → 1 ≤ head_amount context
 head_amount-some context h = by context.budget h.whole
@@ -86,17 +95,29 @@ slice-charged k budget left p l m = by (left - k == 0) refl
     by true e = (p, omega arith)
     by false e = (grind (arith, nat_tests), omega arith)
 
+keeps-unblocked : (t : ℕ) (context : Context) → KeepsItsBudget context → KeepsItsBudget (context_unblocked t context)
+keeps-unblocked t context h = record { config = h.config; whole = by context.budget h.whole }
+  where
+    by : (budget : Budget) → IsWhole context.config budget → IsWhole context.config (context_unblocked t (record context { budget = budget })).budget
+    by (Dates dates) w = kept-unblocked context.config.budget context.config.period t dates w
+    by (Slice left) w = w
+
 pub keeps-change : (min_budget : ℕ) (change : Change) (context : Context) → KeepsItsBudget context → IsSound min_budget change context → KeepsItsBudget (changed min_budget context change)
 keeps-change min_budget (Charged k) context h s = record { config = h.config; whole = by context.budget h.whole }
   where
     by : (budget : Budget) → IsWhole context.config budget → IsWhole context.config (context_charged k min_budget (record context { budget = budget })).budget
     by (Dates dates) w = (kept-charged context.config.budget context.config.period (max_refills_of context.config) k min_budget dates s.0 w).1
     by (Slice left) w = slice-charged k context.config.budget left h.config.some w.0 w.1
-keeps-change min_budget (Unblocked t) context h s = record { config = h.config; whole = by context.budget h.whole }
+keeps-change min_budget (Woken t) context h s = by context.mode
   where
-    by : (budget : Budget) → IsWhole context.config budget → IsWhole context.config (context_unblocked t (record context { budget = budget })).budget
-    by (Dates dates) w = kept-unblocked context.config.budget context.config.period t dates w
-    by (Slice left) w = w
+    by : (mode : Mode) → KeepsItsBudget (woken_by mode t context)
+    by modes.Sporadic = keeps-unblocked t context h
+    by modes.Bandwidth = h
+keeps-change min_budget (Picked t) context h s = by context.mode
+  where
+    by : (mode : Mode) → KeepsItsBudget (chosen_by mode t context)
+    by modes.Sporadic = h
+    by modes.Bandwidth = keeps-unblocked t context h
 keeps-change min_budget (Ordered order) context h s = record { config = s; whole = by context.budget h.whole }
   where
     some : 1 ≤ order.config.budget
@@ -111,10 +132,10 @@ keeps-changes min_budget [] context h s = h
 keeps-changes min_budget (change ∷ changes) context h s = keeps-changes min_budget changes (changed min_budget context change) (keeps-change min_budget change context h s.0) s.1
 
 -- and a new one has it
-pub keeps-new : (config : Config) (at : ℕ) → IsBudget config → KeepsItsBudget (new_context config at)
-keeps-new config at h = record { config = h; whole = by (kind_of config) refl }
+pub keeps-new : (config : Config) (mode : Mode) (at : ℕ) → IsBudget config → KeepsItsBudget (new_context config mode at)
+keeps-new config mode at h = record { config = h; whole = by (kind_of config) refl }
   where
-    by : (kind : Kind) → kind_of config ≡ kind → IsWhole config (new_context config at).budget
+    by : (kind : Kind) → kind_of config ≡ kind → IsWhole config (new_context config mode at).budget
     by Sporadic e = rw e (kept-new config.budget config.period at h.fits)
     by RoundRobin e = rw e (h.some, omega arith)
 

@@ -10,9 +10,11 @@ pub mod Shown
 pub mod Slices
 pub mod Told
 pub mod Spaced
+pub mod Consumed
 pub mod Places
 pub mod OnTime
 pub mod Moments
 pub mod Spends
 pub mod Demand
+pub mod Bandwidth
 pub mod Taken

@@ -9,6 +9,7 @@ use Rattle.mcs_refills.specs.Server as server
 use Rattle.mcs_control.specs.declared.config.Config.{Config}
 use Rattle.mcs_control.specs.declared.config.Kind.{Kind}
 use Rattle.mcs_control.specs.declared.config.Kind.TheVariants.{Sporadic, RoundRobin}
+use Rattle.mcs_control.specs.declared.config.Mode.{Mode}
 use Rattle.mcs_control.specs.declared.config.Order.{Order}
 use Rattle.mcs_control.specs.Control.{kind_of}
 use Rattle.mcs_control.specs.Context.{head_moment, new_context, first_budget, moment_of}
@@ -45,8 +46,8 @@ start-is (part ∷ parts) (suc x) known sole =
     another a b s u e = grind (arith, nat_tests)
 
 -- a new context's head comes where it may be used from
-first-head : (config : Config) (at : ℕ) → head_moment (new_context config at) ≤ at
-first-head config at = by (kind_of config)
+first-head : (config : Config) (mode : Mode) (at : ℕ) → head_moment (new_context config mode at) ≤ at
+first-head config mode at = by (kind_of config)
   where
     first : (budget : ℕ) → server.first_date (server.dates_from at budget) ≤ at
     first zero = omega arith
@@ -143,7 +144,7 @@ module _ (system : System) (well : IsWellFormed system) (x : ℕ) (known : x < l
       omega (
         arith,
         ap head_moment (before-opening system well context bound),
-        first-head (context_part system context).config (start_of system.threads context),
+        first-head (context_part system context).config (context_part system context).mode (start_of system.threads context),
         start,
       )
 

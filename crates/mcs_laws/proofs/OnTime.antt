@@ -1,8 +1,11 @@
 -- Threads are ready and run where the dates of their contexts have come.
-use Rattle.std.proofs.Common.{◌≡◌, ◌≢◌, ℕ, suc, ◌+◌, ◌<◌, ◌≤◌, Bool, true, false, not, cond, List, [], ◌∷◌, ◌++◌, Option, Some, None, refl, sym, ap, subst, ◌∙◌, arith}
+use Rattle.std.proofs.Common.{◌≡◌, ◌≢◌, ℕ, suc, ◌+◌, ◌<◌, ◌≤◌, ◌⊎◌, inl, inr, Bool, true, false, not, cond, List, [], ◌∷◌, ◌++◌, length, set, get_or, Option, Some, None, refl, sym, ap, subst, ◌∙◌, arith}
 use Rattle.std.specs.Prelude.{filter, ◌==◌, nat_lt, nat_le}
 use Rattle.std.specs.List.{AllByRecursion}
+use Rattle.std.proofs.lemmas.Bool.{cases_lt}
 use Rattle.std.proofs.lemmas.Bool.Decides.{nat_tests}
+use Rattle.std.proofs.lemmas.List.{get_or_past}
+use Rattle.std.proofs.Math.ListN.{length-set}
 use Rattle.mcs_ticks.specs.Queue.{by_priority, first_of}
 use Rattle.mcs_ticks.specs.declared.queue.Queued.{Queued}
 use Rattle.mcs_ticks.specs.declared.row.Why.{Why}
@@ -14,7 +17,9 @@ use Rattle.mcs_notify.specs.declared.posted.Waited.{Waited}
 use Rattle.mcs_notify.specs.declared.posted.Waited.TheVariants.{Got, Blocks}
 use Rattle.mcs_release.specs.declared.dated.Dated.{Dated}
 use Rattle.mcs_control.specs.declared.config.Order.{Order}
-use Rattle.mcs_control.specs.Context.{Context, Budget, context_ready, budget_ready, moment_of, head_moment, head_amount}
+use Rattle.mcs_control.specs.declared.config.Mode.{Mode}
+use Rattle.mcs_control.specs.declared.config.Mode.TheVariants as modes
+use Rattle.mcs_control.specs.Context.{Context, Budget, context_chosen, chosen_by, budget_unblocked, context_ready, budget_ready, moment_of, head_moment, head_amount}
 use Rattle.mcs_control.specs.Context.Budget.{Dates, Slice}
 use Rattle.mcs_refills.specs.Server as server
 use Rattle.mcs_script.specs.declared.item.Item.{Item}
@@ -34,7 +39,7 @@ use Rattle.mcs_laws.specs.Places.{times_running, places}
 use Rattle.mcs_core.specs.Places.{times_queued, times_dated}
 use Rattle.mcs_laws.specs.OnTime.{IsOnTime, RunsInTime}
 use Rattle.mcs_laws.proofs.Places as held
-use Rattle.mcs_laws.proofs.Traces.{Same, same, set-other}
+use Rattle.mcs_laws.proofs.Traces.{Same, same, set-same, set-other}
 use Rattle.mcs_laws.proofs.Traces.Same.{Are, Differ}
 
 -- a thread counts once at itself
@@ -170,18 +175,18 @@ module _ (system : System) (t x : ℕ) where
   wakes-on_time : (y : ℕ) (k : Core) → (Owns y → places x k ≡ 0) → OnTime k → OnTime (turns.wakes by_priority system t y k).core
   wakes-on_time y k none h = enters_back-on_time y (turns.date_of system t y after) after (fits y after) (moves-on_time y (turns.move_of system y given) given (by (same (thread_part system y).context own_context)))
     where
-      unblocked : Core
-      unblocked = turns.unblocked system t y k
+      woken : Core
+      woken = turns.with_woken_context system t y k
 
       given : Core
-      given = turns.given t y (turns.unblocked system t y k)
+      given = turns.given t y (turns.with_woken_context system t y k)
 
       after : Core
       after = (turns.moves_on system t y given).core
 
-      by : Same (thread_part system y).context own_context → OnTime (turns.unblocked system t y k)
+      by : Same (thread_part system y).context own_context → OnTime (turns.with_woken_context system t y k)
       by (Are e own) = absent x _ (suc t) k.running k.ready k.releases (omega (arith, none own)) (omega (arith, none own)) (omega (arith, none own))
-      by (Differ e other) = moved (head k) (head (turns.unblocked system t y k)) (suc t) k.running k.ready k.releases (ap head_moment (sym (other-moment y k _ other))) h
+      by (Differ e other) = moved (head k) (head (turns.with_woken_context system t y k)) (suc t) k.running k.ready k.releases (ap head_moment (sym (other-moment y k _ other))) h
 
   -- a post: whom it wakes leaves the waiters
   woke-leaves : (note badge y word z : ℕ) (k : Core) → posted badge (note_of k note) ≡ Woke y word →
@@ -338,15 +343,78 @@ module _ (system : System) (t x : ℕ) where
   preempts_by-on_time (Some chosen) None k e alone h = h
   preempts_by-on_time None best k e alone h = h
 
-  chooses_of-on_time : (o : Option Chosen) (ready : List Queued) (k : Core) → k.ready ≡ ready → OnTime k → OnTime (turns.chooses_of by_priority system t o (first_of ready) k).core
-  chooses_of-on_time (Some chosen) ready k e h = h
-  chooses_of-on_time None [] k e h = h
-  chooses_of-on_time None (best ∷ others) k e h =
+  -- the context of a thread that is chosen
+  chosen-moment : (mode : Mode) (context : Context) → head_moment context ≤ t → head_moment (chosen_by mode t context) ≤ t
+  chosen-moment modes.Sporadic context l = l
+  chosen-moment modes.Bandwidth context l = by context.budget l
+    where
+      by : (budget : Budget) → moment_of budget ≤ t → moment_of (budget_unblocked t budget) ≤ t
+      by (Dates []) l = l
+      by (Dates (date ∷ dates)) l = omega (arith, l)
+      by (Slice left) l = l
+
+  chosen-head : (y : ℕ) (k : Core) → Owns y → head k ≤ t → head (turns.with_chosen_context system t y k) ≤ t
+  chosen-head y k own l = by (cases_lt own_context (length k.contexts))
+    where
+      n : ℕ
+      n = (thread_part system y).context
+
+      now : Context
+      now = turns.its_context system y k
+
+      next : Context
+      next = context_chosen t (turns.its_context system y k)
+
+      come : head_moment next ≤ t
+      come = chosen-moment now.mode now (let P : ℕ → Type 0 = λ m. head_moment (context_of k m) ≤ t in subst P (sym own) l)
+
+      past : length k.contexts ≤ own_context → get_or (set k.contexts n (Some next)) own_context None ≡ None
+      past m = get_or_past (set k.contexts n (Some next)) own_context None (omega (arith, length-set k.contexts n (Some next), m))
+
+      by : (own_context < length k.contexts) ⊎ (length k.contexts ≤ own_context) → head (turns.with_chosen_context system t y k) ≤ t
+      by (inl less) = rw (set-same own_context n k.contexts next own less) come
+      by (inr more) = rw (past more) (omega arith)
+
+  chosen-on_time : (best : Queued) (others : List Queued) (k : Core) → k.running ≡ None → k.ready ≡ best ∷ others → IsAlone k → OnTime k → OnTime (turns.with_chosen_context system t best.thread k)
+  chosen-on_time best others k idle e alone h = by (same (thread_part system best.thread).context own_context)
+    where
+      after : Core
+      after = turns.with_chosen_context system t best.thread k
+
+      queued : (y : ℕ) → times_queued y k.ready ≡ held.one y best.thread + times_queued y others
+      queued y = ap (times_queued y) e ∙ held.queued-cons y best others
+
+      runs : (o : Option Chosen) → o ≡ None → (m : ℕ) → RunsInTime x m (suc t) o
+      runs None f m = tt
+      runs (Some chosen) f m = cc
+
+      its : Owns best.thread → best.thread ≡ x
+      its own = one-is best.thread x (omega (arith, alone best.thread own, queued best.thread, one-same best.thread best.thread refl))
+
+      by : Same (thread_part system best.thread).context own_context → OnTime (turns.with_chosen_context system t best.thread k)
+      by (Are f own) =
+          let here : 1 ≤ times_queued x k.ready = omega (arith, queued x, one-same best.thread x (its own)) in
+          let come : head k ≤ t = omega (arith, h.ready here) in
+          let next = chosen-head best.thread k own come in
+          record {
+            runs = runs k.running idle (head after);
+            ready = λ l. omega (arith, next);
+            pends = none-dated x (head after) k.releases (omega (arith, alone x refl, here, one-same x x refl));
+          }
+      by (Differ f other) =
+          moved (head k) (head (turns.with_chosen_context system t best.thread k)) (suc t) k.running k.ready k.releases (ap head_moment (sym (other-moment best.thread k _ other))) h
+
+  chooses_of-on_time : (o : Option Chosen) (ready : List Queued) (k : Core) → k.running ≡ o → k.ready ≡ ready → IsAlone k → OnTime k →
+      OnTime (turns.chooses_of by_priority system t o (first_of ready) k).core
+  chooses_of-on_time (Some chosen) ready k r e alone h = h
+  chooses_of-on_time None [] k r e alone h = h
+  chooses_of-on_time None (best ∷ others) k r e alone h =
       let chosen : times_queued x k.ready ≡ held.one x best.thread + times_queued x others = ap (times_queued x) e ∙ held.queued-cons x best others in
+      let g = chosen-on_time best others k r e alone h in
       record {
-        runs = λ own. omega (arith, h.ready (omega (arith, chosen, one-same best.thread x own)));
-        ready = λ l. h.ready (omega (arith, chosen, rest l));
-        pends = h.pends;
+        runs = λ own. omega (arith, g.ready (omega (arith, chosen, one-same best.thread x own)));
+        ready = λ l. g.ready (omega (arith, chosen, rest l));
+        pends = g.pends;
       }
     where
       rest : 1 ≤ times_queued x (turns.chooses_of by_priority system t None (Some best) k).core.ready → 1 ≤ times_queued x others
@@ -492,8 +560,11 @@ module _ (system : System) (c t x : ℕ) where
       four : On fourth × Alone fourth
       four = (releases-on_time system t x third three.0, alone-less system t x third fourth (λ z. held.releases-held system t z third) three.1)
 
-      five : On fifth
-      five = preempts_by-on_time system t x fourth.running (first_of fourth.ready) fourth refl four.1 four.0
+      five : On fifth × Alone fifth
+      five = (
+        preempts_by-on_time system t x fourth.running (first_of fourth.ready) fourth refl four.1 four.0,
+        alone-less system t x fourth fifth (λ z. held.preempts_by-held system t z fourth.running (first_of fourth.ready) fourth refl) four.1,
+      )
 
       last : On (turns.turn_with by_priority system c t mails k).core
-      last = chooses_of-on_time system t x fifth.running fifth.ready fifth refl five
+      last = chooses_of-on_time system t x fifth.running fifth.ready fifth refl refl five.1 five.0

@@ -188,11 +188,11 @@ module _ (system : System) (t y : ℕ) where
   wakes-held : (x : ℕ) (k : Core) → held (turns.wakes by_priority system t x k).core ≡ held k + one y x
   wakes-held x k =
       enters_back-held x _ _
-      ∙ ap (λ n. n + one y x) (moves-held x (turns.move_of system x (turns.given t x (turns.unblocked system t x k))) (turns.given t x (turns.unblocked system t x k)))
+      ∙ ap (λ n. n + one y x) (moves-held x (turns.move_of system x (turns.given t x (turns.with_woken_context system t x k))) (turns.given t x (turns.with_woken_context system t x k)))
 
   wakes-running : (x : ℕ) (k : Core) → (turns.wakes by_priority system t x k).core.running ≡ k.running
   wakes-running x k =
-      enters_back-running x _ _ ∙ moves-running x (turns.move_of system x (turns.given t x (turns.unblocked system t x k))) (turns.given t x (turns.unblocked system t x k))
+      enters_back-running x _ _ ∙ moves-running x (turns.move_of system x (turns.given t x (turns.with_woken_context system t x k))) (turns.given t x (turns.with_woken_context system t x k))
 
   posts_as-held : (note badge : ℕ) (p : Posted) (k : Core) → posted badge (note_of k note) ≡ p → held (turns.posts_as by_priority system t note p k).core ≤ held k
   posts_as-held note badge (Woke x word) k e =

@@ -1,5 +1,5 @@
 -- At each moment each context shows its whole budget.
-use Rattle.std.proofs.Common.{◌≡◌, ℕ, ◌<◌, ◌≤◌, Bool, true, false, cond, length, Option, Some, None, refl, ap, subst, arith}
+use Rattle.std.proofs.Common.{◌≡◌, ℕ, ◌≤◌, Bool, true, false, cond, Option, Some, None, refl, subst, arith}
 use Rattle.std.specs.Prelude.{◌==◌}
 use Rattle.std.proofs.lemmas.Bool.Decides.{nat_tests}
 use Rattle.mcs_control.specs.declared.config.Config.{Config}
@@ -11,8 +11,7 @@ use Rattle.mcs_system.specs.WellFormed.{IsWellFormed}
 use Rattle.mcs_core.specs.declared.standing.Chosen.{Chosen}
 use Rattle.mcs_core.specs.Views.{using_of}
 use Rattle.mcs_laws.specs.Histories as told
-use Rattle.mcs_laws.specs.InForce.{HasTheBudgetInForce}
-use Rattle.mcs_laws.specs.Shown.{ItsThreadRuns, IsShown, view_before, ContextsAreShown}
+use Rattle.mcs_laws.specs.Shown.{ItsThreadRuns, view_before, ContextsAreShown}
 use Rattle.mcs_laws.proofs.Histories.{budgets-kept}
 use Rattle.mcs_laws.proofs.InForce.{has-the-budget}
 

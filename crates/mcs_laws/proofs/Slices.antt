@@ -6,18 +6,18 @@ use Rattle.mcs_refills.specs.Slice.{slice_charged, AreWithin, left_after_all, ti
 use Rattle.mcs_refills.proofs.Slices.{spent}
 use Rattle.mcs_control.specs.declared.config.Config.{Config}
 use Rattle.mcs_control.specs.declared.config.Kind.{Kind}
-use Rattle.mcs_control.specs.declared.config.Kind.TheVariants.{RoundRobin}
+use Rattle.mcs_control.specs.declared.config.Mode.{Mode}
+use Rattle.mcs_control.specs.declared.config.Mode.TheVariants as modes
 use Rattle.mcs_control.specs.declared.config.Order.{Order}
-use Rattle.mcs_control.specs.Control.{kind_of}
-use Rattle.mcs_control.specs.Context.{Context, Budget, first_budget}
+use Rattle.mcs_control.specs.Context.{Context, first_budget}
 use Rattle.mcs_control.specs.Context.Budget.{Slice}
 use Rattle.mcs_system.specs.System.{System, context_part, start_of}
 use Rattle.mcs_system.specs.WellFormed.{IsWellFormed}
 use Rattle.mcs_core.specs.Turn.{is_for_now}
-use Rattle.mcs_laws.specs.Changes.{Change, charges_of, orders_of, changed, changed_by, AreSound}
-use Rattle.mcs_laws.specs.Changes.Change.{Charged, Unblocked, Ordered}
+use Rattle.mcs_laws.specs.Changes.{Change, charges_of, orders_of, changed_by, AreSound}
+use Rattle.mcs_laws.specs.Changes.Change.{Charged, Woken, Picked, Ordered}
 use Rattle.mcs_laws.specs.Histories as told
-use Rattle.mcs_laws.specs.Slices.{charges_from, HasLeft, HasSlices, IsCharged, IsOneSlice, SlicesAreCharged, SlicesAreSpent}
+use Rattle.mcs_laws.specs.Slices.{charges_from, HasSlices, IsCharged, IsOneSlice, SlicesAreCharged, SlicesAreSpent}
 use Rattle.mcs_laws.proofs.Ranges.{by_recursion, flat_map-range-more}
 use Rattle.mcs_laws.proofs.Kept.{changed_by-append, sound-append}
 use Rattle.mcs_laws.proofs.Traces.{carry, charges_of-append, orders_of-append}
@@ -25,23 +25,32 @@ use Rattle.mcs_laws.proofs.Spaced.{no_orders_at}
 use Rattle.mcs_laws.proofs.InForce.{history}
 
 -- what changes without an order do to a slice
-record AreCharges (least : ℕ) (changes : List Change) (config : Config) (left : ℕ) : Type 0 where
-  slice : changed_by least changes (record { config = config; budget = Slice left }) ≡ record { config = config; budget = Slice (left_after_all (charges_of changes) config.budget left) }
+record AreCharges (least : ℕ) (changes : List Change) (config : Config) (mode : Mode) (left : ℕ) : Type 0 where
+  slice : changed_by least changes (record { config = config; mode = mode; budget = Slice left }) ≡ record { config = config; mode = mode; budget = Slice (left_after_all (charges_of changes) config.budget left) }
   within : AreWithin (charges_of changes) config.budget left
 
 no_order : (order : Order) (orders : List Order) → order ∷ orders ≡ [] → ⊥
 no_order order orders e = cc
 
-are-charges : (least : ℕ) (changes : List Change) (config : Config) (left : ℕ) → orders_of changes ≡ [] → AreSound least changes (record { config = config; budget = Slice left }) →
-    AreCharges least changes config left
-are-charges least [] config left e s = record { slice = refl; within = tt }
-are-charges least (Charged k ∷ changes) config left e s =
-    let h = are-charges least changes config (slice_charged k config.budget left) e s.1 in
+are-charges : (least : ℕ) (changes : List Change) (config : Config) (mode : Mode) (left : ℕ) → orders_of changes ≡ [] → AreSound least changes (record { config = config; mode = mode; budget = Slice left }) →
+    AreCharges least changes config mode left
+are-charges least [] config mode left e s = record { slice = refl; within = tt }
+are-charges least (Charged k ∷ changes) config mode left e s =
+    let h = are-charges least changes config mode (slice_charged k config.budget left) e s.1 in
     record { slice = h.slice; within = (s.0.0, s.0.1, h.within) }
-are-charges least (Unblocked t ∷ changes) config left e s =
-    let h = are-charges least changes config left e s.1 in
+are-charges least (Woken t ∷ changes) config modes.Sporadic left e s =
+    let h = are-charges least changes config modes.Sporadic left e s.1 in
     record { slice = h.slice; within = h.within }
-are-charges least (Ordered order ∷ changes) config left e s = absurd (no_order order (orders_of changes) e)
+are-charges least (Woken t ∷ changes) config modes.Bandwidth left e s =
+    let h = are-charges least changes config modes.Bandwidth left e s.1 in
+    record { slice = h.slice; within = h.within }
+are-charges least (Picked t ∷ changes) config modes.Sporadic left e s =
+    let h = are-charges least changes config modes.Sporadic left e s.1 in
+    record { slice = h.slice; within = h.within }
+are-charges least (Picked t ∷ changes) config modes.Bandwidth left e s =
+    let h = are-charges least changes config modes.Bandwidth left e s.1 in
+    record { slice = h.slice; within = h.within }
+are-charges least (Ordered order ∷ changes) config mode left e s = absurd (no_order order (orders_of changes) e)
 
 -- the changes of all turns from a moment on
 module _ (system : System) (x : ℕ) (history : told.History system x) (unordered : told.IsNeverReconfigured system x) where
@@ -94,17 +103,20 @@ module _ (system : System) (well : IsWellFormed system) (x : ℕ) (has : HasSlic
   abbrev config : Config
   config = (context_part system x).config
 
+  abbrev mode : Mode
+  mode = (context_part system x).mode
+
   abbrev past : told.History system x
   past = history system well x has.known
 
   abbrev slice : ℕ → Context
-  slice left = record { config = config; budget = Slice left }
+  slice left = record { config = config; mode = mode; budget = Slice left }
 
   -- over any moments, from what is left before them
   charged : (from n left : ℕ) → told.context_before system x from ≡ slice left →
-      AreCharges system.min_budget (changes system x past has.unordered from n) config left
+      AreCharges system.min_budget (changes system x past has.unordered from n) config mode left
   charged from n left e =
-      are-charges system.min_budget (changes system x past has.unordered from n) config left (no-orders system x past has.unordered from n)
+      are-charges system.min_budget (changes system x past has.unordered from n) config mode left (no-orders system x past has.unordered from n)
       (subst (AreSound system.min_budget (changes system x past has.unordered from n)) e (all-sound system x past has.unordered from n))
 
   next-slice : (from n left : ℕ) → told.context_before system x from ≡ slice left →
@@ -115,7 +127,7 @@ module _ (system : System) (well : IsWellFormed system) (x : ℕ) (has : HasSlic
       ∙ ap (λ ks. slice (left_after_all ks config.budget left)) (sym (all-charges system x past has.unordered from n))
 
   first-slice : told.context_before system x 0 ≡ slice config.budget
-  first-slice = past.opening ∙ ap (λ (kind : Kind). record { config = config; budget = first_budget kind (start_of system.threads x) config.budget }) has.kind
+  first-slice = past.opening ∙ ap (λ (kind : Kind). record { config = config; mode = mode; budget = first_budget kind (start_of system.threads x) config.budget }) has.kind
 
   abbrev left-at : ℕ → ℕ
   left-at t = left_after_all (charges_from system x 0 t) config.budget config.budget

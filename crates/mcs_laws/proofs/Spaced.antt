@@ -8,6 +8,8 @@ use Rattle.mcs_refills.specs.laws.Spacing.{Step, consumed, AreProper, IsSpaced}
 use Rattle.mcs_refills.specs.laws.Spacing.Step.{Charge, Unblock}
 use Rattle.mcs_refills.proofs.Spaces.{consumed-spaced, kept-new}
 use Rattle.mcs_control.specs.declared.config.Config.{Config}
+use Rattle.mcs_control.specs.declared.config.Mode.{Mode}
+use Rattle.mcs_control.specs.declared.config.Mode.TheVariants as modes
 use Rattle.mcs_control.specs.declared.config.Order.{Order}
 use Rattle.mcs_control.specs.declared.config.Kind.TheVariants.{Sporadic}
 use Rattle.mcs_control.specs.Control.{kind_of}
@@ -17,7 +19,7 @@ use Rattle.mcs_system.specs.System.{System, context_part, no_context, start_of}
 use Rattle.mcs_system.specs.WellFormed.{IsWellFormed}
 use Rattle.mcs_core.specs.Turn.{is_for_now}
 use Rattle.mcs_laws.specs.Changes.{Change, orders_of, changed_by, AreSound, taken_by}
-use Rattle.mcs_laws.specs.Changes.Change.{Charged, Unblocked, Ordered}
+use Rattle.mcs_laws.specs.Changes.Change.{Charged, Woken, Picked, Ordered}
 use Rattle.mcs_laws.specs.Histories as told
 use Rattle.mcs_laws.proofs.Ranges.{by_recursion, flat_map-moments-more}
 use Rattle.mcs_laws.proofs.Histories.{gives-budgets}
@@ -25,31 +27,43 @@ use Rattle.mcs_laws.proofs.Kept.{changed_by-append, sound-append}
 use Rattle.mcs_laws.proofs.Traces.{carry, orders_of-append}
 
 -- charges and unblocking as steps of a server
-steps_of : ℕ → List Change → List Step
-steps_of least [] = []
-steps_of least (Charged k ∷ changes) = Charge k least ∷ steps_of least changes
-steps_of least (Unblocked t ∷ changes) = Unblock t ∷ steps_of least changes
-steps_of least (Ordered order ∷ changes) = steps_of least changes
+pub steps_of : ℕ → Mode → List Change → List Step
+steps_of least mode [] = []
+steps_of least mode (Charged k ∷ changes) = Charge k least ∷ steps_of least mode changes
+steps_of least modes.Sporadic (Woken t ∷ changes) = Unblock t ∷ steps_of least modes.Sporadic changes
+steps_of least modes.Bandwidth (Woken t ∷ changes) = steps_of least modes.Bandwidth changes
+steps_of least modes.Sporadic (Picked t ∷ changes) = steps_of least modes.Sporadic changes
+steps_of least modes.Bandwidth (Picked t ∷ changes) = Unblock t ∷ steps_of least modes.Bandwidth changes
+steps_of least mode (Ordered order ∷ changes) = steps_of least mode changes
 
 -- changes without an order
-record AreSteps (least : ℕ) (changes : List Change) (config : Config) (dates : List ℕ) : Type 0 where
-  proper : AreProper (steps_of least changes)
-  same : taken_by least changes (record { config = config; budget = Dates dates }) ≡ consumed config.period (max_refills_of config) (steps_of least changes) dates
+pub record AreSteps (least : ℕ) (changes : List Change) (config : Config) (mode : Mode) (dates : List ℕ) : Type 0 where
+  pub proper : AreProper (steps_of least mode changes)
+  pub same : taken_by least changes (record { config = config; mode = mode; budget = Dates dates }) ≡ consumed config.period (max_refills_of config) (steps_of least mode changes) dates
 
 no_order : (order : Order) (orders : List Order) → order ∷ orders ≡ [] → ⊥
 no_order order orders e = cc
 
-are_steps : (least : ℕ) (changes : List Change) (config : Config) (dates : List ℕ) → orders_of changes ≡ [] → AreSound least changes (record { config = config; budget = Dates dates }) →
-    AreSteps least changes config dates
+pub are_steps : (least : ℕ) (changes : List Change) (config : Config) (mode : Mode) (dates : List ℕ) → orders_of changes ≡ [] →
+    AreSound least changes (record { config = config; mode = mode; budget = Dates dates }) → AreSteps least changes config mode dates
 unfolding steps_of
-are_steps least [] config dates e s = record { proper = tt; same = refl }
-are_steps least (Charged k ∷ changes) config dates e s =
-    let h = are_steps least changes config (with_enough least (charged k config.period (max_refills_of config) dates)) e s.1 in
+are_steps least [] config mode dates e s = record { proper = tt; same = refl }
+are_steps least (Charged k ∷ changes) config mode dates e s =
+    let h = are_steps least changes config mode (with_enough least (charged k config.period (max_refills_of config) dates)) e s.1 in
     record { proper = (s.0.0, h.proper); same = ap (λ ds. take k dates ++ ds) h.same }
-are_steps least (Unblocked t ∷ changes) config dates e s =
-    let h = are_steps least changes config (unblocked t dates) e s.1 in
+are_steps least (Woken t ∷ changes) config modes.Sporadic dates e s =
+    let h = are_steps least changes config modes.Sporadic (unblocked t dates) e s.1 in
     record { proper = (tt, h.proper); same = h.same }
-are_steps least (Ordered order ∷ changes) config dates e s = absurd (no_order order (orders_of changes) e)
+are_steps least (Woken t ∷ changes) config modes.Bandwidth dates e s =
+    let h = are_steps least changes config modes.Bandwidth dates e s.1 in
+    record { proper = h.proper; same = h.same }
+are_steps least (Picked t ∷ changes) config modes.Sporadic dates e s =
+    let h = are_steps least changes config modes.Sporadic dates e s.1 in
+    record { proper = h.proper; same = h.same }
+are_steps least (Picked t ∷ changes) config modes.Bandwidth dates e s =
+    let h = are_steps least changes config modes.Bandwidth (unblocked t dates) e s.1 in
+    record { proper = (tt, h.proper); same = h.same }
+are_steps least (Ordered order ∷ changes) config mode dates e s = absurd (no_order order (orders_of changes) e)
 
 -- no order for the context
 pub no_orders_at : (x : ℕ) (p : Order → Bool) (orders : List Order) → AllByRecursion (λ (order : Order). order.context ≢ x) orders → filter (told.is_order_for x) (filter p orders) ≡ []
@@ -101,22 +115,25 @@ changes-spaced system well x known kind changes none sound = rw opening (rw step
     config : Config
     config = (context_part system x).config
 
+    mode : Mode
+    mode = (context_part system x).mode
+
     at : ℕ
     at = start_of system.threads x
 
-    opening : told.opening_context system x ≡ record { config = config; budget = Dates (dates_from at config.budget) }
+    opening : told.opening_context system x ≡ record { config = config; mode = mode; budget = Dates (dates_from at config.budget) }
     opening = rw kind refl
 
     fits : config.budget ≤ config.period
     fits = ((gives-budgets system well).contexts x no_context known).fits
 
-    steps : AreSteps system.min_budget changes config (dates_from at config.budget)
-    steps = are_steps system.min_budget changes config (dates_from at config.budget) none
-        (carry (AreSound system.min_budget changes) (told.opening_context system x) (record { config = config; budget = Dates (dates_from at config.budget) }) opening sound)
+    steps : AreSteps system.min_budget changes config mode (dates_from at config.budget)
+    steps = are_steps system.min_budget changes config mode (dates_from at config.budget) none
+        (carry (AreSound system.min_budget changes) (told.opening_context system x) (record { config = config; mode = mode; budget = Dates (dates_from at config.budget) }) opening sound)
 
-    spaced : IsSpaced config.budget config.period (consumed config.period (max_refills_of config) (steps_of system.min_budget changes) (dates_from at config.budget))
+    spaced : IsSpaced config.budget config.period (consumed config.period (max_refills_of config) (steps_of system.min_budget mode changes) (dates_from at config.budget))
     spaced =
-        consumed-spaced config.budget config.period (max_refills_of config) (steps_of system.min_budget changes) (dates_from at config.budget)
+        consumed-spaced config.budget config.period (max_refills_of config) (steps_of system.min_budget mode changes) (dates_from at config.budget)
         (kept-new config.budget config.period at fits) steps.proper
 
 -- no order comes where the system has none for the context

@@ -7,10 +7,12 @@ use Rattle.std.proofs.lemmas.List.{length-append, length-take-le, get_or-append-
 use Rattle.std.proofs.lemmas.List.Sums.{sum_by-cons}
 use Rattle.mcs_refills.specs.Server as server
 use Rattle.mcs_refills.specs.laws.Spacing.{IsSpaced}
-use Rattle.mcs_control.specs.Context.{Context, Budget, head_amount, head_moment, amount_of, moment_of, budget_charged, budget_unblocked, budget_ordered}
+use Rattle.mcs_control.specs.Context.{Context, Budget, head_amount, head_moment, amount_of, moment_of, budget_charged, budget_unblocked, context_unblocked, woken_by, chosen_by, budget_ordered}
 use Rattle.mcs_control.specs.Context.Budget.{Dates, Slice}
+use Rattle.mcs_control.specs.declared.config.Mode.{Mode}
+use Rattle.mcs_control.specs.declared.config.Mode.TheVariants as modes
 use Rattle.mcs_laws.specs.Changes.{Change, charges_of, dates_in, changed, changed_by, AreSound, dates_taken, taken_by}
-use Rattle.mcs_laws.specs.Changes.Change.{Charged, Unblocked, Ordered}
+use Rattle.mcs_laws.specs.Changes.Change.{Charged, Woken, Picked, Ordered}
 use Rattle.mcs_laws.specs.Demand.{periods_begun}
 use Rattle.mcs_laws.proofs.Kept.{head-more}
 
@@ -25,7 +27,7 @@ head-length (date ∷ next ∷ dates) = omega (arith, head-more date next dates,
     by false l = omega arith
 
 -- and its dates follow one another
-head-place : (dates : List ℕ) (i : ℕ) → i < server.head_amount dates → slice_index dates i ≡ server.first_date dates + i
+pub head-place : (dates : List ℕ) (i : ℕ) → i < server.head_amount dates → slice_index dates i ≡ server.first_date dates + i
 head-place [] i l = absurd (omega (arith, l))
 head-place (date ∷ dates) zero l = omega arith
 head-place (date ∷ []) (suc i) l = absurd (omega (arith, l))
@@ -85,6 +87,13 @@ abbrev pub IsDates : Budget → Type 0
 IsDates (Dates dates) = Unit {0}
 IsDates (Slice left) = ⊥
 
+unblocked-stays : (t : ℕ) (context : Context) → IsDates context.budget → IsDates (context_unblocked t context).budget
+unblocked-stays t context d = by context.budget d
+  where
+    by : (budget : Budget) → IsDates budget → IsDates (budget_unblocked t budget)
+    by (Dates dates) d = tt
+    by (Slice left) d = absurd d
+
 module _ (least : ℕ) where
   stays : (change : Change) (context : Context) → IsDates context.budget → IsDates (changed least context change).budget
   stays (Charged k) context d = by context.budget d
@@ -92,27 +101,32 @@ module _ (least : ℕ) where
       by : (budget : Budget) → IsDates budget → IsDates (budget_charged k least context.config budget)
       by (Dates dates) d = tt
       by (Slice left) d = absurd d
-  stays (Unblocked t) context d = by context.budget d
+  stays (Woken t) context d = by context.mode
     where
-      by : (budget : Budget) → IsDates budget → IsDates (budget_unblocked t budget)
-      by (Dates dates) d = tt
-      by (Slice left) d = absurd d
+      by : (mode : Mode) → IsDates (woken_by mode t context).budget
+      by modes.Sporadic = unblocked-stays t context d
+      by modes.Bandwidth = d
+  stays (Picked t) context d = by context.mode
+    where
+      by : (mode : Mode) → IsDates (chosen_by mode t context).budget
+      by modes.Sporadic = d
+      by modes.Bandwidth = unblocked-stays t context d
   stays (Ordered order) context d = by context.budget d
     where
       by : (budget : Budget) → IsDates budget → IsDates (budget_ordered order.moment order.config budget)
       by (Dates dates) d = tt
       by (Slice left) d = absurd d
 
-  all-stay : (changes : List Change) (context : Context) → IsDates context.budget → IsDates (changed_by least changes context).budget
+  pub all-stay : (changes : List Change) (context : Context) → IsDates context.budget → IsDates (changed_by least changes context).budget
   all-stay [] context d = d
   all-stay (change ∷ changes) context d = all-stay changes (changed least context change) (stays change context d)
 
-  head-within : (budget : Budget) → IsDates budget → amount_of budget ≤ length (dates_in budget)
+  pub head-within : (budget : Budget) → IsDates budget → amount_of budget ≤ length (dates_in budget)
   head-within (Dates dates) d = head-length dates
   head-within (Slice left) d = absurd d
 
   -- sound charges take as many dates as they say
-  taken-length : (changes : List Change) (context : Context) → IsDates context.budget → AreSound least changes context → length (taken_by least changes context) ≡ sum (charges_of changes)
+  pub taken-length : (changes : List Change) (context : Context) → IsDates context.budget → AreSound least changes context → length (taken_by least changes context) ≡ sum (charges_of changes)
   taken-length [] context d s = refl
   taken-length (Charged k ∷ changes) context d s =
       let others = taken_by least changes (changed least context (Charged k)) in
@@ -124,10 +138,11 @@ module _ (least : ℕ) where
         taken-length changes (changed least context (Charged k)) (stays (Charged k) context d) s.1,
         sum_by-cons (λ n. n) k (charges_of changes),
       )
-  taken-length (Unblocked t ∷ changes) context d s = taken-length changes (changed least context (Unblocked t)) (stays (Unblocked t) context d) s.1
+  taken-length (Woken t ∷ changes) context d s = taken-length changes (changed least context (Woken t)) (stays (Woken t) context d) s.1
+  taken-length (Picked t ∷ changes) context d s = taken-length changes (changed least context (Picked t)) (stays (Picked t) context d) s.1
   taken-length (Ordered order ∷ changes) context d s = taken-length changes (changed least context (Ordered order)) (stays (Ordered order) context d) s.1
 
-  taken-append : (xs ys : List Change) (context : Context) → taken_by least (xs ++ ys) context ≡ taken_by least xs context ++ taken_by least ys (changed_by least xs context)
+  pub taken-append : (xs ys : List Change) (context : Context) → taken_by least (xs ++ ys) context ≡ taken_by least xs context ++ taken_by least ys (changed_by least xs context)
   taken-append [] ys context = refl
   taken-append (x ∷ xs) ys context =
       ap (λ dates. dates_taken least x context ++ dates) (taken-append xs ys (changed least context x))

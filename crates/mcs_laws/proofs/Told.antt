@@ -1,5 +1,5 @@
 -- The charges that the rows of a schedule tell are those of the turns.
-use Rattle.std.proofs.Common.{◌≡◌, ◌≢◌, ℕ, zero, suc, ◌+◌, ◌-◌, ◌<◌, ◌≤◌, ◌⊎◌, inl, inr, Bool, true, false, cond, List, [], ◌∷◌, ◌++◌, length, map, min, refl, sym, ap, ◌∙◌, append-nil, arith}
+use Rattle.std.proofs.Common.{◌≡◌, ◌≢◌, ℕ, zero, suc, ◌+◌, ◌-◌, ◌<◌, ◌≤◌, ◌⊎◌, inl, inr, Bool, true, false, cond, List, [], ◌∷◌, ◌++◌, map, min, refl, sym, ap, ◌∙◌, append-nil, arith}
 use Rattle.std.specs.Prelude.{flat_map, ◌==◌, ◌&&◌, nat_lt, nat_le}
 use Rattle.std.specs.List.{range_with_len}
 use Rattle.std.proofs.lemmas.Bool.{cases_lt}
@@ -12,7 +12,7 @@ use Rattle.mcs_system.specs.WellFormed.{IsWellFormed}
 use Rattle.mcs_core.specs.Clock.{clock, turn_of, rows_of}
 use Rattle.mcs_laws.specs.Turns.{cores, RowsAreOfTurns}
 use Rattle.mcs_laws.specs.Histories as told
-use Rattle.mcs_laws.specs.Slices.{charges_from, charges_in, charge_in, SchedulesTellCharges}
+use Rattle.mcs_laws.specs.Slices.{charges_from, charge_in, SchedulesTellCharges}
 use Rattle.mcs_laws.proofs.Ranges.{flat_map-range-more}
 use Rattle.mcs_core.proofs.Clock.{rows-clock}
 use Rattle.mcs_laws.proofs.Histories.{takes-time}

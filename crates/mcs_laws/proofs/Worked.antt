@@ -6,6 +6,8 @@ use Rattle.mcs_control.specs.declared.config.Order.{Order}
 use Rattle.mcs_control.specs.Context.{head_moment, head_amount}
 use Rattle.mcs_script.specs.declared.item.Item.{Item}
 use Rattle.mcs_script.specs.declared.item.Item.TheVariants.{Compute, Signal, Wait}
+use Rattle.mcs_control.specs.declared.config.Mode.{Mode}
+use Rattle.mcs_control.specs.declared.config.Mode.TheVariants as mode
 use Rattle.mcs_system.specs.declared.part.ContextPart.{ContextPart}
 use Rattle.mcs_system.specs.declared.part.ThreadPart.{ThreadPart}
 use Rattle.mcs_system.specs.System.{System}
@@ -37,7 +39,7 @@ at_each_tick : periods_begun 7 1 ≡ 7
 at_each_tick = refl
 
 abbrev context : ℕ → ℕ → ContextPart
-context budget period = record { name = []; core = 0; config = record { budget = budget; period = period; extra = 0 } }
+context budget period = record { name = []; core = 0; config = record { budget = budget; period = period; extra = 0 }; mode = mode.Sporadic }
 
 abbrev thread : ℕ → ℕ → List Item → ThreadPart
 thread context priority script = record { name = []; context = context; priority = priority; start = 0; rounds = 1; deadline = 0; script = script }
@@ -116,7 +118,7 @@ ordered =
       delay = 1;
       call = 1;
       min_budget = 1;
-      contexts = record { name = []; core = 0; config = config 10 100 } ∷ record { name = []; core = 0; config = config 5 30 } ∷ [];
+      contexts = record { name = []; core = 0; config = config 10 100; mode = mode.Sporadic } ∷ record { name = []; core = 0; config = config 5 30; mode = mode.Sporadic } ∷ [];
       notes = [];
       threads = [];
       orders = order 9 0 (config 4 20) ∷ order 4 0 (config 6 50) ∷ order 2 1 (config 3 30) ∷ order 4 0 (config 8 40) ∷ [];
@@ -138,3 +140,19 @@ the_latest_and_not_the_last_of_the_file = refl
 
 of_the_other_context : config_in_force ordered 1 10 ≡ config 3 30
 of_the_other_context = refl
+
+-- A thread of budget 4 in 10 that a better one keeps from running until 6: a sporadic context then gives it twice its budget without a
+-- break, and in bandwidth mode it runs for 4 ticks of these 8.
+abbrev kept_waiting : Mode → System
+kept_waiting how =
+    one_core (record { name = []; core = 0; config = record { budget = 4; period = 10; extra = 0 }; mode = how } ∷ context 6 20 ∷ []) (thread 0 5 (Compute 20 ∷ []) ∷ thread 1 9 (Compute 6 ∷ []) ∷ [])
+
+sporadic_runs_two_budgets : ticks_run (kept_waiting mode.Sporadic) 0 6 ∷ ticks_run (kept_waiting mode.Sporadic) 0 14 ∷ [] ≡ 0 ∷ 8 ∷ []
+sporadic_runs_two_budgets = refl
+
+bandwidth_runs_one : ticks_run (kept_waiting mode.Bandwidth) 0 6 ∷ ticks_run (kept_waiting mode.Bandwidth) 0 14 ∷ [] ≡ 0 ∷ 4 ∷ []
+bandwidth_runs_one = refl
+
+-- the bound is met, and a tick more would be too much for a stretch of a period and a tick
+bandwidth_runs_again : ticks_run (kept_waiting mode.Bandwidth) 0 16 ∷ ticks_run (kept_waiting mode.Bandwidth) 0 17 ∷ [] ≡ 4 ∷ 5 ∷ []
+bandwidth_runs_again = refl

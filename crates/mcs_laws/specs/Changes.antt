@@ -1,38 +1,50 @@
 -- What is done to a context over time, and what it keeps.
 use Rattle.std.specs.Prelude.{ℕ, ◌≤◌, List, [], ◌∷◌, ◌++◌, flat_map, take, fold}
-use Rattle.mcs_refills.specs.laws.Spacing.{AreKept}
 use Rattle.mcs_control.specs.declared.config.Config.{Config}
 use Rattle.mcs_control.specs.declared.config.Order.{Order}
 use Rattle.mcs_control.specs.laws.Contexts.{IsWhole}
-use Rattle.mcs_control.specs.Context.{Context, Budget, context_charged, context_unblocked, context_ordered, head_amount}
+use Rattle.mcs_control.specs.Context.{Context, Budget, context_charged, context_woken, context_chosen, context_ordered, head_amount}
 use Rattle.mcs_control.specs.Context.Budget.{Dates, Slice}
 
--- a charge of some ticks, unblocking at a moment, and an order
+-- a charge of some ticks, a wake and a choice of its thread at a moment, and an order
 pub data Change : Type 0 where
   Charged : ℕ → Change
-  Unblocked : ℕ → Change
+  Woken : ℕ → Change
+  Picked : ℕ → Change
   Ordered : Order → Change
 
--- the charges of changes, the moments at which they unblock, and their orders
+-- the charges of changes, the moments of wakes and of choices, and the orders
 abbrev pub charge_of : Change → List ℕ
 charge_of (Charged k) = k ∷ []
-charge_of (Unblocked t) = []
+charge_of (Woken t) = []
+charge_of (Picked t) = []
 charge_of (Ordered order) = []
 
 abbrev pub charges_of : List Change → List ℕ
 charges_of changes = flat_map charge_of changes
 
-abbrev pub unblock_of : Change → List ℕ
-unblock_of (Charged k) = []
-unblock_of (Unblocked t) = t ∷ []
-unblock_of (Ordered order) = []
+abbrev pub wake_of : Change → List ℕ
+wake_of (Charged k) = []
+wake_of (Woken t) = t ∷ []
+wake_of (Picked t) = []
+wake_of (Ordered order) = []
 
-abbrev pub unblocks_of : List Change → List ℕ
-unblocks_of changes = flat_map unblock_of changes
+abbrev pub wakes_of : List Change → List ℕ
+wakes_of changes = flat_map wake_of changes
+
+abbrev pub choice_of : Change → List ℕ
+choice_of (Charged k) = []
+choice_of (Woken t) = []
+choice_of (Picked t) = t ∷ []
+choice_of (Ordered order) = []
+
+abbrev pub choices_of : List Change → List ℕ
+choices_of changes = flat_map choice_of changes
 
 abbrev pub order_of : Change → List Order
 order_of (Charged k) = []
-order_of (Unblocked t) = []
+order_of (Woken t) = []
+order_of (Picked t) = []
 order_of (Ordered order) = order ∷ []
 
 abbrev pub orders_of : List Change → List Order
@@ -58,7 +70,8 @@ module _ (min_budget : ℕ) where
   -- the context after a change, and after several
   abbrev pub changed : Context → Change → Context
   changed context (Charged k) = context_charged k min_budget context
-  changed context (Unblocked t) = context_unblocked t context
+  changed context (Woken t) = context_woken t context
+  changed context (Picked t) = context_chosen t context
   changed context (Ordered order) = context_ordered order.moment order.config context
 
   abbrev pub changed_by : List Change → Context → Context
@@ -67,7 +80,8 @@ module _ (min_budget : ℕ) where
   -- a charge takes at least a tick and no more than the head has, and an order gives a budget
   abbrev pub IsSound : Change → Context → Type 0
   IsSound (Charged k) context = (1 ≤ k) × (k ≤ head_amount context)
-  IsSound (Unblocked t) context = Unit {0}
+  IsSound (Woken t) context = Unit {0}
+  IsSound (Picked t) context = Unit {0}
   IsSound (Ordered order) context = IsBudget order.config
 
   abbrev pub AreSound : List Change → Context → Type 0
@@ -77,7 +91,8 @@ module _ (min_budget : ℕ) where
   -- the dates that the charges take, in order: each the first dates that the context then has
   abbrev pub dates_taken : Change → Context → List ℕ
   dates_taken (Charged k) context = take k (dates_in context.budget)
-  dates_taken (Unblocked t) context = []
+  dates_taken (Woken t) context = []
+  dates_taken (Picked t) context = []
   dates_taken (Ordered order) context = []
 
   abbrev pub taken_by : List Change → Context → List ℕ

@@ -14,7 +14,7 @@ use Rattle.mcs_system.specs.declared.part.ContextPart.{ContextPart}
 use Rattle.mcs_core.specs.declared.standing.Chosen.{Chosen}
 use Rattle.mcs_core.specs.Turn.{is_for_now}
 use Rattle.mcs_core.specs.Clock.{world, core_at, turn_of}
-use Rattle.mcs_laws.specs.Changes.{Change, charges_of, unblocks_of, orders_of, IsBudget, KeepsItsBudget, changed_by, AreSound, taken_by}
+use Rattle.mcs_laws.specs.Changes.{Change, charges_of, wakes_of, choices_of, orders_of, IsBudget, KeepsItsBudget, changed_by, AreSound, taken_by}
 
 -- whether the order is for this context
 abbrev pub is_order_for : ℕ → Order → Bool
@@ -38,22 +38,38 @@ module _ (system : System) where
   abbrev pub charges_told : ℕ → List What → List ℕ
   charges_told context rows = flat_map (charge_told context) rows
 
-  -- what a row of moment t tells that the context was unblocked: a wake of its thread unblocks it then
-  abbrev pub unblock_told : ℕ → ℕ → What → List ℕ
-  unblock_told context t (row.Wake thread note word) =
+  -- the moment t of a row that tells of a wake of the context's thread, and of one that tells of its choice
+  abbrev pub wake_told : ℕ → ℕ → What → List ℕ
+  wake_told context t (row.Wake thread note word) =
       if (thread_part system thread).context == context then t ∷ [] else []
-  unblock_told context t (row.Stop thread why k until) = []
-  unblock_told context t (row.Release thread) = []
-  unblock_told context t (row.Run thread) = []
-  unblock_told context t (row.Signal thread note badge) = []
-  unblock_told context t (row.Arrive note badge maker) = []
-  unblock_told context t (row.Hold note word) = []
-  unblock_told context t (row.Got thread note word) = []
-  unblock_told context t (row.Round thread number response) = []
-  unblock_told context t (row.Order ordered) = []
+  wake_told context t (row.Stop thread why k until) = []
+  wake_told context t (row.Release thread) = []
+  wake_told context t (row.Run thread) = []
+  wake_told context t (row.Signal thread note badge) = []
+  wake_told context t (row.Arrive note badge maker) = []
+  wake_told context t (row.Hold note word) = []
+  wake_told context t (row.Got thread note word) = []
+  wake_told context t (row.Round thread number response) = []
+  wake_told context t (row.Order ordered) = []
 
-  abbrev pub unblocks_told : ℕ → ℕ → List What → List ℕ
-  unblocks_told context t rows = flat_map (unblock_told context t) rows
+  abbrev pub wakes_told : ℕ → ℕ → List What → List ℕ
+  wakes_told context t rows = flat_map (wake_told context t) rows
+
+  abbrev pub choice_told : ℕ → ℕ → What → List ℕ
+  choice_told context t (row.Run thread) =
+      if (thread_part system thread).context == context then t ∷ [] else []
+  choice_told context t (row.Wake thread note word) = []
+  choice_told context t (row.Stop thread why k until) = []
+  choice_told context t (row.Release thread) = []
+  choice_told context t (row.Signal thread note badge) = []
+  choice_told context t (row.Arrive note badge maker) = []
+  choice_told context t (row.Hold note word) = []
+  choice_told context t (row.Got thread note word) = []
+  choice_told context t (row.Round thread number response) = []
+  choice_told context t (row.Order ordered) = []
+
+  abbrev pub choices_told : ℕ → ℕ → List What → List ℕ
+  choices_told context t rows = flat_map (choice_told context t) rows
 
   -- the core of a context before a moment, and the context itself
   abbrev pub home_of : ℕ → ℕ
@@ -69,9 +85,12 @@ module _ (system : System) where
   abbrev pub charges_at : ℕ → ℕ → List ℕ
   charges_at context t = charges_told context (turn_of system (home_of context) t).rows
 
-  -- the moments at which these rows tell that it was unblocked: t for each wake of its thread
-  abbrev pub unblocks_at : ℕ → ℕ → List ℕ
-  unblocks_at context t = unblocks_told context t (turn_of system (home_of context) t).rows
+  -- the moments of the wakes of its thread that these rows tell, and of its choices: t for each
+  abbrev pub wakes_at : ℕ → ℕ → List ℕ
+  wakes_at context t = wakes_told context t (turn_of system (home_of context) t).rows
+
+  abbrev pub choices_at : ℕ → ℕ → List ℕ
+  choices_at context t = choices_told context t (turn_of system (home_of context) t).rows
 
   -- the orders for the context at t, in file order
   abbrev pub orders_at : ℕ → ℕ → List Order
@@ -79,10 +98,12 @@ module _ (system : System) where
 
   -- the context as it is at first
   abbrev pub opening_context : ℕ → Context
-  opening_context context = new_context (context_part system context).config (start_of system.threads context)
+  opening_context context =
+      let part = context_part system context in new_context part.config part.mode (start_of system.threads context)
 
   -- all that turns do to the context, by moment: its charges are those that the rows tell, each of at least a tick and of no more
-  -- than the head then has; it is unblocked by the wakes of its thread, at their moment; and its orders are those of the system
+  -- than the head then has; its wakes and its choices are those of its thread, at their moment, and one or the other unblocks it, by
+  -- its mode; and its orders are those of the system
   pub record History (context : ℕ) : Type 0 where
     pub changes : ℕ → List Change
     pub opening : context_before context 0 ≡ opening_context context
@@ -90,7 +111,8 @@ module _ (system : System) where
         ≡ changed_by system.min_budget (changes t) (context_before context t)
     pub sound : (t : ℕ) → AreSound system.min_budget (changes t) (context_before context t)
     pub charges : (t : ℕ) → charges_at context t ≡ charges_of (changes t)
-    pub unblocks : (t : ℕ) → unblocks_at context t ≡ unblocks_of (changes t)
+    pub wakes : (t : ℕ) → wakes_at context t ≡ wakes_of (changes t)
+    pub choices : (t : ℕ) → choices_at context t ≡ choices_of (changes t)
     pub orders : (t : ℕ) → orders_at context t ≡ orders_of (changes t)
 
   -- the changes of all turns before a moment

@@ -8,3 +8,4 @@ pub mod Slices
 pub mod Places
 pub mod OnTime
 pub mod Demand
+pub mod Bandwidth

@@ -6,6 +6,7 @@ ghost use Rattle.mcs_laws.specs.Disciplines.{DisciplinesAgree};
 ghost use Rattle.mcs_laws.specs.Places.{ThreadsHaveOnePlace};
 ghost use Rattle.mcs_laws.specs.OnTime.{ThreadsAreOnTime};
 ghost use Rattle.mcs_laws.specs.Demand.{ThreadsRunWithinDemand};
+ghost use Rattle.mcs_laws.specs.Bandwidth.{BandwidthIsBounded};
 ghost use Rattle.mcs_laws.specs.InForce.{ContextsHaveTheBudgetInForce};
 ghost use Rattle.mcs_laws.specs.Shown.{ContextsAreShown};
 ghost use Rattle.mcs_laws.specs.Slices.{SchedulesTellCharges, SlicesAreCharged, SlicesAreSpent};
@@ -53,9 +54,10 @@ pub fn threads_have_one_place()
     ensures { (system : System) → IsWellFormed system → ThreadsHaveOnePlace system }
 {}
 
-/// A law of the clock: all that turns do to a context, from the opening on, is to charge it, to unblock it and to obey its orders. The
-/// charges are those that the rows of its thread's stops tell; each takes at least a tick and no more than the head then has. It is
-/// unblocked by the wakes of its thread that the rows tell, at their moment, and by nothing else.
+/// A law of the clock: all that turns do to a context, from the opening on, is to charge it, to wake or to choose its thread and to obey
+/// its orders. The charges are those that the rows of its thread's stops tell; each takes at least a tick and no more than the head then
+/// has. The wakes and the choices are those that the rows of its thread tell, at their moment: in mode `Sporadic` the wakes unblock it, in
+/// mode `Bandwidth` the choices do, and nothing else does.
 pub fn contexts_have_histories()
     ensures { (system : System) → IsWellFormed system → ContextsHaveHistories system }
 {}
@@ -104,4 +106,10 @@ pub fn threads_are_on_time()
 /// the horizon, the first of them at moment 0.
 pub fn threads_run_within_demand()
     ensures { (system : System) → IsWellFormed system → ThreadsRunWithinDemand system }
+{}
+
+/// A law of the clock: a thread whose context is in bandwidth mode, and which no order names, runs in any stretch of a period or less in at
+/// most as many ticks as its budget. A sporadic context gives no such promise: what it left unused may be used close to what returns.
+pub fn bandwidth_is_bounded()
+    ensures { (system : System) → IsWellFormed system → BandwidthIsBounded system }
 {}

@@ -5,7 +5,7 @@
 mod laws;
 
 pub use laws::{
-    contexts_are_shown, contexts_are_spaced, contexts_have_histories,
+    bandwidth_is_bounded, contexts_are_shown, contexts_are_spaced, contexts_have_histories,
     contexts_have_the_budget_in_force, contexts_keep_their_budgets, cores_are_of_turns,
     disciplines_agree, quiet_turns_only_count, rows_are_of_turns, signals_are_of_turns,
     slices_are_spent_over_time, threads_are_on_time, threads_have_one_place,

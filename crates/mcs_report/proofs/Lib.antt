@@ -8,3 +8,4 @@ pub mod Schedules
 pub mod Worked
 pub mod Ticks
 pub mod Demand
+pub mod Bandwidth

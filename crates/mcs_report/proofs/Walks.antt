@@ -142,7 +142,7 @@ module _ (system : System) (t x : ℕ) where
 
   wakes-plain : (y : ℕ) (k : Core) → Plain x k (turns.wakes by_priority system t y k)
   wakes-plain y k =
-      let woken = turns.given t y (turns.unblocked system t y k) in
+      let woken = turns.given t y (turns.with_woken_context system t y k) in
       let first = turns.moves_on system t y woken in
       let p = moves-plain y (turns.move_of system y woken) woken in
       plain-then x k first (λ core. silent (turns.enters_back by_priority system y (turns.date_of system t y core) core))

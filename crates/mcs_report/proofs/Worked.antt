@@ -6,6 +6,7 @@ use Rattle.mcs_ticks.specs.declared.row.What.TheVariants as row
 use Rattle.mcs_ticks.specs.declared.row.Why.TheVariants as why
 use Rattle.mcs_script.specs.declared.item.Item.{Item}
 use Rattle.mcs_script.specs.declared.item.Item.TheVariants.{Compute, Signal, Wait, Yield}
+use Rattle.mcs_control.specs.declared.config.Mode.TheVariants as mode
 use Rattle.mcs_system.specs.declared.part.ContextPart.{ContextPart}
 use Rattle.mcs_system.specs.declared.part.ThreadPart.{ThreadPart}
 use Rattle.mcs_system.specs.System.{System}
@@ -16,7 +17,7 @@ use Rattle.mcs_laws.specs.Demand.{ticks_run, demand_of}
 use Rattle.mcs_report.specs.Reports.{run_lengths, thread_report, reports_of}
 
 abbrev context : ℕ → ℕ → ContextPart
-context budget period = record { name = []; core = 0; config = record { budget = budget; period = period; extra = 0 } }
+context budget period = record { name = []; core = 0; config = record { budget = budget; period = period; extra = 0 }; mode = mode.Sporadic }
 
 -- a thread: its context, priority, rounds, deadline and script
 abbrev thread : ℕ → ℕ → ℕ → ℕ → List Item → ThreadPart

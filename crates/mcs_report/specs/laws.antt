@@ -1,3 +1,4 @@
 pub mod Agreement
 pub mod Schedules
 pub mod Demand
+pub mod Bandwidth

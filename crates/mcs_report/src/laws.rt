@@ -1,5 +1,6 @@
 ghost use Rattle.mcs_report.specs.laws.Agreement.{Agree, AgreeButRan};
 ghost use Rattle.mcs_report.specs.laws.Schedules.{SchedulesRunApart, SchedulesAreReported};
+ghost use Rattle.mcs_report.specs.laws.Bandwidth.{BandwidthIsBounded};
 ghost use Rattle.mcs_report.specs.laws.Demand.{RunsAreTicks, DemandIsBounded};
 
 /// A law of tallies, for every list of rows in which each run of a thread is stopped before the next one, as in every schedule:
@@ -33,4 +34,10 @@ pub fn runs_are_ticks()
 /// each period that begins before the horizon, the first of them at moment 0. Its report says no more.
 pub fn demand_is_bounded()
     ensures { DemandIsBounded }
+{}
+
+/// A law of the clock: by the rows of the schedule of a well-formed system, a thread whose context is in bandwidth mode, and which no order
+/// names, runs in any stretch of a period or less below the horizon for at most its budget.
+pub fn bandwidth_is_bounded()
+    ensures { BandwidthIsBounded }
 {}

@@ -1,0 +1,29 @@
+-- How much a thread runs within a period where its context is in bandwidth mode.
+use Rattle.std.specs.Prelude.{◌≡◌, ℕ, ◌+◌, ◌<◌, ◌≤◌, length}
+use Rattle.mcs_control.specs.declared.config.Mode.TheVariants.{Bandwidth}
+use Rattle.mcs_system.specs.declared.part.ContextPart.{ContextPart}
+use Rattle.mcs_system.specs.System.{System, thread_part, context_part}
+use Rattle.mcs_laws.specs.Histories.{IsNeverReconfigured}
+use Rattle.mcs_laws.specs.Demand.{ticks_run}
+
+module _ (system : System) (thread : ℕ) where
+  -- the context to which it is bound
+  abbrev pub its_part : ContextPart
+  its_part = context_part system (thread_part system thread).context
+
+  -- a thread of the system, whose context is in bandwidth mode and which no order names
+  pub record HasBandwidth : Type 0 where
+    pub known : thread < length system.threads
+    pub mode : its_part.mode ≡ Bandwidth
+    pub unordered : IsNeverReconfigured system (thread_part system thread).context
+
+  -- of this many ticks from this moment on it runs in at most its budget
+  abbrev pub RunsWithinBudget : ℕ → ℕ → Type 0
+  RunsWithinBudget from ticks =
+      ticks_run system thread (from + ticks) ≤ ticks_run system thread from + its_part.config.budget
+
+-- such a thread runs in any stretch of a period or less for at most its budget
+abbrev pub BandwidthIsBounded : System → Type 0
+BandwidthIsBounded system =
+    (thread from ticks : ℕ) → HasBandwidth system thread → ticks ≤ (its_part system thread).config.period
+    → RunsWithinBudget system thread from ticks
