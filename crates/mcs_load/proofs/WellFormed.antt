@@ -9,8 +9,10 @@ use Rattle.toml.specs.Data.{Data, Members}
 use Rattle.mcs_control.specs.declared.config.ControlFault.{ControlFault}
 use Rattle.mcs_control.specs.declared.config.Kind.{Kind}
 use Rattle.mcs_control.specs.declared.config.Kind.TheVariants as kinds
+use Rattle.mcs_control.specs.declared.config.Mode.{Mode}
+use Rattle.mcs_control.specs.declared.config.Mode.TheVariants as modes
 use Rattle.mcs_control.specs.declared.config.Order.{Order}
-use Rattle.mcs_control.specs.Control.{checked, kind_of}
+use Rattle.mcs_control.specs.Control.{checked, kind_of, IsModeOf}
 use Rattle.mcs_system.specs.declared.part.ContextPart.{ContextPart}
 use Rattle.mcs_system.specs.declared.part.Link.{Link}
 use Rattle.mcs_system.specs.declared.part.NotePart.{NotePart}
@@ -26,7 +28,7 @@ use Rattle.mcs_load.specs.declared.numbers.Numbers.{Numbers}
 use Rattle.mcs_load.specs.Checks.{Checked, first_failed}
 use Rattle.mcs_load.specs.Words.{only_keys, whole_number, number_with_default, new_name, text, is_among, place_of, row, row_table, rows, array_of}
 use Rattle.mcs_load.specs.Script.{script}
-use Rattle.mcs_load.specs.Walk.{accepts, config, accepted_config, context, contexts, note, notes, known, known_context, part_at, own_context, max_ticks, times, thread, threads, ordered_context, is_same_kind, keeps_kind, order, orders, link_numbers, is_linked, link, links, top, listed_keys, numbers, walk, document, file}
+use Rattle.mcs_load.specs.Walk.{accepts, config, accepted_config, mode, takes, takes_mode, settings, listed_context_keys, is_version_2, context, contexts, note, notes, known, known_context, part_at, own_context, max_ticks, times, thread, threads, ordered_context, is_same_kind, keeps_kind, order, orders, link_numbers, is_linked, link, links, top, listed_keys, numbers, walk, document, file}
 use Rattle.mcs_load.proofs.Passed.{passed_test, both_passed, each_keeps, each_length, whole_number_passed, number_with_default_passed, new_name_passed, rows_passed, place_within, distinct_more, HaveNames, have_no_names, have_names_more}
 use Rattle.mcs_load.proofs.Scripts.{script_passed}
 
@@ -48,6 +50,24 @@ accepted_config_passed min_budget at row h =
     let q = both_passed (accepts at (checked min_budget given)).tests [] p.1 in
     accepts_passed at (checked min_budget given) q.0
 
+takes_passed : (kind : Kind) (mode : Mode) → takes kind mode ≡ true → IsModeOf kind mode
+takes_passed kinds.Sporadic mode h = tt
+takes_passed kinds.RoundRobin modes.Sporadic h = refl
+takes_passed kinds.RoundRobin modes.Bandwidth h = cc
+
+settings_passed : (min_budget : ℕ) (at : At) (row : Members) → first_failed (settings min_budget at row).tests ≡ None
+    → IsOk (checked min_budget (settings min_budget at row).value.config)
+    × IsModeOf (kind_of (settings min_budget at row).value.config) (settings min_budget at row).value.mode
+unfolding settings takes_mode
+settings_passed min_budget at row h =
+    let given = (config at row).value in
+    let how = (mode at row).value in
+    let p = both_passed (config at row).tests _ h in
+    let q = both_passed (mode at row).tests _ p.1 in
+    let r = both_passed (accepts at (checked min_budget given)).tests _ q.1 in
+    let s = passed_test (takes (kind_of given) how) _ _ r.1 in
+    (accepts_passed at (checked min_budget given) r.0, takes_passed (kind_of given) how s.0)
+
 -- the place of a row that is read
 abbrev at_row : Section → ℕ → At
 at_row section number = record { section = section; row = number }
@@ -66,41 +86,42 @@ core_passed cores at row some h =
     omega (arith, p.1)
 
 module _ (system : System) (some : 1 ≤ system.cores) where
-  context_passed : (at : At) (earlier : List ContextPart) (row : Members) → first_failed (context system.cores system.min_budget at earlier row).tests ≡ None
-      → IsContext system (context system.cores system.min_budget at earlier row).value
-      × (is_name (context system.cores system.min_budget at earlier row).value.name ≡ true)
-      × (is_among (context system.cores system.min_budget at earlier row).value.name (map (λ c. c.name) earlier) ≡ false)
+  context_passed : (has_modes : Bool) (at : At) (earlier : List ContextPart) (row : Members) → first_failed (context has_modes system.cores system.min_budget at earlier row).tests ≡ None
+      → IsContext system (context has_modes system.cores system.min_budget at earlier row).value
+      × (is_name (context has_modes system.cores system.min_budget at earlier row).value.name ≡ true)
+      × (is_among (context has_modes system.cores system.min_budget at earlier row).value.name (map (λ c. c.name) earlier) ≡ false)
   unfolding context
-  context_passed at earlier row h =
-      let keys = both_passed (only_keys at (key.Name ∷ key.Core ∷ key.Budget ∷ key.Period ∷ key.ExtraRefills ∷ []) row).tests _ h in
+  context_passed has_modes at earlier row h =
+      let keys = both_passed (only_keys at (listed_context_keys has_modes) row).tests _ h in
       let name = both_passed (new_name at (map (λ c. c.name) earlier) row).tests _ keys.1 in
       let core = both_passed (whole_number at key.Core 0 (system.cores - 1) row).tests _ name.1 in
-      let configured = both_passed (accepted_config system.min_budget at row).tests [] core.1 in
+      let configured = both_passed (settings system.min_budget at row).tests [] core.1 in
+      let set = settings_passed system.min_budget at row configured.0 in
       let named = new_name_passed at (map (λ c. c.name) earlier) row name.0 in
-      (record { core = core_passed system.cores at row some core.0; accepted = accepted_config_passed system.min_budget at row configured.0 }, named.0, named.1)
+      (record { core = core_passed system.cores at row some core.0; accepted = set.0; mode = set.1 }, named.0, named.1)
 
   -- the contexts so far
   abbrev AreContexts : List ContextPart → Type 0
   AreContexts earlier = HaveNames (λ c. c.name) earlier × All (IsContext system) earlier
 
-  next_context_passed : (earlier : List ContextPart) (d : Data) → AreContexts earlier
-      → first_failed (row section.Context (context system.cores system.min_budget) earlier d).tests ≡ None
-      → AreContexts (earlier ++ (row section.Context (context system.cores system.min_budget) earlier d).value ∷ [])
-  next_context_passed earlier d so_far h =
-      let read = context system.cores system.min_budget in
+  next_context_passed : (has_modes : Bool) (earlier : List ContextPart) (d : Data) → AreContexts earlier
+      → first_failed (row section.Context (context has_modes system.cores system.min_budget) earlier d).tests ≡ None
+      → AreContexts (earlier ++ (row section.Context (context has_modes system.cores system.min_budget) earlier d).value ∷ [])
+  next_context_passed has_modes earlier d so_far h =
+      let read = context has_modes system.cores system.min_budget in
       let at = at_row section.Context (suc (length earlier)) in
       let members = (row_table at d).value in
-      let p = context_passed at earlier members (row_passed section.Context read earlier d h) in
+      let p = context_passed has_modes at earlier members (row_passed section.Context read earlier d h) in
       (have_names_more (λ c. c.name) earlier (read at earlier members).value so_far.0 p.1 p.2, All-push (IsContext system) earlier _ so_far.1 p.0)
 
-  contexts_passed : (file : Members) → first_failed (contexts system.cores system.min_budget file).tests ≡ None
-      → AreNamed (λ c. c.name) (contexts system.cores system.min_budget file).value × All (IsContext system) (contexts system.cores system.min_budget file).value
+  contexts_passed : (has_modes : Bool) (file : Members) → first_failed (contexts has_modes system.cores system.min_budget file).tests ≡ None
+      → AreNamed (λ c. c.name) (contexts has_modes system.cores system.min_budget file).value × All (IsContext system) (contexts has_modes system.cores system.min_budget file).value
   unfolding contexts array_of
-  contexts_passed file h =
-      let step = row section.Context (context system.cores system.min_budget) in
+  contexts_passed has_modes file h =
+      let step = row section.Context (context has_modes system.cores system.min_budget) in
       let items = (rows section.Context key.Context file).value in
       let p = both_passed (rows section.Context key.Context file).tests _ h in
-      let all = each_keeps step AreContexts next_context_passed items [] (have_no_names (λ c. c.name), All-nil (IsContext system)) p.1 in
+      let all = each_keeps step AreContexts (next_context_passed has_modes) items [] (have_no_names (λ c. c.name), All-nil (IsContext system)) p.1 in
       let count = each_length step items [] in
       let few = rows_passed section.Context key.Context file p.0 in
       (record { few = omega (arith, count, few); each = all.0.each; distinct = all.0.distinct }, all.1)
@@ -395,12 +416,12 @@ walk_passed file h =
     let top = both_passed (numbers file).tests _ h in
     let limits = numbers_passed file top.0 in
     let in_links = both_passed (links system.cores file).tests _ top.1 in
-    let in_contexts = both_passed (contexts system.cores system.min_budget file).tests _ in_links.1 in
+    let in_contexts = both_passed (contexts (is_version_2 file) system.cores system.min_budget file).tests _ in_links.1 in
     let in_notes = both_passed (notes system.cores file).tests _ in_contexts.1 in
     let in_threads = both_passed (threads system.contexts system.notes file).tests _ in_notes.1 in
     let in_orders = both_passed (orders system.cores system.min_budget system.contexts file).tests [] in_threads.1 in
     let of_links = links_passed system limits.cores.0 file in_links.0 in
-    let of_contexts = contexts_passed system limits.cores.0 file in_contexts.0 in
+    let of_contexts = contexts_passed system limits.cores.0 (is_version_2 file) file in_contexts.0 in
     let of_notes = notes_passed system limits.cores.0 file in_notes.0 in
     let of_threads = threads_passed system file in_threads.0 in
     let of_orders = orders_passed system file in_orders.0 in

@@ -1,12 +1,16 @@
 -- What some files answer, by the definitions alone.
 use Rattle.std.proofs.Common.{◌≡◌, [], ◌∷◌, codes, Ok, Err, refl}
 use Rattle.mcs_control.specs.declared.config.ControlFault.TheVariants as refused
+use Rattle.mcs_control.specs.declared.config.Mode.TheVariants as modes
 use Rattle.mcs_script.specs.declared.item.Item.TheVariants as items
 use Rattle.mcs_script.specs.declared.fault.ItemFault.TheVariants as bad
 use Rattle.mcs_load.specs.declared.fault.FaultKind.TheVariants as kind
 use Rattle.mcs_load.specs.declared.spot.Key.TheVariants as key
 use Rattle.mcs_load.specs.declared.spot.Section.TheVariants as section
+use Rattle.std.specs.Fmt.{digits}
 use Rattle.mcs_load.specs.Checks.{answer}
+use Rattle.mcs_load.specs.Memory.{no_memory}
+use Rattle.mcs_load.specs.Text.{load_fault_text}
 use Rattle.mcs_load.specs.Walk.{file}
 use Rattle.mcs_load.proofs.OnLiterals.{load_on_literals}
 
@@ -46,7 +50,7 @@ system_of_a_file : answer (file (codes "version = 1\ncores = 1\ndelay = 1\n\n[[c
       delay = 1;
       call = 1;
       min_budget = 1;
-      contexts = record { name = codes "a"; core = 0; config = record { budget = 2; period = 5; extra = 0 } } ∷ [];
+      contexts = record { name = codes "a"; core = 0; config = record { budget = 2; period = 5; extra = 0 }; mode = modes.Sporadic } ∷ [];
       notes = [];
       threads = record { name = codes "A"; context = 0; priority = 5; start = 0; rounds = 1; deadline = 0; script = items.Compute 5 ∷ [] } ∷ [];
       orders = record { moment = 7; context = 0; config = record { budget = 3; period = 6; extra = 1 } } ∷ [];
@@ -86,3 +90,62 @@ link_twice : answer (file (codes "version = 2\ncores = 2\ndelay = 1\nlink = [{ma
     ≡ Err (record { kind = kind.DoubleLink; spot = record { section = section.Link; row = 3; key = key.Home; item = 0 } })
 unfolding load_on_literals
 link_twice = refl
+
+-- the lines of faults
+bad_item_is_told : load_fault_text (record { kind = kind.BadItem bad.BadNumber; spot = record { section = section.Thread; row = 2; key = key.Script; item = 3 } })
+    ≡ codes "bad item: bad number at thread 2 script item 3"
+unfolding digits
+bad_item_is_told = refl
+
+refused_configuration_is_told : load_fault_text (record { kind = kind.Control refused.BudgetTooSmall; spot = record { section = section.Order; row = 4096; key = key.ExtraRefills; item = 0 } })
+    ≡ codes "control: budget too small at order 4096 extra_refills"
+unfolding digits
+refused_configuration_is_told = refl
+
+other_key_is_told : load_fault_text (record { kind = kind.UnknownKey; spot = record { section = section.Top; row = 0; key = key.Other; item = 0 } })
+    ≡ codes "unknown key at top ?"
+other_key_is_told = refl
+
+array_is_told : load_fault_text (record { kind = kind.TooMany; spot = record { section = section.Note; row = 0; key = key.Whole; item = 0 } })
+    ≡ codes "too many at note"
+array_is_told = refl
+
+no_memory_has_no_place : load_fault_text no_memory ≡ codes "no memory"
+no_memory_has_no_place = refl
+
+-- so are modes
+mode_in_version_1 : answer (file (codes "version = 1\ncores = 1\ndelay = 1\n[[context]]\nname = \"a\"\ncore = 0\nbudget = 4\nperiod = 10\nmode = \"bandwidth\"\n"))
+    ≡ Err (record { kind = kind.UnknownKey; spot = record { section = section.Context; row = 1; key = key.Other; item = 0 } })
+unfolding load_on_literals
+mode_in_version_1 = refl
+
+mode_in_version_2 : answer (file (codes "version = 2\ncores = 1\ndelay = 1\n[[context]]\nname = \"a\"\ncore = 0\nbudget = 4\nperiod = 10\nmode = \"bandwidth\"\n"))
+    ≡ Ok (record {
+      cores = 1;
+      delay = 1;
+      call = 1;
+      min_budget = 1;
+      contexts = record { name = codes "a"; core = 0; config = record { budget = 4; period = 10; extra = 0 }; mode = modes.Bandwidth } ∷ [];
+      notes = [];
+      threads = [];
+      orders = [];
+      links = [];
+    })
+unfolding load_on_literals
+mode_in_version_2 = refl
+
+unknown_mode : answer (file (codes "version = 2\ncores = 1\ndelay = 1\n[[context]]\nname = \"a\"\ncore = 0\nbudget = 4\nperiod = 10\nmode = \"fast\"\n"))
+    ≡ Err (record { kind = kind.OutOfRange; spot = record { section = section.Context; row = 1; key = key.Mode; item = 0 } })
+unfolding load_on_literals
+unknown_mode = refl
+
+mode_of_a_slice : answer (file (codes "version = 2\ncores = 1\ndelay = 1\n[[context]]\nname = \"a\"\ncore = 0\nbudget = 3\nperiod = 3\nmode = \"bandwidth\"\n"))
+    ≡ Err (record { kind = kind.ModeOfSlice; spot = record { section = section.Context; row = 1; key = key.Mode; item = 0 } })
+unfolding load_on_literals
+mode_of_a_slice = refl
+
+-- the configuration is tested before its mode is
+no_budget_of_a_slice : answer (file (codes "version = 2\ncores = 1\ndelay = 1\n[[context]]\nname = \"a\"\ncore = 0\nbudget = 0\nperiod = 0\nmode = \"bandwidth\"\n"))
+    ≡ Err (record { kind = kind.Control refused.ZeroBudget; spot = record { section = section.Context; row = 1; key = key.Budget; item = 0 } })
+unfolding load_on_literals
+no_budget_of_a_slice = refl

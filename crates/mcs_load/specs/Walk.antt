@@ -1,12 +1,15 @@
 -- The tests of a file, in the order in which they are put.
-use Rattle.std.specs.Prelude.{ℕ, ◌-◌, ◌^◌, ℤ, pos, negsuc, Bool, true, false, ◌&&◌, if◌then◌else◌, List, [], ◌∷◌, map, get_or, not, nat_eq, ◌==◌, Option, Some, None, is_some, option_and_then, Result, Ok, Err}
+use Rattle.std.specs.Prelude.{ℕ, ◌-◌, ◌^◌, ℤ, pos, negsuc, Bool, true, false, ◌&&◌, if◌then◌else◌, List, [], ◌∷◌, map, get_or, not, nat_eq, ◌==◌, Option, Some, None, is_some, option_and_then, unwrap_or, codes, Result, Ok, Err}
 use Rattle.std.specs.Str.{is_utf8}
+use Rattle.std.specs.Cmp.Lexicographic.{pointwise}
 use Rattle.std.specs.List.{list_any}
-use Rattle.toml.specs.Data.{Members, no_members, get_member, as_integer}
+use Rattle.toml.specs.Data.{Members, no_members, get_member, as_integer, as_str}
 use Rattle.toml.specs.Parse.{parse_document}
 use Rattle.mcs_control.specs.declared.config.Config.{Config}
 use Rattle.mcs_control.specs.declared.config.Kind.{Kind}
 use Rattle.mcs_control.specs.declared.config.Kind.TheVariants as kinds
+use Rattle.mcs_control.specs.declared.config.Mode.{Mode}
+use Rattle.mcs_control.specs.declared.config.Mode.TheVariants as modes
 use Rattle.mcs_control.specs.declared.config.Order.{Order}
 use Rattle.mcs_control.specs.declared.config.ControlFault.{ControlFault}
 use Rattle.mcs_control.specs.declared.config.ControlFault.TheVariants as refused
@@ -17,7 +20,7 @@ use Rattle.mcs_system.specs.declared.part.NotePart.{NotePart}
 use Rattle.mcs_system.specs.declared.part.ThreadPart.{ThreadPart}
 use Rattle.mcs_system.specs.declared.part.SystemParts.{SystemParts}
 use Rattle.mcs_system.specs.System.{no_context}
-use Rattle.mcs_load.specs.declared.fault.FaultKind.TheVariants.{NotToml, Control, UnknownName, ContextTaken, OtherCore, KindChange, SelfLink, DoubleLink}
+use Rattle.mcs_load.specs.declared.fault.FaultKind.TheVariants.{NotToml, WrongKind, OutOfRange, Control, UnknownName, ContextTaken, OtherCore, KindChange, SelfLink, DoubleLink, ModeOfSlice}
 use Rattle.mcs_load.specs.declared.spot.Key.{Key}
 use Rattle.mcs_load.specs.declared.spot.Key.TheVariants as key
 use Rattle.mcs_load.specs.declared.spot.Section.TheVariants as section
@@ -25,9 +28,10 @@ use Rattle.mcs_load.specs.Keys.{key_name}
 use Rattle.mcs_load.specs.Script.{script, place_or_first}
 use Rattle.mcs_load.specs.Checks.{Checked, ◌>>=◌, reads}
 use Rattle.mcs_load.specs.declared.at.At.{At}
+use Rattle.mcs_load.specs.declared.config.Settings.{Settings}
 use Rattle.mcs_load.specs.declared.numbers.Numbers.{Numbers}
 use Rattle.mcs_load.specs.declared.thread.Timing.{Timing}
-use Rattle.mcs_load.specs.Words.{place_of, text, must_at, array_at, only_keys, whole_number, number_with_default, new_name, row, array_of}
+use Rattle.mcs_load.specs.Words.{place_of, text, must_at, if_there, array_at, only_keys, whole_number, number_with_default, new_name, row, array_of}
 
 -- no upper limit but that of a TOML integer
 abbrev pub any_number : ℕ
@@ -59,13 +63,54 @@ accepted_config min_budget at row = do
   _ ← accepts at (checked min_budget config)
   reads config
 
-unfoldable pub context : ℕ → ℕ → At → List ContextPart → Members → Checked ContextPart
-context cores min_budget at earlier row = do
-  _ ← only_keys at (key.Name ∷ key.Core ∷ key.Budget ∷ key.Period ∷ key.ExtraRefills ∷ []) row
+-- the mode of this name
+abbrev pub named_mode : List ℕ → Option Mode
+named_mode name =
+    if pointwise nat_eq name (codes "sporadic") then Some modes.Sporadic
+    else if pointwise nat_eq name (codes "bandwidth") then Some modes.Bandwidth
+    else None
+
+-- the mode of a row: sporadic where it says none
+unfoldable pub mode : At → Members → Checked Mode
+mode at row =
+    let found = get_member (key_name key.Mode) row in
+    let name = option_and_then as_str found in do
+      _ ← must_at at key.Mode WrongKind (if_there (λ d. is_some (as_str d)) found)
+      _ ← must_at at key.Mode OutOfRange (if_there (λ n. is_some (named_mode n)) name)
+      reads (unwrap_or (option_and_then named_mode name) modes.Sporadic)
+
+-- a round robin context is never unblocked, so it has no mode but the first
+abbrev pub takes : Kind → Mode → Bool
+takes kinds.Sporadic mode = true
+takes kinds.RoundRobin modes.Sporadic = true
+takes kinds.RoundRobin modes.Bandwidth = false
+
+unfoldable pub takes_mode : At → Kind → Mode → Checked (Unit {0})
+takes_mode at kind mode = must_at at key.Mode ModeOfSlice (takes kind mode)
+
+-- the configuration of a row, which SchedControl accepts, and a mode of its kind
+unfoldable pub settings : ℕ → At → Members → Checked Settings
+settings min_budget at row = do
+  config ← config at row
+  mode ← mode at row
+  _ ← accepts at (checked min_budget config)
+  _ ← takes_mode at (kind_of config) mode
+  reads (record { config = config; mode = mode })
+
+abbrev pub context_keys : List Key
+context_keys = key.Name ∷ key.Core ∷ key.Budget ∷ key.Period ∷ key.ExtraRefills ∷ []
+
+-- modes are of version 2 alone
+unfoldable pub listed_context_keys : Bool → List Key
+listed_context_keys has_modes = if has_modes then key.Mode ∷ context_keys else context_keys
+
+unfoldable pub context : Bool → ℕ → ℕ → At → List ContextPart → Members → Checked ContextPart
+context has_modes cores min_budget at earlier row = do
+  _ ← only_keys at (listed_context_keys has_modes) row
   name ← new_name at (map (λ c. c.name) earlier) row
   core ← whole_number at key.Core 0 (cores - 1) row
-  config ← accepted_config min_budget at row
-  reads (record { name = name; core = core; config = config })
+  set ← settings min_budget at row
+  reads (record { name = name; core = core; config = set.config; mode = set.mode })
 
 unfoldable pub note : ℕ → At → List NotePart → Members → Checked NotePart
 note cores at earlier row = do
@@ -74,8 +119,18 @@ note cores at earlier row = do
   core ← whole_number at key.Core 0 (cores - 1) row
   reads (record { name = name; core = core })
 
-unfoldable pub contexts : ℕ → ℕ → Members → Checked (List ContextPart)
-contexts cores min_budget file = array_of section.Context key.Context (context cores min_budget) file
+-- whether the version of the file is the integer 2
+abbrev pub is_two : Option ℤ → Bool
+is_two (Some (pos n)) = n == 2
+is_two (Some (negsuc n)) = false
+is_two None = false
+
+abbrev pub is_version_2 : Members → Bool
+is_version_2 file = is_two (option_and_then as_integer (get_member (key_name key.Version) file))
+
+unfoldable pub contexts : Bool → ℕ → ℕ → Members → Checked (List ContextPart)
+contexts has_modes cores min_budget file =
+    array_of section.Context key.Context (context has_modes cores min_budget) file
 
 unfoldable pub notes : ℕ → Members → Checked (List NotePart)
 notes cores file = array_of section.Note key.Note (note cores) file
@@ -191,15 +246,6 @@ links cores file = array_of section.Link key.Link (link cores) file
 abbrev pub top : At
 top = array_at section.Top
 
--- whether the version of the file is the integer 2
-abbrev pub is_two : Option ℤ → Bool
-is_two (Some (pos n)) = n == 2
-is_two (Some (negsuc n)) = false
-is_two None = false
-
-abbrev pub is_version_2 : Members → Bool
-is_version_2 file = is_two (option_and_then as_integer (get_member (key_name key.Version) file))
-
 abbrev pub top_keys : List Key
 top_keys = key.Version ∷ key.Cores ∷ key.Delay ∷ key.Call ∷ key.MinBudget ∷ key.Context ∷ key.Note ∷ key.Thread ∷ key.Order ∷ []
 
@@ -222,7 +268,7 @@ unfoldable pub walk : Members → Checked SystemParts
 walk file = do
   top ← numbers file
   links ← links top.cores file
-  contexts ← contexts top.cores top.min_budget file
+  contexts ← contexts (is_version_2 file) top.cores top.min_budget file
   notes ← notes top.cores file
   threads ← threads contexts notes file
   orders ← orders top.cores top.min_budget contexts file

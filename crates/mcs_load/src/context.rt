@@ -1,10 +1,10 @@
 ghost use Rattle.std.specs.Prelude.{◌≡◌, ◌<◌, ◌≤◌, IfOk, length, map, []};
 ghost use Rattle.toml.specs.View.{table_view};
 ghost use Rattle.mcs_load.specs.Checks.{Gives, Tells};
-ghost use Rattle.mcs_load.specs.Walk.{context, contexts, known, known_context, part_at};
+ghost use Rattle.mcs_load.specs.Walk.{context, contexts, known, known_context, listed_context_keys, part_at};
 
 use crate::at::At;
-use crate::config::accepted_config;
+use crate::config::{Settings, read_settings};
 use crate::fault::{FaultKind, LoadFault};
 use crate::names::Names;
 use crate::reader::{RowReader, read_array};
@@ -15,7 +15,9 @@ use mcs_ticks::CoreId;
 use std::alloc::Global;
 use toml::Table;
 
-const CONTEXT_KEYS: [Key; 5] = [
+// The first is of version 2 alone.
+const CONTEXT_KEYS: [Key; 6] = [
+    Key::Mode,
     Key::Name,
     Key::Core,
     Key::Budget,
@@ -23,10 +25,24 @@ const CONTEXT_KEYS: [Key; 5] = [
     Key::ExtraRefills,
 ];
 
+/// The keys that a context may have: modes are of version 2 alone.
+#[tactic(auto, unfolding(crate::specs::Walk::listed_context_keys))]
+fn listed_keys(has_modes: bool) -> &'static [Key]
+    ensures { result.now ≡ listed_context_keys has_modes }
+{
+    if has_modes {
+        &CONTEXT_KEYS
+    } else {
+        &CONTEXT_KEYS[1..]
+    }
+}
+
 /// Reads contexts, and keeps their names.
 #[derive(Drop)]
 pub(crate) struct ContextReader<'a> {
     pub alloc: Global,
+    /// Whether contexts may have modes, as they may in files of version 2.
+    pub has_modes: bool,
     pub cores: u64,
     pub min_budget: u64,
     pub names: Names<'a>,
@@ -35,21 +51,22 @@ pub(crate) struct ContextReader<'a> {
 impl<'a> RowReader<'a> for ContextReader<'a> {
     type Part = ContextPart;
 
-    ghost reads = { λ reader. context reader.cores reader.min_budget };
+    ghost reads = { λ reader. context reader.has_modes reader.cores reader.min_budget };
 
     ghost keeps = { λ reader earlier.
         (1 ≤ reader.cores) × (reader.cores ≤ 64) × (reader.names ≡ map (λ c. c.name) earlier) };
 
     #[tactic(auto, using(crate::proofs::Steps::both, crate::proofs::Steps::or_else_none, crate::proofs::Steps::or_else_some), unfolding(crate::specs::Walk::context))]
     fn read(&mut self, at: At, row: &'a Table) -> Result<ContextPart, LoadFault> {
-        only_keys(at, &CONTEXT_KEYS, row)?;
+        only_keys(at, listed_keys(self.has_modes), row)?;
         let name = new_name(at, &mut self.names, row)?;
         let core = whole_number(at, Key::Core, 0, self.cores - 1, row)?;
-        let config = accepted_config(at, self.min_budget, row)?;
+        let Settings { config, mode } = read_settings(at, self.min_budget, row)?;
         Ok(ContextPart {
             name: Name::new(String::from_str(self.alloc, name)?),
             core: CoreId(core as usize),
             config,
+            mode,
         })
     }
 }
@@ -63,7 +80,7 @@ pub(crate) fn contexts<'a>(
     requires range { (1 ≤ reader.old.cores) × (reader.old.cores ≤ 64) }
     requires empty { reader.old.names ≡ [] }
     ensures gives { Gives (λ v. v.items) result
-        (contexts reader.old.cores reader.old.min_budget (table_view file.now)) }
+        (contexts reader.old.has_modes reader.old.cores reader.old.min_budget (table_view file.now)) }
     ensures kept { IfOk result (λ v. reader.new.names ≡ map (λ c. c.name) v.items) }
 {
     read_array(reader.alloc, reader, Section::Context, Key::Context, file)

@@ -1,4 +1,5 @@
-ghost use Rattle.std.specs.Prelude.{◌≡◌};
+ghost use Rattle.std.specs.Prelude.{◌≡◌, Some};
+ghost use Rattle.mcs_load.specs.Text.{kind_text, load_fault_text};
 
 use crate::spot::{Key, Section, Spot};
 use mcs_control::ControlFault;
@@ -7,67 +8,79 @@ use std::alloc::{AllocError, AllocFailed};
 use std::fmt;
 use thiserror::Error;
 
-/// What is wrong with a file.
+/// What is wrong with a file. Each has a text of its own (profile M).
 #[derive(Clone, Copy, Debug, PartialEq, Eq, Error)]
 pub enum FaultKind {
     /// The bytes are no TOML text in UTF-8.
-    #[error("not TOML")]
     NotToml,
     /// A key that is not listed.
-    #[error("unknown key")]
     UnknownKey,
     /// A required key is absent.
-    #[error("missing key")]
     MissingKey,
     /// A value of another kind than the key's.
-    #[error("wrong kind")]
     WrongKind,
-    /// A number outside its range, or a script without an item.
-    #[error("out of range")]
+    /// A number outside its range, a text that is no mode, or a script without an item.
     OutOfRange,
     /// More rows than 4,096, or more items than 1,024.
-    #[error("too many")]
     TooMany,
     /// A text that is not 1 to 32 characters of `A-Z a-z 0-9 _ -`.
-    #[error("bad name")]
     BadName,
     /// A name that an earlier row of the array has.
-    #[error("double name")]
     DoubleName,
     /// A name that no context, or no notification, has.
-    #[error("unknown name")]
     UnknownName,
     /// A text that is no item of a script.
-    #[error("bad item: {0}")]
     BadItem(ItemFault),
     /// A script whose last item is a wait.
-    #[error("wait is last")]
     WaitLast,
     /// A configuration that SchedControl refuses.
-    #[error("control: {0}")]
     Control(ControlFault),
     /// A context that an earlier thread has.
-    #[error("context taken")]
     ContextTaken,
     /// A wait on another core's notification, or an order through another core's SchedControl capability.
-    #[error("other core")]
     OtherCore,
     /// An order that makes a context round robin, or ends its being so.
-    #[error("kind change")]
     KindChange,
     /// A link from a core to itself.
-    #[error("self link")]
     SelfLink,
     /// A link of a pair of cores that an earlier link has.
-    #[error("double link")]
     DoubleLink,
+    /// Bandwidth mode of a round robin context.
+    ModeOfSlice,
     /// A growth for which there was no memory.
-    #[error("no memory")]
     NoMemory,
 }
 
+impl fmt::Display for FaultKind {
+    ghost output = { λ kind. Some (kind_text kind) };
+
+    fn fmt<W: fmt::Write>(&self, f: &mut fmt::Formatter<W>) -> fmt::Result {
+        match self {
+            FaultKind::NotToml => f.write_str("not TOML"),
+            FaultKind::UnknownKey => f.write_str("unknown key"),
+            FaultKind::MissingKey => f.write_str("missing key"),
+            FaultKind::WrongKind => f.write_str("wrong kind"),
+            FaultKind::OutOfRange => f.write_str("out of range"),
+            FaultKind::TooMany => f.write_str("too many"),
+            FaultKind::BadName => f.write_str("bad name"),
+            FaultKind::DoubleName => f.write_str("double name"),
+            FaultKind::UnknownName => f.write_str("unknown name"),
+            FaultKind::BadItem(fault) => write!(f, "bad item: {fault}"),
+            FaultKind::WaitLast => f.write_str("wait is last"),
+            FaultKind::Control(fault) => write!(f, "control: {fault}"),
+            FaultKind::ContextTaken => f.write_str("context taken"),
+            FaultKind::OtherCore => f.write_str("other core"),
+            FaultKind::KindChange => f.write_str("kind change"),
+            FaultKind::SelfLink => f.write_str("self link"),
+            FaultKind::DoubleLink => f.write_str("double link"),
+            FaultKind::ModeOfSlice => f.write_str("mode of slice"),
+            FaultKind::NoMemory => f.write_str("no memory"),
+        }
+    }
+}
+
 /// The first fault of a file, and where it lies. Its text is `<fault> at <place>`, or `no memory` alone.
-#[derive(Clone, Copy, Debug, PartialEq, Eq)]
+#[derive(Clone, Copy, Debug, PartialEq, Eq, Error)]
 pub struct LoadFault {
     pub kind: FaultKind,
     pub spot: Spot,
@@ -93,6 +106,8 @@ impl LoadFault {
 }
 
 impl fmt::Display for LoadFault {
+    ghost output = { λ fault. Some (load_fault_text fault) };
+
     fn fmt<W: fmt::Write>(&self, f: &mut fmt::Formatter<W>) -> fmt::Result {
         let LoadFault { kind, spot } = *self;
         match kind {
@@ -101,8 +116,6 @@ impl fmt::Display for LoadFault {
         }
     }
 }
-
-impl std::error::Error for LoadFault {}
 
 impl From<AllocError> for LoadFault {
     ghost use Rattle.mcs_load.specs.Memory.{no_memory};

@@ -105,6 +105,7 @@ fn walk(alloc: Global, file: &Table) -> Result<SystemParts, LoadFault>
     let links = links(alloc, cores, file)?;
     let mut of_contexts = ContextReader {
         alloc,
+        has_modes: is_version_2(file),
         cores,
         min_budget,
         names: Names::new(alloc),

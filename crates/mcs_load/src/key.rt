@@ -31,6 +31,7 @@ pub(crate) fn name_of(key: Key) -> &'static str
         Key::Link => "link",
         Key::Maker => "maker",
         Key::Home => "home",
+        Key::Mode => "mode",
         Key::Other => "?",
         Key::Whole => "",
     }

@@ -1,3 +1,8 @@
+ghost use Rattle.std.specs.Prelude.{Some};
+ghost use Rattle.std.specs.Fmt.{DisplaysOnOk};
+ghost use Rattle.mcs_load.specs.Keys.{key_name};
+ghost use Rattle.mcs_load.specs.Text.{section_name, row_text, key_text, item_text, place_text};
+
 use crate::key::name_of;
 use std::fmt;
 
@@ -46,6 +51,7 @@ pub enum Key {
     Link,
     Maker,
     Home,
+    Mode,
     /// A key that is not listed.
     Other,
     /// No key: the array, the row or the file.
@@ -64,28 +70,32 @@ pub struct Spot {
 }
 
 impl fmt::Display for Section {
+    ghost output = { λ section. Some (section_name section) };
+
     fn fmt<W: fmt::Write>(&self, f: &mut fmt::Formatter<W>) -> fmt::Result {
-        let name = match self {
-            Section::File => "file",
-            Section::Top => "top",
-            Section::Context => "context",
-            Section::Note => "note",
-            Section::Thread => "thread",
-            Section::Order => "order",
-            Section::Link => "link",
-        };
-        write!(f, "{name}")
+        match self {
+            Section::File => f.write_str("file"),
+            Section::Top => f.write_str("top"),
+            Section::Context => f.write_str("context"),
+            Section::Note => f.write_str("note"),
+            Section::Thread => f.write_str("thread"),
+            Section::Order => f.write_str("order"),
+            Section::Link => f.write_str("link"),
+        }
     }
 }
 
 impl fmt::Display for Key {
+    ghost output = { λ key. Some (key_name key) };
+
     fn fmt<W: fmt::Write>(&self, f: &mut fmt::Formatter<W>) -> fmt::Result {
-        let name = name_of(*self);
-        write!(f, "{name}")
+        f.write_str(name_of(*self))
     }
 }
 
 impl fmt::Display for Spot {
+    ghost output = { λ spot. Some (place_text spot) };
+
     fn fmt<W: fmt::Write>(&self, f: &mut fmt::Formatter<W>) -> fmt::Result {
         let Spot {
             section,
@@ -94,15 +104,35 @@ impl fmt::Display for Spot {
             item,
         } = *self;
         write!(f, "{section}")?;
-        if row != 0 {
-            write!(f, " {row}")?;
-        }
-        if key != Key::Whole {
-            write!(f, " {key}")?;
-        }
-        if item != 0 {
-            write!(f, " item {item}")?;
-        }
-        Ok(())
+        put_row(f, row)?;
+        put_key(f, key)?;
+        put_item(f, item)
+    }
+}
+
+fn put_row<W: fmt::Write>(f: &mut fmt::Formatter<W>, row: usize) -> fmt::Result
+    ensures { DisplaysOnOk W.write_str_gives f.old result (Some (row_text row)) f.new }
+{
+    match row {
+        0 => Ok(()),
+        _ => write!(f, " {row}"),
+    }
+}
+
+fn put_key<W: fmt::Write>(f: &mut fmt::Formatter<W>, key: Key) -> fmt::Result
+    ensures { DisplaysOnOk W.write_str_gives f.old result (Some (key_text key)) f.new }
+{
+    match key {
+        Key::Whole => Ok(()),
+        _ => write!(f, " {key}"),
+    }
+}
+
+fn put_item<W: fmt::Write>(f: &mut fmt::Formatter<W>, item: usize) -> fmt::Result
+    ensures { DisplaysOnOk W.write_str_gives f.old result (Some (item_text item)) f.new }
+{
+    match item {
+        0 => Ok(()),
+        _ => write!(f, " item {item}"),
     }
 }

@@ -4,4 +4,6 @@
 #[cfg(test)]
 mod links;
 #[cfg(test)]
+mod modes;
+#[cfg(test)]
 mod tests;

@@ -439,7 +439,7 @@ fn no_memory_has_no_place(rt: HostRuntime) -> Result<(), Fail> {
 }
 
 // each limit is accepted, and one past it is refused
-static LIMITS_OF_THE_TOP: [(&str, &str); 8] = [
+static LIMITS_OF_THE_TOP: [(&str, &str); 10] = [
     (
         "cores = 64\ndelay = 1048576\ncall = 65536\nmin_budget = 1048576\n",
         "accepted",
@@ -460,9 +460,17 @@ static LIMITS_OF_THE_TOP: [(&str, &str); 8] = [
         "cores = 1\ndelay = 1\nmin_budget = 1048577\n",
         "out of range at top min_budget",
     ),
+    (
+        "cores = 1\ndelay = 1\ncall = 0\n",
+        "out of range at top call",
+    ),
+    (
+        "cores = 1\ndelay = 1\nmin_budget = 0\n",
+        "out of range at top min_budget",
+    ),
 ];
 
-static LIMITS_OF_CONTEXTS: [(&str, &str); 10] = [
+static LIMITS_OF_CONTEXTS: [(&str, &str); 14] = [
     (
         "context = [{name='ABCDEFGHIJKLMNOPQRSTUVWXYZ012345',core=1,budget=1,period=2}]\n",
         "accepted",
@@ -503,10 +511,26 @@ static LIMITS_OF_CONTEXTS: [(&str, &str); 10] = [
         "context = [{name='a',core=0,budget=0,period=5}]\n",
         "control: zero budget at context 1 budget",
     ),
+    (
+        "context = [{name='a',core=0,budget=1,period=1,extra_refills=0}]\n",
+        "accepted",
+    ),
+    (
+        "context = [{name='a',core=-1,budget=1,period=2}]\n",
+        "out of range at context 1 core",
+    ),
+    (
+        "context = [{name='a',core=0,budget=1,period=0}]\n",
+        "control: budget over period at context 1 budget",
+    ),
+    (
+        "context = [{name='a',core=0,budget=1,period=-1}]\n",
+        "out of range at context 1 period",
+    ),
 ];
 
 // keys of a thread beside its name and its context
-static LIMITS_OF_THREADS: [(&str, &str); 11] = [
+static LIMITS_OF_THREADS: [(&str, &str); 16] = [
     (
         "priority=0,start=0,rounds=0,deadline=0,script=['yield']",
         "accepted",
@@ -551,9 +575,29 @@ static LIMITS_OF_THREADS: [(&str, &str); 11] = [
         "priority=5,script=['wait n']",
         "wait is last at thread 1 script item 1",
     ),
+    (
+        "priority=-1,script=['yield']",
+        "out of range at thread 1 priority",
+    ),
+    (
+        "priority=5,start=-1,script=['yield']",
+        "out of range at thread 1 start",
+    ),
+    (
+        "priority=5,rounds=-1,script=['yield']",
+        "out of range at thread 1 rounds",
+    ),
+    (
+        "priority=5,script=['compute 0']",
+        "bad item: bad number at thread 1 script item 1",
+    ),
+    (
+        "priority=5,script=['signal m 0']",
+        "bad item: bad number at thread 1 script item 1",
+    ),
 ];
 
-static LIMITS_OF_ORDERS: [(&str, &str); 2] = [
+static LIMITS_OF_ORDERS: [(&str, &str); 6] = [
     (
         "order = [{at=1099511627776,core=0,context='a',budget=1,period=9}]\n",
         "accepted",
@@ -561,6 +605,22 @@ static LIMITS_OF_ORDERS: [(&str, &str); 2] = [
     (
         "order = [{at=1099511627777,core=0,context='a',budget=1,period=9}]\n",
         "out of range at order 1 at",
+    ),
+    (
+        "order = [{at=0,core=0,context='a',budget=1,period=1099511627776,extra_refills=64}]\n",
+        "accepted",
+    ),
+    (
+        "order = [{at=0,core=0,context='a',budget=1,period=1099511627777}]\n",
+        "control: period too long at order 1 period",
+    ),
+    (
+        "order = [{at=0,core=0,context='a',budget=1,period=9,extra_refills=65}]\n",
+        "control: too many refills at order 1 extra_refills",
+    ),
+    (
+        "order = [{at=0,core=0,context='a',budget=9,period=8}]\n",
+        "control: budget over period at order 1 budget",
     ),
 ];
 

@@ -3,6 +3,7 @@ use Rattle.std.proofs.Common.{◌≡◌, refl, codes, [], ◌∷◌, Some}
 use Rattle.mcs_script.specs.declared.item.Item.TheVariants.{Compute}
 use Rattle.mcs_ticks.specs.declared.row.What.TheVariants as row
 use Rattle.mcs_ticks.specs.declared.row.Why.TheVariants as why
+use Rattle.mcs_control.specs.declared.config.Mode.TheVariants as mode
 use Rattle.mcs_system.specs.System.{System}
 use Rattle.std.specs.Fmt.{digits}
 use Rattle.mcs_text.specs.Text.{row_text}
@@ -14,7 +15,7 @@ one_thread =
       delay = 1;
       call = 1;
       min_budget = 1;
-      contexts = record { name = codes "a"; core = 0; config = record { budget = 2; period = 5; extra = 0 } } ∷ [];
+      contexts = record { name = codes "a"; core = 0; config = record { budget = 2; period = 5; extra = 0 }; mode = mode.Sporadic } ∷ [];
       notes = [];
       threads =
           record { name = codes "A"; context = 0; priority = 5; start = 0; rounds = 1; deadline = 0; script = Compute 5 ∷ [] } ∷ [];
