@@ -5,7 +5,7 @@ use Rattle.std.specs.List.{range_with_len}
 use Rattle.std.proofs.lemmas.Bool.Decides.{eqb_tells, nat_tests}
 use Rattle.std.proofs.lemmas.List.{get_or-set_same, get_or-set_other}
 use Rattle.mcs_system.specs.System.{System, delay_between, TakesTime}
-use Rattle.mcs_window.specs.Desk.{Table, clock_of, past_of, MayLend, AllAreHere, IsFinished, lent_at, settled_at, turns_left}
+use Rattle.mcs_window.specs.Desk.{Table, clock_of, past_of, MayLend, AllAreHere, IsFinished, settled_at, turns_left}
 
 pub fold-range_more : {B : Type 0} (f : B → ℕ → B) (a : B) (n b : ℕ) → fold f a (range_with_len b (suc n)) ≡ f (fold f a (range_with_len b n)) (b + n)
 fold-range_more f a zero b = ap (f a) (let e : b ≡ b + 0 = omega arith in e)
@@ -119,7 +119,7 @@ goes_on table some takes_time in_time here stuck c l = by (least (clock_of table
             omega arith
 
 -- sums of as many numbers, each at most as great, one less
-sum-more : (f : ℕ → ℕ) (n : ℕ) → sum_by f (range_with_len 0 (suc n)) ≡ sum_by f (range_with_len 0 n) + f n
+pub sum-more : (f : ℕ → ℕ) (n : ℕ) → sum_by f (range_with_len 0 (suc n)) ≡ sum_by f (range_with_len 0 n) + f n
 sum-more f n = fold-range_more (λ a x. a + f x) 0 n 0 ∙ ap (λ x. sum_by f (range_with_len 0 n) + f x) (let e : 0 + n ≡ n = omega arith in e)
 
 pub sum-le : (f g : ℕ → ℕ) (n : ℕ) → ((b : ℕ) → b < n → g b ≤ f b) → sum_by g (range_with_len 0 n) ≤ sum_by f (range_with_len 0 n)
@@ -141,21 +141,21 @@ sum-less f g (suc n) c l h less =
           let before = sum-less f g n c (omega arith) (λ b k. h b (omega arith)) less in omega (arith, sum-more f n, sum-more g n))
     ]
 
--- a stretch that was lent and settled leaves fewer turns
-pub turns-fewer : (table : Table) (c past : ℕ) → table.system.cores ≤ length table.clocks → MayLend table c → past ≡ past_of table c → turns_left (settled_at (lent_at table c) c past) < turns_left table
-turns-fewer table c past known may is =
-    sum-less (λ b. table.horizon + 1 - clock_of table b) (λ b. table.horizon + 1 - slice_index (set table.clocks c past) b) table.system.cores c may.known each own
+-- where a core has gone on there are fewer turns left
+pub turns-fewer : (table : Table) (c to : ℕ) → c < table.system.cores → table.system.cores ≤ length table.clocks → clock_of table c < to → to ≤ table.horizon + 1 → turns_left (settled_at table c to) < turns_left table
+turns-fewer table c to known clocks ahead in_time =
+    sum-less (λ b. table.horizon + 1 - clock_of table b) (λ b. table.horizon + 1 - slice_index (set table.clocks c to) b) table.system.cores c known each own
   where
-    later : slice_index (set table.clocks c past) c ≡ past
-    later = get_or-set_same table.clocks c past 0 (omega (arith, known, may.known))
+    later : slice_index (set table.clocks c to) c ≡ to
+    later = get_or-set_same table.clocks c to 0 (omega arith)
 
-    own : table.horizon + 1 - slice_index (set table.clocks c past) c < table.horizon + 1 - clock_of table c
-    own = let far = past_by-in_time table c table.system.cores in let ahead = may.ahead in let e = later in omega arith
+    own : table.horizon + 1 - slice_index (set table.clocks c to) c < table.horizon + 1 - clock_of table c
+    own = let e = later in omega arith
 
-    each : (b : ℕ) → b < table.system.cores → table.horizon + 1 - slice_index (set table.clocks c past) b ≤ table.horizon + 1 - clock_of table b
+    each : (b : ℕ) → b < table.system.cores → table.horizon + 1 - slice_index (set table.clocks c to) b ≤ table.horizon + 1 - clock_of table b
     each b l = elim (eqb_tells b c) [
-      | inl e ↦ (let f : slice_index (set table.clocks c past) b ≡ slice_index (set table.clocks c past) c = ap (slice_index (set table.clocks c past)) e.1 in
+      | inl e ↦ (let f : slice_index (set table.clocks c to) b ≡ slice_index (set table.clocks c to) c = ap (slice_index (set table.clocks c to)) e.1 in
           let g : clock_of table b ≡ clock_of table c = ap (clock_of table) e.1 in
           let h = own in omega arith)
-      | inr e ↦ (let f : slice_index (set table.clocks c past) b ≡ slice_index table.clocks b = get_or-set_other table.clocks c b past 0 e.1 in omega arith)
+      | inr e ↦ (let f : slice_index (set table.clocks c to) b ≡ slice_index table.clocks b = get_or-set_other table.clocks c b to 0 e.1 in omega arith)
     ]

@@ -72,6 +72,20 @@ module _ (a : Inside) (kept : IsKept a) where
         mail_is = here.1.box_is;
       })
 
+  -- a core that is lent now, for which no mail was made since
+  pub away_at : (k : ℕ) (loan : Loan) (box : List Mail) → MayLend (table_of a) k → loan.past ≡ past_of (table_of a) k → loan.front ≡ a.clocks → box ≡ [] → IsAway system a.horizon k a.clocks loan box
+  away_at k loan box may past front none =
+      let far = past_by-in_time (table_of a) k system.cores in
+      let ahead = may.ahead in
+      record {
+        in_order = omega arith;
+        in_time = omega arith;
+        reached = λ b l other.
+            let reach = past_by-reached (table_of a) k system.cores b l other in let same : slice_index loan.front b ≡ slice_index a.clocks b = ap (λ xs. slice_index xs b) front in omega arith;
+        rises = λ b _. let same : slice_index loan.front b ≡ slice_index a.clocks b = ap (λ xs. slice_index xs b) front in omega arith;
+        box_are = rw (none, front) (news-joined system k loan.past a.clocks).1;
+      }
+
   -- what the desk keeps
   pub lent_kept : (k : ℕ) (slot : Slot) (loan : Loan) (box : Content) → MayLend (table_of a) k → slot ≡ Away loan → loan.past ≡ past_of (table_of a) k → loan.front ≡ a.clocks → box.mails ≡ [] →
       IsKept (record a { slots = with_item a.slots k slot; boxes = with_item a.boxes k box })
@@ -88,21 +102,8 @@ module _ (a : Inside) (kept : IsKept a) where
         delays_are = kept.delays_are;
         since = kept.since;
         placed = placed-set system a.horizon a.clocks a.slots.items a.boxes.items k slot box kept.placed (omega (arith, kept.slots_of, may.known)) (omega (arith, kept.boxes_of, may.known))
-            (subst (IsPlaced system a.horizon k a.clocks box.mails) (sym e) away);
+            (subst (IsPlaced system a.horizon k a.clocks box.mails) (sym e) (away_at k loan box.mails may past front none));
       }
-    where
-      away : IsAway system a.horizon k a.clocks loan box.mails
-      away =
-          let far = past_by-in_time (table_of a) k system.cores in
-          let ahead = may.ahead in
-          record {
-            in_order = omega arith;
-            in_time = omega arith;
-            reached = λ b l other.
-                let reach = past_by-reached (table_of a) k system.cores b l other in let same : slice_index loan.front b ≡ slice_index a.clocks b = ap (λ xs. slice_index xs b) front in omega arith;
-            rises = λ b _. let same : slice_index loan.front b ≡ slice_index a.clocks b = ap (λ xs. slice_index xs b) front in omega arith;
-            box_are = rw (none, front) (news-joined system k loan.past a.clocks).1;
-          }
 
   -- what the desk shows
   pub lent_shows : (k : ℕ) (slot : Slot) (loan : Loan) (box : Content) → slot ≡ Away loan → loan.past ≡ past_of (table_of a) k → loan.front ≡ a.clocks →

@@ -172,7 +172,7 @@ module _ (system : System) (well : IsWellFormed system) (front : List ℕ) (c to
       }
 
   -- each other core is placed as it was
-  placed_other : (horizon b : ℕ) (box : List Mail) (slot : Slot) → b ≢ c → IsPlaced system horizon b front box slot → IsPlaced system horizon b later (with_delivered b box) slot
+  pub placed_other : (horizon b : ℕ) (box : List Mail) (slot : Slot) → b ≢ c → IsPlaced system horizon b front box slot → IsPlaced system horizon b later (with_delivered b box) slot
   placed_other horizon b box (Here spare state) other placed = (placed.0, here_other system well front c to known b state box other forward placed.1)
   placed_other horizon b box (Away loan) other placed = away_later horizon b loan box other placed
 

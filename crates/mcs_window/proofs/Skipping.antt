@@ -70,7 +70,7 @@ module _ (system : System) (takes : TakesTime system) (clocks : List ℕ) (momen
     slots-same late = record { clocks_are = set-same clocks later moment many so_far.clocks_are late; many_are = so_far.many_are; stand = so_far.stand }
 
 -- a core that is here
-placed-parts : (system : System) (horizon c : ℕ) (clocks : List ℕ) (box : List Mail) (slot : Slot) → slot_loan slot ≡ None → IsPlaced system horizon c clocks box slot →
+pub placed-parts : (system : System) (horizon c : ℕ) (clocks : List ℕ) (box : List Mail) (slot : Slot) → slot_loan slot ≡ None → IsPlaced system horizon c clocks box slot →
     StandsIn system c (slice_index clocks c) slot × NothingArrivesBefore system c (slice_index clocks c) clocks × (box ≡ inbox system c (slice_index clocks c) clocks)
 placed-parts system horizon c clocks box (Here spare state) e placed = ((placed.0, placed.1.state_is), placed.1.reached, placed.1.box_is)
 placed-parts system horizon c clocks box (Away loan) e placed = cc
@@ -80,7 +80,7 @@ stands-placed : (system : System) (horizon c : ℕ) (clocks : List ℕ) (box : L
 stands-placed system horizon c clocks box (Here spare state) stands reached is = (stands.0, record { reached = reached; state_is = stands.1; box_is = is })
 stands-placed system horizon c clocks box (Away loan) stands reached is = absurd stands
 
-stands-loan : (system : System) (c t : ℕ) (slot : Slot) → StandsIn system c t slot → slot_loan slot ≡ None
+pub stands-loan : (system : System) (c t : ℕ) (slot : Slot) → StandsIn system c t slot → slot_loan slot ≡ None
 stands-loan system c t (Here spare state) stands = refl
 stands-loan system c t (Away loan) stands = absurd stands
 

@@ -2,6 +2,7 @@
 use native.Mathlib.Omega.{arith}
 use Rattle.std.specs.Prelude.{◌≡◌, ℕ, [], ◌∷◌, Some, None, refl}
 use Rattle.mcs_control.specs.declared.config.Config.{Config}
+use Rattle.mcs_control.specs.declared.config.Mode.TheVariants as mode
 use Rattle.mcs_system.specs.System.{System}
 use Rattle.mcs_window.specs.Views.{views_before, AreShownBefore}
 
@@ -18,8 +19,8 @@ mixed =
       call = 1;
       min_budget = 1;
       contexts =
-          record { name = []; core = 1; config = config 2 5 } ∷ record { name = []; core = 0; config = config 3 3 }
-          ∷ record { name = []; core = 1; config = config 4 20 } ∷ [];
+          record { name = []; core = 1; config = config 2 5; mode = mode.Sporadic } ∷ record { name = []; core = 0; config = config 3 3; mode = mode.Sporadic }
+          ∷ record { name = []; core = 1; config = config 4 20; mode = mode.Sporadic } ∷ [];
       notes = [];
       threads = [];
       orders = record { moment = 3; context = 2; config = config 6 30 } ∷ [];

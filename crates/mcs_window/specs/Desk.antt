@@ -1,9 +1,10 @@
 -- A desk: the cores of a system, of which some are lent, each for a stretch that the clocks of the others allow.
-use Rattle.std.specs.Prelude.{◌≡◌, ◌≢◌, ◌⊎◌, ℕ, ◌+◌, ◌-◌, ◌<◌, ◌≤◌, ◌==◌, min, if◌then◌else◌, Bool, true, false, Option, Some, None, List, fold, sum_by, get_or, replicate, slice_index, slice_set}
+use Rattle.std.specs.Prelude.{◌≡◌, ◌≢◌, ◌⊎◌, ℕ, ◌+◌, ◌-◌, ◌<◌, ◌≤◌, ◌==◌, min, if◌then◌else◌, Bool, true, false, Option, Some, None, List, fold, sum_by, length, get_or, replicate, slice_index, slice_set}
 use Rattle.std.specs.List.{range_with_len}
 use Rattle.mcs_system.specs.System.{System, delay_between}
 use Rattle.mcs_window.specs.Idle.{AreSet, IsIdleUntil}
 use Rattle.mcs_window.specs.Pieces.{Outcome}
+use Rattle.mcs_window.specs.Stretch.{rows_between}
 use Rattle.mcs_window.specs.declared.slot.Loan.{Loan}
 use Rattle.mcs_window.specs.declared.fault.SettleFault.{SettleFault}
 use Rattle.mcs_window.specs.declared.fault.SettleFault.TheVariants.{Foreign, NotLent, OtherLoan, NoMemory}
@@ -158,3 +159,9 @@ pub record IsLater (before after : Table) : Type 0 where
 -- how many turns there are still to be taken
 abbrev pub turns_left : Table → ℕ
 turns_left table = sum_by (λ c. table.horizon + 1 - clock_of table c) (range_with_len 0 table.system.cores)
+
+-- how many rows the cores have made since they were last taken
+abbrev pub rows_kept : Table → ℕ
+rows_kept table =
+    sum_by (λ c. length (rows_between table.system c (taken_of table c) (clock_of table c)))
+    (range_with_len 0 table.system.cores)

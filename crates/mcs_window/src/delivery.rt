@@ -1,4 +1,4 @@
-ghost use Rattle.std.specs.Prelude.{◌≡◌, ◌≤◌, ◌<◌, ◌^◌, ℕ, length, slice_index, OnOk};
+ghost use Rattle.std.specs.Prelude.{◌≡◌, ◌≤◌, ◌<◌, ◌^◌, ℕ, length, slice_index, OnOk, OnErr};
 ghost use Rattle.mcs_window.specs.stored.Delivery.{count_for, AreDelivered, AreSameMail, HaveRoom};
 
 use mcs_mail::{Mail, Mailbox};
@@ -12,8 +12,12 @@ pub(crate) fn deliver(
     signals: &[Mail],
 ) -> Result<(), NoMemory>
     requires { length boxes.old ≡ system.now.cores }
-    ensures { OnOk result (AreDelivered system.now signals.now boxes.old boxes.new) }
+    ensures delivered { OnOk result (AreDelivered system.now signals.now boxes.old boxes.new) }
+    ensures refused { OnErr result (AreSameMail boxes.old boxes.new) }
 {
+    if signals.is_empty() {
+        return Ok(());
+    }
     make_room(system, boxes, signals)?;
     deliver_reserved(system, boxes, signals);
     Ok(())

@@ -1,4 +1,4 @@
-ghost use Rattle.std.specs.Prelude.{◌≡◌, ◌≢◌, ◌↔◌, ℕ, ◌+◌, ◌≤◌, ◌<◌, ◌^◌, ◌⊎◌, suc, true, false, None, length, IfOk, IfErr, OnOk, OnErr, IfSome, IfNone, IsTrue, IsFalse};
+ghost use Rattle.std.specs.Prelude.{◌≡◌, ◌≢◌, ◌↔◌, ℕ, ◌+◌, ◌-◌, ◌≤◌, ◌<◌, ◌^◌, min, ◌⊎◌, suc, true, false, None, length, IfOk, IfErr, OnOk, OnErr, IfSome, IfNone, IsTrue, IsFalse};
 ghost use Rattle.std.specs.Arc.{arc_value};
 ghost use Rattle.mcs_core.specs.Clock.{world, core_at};
 ghost use Rattle.mcs_core.specs.Quiet.{IsNextBusy};
@@ -6,15 +6,16 @@ ghost use Rattle.mcs_system.specs.System.{delay_between};
 ghost use Rattle.mcs_window.specs.Idle.{IsIdleUntil};
 ghost use Rattle.mcs_window.specs.Inbox.{inbox};
 ghost use Rattle.mcs_window.specs.Stretch.{rows_between};
-ghost use Rattle.mcs_window.specs.Desk.{opening_table, clock_of, taken_of, past_of, loan_of, MayLend, IsChosen, IsBest, lent_at, settled_at, taken_at, IsSkipped, IsAwake, IsLent, IsSameRun, with_lost, IsLoan, IsSettleFault, AllAreHere, IsFinished, IsUntaken, IsWhole, IsLater, turns_left};
+ghost use Rattle.mcs_window.specs.Desk.{opening_table, clock_of, taken_of, past_of, loan_of, MayLend, IsChosen, IsBest, lent_at, settled_at, taken_at, IsSkipped, IsAwake, IsLent, IsSameRun, with_lost, IsLoan, IsSettleFault, AllAreHere, IsFinished, IsUntaken, IsWhole, IsLater, rows_kept, turns_left};
 
-use crate::delivery::{deliver_reserved, make_room};
+use crate::delivery::{deliver, deliver_reserved, make_room};
 use crate::opening::{delay_rows, empty_boxes, empty_rows};
 use crate::settle::{make_own_room, put_box, put_rows, same_front};
 use crate::skip::skip_slots;
 use crate::slot::{Loan, Slot, opening_slots};
+use crate::turns::{run_slot, spend};
 use crate::{Done, Front, Lost, Piece, SettleFault};
-use mcs_mail::Mailbox;
+use mcs_mail::{Mail, Mailbox};
 use mcs_system::System;
 use mcs_ticks::{CoreId, Limits, NoMemory, Row, Tick};
 use std::alloc::Global;
@@ -37,6 +38,8 @@ pub struct Desk {
     rows: Vec<Vec<Row>>,
     // For each core the delays of the signals to it.
     delays: Vec<[u64; Limits::CORES]>,
+    // Those of the last turns that were taken here.
+    signals: Vec<Mail>,
     alloc: Global,
 }
 
@@ -73,6 +76,7 @@ impl Desk {
             boxes,
             rows,
             delays,
+            signals: Vec::new(alloc),
             alloc,
         })
     }
@@ -261,16 +265,18 @@ impl Desk {
         }
     }
 
-    // The first moment at which some core does more than count a tick, or the moment after the horizon where that comes first.
-    fn idle_until(&self) -> Tick
+    // The first moment at which some core does more than count a tick, or the moment after the horizon where that comes first. Notes the
+    // next busy moment of each core that has one.
+    fn idle_until(&self, busy: &mut Front) -> Tick
         requires { AllAreHere self.now }
         ensures { IsIdleUntil self.now.system self.now.clocks (self.now.horizon + 1) result }
     {
         let mut until = self.horizon.plus(1).unwrap();
         for core in 0..self.cores() {
-            if let Some(busy) = self.next_busy(CoreId(core)) {
-                if busy.get() < until.get() {
-                    until = busy;
+            if let Some(moment) = self.next_busy(CoreId(core)) {
+                busy[core] = moment;
+                if moment.get() < until.get() {
+                    until = moment;
                 }
             }
         }
@@ -283,7 +289,16 @@ impl Desk {
         requires { AllAreHere self.old }
         ensures { IsSkipped self.old self.new }
     {
-        let moment = self.idle_until();
+        let mut busy = [Tick::ZERO; 64];
+        self.skip_until_busy(&mut busy);
+    }
+
+    // The same. Notes the next busy moment of each core that has one, from before the skip.
+    fn skip_until_busy(&mut self, busy: &mut Front)
+        requires { AllAreHere self.old }
+        ensures { IsSkipped self.old self.new }
+    {
+        let moment = self.idle_until(busy);
         skip_slots(&self.system, &mut self.clocks, &mut self.slots, moment);
     }
 
@@ -444,42 +459,171 @@ impl Desk {
         Ok(())
     }
 
-    // There is a clock for each core.
-    fn knows_clocks(&self)
-        ensures { self.now.system.cores ≤ length self.now.clocks }
+    /// How many rows lie on the desk: those of each core since they were last taken. At most `usize::MAX`.
+    pub fn kept(&self) -> usize
+        ensures { result ≡ min (rows_kept self.now) (2 ^ 64 - 1) }
+    {
+        let mut kept = 0usize;
+        for core in 0..self.cores() {
+            kept = kept.saturating_add(self.rows[core].len());
+        }
+        kept
+    }
+
+    // Takes turns of a core that may be lent, where it lies, until it comes to `past` or has that many rows on the desk: at least one.
+    // Where memory is refused the core stays lent, and its rows are gone.
+    fn run_here(&mut self, core: CoreId, past: Tick, most: usize) -> Result<(), NoMemory>
+        requires may { MayLend self.old core }
+        requires past { past ≡ past_of self.old core }
+        ensures ok { OnOk result (self.new ≡ settled_at self.old core (clock_of self.new core)) }
+        ensures moved { OnOk result ((clock_of self.old core < clock_of self.new core) × (clock_of self.new core ≤ past)) }
+        ensures fewer { OnOk result (turns_left self.new < turns_left self.old) }
+        ensures err { OnErr result (self.new ≡ taken_at (lent_at self.old core) core) }
+    {
+        let index = core.0;
+        let slot = &mut self.slots[index];
+        let mail = &mut self.boxes[index];
+        let rows = &mut self.rows[index];
+        let signals = &mut self.signals;
+        let ran = run_slot(
+            &self.system,
+            core,
+            &self.clocks,
+            slot,
+            mail,
+            past,
+            most,
+            rows,
+            signals,
+        );
+        let Ok(to) = ran else {
+            let (slot, mail) = (&mut self.slots[index], &mut self.boxes[index]);
+            let rows = &mut self.rows[index];
+            spend(past, &self.clocks, slot, mail, rows, self.alloc);
+            self.taken[index] = self.clocks[index];
+            return Err(NoMemory);
+        };
+        let Ok(()) = deliver(&self.system, &mut self.boxes, &self.signals) else {
+            let (slot, mail) = (&mut self.slots[index], &mut self.boxes[index]);
+            let rows = &mut self.rows[index];
+            spend(past, &self.clocks, slot, mail, rows, self.alloc);
+            self.taken[index] = self.clocks[index];
+            return Err(NoMemory);
+        };
+        self.clocks[index] = to;
+        Ok(())
+    }
+
+    // The same where the core may be lent and its next busy moment, as it was noted, comes before the moment up to which it may be.
+    // Answers whether it took turns.
+    fn run_busy(&mut self, core: CoreId, busy: &Front, most: usize) -> Result<bool, NoMemory>
+        requires known { core < self.old.system.cores }
+        requires sound { self.old.lost ≡ false }
+        requires here { AllAreHere self.old }
+        ensures later { OnOk result (IsLater self.old self.new) }
+        ensures same { IfOk result (λ moved. IsFalse moved → self.new ≡ self.old) }
+        ensures fewer { IfOk result (λ moved. IsTrue moved → turns_left self.new < turns_left self.old) }
+    {
+        let horizon = self.horizon;
+        if busy[core.0] > horizon {
+            return Ok(false);
+        }
+        let past = self.past(core);
+        if busy[core.0] < past && self.clock(core) < past {
+            self.run_here(core, past, most)?;
+            return Ok(true);
+        }
+        Ok(false)
+    }
+
+    // Takes turns of each core that is busy before it waits for another one. Answers whether some core took any.
+    fn sweep(&mut self, busy: &Front, most: usize) -> Result<bool, NoMemory>
+        requires sound { self.old.lost ≡ false }
+        requires here { AllAreHere self.old }
+        ensures later { OnOk result (IsLater self.old self.new) }
+        ensures no_more { OnOk result (turns_left self.new ≤ turns_left self.old) }
+        ensures fewer { IfOk result (λ moved. IsTrue moved → turns_left self.new < turns_left self.old) }
+    {
+        let mut moved = false;
+        for core in 0..self.cores() {
+            let ran = self.run_busy(CoreId(core), busy, most)?;
+            moved = moved || ran;
+        }
+        Ok(moved)
+    }
+
+    // Where no core is lent and none may be, every core has taken its turn at the horizon.
+    fn none_waits(&self)
+        requires here { AllAreHere self.now }
+        requires none { (c : ℕ) → ¬ MayLend self.now c }
+        ensures { IsFinished self.now }
     {
         let _lost = self.lost;
     }
 
-    // Runs one stretch and takes it back. Answers whether there was one.
-    fn step(&mut self) -> Result<bool, NoMemory>
+    // Takes turns of the core that would be lent. Answers whether there is one.
+    fn run_first(&mut self, most: usize) -> Result<bool, NoMemory>
+        requires sound { self.old.lost ≡ false }
+        requires here { AllAreHere self.old }
+        ensures later { OnOk result (IsLater self.old self.new) }
+        ensures more { IfOk result (λ more. IsTrue more → turns_left self.new < turns_left self.old) }
+        ensures same { IfOk result (λ more. IsFalse more → self.new ≡ self.old) }
+        ensures done { IfOk result (λ more. IsFalse more → IsFinished self.new) }
+    {
+        let Some(core) = self.choice() else {
+            self.none_waits();
+            return Ok(false);
+        };
+        let past = self.past(core);
+        self.run_here(core, past, most)?;
+        Ok(true)
+    }
+
+    // Skips idle time, and then takes turns of the cores that are busy. Answers whether there were turns to take.
+    fn round(&mut self, most: usize) -> Result<bool, NoMemory>
         requires sound { self.old.lost ≡ false }
         requires here { AllAreHere self.old }
         ensures later { OnOk result (IsLater self.old self.new) }
         ensures more { IfOk result (λ more. IsTrue more → turns_left self.new < turns_left self.old) }
         ensures done { IfOk result (λ more. IsFalse more → IsFinished self.new) }
     {
-        let Some(piece) = self.lend() else {
-            return Ok(false);
-        };
-        self.knows_clocks();
-        let Ok(done) = piece.run() else {
-            return Err(NoMemory);
-        };
-        let Ok(()) = self.take_back(done) else {
-            return Err(NoMemory);
-        };
-        Ok(true)
+        let mut busy = [self.horizon.plus(1).unwrap(); 64];
+        self.skip_until_busy(&mut busy);
+        let moved = self.sweep(&busy, most)?;
+        if moved {
+            return Ok(true);
+        }
+        let more = self.run_first(most)?;
+        Ok(more)
     }
 
-    /// Takes all turns that are left, in the caller's thread. After `NoMemory` a core may be lent for good.
+    /// Takes turns in the caller's thread until at least this many rows lie on the desk, as `kept` counts them, or every core has taken
+    /// its turn at the horizon. Unless all have, it takes at least one turn or skips idle time, also where there are as many rows already.
+    /// After `NoMemory` a core may be lent for good, and then its rows that were not taken are gone.
+    pub fn go(&mut self, rows: usize) -> Result<(), NoMemory>
+        requires sound { self.old.lost ≡ false }
+        requires here { AllAreHere self.old }
+        ensures later { OnOk result (IsLater self.old self.new) }
+        ensures fewer { OnOk result (IsFinished self.new ⊎ (turns_left self.new < turns_left self.old)) }
+        ensures enough { OnOk result (IsFinished self.new ⊎ (rows ≤ rows_kept self.new)) }
+    {
+        'rounds: while self.round(rows)? {
+            if self.kept() >= rows {
+                return Ok(());
+            }
+        }
+        Ok(())
+    }
+
+    /// Takes all turns that are left, in the caller's thread. After `NoMemory` a core may be lent for good, and then its rows that were not
+    /// taken are gone.
     pub fn finish(&mut self) -> Result<(), NoMemory>
         requires sound { self.old.lost ≡ false }
         requires here { AllAreHere self.old }
         ensures later { OnOk result (IsLater self.old self.new) }
         ensures finished { OnOk result (IsFinished self.new) }
     {
-        while self.step()? {}
+        while self.round(usize::MAX)? {}
         Ok(())
     }
 }

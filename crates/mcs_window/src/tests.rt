@@ -2,7 +2,7 @@ ghost use Rattle.std.specs.Prelude.{◌≡◌, ◌<◌, IfOk};
 ghost use Rattle.std.specs.Arc.{arc_value};
 
 use crate::Piece;
-use mcs_control::Config;
+use mcs_control::{Config, Mode};
 use mcs_core::CoreState;
 use mcs_mail::Mailbox;
 use mcs_script::{Item, Script};
@@ -23,6 +23,7 @@ fn system(alloc: Global) -> Result<Arc<System>, Fail> {
         name: Name::new(String::from_str(alloc, "a")?),
         core: CoreId(1),
         config,
+        mode: Mode::Sporadic,
     };
     let Ok(script) = Script::new(vec![in alloc; Item::Compute(1)]?) else {
         return Err(Fail::from("a script"));

@@ -1,6 +1,6 @@
 -- What a desk keeps between its calls: each core that is not lent stands as the clock has it, and for each that is lent there lie the
 -- signals that were made for it since.
-use Rattle.std.specs.Prelude.{◌≡◌, ℕ, ◌+◌, ◌-◌, ◌<◌, ◌≤◌, ◌^◌, false, Option, Some, None, List, [], map, length, slice_index, slice_index_or}
+use Rattle.std.specs.Prelude.{◌≡◌, ℕ, ◌+◌, ◌-◌, ◌<◌, ◌≤◌, ◌^◌, false, Option, Some, None, List, [], ◌++◌, map, length, slice_index, slice_index_or}
 use Rattle.std.specs.Arc.{arc_value}
 use Rattle.std.specs.declared.alloc.Global.{Global}
 use Rattle.mcs_mail.specs.declared.mail.Mail.{Mail}
@@ -9,8 +9,9 @@ use Rattle.mcs_system.specs.System.{System}
 use Rattle.mcs_system.specs.WellFormed.{IsWellFormed}
 use Rattle.mcs_core.specs.Quiet.{AreQuiet, counted_times}
 use Rattle.mcs_core.specs.State.{Fits, opening_state}
-use Rattle.mcs_window.specs.Inbox.{AreNews, Rises}
-use Rattle.mcs_window.specs.Stretch.{StandsAt, NothingArrivesBefore}
+use Rattle.mcs_ticks.specs.declared.row.Row.{Row}
+use Rattle.mcs_window.specs.Inbox.{AreNews, Rises, inbox, signals_between}
+use Rattle.mcs_window.specs.Stretch.{StandsAt, NothingArrivesBefore, rows_between}
 use Rattle.mcs_window.specs.stored.Cores.{IsHere, AreSince, AreSetBelow}
 use Rattle.mcs_window.specs.stored.Opening.{AreDelays}
 use Rattle.mcs_window.specs.Desk.{Table}
@@ -112,3 +113,22 @@ pub record HaveSkipped (system : System) (clocks : List ℕ) (moment many : ℕ)
   pub clocks_are : AreSetBelow clocks moment many later
   pub many_are : length slots ≡ system.cores
   pub stand : AllStand system later slots
+
+-- core c, which is here with this mail at its clock in `front`, may take its turns up to before `past`
+pub record MayGo (system : System) (c past : ℕ) (front : List ℕ) (slot : Slot) (box : List Mail) : Type 0 where
+  pub known : c < system.cores
+  pub stands : StandsIn system c (slice_index front c) slot
+  pub box_is : box ≡ inbox system c (slice_index front c) front
+  pub ahead : slice_index front c < past
+  pub in_time : past ≤ 2 ^ 40 + 1
+  pub reached : NothingArrivesBefore system c past front
+
+-- it has taken those up to before `to`, and its rows stand behind those that there were
+pub record HasGone (system : System) (c past : ℕ) (front : List ℕ) (before : List Row) (slot : Slot) (box : List Mail)
+    (rows : List Row) (signals : List Mail) (to : ℕ) : Type 0 where
+  pub later : slice_index front c < to
+  pub in_time : to ≤ past
+  pub stands : StandsIn system c to slot
+  pub box_is : box ≡ inbox system c to front
+  pub rows_are : rows ≡ before ++ rows_between system c (slice_index front c) to
+  pub signals_are : signals ≡ signals_between system c (slice_index front c) to

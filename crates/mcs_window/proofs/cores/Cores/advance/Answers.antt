@@ -23,7 +23,7 @@ invariant_of-self-in_err-keep_rows c =
     let a = c.self.inside in
     let k = c.core.inside.0 in
     let h : k < (arc_value a.system).cores = search rules in
-    let many : length c.deliver.new.boxes ≡ length (set a.boxes.items k c.run.new.mail) = c.in_ok-deliver.ensures.many ∙ ap length c.deref_mut.ensures.value in
+    let many : length c.deliver.new.boxes ≡ length (set a.boxes.items k c.run.new.mail) = c.in_ok-deliver.ensures.delivered.many ∙ ap length c.deref_mut.ensures.value in
     spent_kept a c.self.invariant k c.run.new.self c.run.new.mail c.deliver.new.boxes c.index_mut.result.now c.keep_rows.new.kept c.run.new.signals
     h many c.index_mut.ensures.value c.in_err-keep_rows.ensures.refused
 
@@ -45,5 +45,5 @@ invariant_of-self-2 c =
       signals_are = rw c.deref.ensures at c.in_ok-run.ensures.signals;
       box_is = rw c.deref.ensures at c.in_ok-run.ensures.mail;
     })
-    (rw (c.deref-2.ensures, c.deref-3.ensures.value, c.deref_mut.ensures.value) at c.in_ok-deliver.ensures)
+    (rw (c.deref-2.ensures, c.deref-3.ensures.value, c.deref_mut.ensures.value) at c.in_ok-deliver.ensures.delivered)
     c.index_mut.ensures.value c.in_ok-keep_rows.ensures.kept c.clear.ensures.items

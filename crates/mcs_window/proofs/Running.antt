@@ -1,0 +1,264 @@
+-- A desk whose cores take their turns where they lie.
+use Rattle.std.proofs.Common.{◌≡◌, ◌≢◌, ℕ, ◌+◌, ◌-◌, ◌<◌, ◌≤◌, ◌^◌, max, Option, Some, None, List, [], ◌++◌, length, map, Vec, get_or, set, inl, inr, refl, sym, ap, ◌∙◌, subst, arith}
+use Rattle.std.specs.Prelude.{filter, slice_index}
+use Rattle.std.specs.Arc.{arc_value}
+use Rattle.std.specs.Vec.{with_item, with_items}
+use Rattle.std.specs.declared.alloc.Global.{Global}
+use Rattle.std.proofs.lemmas.Bool.Decides.{eqb_tells}
+use Rattle.std.proofs.lemmas.List.{get_or-set_same, get_or-set_other, length-set, map-set, with_items_is}
+use Rattle.mcs_ticks.specs.declared.row.Row.{Row}
+use Rattle.mcs_mail.specs.declared.mail.Mail.{Mail}
+use Rattle.mcs_mail.specs.Box.{Content, put_all}
+use Rattle.mcs_system.specs.System.{System}
+use Rattle.mcs_system.specs.WellFormed.{IsWellFormed}
+use Rattle.mcs_window.specs.Desk.{Table, clock_of, past_of, MayLend, settled_at, lent_at, taken_at, turns_left}
+use Rattle.mcs_window.specs.Inbox.{inbox, signals_between}
+use Rattle.mcs_window.specs.Stretch.{StandsAt, rows_between, NothingArrivesBefore}
+use Rattle.mcs_window.specs.stored.Cores.{IsHere, AreSince}
+use Rattle.mcs_window.specs.stored.Delivery.{is_home, AreDelivered, AreSameMail}
+use Rattle.mcs_window.specs.stored.Slots.{slot_loan, table_of, IsAway, IsPlaced, ArePlaced, IsKept, StandsIn, MayGo, HasGone}
+use Rattle.mcs_window.specs.declared.slot.Loan.{Loan}
+use Rattle.mcs_window.specs.declared.slot.Slot.{Slot}
+use Rattle.mcs_window.specs.declared.slot.Slot.TheVariants.{Here, Away}
+use Rattle.mcs_window.specs.declared.desk.Desk.TheInside.{Inside}
+use Rattle.mcs_window.proofs.Advances.{signals_own, here_own, since_later}
+use Rattle.mcs_window.proofs.Deliveries.{signals_from}
+use Rattle.mcs_window.proofs.Lending.{past_by-in_time, past_by-reached, turns-fewer}
+use Rattle.mcs_window.proofs.Lends.{away_at, loan_at, placed-set}
+use Rattle.mcs_window.proofs.Ranges.{rows-none}
+use Rattle.mcs_window.proofs.Settling.{placed_other}
+use Rattle.mcs_window.proofs.Skipping.{placed-parts, stands-loan}
+
+pub at_core : (u t : Table) (k n past : ℕ) → u ≡ t → k ≡ n → MayLend t n → past ≡ past_of t n → MayLend u k × (past ≡ past_of u k)
+at_core u t k n past e f may is = rw (e, f) (may, is)
+
+pub same-mail : (boxes : List Content) → AreSameMail boxes boxes
+same-mail boxes = record { many = refl; each = λ c x l. refl }
+
+-- another box takes the place of one
+pub same-respent : (boxes full : List Content) (k : ℕ) (left box : Content) → k < length boxes → AreSameMail (set boxes k left) full → AreSameMail (set boxes k box) (set full k box)
+same-respent boxes full k left box l same =
+    record { many = length-set full k box ∙ same.many ∙ length-set boxes k left ∙ sym (length-set boxes k box); each = each }
+  where
+    in_full : k < length full
+    in_full = let many = same.many in let other = length-set boxes k left in omega arith
+
+    each : (c : ℕ) (x : Content) → c < length (set boxes k box) → (get_or (set full k box) c x).mails ≡ (get_or (set boxes k box) c x).mails
+    each c x m = elim (eqb_tells c k) [
+      | inl e ↦ subst (λ d. (get_or (set full k box) d x).mails ≡ (get_or (set boxes k box) d x).mails) (sym e.1)
+          (ap (λ (y : Content). y.mails) (get_or-set_same full k box x in_full ∙ sym (get_or-set_same boxes k box x l)))
+      | inr e ↦ ap (λ (y : Content). y.mails) (get_or-set_other full k c box x e.1)
+          ∙ same.each c x (let one = length-set boxes k box in let other = length-set boxes k left in omega arith)
+          ∙ ap (λ (y : Content). y.mails) (get_or-set_other boxes k c left x e.1 ∙ sym (get_or-set_other boxes k c box x e.1))
+    ]
+
+pub respent_are : (boxes : Vec Content Global) (full : List Content) (k : ℕ) (left box : Content) → k < length boxes.items → AreSameMail (set boxes.items k left) full →
+    AreSameMail (set boxes.items k box) (set (with_items (with_item boxes k left) full).items k box)
+respent_are boxes full k left box l same =
+    subst (λ xs. AreSameMail (set boxes.items k box) (set xs k box)) (sym (with_items_is (with_item boxes k left) full (let ok = (with_item boxes k left).ok.0 in let many = same.many in omega arith)))
+    (same-respent boxes.items full k left box l same)
+
+-- the rows of a core are taken, or they are gone
+pub since_taken : (a : Inside) → IsKept a → (k clock : ℕ) (rows : List (Vec Row Global)) (none : Vec Row Global) → k < (arc_value a.system).cores → none.items ≡ [] → rows ≡ set a.rows.items k none → clock ≡ slice_index a.clocks k
+    → AreSince (arc_value a.system) a.horizon a.clocks (set a.taken k clock) rows
+since_taken a kept k clock rows none known none_is rows_are clock_is =
+    record {
+      rows_of = ap length rows_are ∙ length-set a.rows.items k none ∙ kept.since.rows_of;
+      in_time = kept.since.in_time;
+      in_order = in_order;
+      rows_are = λ c x p. ap (λ rs. (get_or rs c x).items) rows_are ∙ each c x p;
+    }
+  where
+    taken_same : slice_index (set a.taken k clock) k ≡ slice_index a.clocks k
+    taken_same = get_or-set_same a.taken k clock 0 (let all = kept.taken_of in let few = kept.few in omega arith) ∙ clock_is
+
+    in_order : (c : ℕ) → c < (arc_value a.system).cores → slice_index (set a.taken k clock) c ≤ slice_index a.clocks c
+    in_order c p = elim (eqb_tells c k) [
+      | inl e ↦ (let f : slice_index (set a.taken k clock) c ≡ slice_index a.clocks k = ap (slice_index (set a.taken k clock)) e.1 ∙ taken_same in
+          let g : slice_index a.clocks c ≡ slice_index a.clocks k = ap (slice_index a.clocks) e.1 in omega arith)
+      | inr e ↦ (let f = get_or-set_other a.taken k c clock 0 e.1 in let g = kept.since.in_order c p in omega arith)
+    ]
+
+    each : (c : ℕ) (x : Vec Row Global) → c < (arc_value a.system).cores → (get_or (set a.rows.items k none) c x).items ≡ rows_between (arc_value a.system) c (slice_index (set a.taken k clock) c) (slice_index a.clocks c)
+    each c x p = elim (eqb_tells c k) [
+      | inl e ↦ subst (λ d. (get_or (set a.rows.items k none) d x).items ≡ rows_between (arc_value a.system) d (slice_index (set a.taken k clock) d) (slice_index a.clocks d)) (sym e.1)
+          (ap (λ (v : Vec Row Global). v.items) (get_or-set_same a.rows.items k none x (let all = kept.since.rows_of in omega arith)) ∙ none_is
+          ∙ sym (rows-none (arc_value a.system) k (slice_index a.clocks k)) ∙ ap (λ t. rows_between (arc_value a.system) k t (slice_index a.clocks k)) (sym taken_same))
+      | inr e ↦ ap (λ (v : Vec Row Global). v.items) (get_or-set_other a.rows.items k c none x e.1) ∙ kept.since.rows_are c x p
+          ∙ ap (λ t. rows_between (arc_value a.system) c t (slice_index a.clocks c)) (sym (get_or-set_other a.taken k c clock 0 e.1))
+    ]
+
+pub taken_kept : (a : Inside) → IsKept a → (k clock : ℕ) (none : Vec Row Global) → k < (arc_value a.system).cores → none.items ≡ [] → clock ≡ slice_index a.clocks k
+    → IsKept (record a { taken = set a.taken k clock; rows = with_item a.rows k none })
+taken_kept a kept k clock none known none_is clock_is =
+    record {
+      horizon = kept.horizon;
+      well_formed = kept.well_formed;
+      few = kept.few;
+      clocks_of = kept.clocks_of;
+      taken_of = length-set a.taken k clock ∙ kept.taken_of;
+      idle = kept.idle;
+      slots_of = kept.slots_of;
+      boxes_of = kept.boxes_of;
+      delays_are = kept.delays_are;
+      since = since_taken a kept k clock (set a.rows.items k none) none known none_is refl clock_is;
+      placed = kept.placed;
+    }
+
+module _ (a : Inside) (kept : IsKept a) (k past : ℕ) (may : MayLend (table_of a) k) (is : past ≡ past_of (table_of a) k) where
+  abbrev system : System
+  system = arc_value a.system
+
+  pub in_slots : k < length a.slots.items
+  in_slots = let all = kept.slots_of in let h = may.known in omega arith
+
+  pub in_clocks : k < length a.clocks
+  in_clocks = let all = kept.clocks_of in let few = kept.few in let h = may.known in omega arith
+
+  pub in_boxes : k < length a.boxes.items
+  in_boxes = let all = kept.boxes_of in let h = may.known in omega arith
+
+  reached : NothingArrivesBefore system k past a.clocks
+  reached b l other = let reach = past_by-reached (table_of a) k system.cores b l other in omega arith
+
+  in_time : past ≤ a.horizon + 1
+  in_time = let far = past_by-in_time (table_of a) k system.cores in omega arith
+
+  pub may_go : (slot : Slot) (box : Content) → slot ≡ get_or a.slots.items k slot → box ≡ get_or a.boxes.items k box → MayGo system k past a.clocks slot box.mails
+  may_go slot box at b_at =
+      record {
+        known = may.known;
+        stands = subst (StandsIn system k (slice_index a.clocks k)) (sym at) parts.0;
+        box_is = ap (λ (y : Content). y.mails) b_at ∙ parts.2;
+        ahead = (let ahead = may.ahead in omega arith);
+        in_time = (let h = in_time in let horizon = kept.horizon in omega arith);
+        reached = reached;
+      }
+    where
+      parts : StandsIn system k (slice_index a.clocks k) (get_or a.slots.items k slot) × NothingArrivesBefore system k (slice_index a.clocks k) a.clocks
+          × ((get_or a.boxes.items k box).mails ≡ inbox system k (slice_index a.clocks k) a.clocks)
+      parts = placed-parts system a.horizon k a.clocks _ (get_or a.slots.items k slot) (sym (loan_at a kept k slot may.known) ∙ may.here) (kept.placed k slot box may.known)
+
+  -- the core has taken its turns
+  module _ (to : ℕ) (after : Slot) (left : Content) (full : List Content) (old new : Vec Row Global) (out : Vec Mail Global) (gone : HasGone system k past a.clocks old.items after left.mails new.items out.items to)
+      (delivered : AreDelivered system out.items (set a.boxes.items k left) full) (at : old ≡ get_or a.rows.items k old) where
+    forward : slice_index a.clocks k ≤ to
+    forward = let l = gone.later in omega arith
+
+    so_far : NothingArrivesBefore system k to a.clocks
+    so_far b l other = let reach = reached b l other in let h = gone.in_time in omega arith
+
+    signals_are : out.items ≡ signals_from system a.clocks (set a.clocks k to)
+    signals_are = gone.signals_are ∙ signals_own system kept.well_formed a.clocks k to in_clocks may.known
+
+    box_later : (b : ℕ) (y : Content) (ms : List Mail) → b < system.cores → (get_or (set a.boxes.items k left) b y).mails ≡ ms
+        → (get_or full b y).mails ≡ put_all (filter (is_home system b) (signals_from system a.clocks (set a.clocks k to))) ms
+    box_later b y ms p e =
+        delivered.each b y (let all = kept.boxes_of in let same = length-set a.boxes.items k left in omega arith)
+        ∙ ap (λ ms. put_all (filter (is_home system b) ms) (get_or (set a.boxes.items k left) b y).mails) signals_are
+        ∙ ap (put_all (filter (is_home system b) (signals_from system a.clocks (set a.clocks k to)))) e
+
+    own : (x : Slot) (y : Content) → IsPlaced system a.horizon k (set a.clocks k to) (get_or full k y).mails (get_or (set a.slots.items k after) k x)
+    own x y =
+        subst (IsPlaced system a.horizon k (set a.clocks k to) (get_or full k y).mails) (sym (get_or-set_same a.slots.items k after x in_slots))
+        (subst (λ ms. IsPlaced system a.horizon k (set a.clocks k to) ms after) (sym (box_later k y left.mails may.known (ap (λ (z : Content). z.mails) (get_or-set_same a.boxes.items k left y (let all = kept.boxes_of in let h = may.known in omega arith)))))
+        (here_after after gone.stands))
+      where
+        here_after : (slot : Slot) → StandsIn system k to slot → IsPlaced system a.horizon k (set a.clocks k to) (put_all (filter (is_home system k) (signals_from system a.clocks (set a.clocks k to))) left.mails) slot
+        here_after (Here spare state) stands = (stands.0, here_own system kept.well_formed a.clocks k to in_clocks state left.mails forward so_far stands.1 gone.box_is)
+        here_after (Away loan) stands = absurd stands
+
+    other : (b : ℕ) (x : Slot) (y : Content) → b < system.cores → b ≢ k → IsPlaced system a.horizon b (set a.clocks k to) (get_or full b y).mails (get_or (set a.slots.items k after) b x)
+    other b x y p e =
+        subst (IsPlaced system a.horizon b (set a.clocks k to) (get_or full b y).mails) (sym (get_or-set_other a.slots.items k b after x e))
+        (subst (λ ms. IsPlaced system a.horizon b (set a.clocks k to) ms (get_or a.slots.items b x)) (sym (box_later b y _ p (ap (λ (z : Content). z.mails) (get_or-set_other a.boxes.items k b left y e))))
+        (placed_other system kept.well_formed a.clocks k to in_clocks forward a.horizon b (get_or a.boxes.items b y).mails (get_or a.slots.items b x) e (kept.placed b x y p)))
+
+    placed : ArePlaced system a.horizon (set a.clocks k to) (set a.slots.items k after) full
+    placed b x y p = elim (eqb_tells b k) [
+      | inl e ↦ subst (λ d. IsPlaced system a.horizon d (set a.clocks k to) (get_or full d y).mails (get_or (set a.slots.items k after) d x)) (sym e.1) (own x y)
+      | inr e ↦ other b x y p e.1
+    ]
+
+    boxes_are : (with_items (with_item a.boxes k left) full).items ≡ full
+    boxes_are = with_items_is (with_item a.boxes k left) full (let ok = (with_item a.boxes k left).ok.0 in let many = delivered.many in omega arith)
+
+    pub gone_kept : IsKept (record a {
+      clocks = set a.clocks k to;
+      slots = with_item a.slots k after;
+      boxes = with_items (with_item a.boxes k left) full;
+      rows = with_item a.rows k new;
+      signals = out;
+    })
+    gone_kept =
+        record {
+          horizon = kept.horizon;
+          well_formed = kept.well_formed;
+          few = kept.few;
+          clocks_of = length-set a.clocks k to ∙ kept.clocks_of;
+          taken_of = kept.taken_of;
+          idle = λ b l. (let ne : b ≢ k = (let h = may.known in omega arith) in get_or-set_other a.clocks k b to 0 ne ∙ kept.idle b l);
+          slots_of = length-set a.slots.items k after ∙ kept.slots_of;
+          boxes_of = ap length boxes_are ∙ delivered.many ∙ length-set a.boxes.items k left ∙ kept.boxes_of;
+          delays_are = kept.delays_are;
+          since = since_later system kept.well_formed a.clocks k to in_clocks a.horizon a.taken a.rows.items kept.since may.known forward (let h = gone.in_time in let l = in_time in omega arith) old new at gone.rows_are;
+          placed = subst (λ boxes. ArePlaced system a.horizon (set a.clocks k to) (set a.slots.items k after) boxes) (sym boxes_are) placed;
+        }
+
+    loans_are : map slot_loan (set a.slots.items k after) ≡ set (map slot_loan a.slots.items) k None
+    loans_are = map-set slot_loan a.slots.items k after ∙ ap (set (map slot_loan a.slots.items) k) (stands-loan system k to after gone.stands)
+
+    pub gone_shows : table_of (record a { clocks = set a.clocks k to; slots = with_item a.slots k after; boxes = with_items (with_item a.boxes k left) full; rows = with_item a.rows k new; signals = out }) ≡ settled_at (table_of a) k to
+    gone_shows = ap (λ loans. record (settled_at (table_of a) k to) { loans = loans }) loans_are
+
+    pub gone_clock : slice_index (set a.clocks k to) k ≡ to
+    gone_clock = get_or-set_same a.clocks k to 0 in_clocks
+
+    pub gone_fewer : turns_left (settled_at (table_of a) k to) < turns_left (table_of a)
+    gone_fewer =
+        turns-fewer (table_of a) k to may.known (let all = kept.clocks_of in let few = kept.few in omega arith) gone.later
+        (let l = gone.in_time in let h = in_time in omega arith)
+
+  -- the desk shows a core that stays lent, and no rows of it that are not taken
+  pub spent_shows : (slots : List Slot) (loan : Loan) (clock : ℕ) → loan.past ≡ past → loan.front ≡ a.clocks → slots ≡ set a.slots.items k (Away loan) → clock ≡ slice_index a.clocks k →
+      record (table_of a) { taken = set a.taken k clock; loans = map slot_loan slots } ≡ taken_at (lent_at (table_of a) k) k
+  spent_shows slots loan clock past_is front_is slots_are clock_is =
+      ap (λ loans. record (table_of a) { taken = set a.taken k clock; loans = loans })
+      (ap (map slot_loan) slots_are ∙ map-set slot_loan a.slots.items k (Away loan) ∙ ap (λ l. set (map slot_loan a.slots.items) k (Some l)) one)
+      ∙ ap (λ t. record (lent_at (table_of a) k) { taken = set a.taken k t }) clock_is
+    where
+      one : loan ≡ record { past = past_of (table_of a) k; front = a.clocks }
+      one = rw (← is, ← past_is, ← front_is) refl
+
+  -- memory was refused: the core stays lent, without its mail and its rows
+  module _ (slots : Vec Slot Global) (boxes : Vec Content Global) (rows : Vec (Vec Row Global) Global) (signals : Vec Mail Global) (loan : Loan) (box : Content) (none : Vec Row Global) (past_is : loan.past ≡ past)
+      (front_is : loan.front ≡ a.clocks) (box_is : box.mails ≡ []) (none_is : none.items ≡ []) (slots_are : slots.items ≡ set a.slots.items k (Away loan)) (boxes_are : AreSameMail (set a.boxes.items k box) boxes.items)
+      (rows_are : rows.items ≡ set a.rows.items k none) (clock : ℕ) (clock_is : clock ≡ slice_index a.clocks k) where
+    placed_away : ArePlaced system a.horizon a.clocks slots.items boxes.items
+    placed_away c x y p =
+        subst (λ xs. IsPlaced system a.horizon c a.clocks (get_or boxes.items c y).mails (get_or xs c x)) (sym slots_are)
+        (subst (λ ms. IsPlaced system a.horizon c a.clocks ms (get_or (set a.slots.items k (Away loan)) c x)) (sym (boxes_are.each c y (let all = kept.boxes_of in let same = length-set a.boxes.items k box in omega arith)))
+        (placed-set system a.horizon a.clocks a.slots.items a.boxes.items k (Away loan) box kept.placed in_slots (let all = kept.boxes_of in let h = may.known in omega arith)
+        (away_at a kept k loan box.mails may (past_is ∙ is) front_is box_is) c x y p))
+
+    pub spent_kept : IsKept (record a {
+      taken = set a.taken k clock;
+      slots = slots;
+      boxes = boxes;
+      rows = rows;
+      signals = signals;
+    })
+    spent_kept =
+        record {
+          horizon = kept.horizon;
+          well_formed = kept.well_formed;
+          few = kept.few;
+          clocks_of = kept.clocks_of;
+          taken_of = length-set a.taken k clock ∙ kept.taken_of;
+          idle = kept.idle;
+          slots_of = ap length slots_are ∙ length-set a.slots.items k (Away loan) ∙ kept.slots_of;
+          boxes_of = boxes_are.many ∙ length-set a.boxes.items k box ∙ kept.boxes_of;
+          delays_are = kept.delays_are;
+          since = since_taken a kept k clock rows.items none may.known none_is rows_are clock_is;
+          placed = placed_away;
+        }
