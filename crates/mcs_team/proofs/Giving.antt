@@ -4,6 +4,10 @@ use Rattle.std.proofs.Common.{Result, Ok, Err, OnOk, OnErr, IfOk, IfErr}
 use Rattle.mcs_ticks.specs.declared.row.Row.{Row}
 use Rattle.mcs_team.specs.Flow.{Given, GivenUntil}
 
+pub known_on_ok : {T E P : Type 0} (r : Result T E) → P → OnOk r P
+known_on_ok (Ok x) p = p
+known_on_ok (Err e) p = tt
+
 pub on_err : {T E P : Type 0} (r : Result T E) → P → OnErr r P
 on_err (Ok x) p = tt
 on_err (Err e) p = p

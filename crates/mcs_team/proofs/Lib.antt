@@ -1,6 +1,4 @@
 pub mod Turns
-mod Begun
-mod Takings
 mod Headlines
 mod Giving
 mod Flowing
@@ -8,3 +6,5 @@ mod Batches
 mod Adding
 mod Streaming
 mod Resting
+mod Rounds
+mod Sinks

@@ -20,9 +20,10 @@ use Rattle.mcs_window.specs.Stretch.{rows_between}
 use Rattle.mcs_window.specs.laws.Merging.{rows_until}
 use Rattle.mcs_window.proofs.Merging.{rows-so_far, clock-later, rows-later}
 use Rattle.mcs_window.proofs.Ranges.{rows-none}
-use Rattle.mcs_team.specs.Flow.{Given, GivenUntil, GivenSome, Flows, pasts_of, AreBatches, GoesOn, IsAt}
+use Rattle.mcs_team.specs.Flow.{Given, GivenUntil, GivenSome, GivesOn, FailsFrom, Flows, pasts_of, AreBatches, GoesOn, IsAt}
+use Rattle.mcs_team.specs.declared.sink.FlowFault.TheVariants as fault
 use Rattle.mcs_team.specs.declared.sink.Stop.{Stop}
-use Rattle.mcs_team.specs.declared.sink.Stop.TheVariants.{NoMemory, Odd}
+use Rattle.mcs_team.specs.declared.sink.Stop.TheVariants.{Fault, Odd}
 use Rattle.mcs_team.specs.declared.batch.Batch.{Batch}
 use Rattle.mcs_team.proofs.Batches.{past-of}
 use Rattle.mcs_team.proofs.Giving.{given-append, until-append, until-more}
@@ -65,18 +66,16 @@ map-none f h (suc n) a = both _ _ _ _ (h a) (map-none f h n (a + 1))
     both x y xs ys e g = cc
 
 module _ (system : System) (horizon : ℕ) where
-  pub at-first : (batches : List Batch) (m : Merging) (tally : Tally) → BeginsMerged → pasts_of batches ≡ replicate system.cores 0 → m ≡ starting system.cores →
-      tally ≡ opened_tally system horizon → IsAt system horizon 0 batches m tally
-  at-first batches m tally begins pasts e counted =
+  pub at-first : (m : Merging) (tally : Tally) → BeginsMerged → m ≡ starting system.cores → tally ≡ opened_tally system horizon → IsAt system horizon 0 m tally
+  at-first m tally begins e counted =
       let begun = begins system.cores in
       let none : rows_until system (replicate system.cores 0) ≡ replicate system.cores [] =
       map-none (λ c. rows_between system c 0 (slice_index (replicate system.cores 0) c))
       (λ c. ap (rows_between system c 0) (zero-at system.cores c) ∙ rows-none system c 0) system.cores 0
       in
       record {
-        many_are = sym (length-map batches (λ x. x.past)) ∙ ap length pasts ∙ long-replicate system.cores;
-        clocks_are = rw e (sym pasts);
-        early = λ c l. let z = zero-at system.cores c in rw pasts (omega arith);
+        many_are = rw e (long-replicate system.cores);
+        early = λ c l. let z = zero-at system.cores c in rw e (omega arith);
         in_time = omega arith;
         in_order = rw e begun.0;
         given = rw (e, none) begun.1;
@@ -89,34 +88,37 @@ module _ (system : System) (horizon : ℕ) where
     some-given s t m l given =
         ((clock system m).rows, rows-later system m (suc horizon), clock-later system takes_time m (suc horizon) (omega arith), given)
 
-    pub stops : (s t : S) (m : ℕ) (stop : Stop) → m ≤ horizon + 1 → Given takes s (clock system m).rows t → (stop ≡ NoMemory) ⊎ (stop ≡ Odd m) →
+    pub stops : (s t : S) (m : ℕ) (stop : Stop) → m ≤ horizon + 1 → Given takes s (clock system m).rows t → (stop ≡ Fault fault.NoMemory) ⊎ (stop ≡ Odd m) →
         Flows takes system horizon s t (Err stop)
     stops s t m stop l given (inl e) = subst (λ x. Flows takes system horizon s t (Err x)) (sym e) (some-given s t m l given)
     stops s t m stop l given (inr e) = subst (λ x. Flows takes system horizon s t (Err x)) (sym e) (l, given)
 
-    pub done : (s t : S) (m : ℕ) (batches : List Batch) (merging : Merging) (tally : Tally) (reports : Reports) → IsAt system horizon m batches merging tally →
+    pub no-memory : (m : ℕ) (t : S) → m ≤ horizon + 1 → FailsFrom takes system horizon m t t fault.NoMemory
+    no-memory m t l s given = some-given s t m l given
+
+    pub done : (s t : S) (m : ℕ) (merging : Merging) (tally : Tally) (reports : Reports) → IsAt system horizon m merging tally →
         Given takes s (clock system m).rows t → m ≡ horizon + 1 → IsWellFormed system → SchedulesAreReported → reports ≡ finished tally →
         Given takes s (schedule system horizon) t × (reports ≡ reports_of system horizon (schedule system horizon))
-    done s t m batches merging tally reports is given e well reported result =
+    done s t m merging tally reports is given e well reported result =
         let g : m ≡ suc horizon = omega arith in (
           subst (λ n. Given takes s (clock system n).rows t) g given,
           result ∙ ap finished (is.counted ∙ ap (λ n. fold added (opened_tally system horizon) (clock system n).rows) g) ∙ reported system well horizon,
         )
 
     -- rows of each core were taken from the desk and added to the merger
-    module _ (m : ℕ) (first : List Batch) (start : Merging) (tally : Tally) (is : IsAt system horizon m first start tally) (some : 1 ≤ system.cores)
-        (batches : List Batch) (are : AreBatches system horizon (pasts_of first) batches)
+    module _ (m : ℕ) (start : Merging) (tally : Tally) (is : IsAt system horizon m start tally) (some : 1 ≤ system.cores)
+        (batches : List Batch) (are : AreBatches system horizon start.clocks batches)
         (merging : Merging) (clocks : merging.clocks ≡ pasts_of batches) (goes : GoesOn system start merging) where
       abbrev reached : ℕ
       reached = least_clock merging.clocks
 
       many : length batches ≡ system.cores
-      many = are.many_are ∙ length-map first (λ x. x.past) ∙ is.many_are
+      many = are.many_are ∙ is.many_are
 
       long : length merging.clocks ≡ system.cores
       long = ap length clocks ∙ length-map batches (λ x. x.past) ∙ many
 
-      early : (c : ℕ) → c < system.cores → slice_index (pasts_of batches) c ≤ horizon + 1
+      early : (c : ℕ) → c < system.cores → slice_index merging.clocks c ≤ horizon + 1
       early c l =
           let n = many in
           let n' = are.many_are in
@@ -124,13 +126,13 @@ module _ (system : System) (horizon : ℕ) where
           let b = are.each c x.0 (omega arith) in
           let t = b.in_time in
           let p = past-of batches c x.0 (omega arith) in
-          omega arith
+          subst (λ cs. slice_index cs c ≤ horizon + 1) (sym clocks) (omega arith)
 
       in_time : reached ≤ horizon + 1
       in_time =
           let n = long in
           let a = least-of merging.clocks 0 (omega arith) in
-          let b : slice_index merging.clocks 0 ≤ horizon + 1 = subst (λ cs. slice_index cs 0 ≤ horizon + 1) (sym clocks) (early 0 (omega arith)) in
+          let b = early 0 (omega arith) in
           omega arith
 
       until : merged_before reached (rows_until system merging.clocks) ≡ (clock system reached).rows
@@ -140,20 +142,20 @@ module _ (system : System) (horizon : ℕ) where
       rows-now : (clock system m).rows ++ passed merging ≡ (clock system reached).rows
       rows-now = (goes (clock system m).rows is.given).begun ∙ until
 
-      pub until-refused : (s t u : S) → Given takes s (clock system m).rows t → GivenUntil takes t (passed merging) u → GivenUntil takes s (schedule system horizon) u
-      until-refused s t u given refused =
+      pub until-refused : (t u : S) → GivenUntil takes t (passed merging) u → FailsFrom takes system horizon m t u fault.Sink
+      until-refused t u refused s given =
           subst (λ xs. GivenUntil takes s xs u)
           (ap (λ xs. xs ++ rows-later system reached (suc horizon)) rows-now ∙ sym (clock-later system takes_time reached (suc horizon) (let l = in_time in omega arith)))
           (until-more takes s u ((clock system m).rows ++ passed merging) (rows-later system reached (suc horizon)) (until-append takes s t u (clock system m).rows (passed merging) given refused))
 
       -- and poured
-      module _ (after : Merging) (count : Tally) (last : List Batch) (t : ℕ) (same : pasts_of last ≡ pasts_of batches) (at : t ≡ fold min (horizon + 1) (pasts_of last))
+      module _ (after : Merging) (count : Tally) (t : ℕ) (at : t ≡ fold min (horizon + 1) (pasts_of batches))
           (taken : HasTaken merging.left (passed merging) after) (none : next_row after ≡ None) (kept : after.clocks ≡ merging.clocks) (in_order : IsInOrder after)
           (counted : count ≡ fold added tally (passed merging)) where
         t-is : t ≡ reached
         t-is =
             let n = long in
-            at ∙ ap (fold min (horizon + 1)) (same ∙ sym clocks) ∙ least-is (horizon + 1) merging.clocks (omega arith) in_time
+            at ∙ ap (fold min (horizon + 1)) (sym clocks) ∙ least-is (horizon + 1) merging.clocks (omega arith) in_time
 
         has : HasTaken (rows_until system after.clocks) (clock system t).rows after
         has =
@@ -169,12 +171,11 @@ module _ (system : System) (horizon : ℕ) where
                   ∙ ap (λ cs. rows_at u (list_of core (rows_until system cs))) (sym kept);
             })
 
-        pub at-next : IsAt system horizon t last after count
+        pub at-next : IsAt system horizon t after count
         at-next =
             record {
-              many_are = sym (length-map last (λ x. x.past)) ∙ ap length same ∙ length-map batches (λ x. x.past) ∙ many;
-              clocks_are = kept ∙ clocks ∙ sym same;
-              early = λ c l. subst (λ cs. slice_index cs c ≤ horizon + 1) (sym same) (early c l);
+              many_are = ap length kept ∙ long;
+              early = λ c l. subst (λ cs. slice_index cs c ≤ horizon + 1) (sym kept) (early c l);
               in_time = let e = t-is in let l = in_time in omega arith;
               in_order = in_order;
               given = has;
@@ -182,6 +183,7 @@ module _ (system : System) (horizon : ℕ) where
                   ∙ ap (fold added (opened_tally system horizon)) (rows-now ∙ ap (λ n. (clock system n).rows) (sym t-is));
             }
 
-        pub given-next : (s u v : S) → Given takes s (clock system m).rows u → Given takes u (passed merging) v → Given takes s (clock system t).rows v
-        given-next s u v given more =
-            subst (λ xs. Given takes s xs v) (rows-now ∙ ap (λ n. (clock system n).rows) (sym t-is)) (given-append takes s u v (clock system m).rows (passed merging) given more)
+        pub given-next : (s' u : S) → Given takes s' (passed merging) u → GivesOn takes system m t s' u
+        given-next s' u more s given =
+            subst (λ xs. Given takes s xs u) (rows-now ∙ ap (λ n. (clock system n).rows) (sym t-is))
+            (given-append takes s s' u (clock system m).rows (passed merging) given more)

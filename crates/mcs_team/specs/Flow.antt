@@ -11,11 +11,12 @@ use Rattle.mcs_report.specs.Reports.{reports_of}
 use Rattle.mcs_report.specs.declared.reports.Reports.{Reports}
 use Rattle.mcs_system.specs.System.{System}
 use Rattle.mcs_core.specs.Clock.{clock, schedule}
+use Rattle.mcs_window.specs.Desk.{Table, clock_of, taken_of}
 use Rattle.mcs_window.specs.Stretch.{rows_between}
 use Rattle.mcs_window.specs.laws.Merging.{rows_until}
 use Rattle.mcs_team.specs.declared.batch.Batch.{Batch}
 use Rattle.mcs_team.specs.declared.sink.Stop.{Stop}
-use Rattle.mcs_team.specs.declared.sink.Stop.TheVariants.{Refused, NoMemory, Odd}
+use Rattle.mcs_team.specs.declared.sink.Stop.TheVariants.{Fault, Odd}
 use Rattle.mcs_team.specs.declared.sink.FlowFault.{FlowFault}
 use Rattle.mcs_team.specs.declared.sink.FlowFault.TheVariants as fault
 
@@ -60,28 +61,25 @@ GoesOn system before after =
     (rows : List Row) → HasTaken (rows_until system before.clocks) rows before →
     HasTaken (rows_until system after.clocks) rows after
 
+-- the rows of each core were last taken from the desk where its batch ends
+pub record AreTakenTo (pasts : List ℕ) (table : Table) : Type 0 where
+  pub many_are : length pasts ≡ table.system.cores
+  pub each : (core : ℕ) → core < table.system.cores → taken_of table core ≡ slice_index pasts core
+
+-- the batch of each core ends at its clock
+abbrev pub AreAtClocks : List ℕ → Table → Type 0
+AreAtClocks pasts table = (core : ℕ) → core < table.system.cores → slice_index pasts core ≡ clock_of table core
+
 -- all rows of the schedule before moment t were given and counted, and the merger has those that some core made since
-pub record IsAt (system : System) (horizon t : ℕ) (batches : List Batch) (merging : Merging) (tally : Tally) : Type 0
-  where
-    pub many_are : length batches ≡ system.cores
-    pub clocks_are : merging.clocks ≡ pasts_of batches
-    pub early : (core : ℕ) → core < system.cores → slice_index (pasts_of batches) core ≤ horizon + 1
-    pub in_time : t ≤ horizon + 1
-    pub in_order : IsInOrder merging
-    pub given : HasTaken (rows_until system merging.clocks) (clock system t).rows merging
-    pub counted : tally ≡ fold added (opened_tally system horizon) (clock system t).rows
+pub record IsAt (system : System) (horizon t : ℕ) (merging : Merging) (tally : Tally) : Type 0 where
+  pub many_are : length merging.clocks ≡ system.cores
+  pub early : (core : ℕ) → core < system.cores → slice_index merging.clocks core ≤ horizon + 1
+  pub in_time : t ≤ horizon + 1
+  pub in_order : IsInOrder merging
+  pub given : HasTaken (rows_until system merging.clocks) (clock system t).rows merging
+  pub counted : tally ≡ fold added (opened_tally system horizon) (clock system t).rows
 
--- how a flow ends: with the whole schedule and its reports; or the sink refused a row; or there was no memory; or the
--- desk is another one, and the rows before a moment were given
-abbrev pub Flows : {S : Type 0} → (S → Row → Bool → S → Type 0) →
-    System → ℕ → S → S → Result Reports Stop → Type 0
-Flows takes system horizon s t (Ok reports) =
-    Given takes s (schedule system horizon) t × (reports ≡ reports_of system horizon (schedule system horizon))
-Flows takes system horizon s t (Err Refused) = GivenUntil takes s (schedule system horizon) t
-Flows takes system horizon s t (Err NoMemory) = GivenSome takes s (schedule system horizon) t
-Flows takes system horizon s t (Err (Odd m)) = (m ≤ horizon + 1) × Given takes s (clock system m).rows t
-
--- what the sink was given where there are no reports
+-- what a sink was given where there are no reports
 abbrev pub IsFlowFault : {S : Type 0} → (S → Row → Bool → S → Type 0) →
     System → ℕ → S → S → FlowFault → Type 0
 IsFlowFault takes system horizon s t fault.Sink = GivenUntil takes s (schedule system horizon) t
@@ -92,3 +90,23 @@ abbrev pub IsRestFault : {S : Type 0} → (S → Row → Bool → S → Type 0) 
     List Row → S → S → FlowFault → Type 0
 IsRestFault takes rows s t fault.Sink = GivenUntil takes s rows t
 IsRestFault takes rows s t fault.NoMemory = s ≡ t
+
+-- a sink that had been given the rows of the schedule before moment t has then been given those before moment u ..
+abbrev pub GivesOn : {S : Type 0} → (S → Row → Bool → S → Type 0) → System → ℕ → ℕ → S → S → Type 0
+GivesOn {S} takes system t u before after =
+    (s : S) → Given takes s (clock system t).rows before → Given takes s (clock system u).rows after
+
+-- .. or it ends early
+abbrev pub FailsFrom : {S : Type 0} → (S → Row → Bool → S → Type 0) →
+    System → ℕ → ℕ → S → S → FlowFault → Type 0
+FailsFrom {S} takes system horizon t before after why =
+    (s : S) → Given takes s (clock system t).rows before → IsFlowFault takes system horizon s after why
+
+-- how the flow of a team ends: with the whole schedule and its reports; or early; or the desk is another one, and the
+-- rows before a moment were given
+abbrev pub Flows : {S : Type 0} → (S → Row → Bool → S → Type 0) →
+    System → ℕ → S → S → Result Reports Stop → Type 0
+Flows takes system horizon s t (Ok reports) =
+    Given takes s (schedule system horizon) t × (reports ≡ reports_of system horizon (schedule system horizon))
+Flows takes system horizon s t (Err (Fault why)) = IsFlowFault takes system horizon s t why
+Flows takes system horizon s t (Err (Odd m)) = (m ≤ horizon + 1) × Given takes s (clock system m).rows t

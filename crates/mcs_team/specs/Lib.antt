@@ -1,5 +1,4 @@
 pub mod Flow
 pub mod Headline
 pub mod NoSystem
-pub mod Takings
 pub mod Windows

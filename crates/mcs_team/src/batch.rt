@@ -1,7 +1,10 @@
-ghost use Rattle.std.specs.Prelude.{◌≡◌, [], fold, map, min, replicate, slice_set, IfOk};
-ghost use Rattle.mcs_team.specs.Flow.{pasts_of};
+//! The rows of each core, as they are taken from a desk.
+ghost use Rattle.std.specs.Prelude.{◌≡◌, ◌<◌, ◌≤◌, [], fold, length, map, min, replicate, slice_index, slice_set, IfOk, IsTrue};
+ghost use Rattle.mcs_team.specs.Flow.{pasts_of, AreAtClocks, AreBatches, AreTakenTo, IsBatch};
+ghost use Rattle.mcs_window.specs.Desk.{clock_of, taken_at, taken_of};
 
-use mcs_ticks::{NoMemory, Row, Tick};
+use mcs_ticks::{CoreId, NoMemory, Row, Tick};
+use mcs_window::Desk;
 use std::alloc::Global;
 
 /// The rows of a core that were made since the last taking.
@@ -35,4 +38,47 @@ pub(crate) fn least_past(batches: &[Batch], end: Tick) -> Tick
         least = least.min(batch.past);
     }
     least
+}
+
+/// Whether the desk has a core for each batch, whose rows were last taken where its batch ends.
+pub(crate) fn are_taken_to(desk: &Desk, batches: &[Batch]) -> bool
+    ensures { IsTrue result → AreTakenTo (pasts_of batches.now) desk.now }
+{
+    if batches.len() != desk.cores() {
+        return false;
+    }
+    for number in 0..batches.len() {
+        if desk.taken(CoreId(number)) != batches[number].past {
+            return false;
+        }
+    }
+    true
+}
+
+// Takes the rows of a core since its batch ended, in place of those of that batch.
+fn take(desk: &mut Desk, core: CoreId, batch: &mut Batch)
+    requires known { core < desk.old.system.cores }
+    requires taken { taken_of desk.old core ≡ batch.old.past }
+    ensures batch { IsBatch desk.old.system desk.old.horizon core batch.old.past batch.new }
+    ensures past { batch.new.past ≡ clock_of desk.old core }
+    ensures taken { desk.new ≡ taken_at desk.old core }
+{
+    let _taken = desk.taken(core);
+    batch.past = desk.clock(core);
+    batch.rows = desk.take_rows(core);
+}
+
+/// Takes the rows of each core since its batch ended, in place of those of that batch.
+pub(crate) fn gather(desk: &mut Desk, batches: &mut [Batch])
+    requires { AreTakenTo (pasts_of batches.old) desk.old }
+    ensures batches { AreBatches desk.old.system desk.old.horizon (pasts_of batches.old) batches.new }
+    ensures pasts { AreAtClocks (pasts_of batches.new) desk.old }
+    ensures taken { desk.old.system.cores ≤ length desk.old.taken → AreTakenTo (pasts_of batches.new) desk.new }
+    ensures rest { desk.new ≡ record desk.old { taken = desk.new.taken } }
+    ensures long { length desk.new.taken ≡ length desk.old.taken }
+{
+    for number in 0..batches.len() {
+        let core = CoreId(number);
+        take(desk, core, &mut batches[number]);
+    }
 }

@@ -1,24 +1,101 @@
-//! Rows on their way from the merger to the sink.
-ghost use Rattle.std.specs.Prelude.{◌≡◌, ◌<◌, ◌≤◌, ◌++◌, None, fold, length, slice_index, OnOk, OnErr};
+//! Rows on their way from a desk to a sink.
+ghost use Rattle.std.specs.Prelude.{◌≡◌, ◌+◌, ◌<◌, ◌≤◌, ◌++◌, ◌^◌, ◌↔◌, None, fold, length, min, replicate, slice_index, IfErr, IfOk, IsTrue, OnOk, OnErr};
 ghost use Rattle.mcs_merge.specs.Merging.{after_add, next_row, passed, CanAdd, IsInOrder};
 ghost use Rattle.mcs_merge.specs.laws.Steps.{HasTaken};
-ghost use Rattle.mcs_report.specs.Tally.{added};
-ghost use Rattle.mcs_team.specs.Flow.{pasts_of, rows_from, AreBatches, Given, GivenUntil, GoesOn, IsBatch};
+ghost use Rattle.mcs_report.specs.Tally.{added, finished};
+ghost use Rattle.mcs_system.specs.WellFormed.{IsWellFormed};
+ghost use Rattle.mcs_team.specs.Flow.{pasts_of, AreBatches, FailsFrom, Given, GivenUntil, GivesOn, GoesOn, IsAt, IsBatch};
 
-use crate::batch::Batch;
-use crate::seat::Run;
-use crate::{Refused, Sink};
+use crate::batch::{Batch, empty_batches, least_past};
+use crate::run::Run;
+use crate::{FlowFault, Refused, Sink};
 use mcs_merge::{Merger, steps_are_merged};
-use mcs_report::Tally;
+use mcs_report::{Reports, Tally};
+use mcs_system::System;
 use mcs_ticks::{CoreId, NoMemory, Row, Tick};
+use std::alloc::Global;
 use std::mem;
 
+/// Rows on their way: those that were taken last, and those that not all clocks have passed.
+#[derive(Drop)]
+pub(crate) struct Flow {
+    /// The rows of each core that were taken last.
+    pub(crate) batches: Vec<Batch>,
+    merger: Merger,
+    tally: Tally,
+    /// All rows before it were given and counted.
+    pub(crate) reached: Tick,
+    // the moment after the last
+    end: Tick,
+}
+
+impl Flow {
+    /// Nothing was taken yet.
+    pub(crate) fn new(alloc: Global, system: &System, horizon: Tick) -> Result<Flow, NoMemory>
+        requires { horizon ≤ 2 ^ 40 }
+        ensures at { IfOk result (λ flow. IsAt system.now horizon flow.reached flow.merger flow.tally) }
+        ensures first { IfOk result (λ flow. flow.reached ≡ 0) }
+        ensures end { IfOk result (λ flow. flow.end ≡ horizon + 1) }
+        ensures pasts { IfOk result (λ flow. pasts_of flow.batches.items ≡ replicate system.now.cores 0) }
+        ensures clocks { IfOk result (λ flow. flow.merger.clocks ≡ pasts_of flow.batches.items) }
+    {
+        steps_are_merged();
+        let cores = system.parts().cores;
+        let batches = empty_batches(alloc, cores)?;
+        let merger = Merger::new(alloc, cores)?;
+        let tally = Tally::new(alloc, system, horizon)?;
+        let end = horizon.plus(1).unwrap();
+        Ok(Flow {
+            batches,
+            merger,
+            tally,
+            reached: Tick::ZERO,
+            end,
+        })
+    }
+
+    /// Whether all rows were given.
+    pub(crate) fn is_over(&self) -> bool
+        ensures { IsTrue result ↔ (self.now.reached ≡ self.now.end) }
+    {
+        self.reached == self.end
+    }
+
+    /// Adds the rows that were taken, and gives those that the clocks of all cores have passed.
+    pub(crate) fn give<B: Run, S: Sink>(&mut self, sink: &mut S) -> Result<(), FlowFault>
+        requires well_formed { IsWellFormed B.system }
+        requires end { self.old.end ≡ B.horizon + 1 }
+        requires at { IsAt B.system B.horizon self.old.reached self.old.merger self.old.tally }
+        requires taken { AreBatches B.system B.horizon self.old.merger.clocks self.old.batches.items }
+        ensures at { OnOk result (IsAt B.system B.horizon self.new.reached self.new.merger self.new.tally) }
+        ensures end { OnOk result (self.new.end ≡ self.old.end) }
+        ensures pasts { OnOk result (pasts_of self.new.batches.items ≡ pasts_of self.old.batches.items) }
+        ensures clocks { OnOk result (self.new.merger.clocks ≡ pasts_of self.new.batches.items) }
+        ensures reached { OnOk result (self.new.reached ≡ fold min self.old.end (pasts_of self.old.batches.items)) }
+        ensures given { OnOk result (GivesOn S.takes B.system self.old.reached self.new.reached sink.old sink.new) }
+        ensures fault { IfErr result (FailsFrom S.takes B.system B.horizon self.old.reached sink.old sink.new) }
+    {
+        let reached = least_past(self.batches.as_slice(), self.end);
+        let Ok(()) = add_all::<B>(&mut self.merger, self.batches.as_mut_slice()) else {
+            return Err(FlowFault::NoMemory);
+        };
+        let Ok(()) = pour(&mut self.merger, &mut self.tally, sink) else {
+            return Err(FlowFault::Sink);
+        };
+        self.reached = reached;
+        Ok(())
+    }
+
+    /// The reports of all rows that were given.
+    pub(crate) fn finish(self) -> Reports
+        ensures { result ≡ finished self.tally }
+    {
+        self.tally.finish()
+    }
+}
+
 /// Gives all rows that the clocks of all cores have passed, and counts them.
-pub(crate) fn pour<S: Sink>(
-    merger: &mut Merger,
-    tally: &mut Tally,
-    sink: &mut S,
-) -> Result<(), Refused>
+fn pour<S: Sink>(merger: &mut Merger, tally: &mut Tally, sink: &mut S) -> Result<(), Refused>
     requires in_order { IsInOrder merger.old }
     ensures given { OnOk result (Given S.takes sink.old (passed merger.old) sink.new) }
     ensures refused { OnErr result (GivenUntil S.takes sink.old (passed merger.old) sink.new) }
@@ -50,8 +127,8 @@ fn add(merger: &mut Merger, core: CoreId, batch: &mut Batch) -> Result<(), NoMem
     }
 }
 
-/// Adds the rows of all cores, of which the batches then have none.
-pub(crate) fn add_all<B: Run>(merger: &mut Merger, batches: &mut [Batch]) -> Result<(), NoMemory>
+// Adds the rows of all cores, of which the batches then have none.
+fn add_all<B: Run>(merger: &mut Merger, batches: &mut [Batch]) -> Result<(), NoMemory>
     requires many { length merger.old.clocks ≡ B.system.cores }
     requires batches { AreBatches B.system B.horizon merger.old.clocks batches.old }
     requires in_order { IsInOrder merger.old }

@@ -3,11 +3,12 @@
 
 mod alone;
 mod batch;
-mod crew;
 mod fault;
 mod flow;
 mod gate;
+mod here;
 mod room;
+mod run;
 mod seat;
 mod sink;
 mod snapshot;

@@ -1,27 +1,31 @@
 //! Threads that work at one desk while the caller's thread takes the rows from it.
-ghost use Rattle.std.specs.Prelude.{◌≡◌, ◌⊎◌, IfErr, OnOk};
+ghost use Rattle.std.specs.Prelude.{◌≡◌, ◌⊎◌, IfErr, IfOk, OnOk};
 ghost use Rattle.mcs_team.specs.Flow.{pasts_of, AreBatches};
 
-use crate::Gate;
 use crate::batch::Batch;
-use crate::crew::run_piece;
-use crate::seat::{Run, Seat};
+use crate::run::Run;
+use crate::seat::Seat;
 use crate::sink::Stop;
-use mcs_ticks::{CoreId, Tick};
-use mcs_window::{Desk, Lost};
+use crate::{FlowFault, Gate};
+use mcs_ticks::Tick;
+use mcs_window::{Desk, Done, Lost, Piece};
 use std::sync::atomic::{AtomicU64, Ordering};
 use std::sync::{Condvar, Mutex, Wait};
 use std::thread;
-use std::thread::Threads;
+use std::thread::{Parker, Threads};
+use std::time::Duration;
+
+// So long, in milliseconds, the caller's thread sleeps at most before it looks for rows.
+const NAP: u64 = 1;
 
 /// What the threads of a run share.
 #[derive(Drop)]
 pub(crate) struct Room<B: Run> {
-    pub(crate) seat: Mutex<Seat<B>>,
+    seat: Mutex<Seat<B>>,
     // told where a further piece may be had, and at the end
     free: Condvar,
-    // told where some clock has moved
-    settled: Condvar,
+    // told where it is time to take rows
+    due: Parker,
     // how many threads have begun to work, 0 or 1
     begun: AtomicU64,
 }
@@ -34,10 +38,21 @@ impl<B: Run> Room<B> {
         Room {
             seat: Mutex::new(Seat::<B>::new(desk)),
             free: Condvar::new(),
-            settled: Condvar::new(),
+            due: Parker::new(),
             begun: AtomicU64::new(0),
         }
     }
+}
+
+// Runs a piece, of which the gate is told.
+fn run_piece<G: Gate>(gate: &G, piece: Piece) -> Result<Done, Lost>
+    ensures { IfOk result (λ done. done.system ≡ piece.system) }
+{
+    let (core, first, past) = (piece.core, piece.first, piece.past);
+    gate.before(core, first);
+    let ran = piece.run();
+    gate.after(core, past);
+    ran
 }
 
 // Takes pieces until none is to be had any more. Who takes one wakes another thread only where a further piece is to be
@@ -52,14 +67,16 @@ fn work<B: Run, R: Wait, G: Gate>(rt: &R, room: &Room<B>, gate: &G) {
                 if more {
                     room.free.notify_one();
                 }
-                run_piece(rt, &room.seat, gate, piece);
-                room.settled.notify_one();
+                let ran = run_piece(gate, piece);
                 guard = room.seat.lock(rt);
+                guard.settle(ran);
+                if guard.is_due() {
+                    room.due.unpark();
+                }
             }
             None => {
-                // idle time may have been skipped
-                room.settled.notify_one();
                 if guard.is_over() {
+                    room.due.unpark();
                     room.free.notify_all();
                     return;
                 }
@@ -77,9 +94,6 @@ pub(crate) fn crew<B: Run + Send + Sync, R: Threads + Wait + Sync, G: Gate + Syn
     workers: usize,
     gate: &G,
 ) {
-    if workers == 0 {
-        return;
-    }
     room.begun.store(1, Ordering::SeqCst);
     thread::scope(thread::scope_env(), rt, |scope| {
         for _ in 1..workers {
@@ -91,7 +105,21 @@ pub(crate) fn crew<B: Run + Send + Sync, R: Threads + Wait + Sync, G: Gate + Syn
     });
 }
 
-/// Waits until some clock has moved, and takes the rows of all cores. Where no thread has begun it works itself.
+// Waits for more rows. Where no thread has begun it runs a piece itself.
+fn wait<B: Run, R: Wait, G: Gate>(rt: &R, room: &Room<B>, gate: &G) {
+    if room.begun.load(Ordering::SeqCst) != 0 {
+        room.due.park_timeout(rt, Duration::from_millis(NAP));
+        return;
+    }
+    let piece = room.seat.lock(rt).lend();
+    if let Some(piece) = piece {
+        let ran = run_piece(gate, piece);
+        room.seat.lock(rt).settle(ran);
+        room.free.notify_all();
+    }
+}
+
+/// Waits until some clock has moved, and takes the rows of all cores.
 pub(crate) fn more<B: Run, R: Wait, G: Gate>(
     rt: &R,
     room: &Room<B>,
@@ -100,48 +128,29 @@ pub(crate) fn more<B: Run, R: Wait, G: Gate>(
     reached: Tick,
 ) -> Result<(), Stop>
     ensures taken { OnOk result (AreBatches B.system B.horizon (pasts_of batches.old) batches.new) }
-    ensures stop { IfErr result (λ stop. (stop ≡ Stop.NoMemory) ⊎ (stop ≡ Stop.Odd reached)) }
+    ensures stop { IfErr result (λ stop. (stop ≡ Stop.Fault FlowFault.NoMemory) ⊎ (stop ≡ Stop.Odd reached)) }
 {
-    let mut guard = room.seat.lock(rt);
     for _ in rt.forever() {
-        if guard.has_moved(batches) {
-            return match guard.gather(batches) {
-                Ok(()) => Ok(()),
-                Err(_) => Err(Stop::Odd(reached)),
-            };
-        }
+        wait(rt, room, gate);
+        let mut guard = room.seat.lock(rt);
         if guard.is_lost() {
-            return Err(Stop::NoMemory);
+            return Err(Stop::Fault(FlowFault::NoMemory));
         }
-        let piece = if room.begun.load(Ordering::SeqCst) == 0 {
-            guard.lend()
-        } else {
-            None
-        };
-        match piece {
-            Some(piece) => {
-                drop(guard);
-                run_piece(rt, &room.seat, gate, piece);
+        if guard.has_moved(batches) {
+            let was_full = guard.is_full();
+            let gathered = guard.gather(batches);
+            drop(guard);
+            if was_full {
                 room.free.notify_all();
-                guard = room.seat.lock(rt);
             }
-            None => {
-                // where idle time was skipped there is something to take
-                if !guard.has_moved(batches) {
-                    guard = room.settled.wait(rt, guard);
-                }
-            }
+            return gathered.map_err(|_| Stop::Odd(reached));
         }
     }
-    Err(Stop::NoMemory)
+    Err(Stop::Fault(FlowFault::NoMemory))
 }
 
 /// Ends the work of all threads.
 pub(crate) fn end<B: Run, R: Wait>(rt: &R, room: &Room<B>) {
-    room.seat.lock(rt).forfeit(Lost {
-        core: CoreId(0),
-        first: Tick::ZERO,
-        past: Tick::ZERO,
-    });
+    room.seat.lock(rt).close();
     room.free.notify_all();
 }

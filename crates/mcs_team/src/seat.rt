@@ -1,30 +1,18 @@
 //! The desk of one run, which the threads share. Its system is known by the type.
-ghost use Rattle.std.specs.Prelude.{◌≡◌, ◌<◌, IfSome, OnOk};
-ghost use Rattle.mcs_system.specs.System.{System};
-ghost use Rattle.mcs_team.specs.Flow.{pasts_of, AreBatches, IsBatch};
+ghost use Rattle.std.specs.Prelude.{◌≡◌, IfOk, IfSome, OnOk};
+ghost use Rattle.mcs_team.specs.Flow.{pasts_of, AreBatches};
 
-use crate::batch::Batch;
-use mcs_ticks::CoreId;
+use crate::batch::{Batch, are_taken_to, gather};
+use crate::run::Run;
+use mcs_ticks::{CoreId, Tick};
 use mcs_window::{Desk, Done, Lost, Piece};
-use std::marker::{Brand, PhantomData};
+use std::marker::PhantomData;
 
-/// Names one run: its system and its horizon. The call that lets a team work at a desk picks them.
-pub(crate) trait Run {
-    ghost use Rattle.std.specs.Prelude.{ℕ};
-    ghost use Rattle.mcs_system.specs.System.{System};
+// With so many rows on the desk it is time to take them.
+const ENOUGH: usize = 4096;
 
-    ghost system: { System };
-
-    ghost horizon: { ℕ };
-}
-
-impl Run for Brand {
-    ghost use Rattle.mcs_team.specs.NoSystem.{no_system};
-
-    ghost system = { no_system };
-
-    ghost horizon = { 0 };
-}
+// With so many rows on the desk no piece is lent until they were taken.
+const FULL: usize = 65_536;
 
 /// A desk for the system and the horizon of the run.
 #[derive(Drop)]
@@ -45,50 +33,66 @@ impl<B: Run> Seat<B> {
         }
     }
 
-    /// The desk, once the threads are gone.
-    pub(crate) fn into_desk(self) -> Desk
-        ensures { (result.system ≡ B.system) × (result.horizon ≡ B.horizon) }
-    {
-        self.desk
-    }
-
-    /// A piece, if one is to be had now.
+    /// A piece, if one is to be had now: none where too many rows lie on the desk.
     pub(crate) fn lend(&mut self) -> Option<Piece>
         ensures { IfSome result (λ piece. piece.system ≡ B.system) }
     {
+        if self.is_full() {
+            return None;
+        }
         self.desk.lend()
     }
 
     /// Whether a further piece is to be had now.
     pub(crate) fn can_lend(&self) -> bool {
-        self.desk.can_lend()
+        !self.is_full() && self.desk.can_lend()
     }
 
-    /// Takes a stretch of this run back. The run is lost where it is of no loan, or memory does not suffice.
-    pub(crate) fn take_back(&mut self, done: Done)
-        requires { done.system ≡ B.system }
+    /// Takes what a piece of this run has come to. The run is lost where there was no memory, or where it is of no loan.
+    pub(crate) fn settle(&mut self, ran: Result<Done, Lost>)
+        requires { IfOk ran (λ done. done.system ≡ B.system) }
     {
-        if let Err((_, done)) = self.desk.take_back(done) {
-            self.desk.forfeit(Lost {
-                core: done.core,
-                first: done.first,
-                past: done.past,
-            });
+        match ran {
+            Ok(done) => {
+                if let Err((_, done)) = self.desk.take_back(done) {
+                    self.desk.forfeit(Lost {
+                        core: done.core,
+                        first: done.first,
+                        past: done.past,
+                    });
+                }
+            }
+            Err(lost) => self.desk.forfeit(lost),
         }
     }
 
-    /// Gives a piece up, for which there was no memory.
-    pub(crate) fn forfeit(&mut self, lost: Lost) {
-        self.desk.forfeit(lost);
+    /// Lends nothing from now on.
+    pub(crate) fn close(&mut self) {
+        self.desk.forfeit(Lost {
+            core: CoreId(0),
+            first: Tick::ZERO,
+            past: Tick::ZERO,
+        });
     }
 
     /// Whether no piece is to be had any more.
     pub(crate) fn is_over(&self) -> bool {
         self.desk.finished() || self.desk.lost()
     }
+
     /// Whether a piece was lost.
     pub(crate) fn is_lost(&self) -> bool {
         self.desk.lost()
+    }
+
+    /// Whether no piece is lent until rows were taken.
+    pub(crate) fn is_full(&self) -> bool {
+        self.desk.kept() >= FULL
+    }
+
+    /// Whether it is time to take the rows.
+    pub(crate) fn is_due(&self) -> bool {
+        self.desk.kept() >= ENOUGH || self.is_over()
     }
 
     /// Whether some clock is not where its batch ends.
@@ -98,26 +102,14 @@ impl<B: Run> Seat<B> {
             && self.desk.clock(CoreId(core)) != batch.past)
     }
 
-    // Takes the rows of a core since its batch ended, in place of those of that batch. Else the desk is another one.
-    fn take(&mut self, core: CoreId, batch: &mut Batch) -> Result<(), Odd>
-        ensures { OnOk result (IsBatch B.system B.horizon core batch.old.past batch.new) }
-    {
-        if core.0 >= self.desk.cores() || self.desk.taken(core) != batch.past {
-            return Err(Odd);
-        }
-        batch.past = self.desk.clock(core);
-        batch.rows = self.desk.take_rows(core);
-        Ok(())
-    }
-
     /// Takes the rows of each core since its batch ended, in place of those of that batch. Else the desk is another one.
     pub(crate) fn gather(&mut self, batches: &mut [Batch]) -> Result<(), Odd>
-        ensures { OnOk result (AreBatches B.system B.horizon (pasts_of batches.old) batches.new) }
+        ensures taken { OnOk result (AreBatches B.system B.horizon (pasts_of batches.old) batches.new) }
     {
-        for number in 0..batches.len() {
-            let core = CoreId(number);
-            self.take(core, &mut batches[number])?;
+        if !are_taken_to(&self.desk, batches) {
+            return Err(Odd);
         }
+        gather(&mut self.desk, batches);
         Ok(())
     }
 }

@@ -1,16 +1,14 @@
-//! The caller's thread gives the rows to a sink, as soon as the clocks of all cores have passed them.
+//! The caller's thread gives the rows to a sink while a team works.
 ghost use Rattle.std.specs.Prelude.{◌≡◌, ◌≤◌, ◌+◌, ◌^◌};
 ghost use Rattle.mcs_system.specs.WellFormed.{IsWellFormed};
-ghost use Rattle.mcs_team.specs.Flow.{Flows, IsAt};
+ghost use Rattle.mcs_team.specs.Flow.{pasts_of, Flows, IsAt};
 
-use crate::batch::{Batch, empty_batches, least_past};
-use crate::flow::{add_all, pour};
+use crate::flow::Flow;
 use crate::room::{Room, crew, end, more};
-use crate::seat::Run;
+use crate::run::Run;
 use crate::sink::Stop;
-use crate::{Gate, Sink};
-use mcs_merge::{Merger, steps_are_merged};
-use mcs_report::{Reports, Tally, schedules_are_reported};
+use crate::{FlowFault, Gate, Sink};
+use mcs_report::{Reports, schedules_are_reported};
 use mcs_system::System;
 use mcs_ticks::Tick;
 use mcs_window::Desk;
@@ -23,36 +21,29 @@ fn flow_all<B: Run, R: Wait, G: Gate, S: Sink>(
     rt: &R,
     room: &Room<B>,
     gate: &G,
-    horizon: Tick,
-    batches: &mut [Batch],
-    mut merger: Merger,
-    mut tally: Tally,
+    mut flow: Flow,
     sink: &mut S,
 ) -> Result<Reports, Stop>
     requires well_formed { IsWellFormed B.system }
-    requires horizon { (horizon ≡ B.horizon) × (horizon ≤ 2 ^ 40) }
-    requires at_first { IsAt B.system B.horizon 0 batches.old merger tally }
+    requires end { flow.end ≡ B.horizon + 1 }
+    requires clocks { flow.merger.clocks ≡ pasts_of flow.batches.items }
+    requires first { flow.reached ≡ 0 }
+    requires at { IsAt B.system B.horizon flow.reached flow.merger flow.tally }
     ensures { Flows S.takes B.system B.horizon sink.old sink.new result }
 {
-    let past = horizon.plus(1).unwrap();
-    let mut reached = Tick::ZERO;
     for _ in rt.forever() {
-        if reached == past {
+        if flow.is_over() {
             schedules_are_reported();
-            return Ok(tally.finish());
+            return Ok(flow.finish());
         }
-        if let Err(stop) = more(rt, room, gate, batches, reached) {
+        if let Err(stop) = more(rt, room, gate, flow.batches.as_mut_slice(), flow.reached) {
             return Err(stop);
         }
-        let Ok(()) = add_all::<B>(&mut merger, batches) else {
-            return Err(Stop::NoMemory);
-        };
-        let Ok(()) = pour(&mut merger, &mut tally, sink) else {
-            return Err(Stop::Refused);
-        };
-        reached = least_past(batches, past);
+        if let Err(fault) = flow.give::<B, S>(sink) {
+            return Err(Stop::Fault(fault));
+        }
     }
-    Err(Stop::Odd(reached))
+    Err(Stop::Odd(flow.reached))
 }
 
 // Gives the rows as they come, from the first.
@@ -69,27 +60,11 @@ fn stream<B: Run, R: Wait, G: Gate, S: Sink>(
     requires horizon { (horizon ≡ B.horizon) × (horizon ≤ 2 ^ 40) }
     ensures { Flows S.takes B.system B.horizon sink.old sink.new result }
 {
-    steps_are_merged();
-    let cores = system.parts().cores;
-    let Ok(mut batches) = empty_batches(alloc, cores) else {
-        return Err(Stop::NoMemory);
+    let _parts = system.parts();
+    let Ok(flow) = Flow::new(alloc, system, horizon) else {
+        return Err(Stop::Fault(FlowFault::NoMemory));
     };
-    let Ok(merger) = Merger::new(alloc, cores) else {
-        return Err(Stop::NoMemory);
-    };
-    let Ok(tally) = Tally::new(alloc, system, horizon) else {
-        return Err(Stop::NoMemory);
-    };
-    flow_all(
-        rt,
-        room,
-        gate,
-        horizon,
-        batches.as_mut_slice(),
-        merger,
-        tally,
-        sink,
-    )
+    flow_all(rt, room, gate, flow, sink)
 }
 
 /// Gives the rows of a run to a sink while threads work at its desk.

@@ -2,14 +2,16 @@ ghost use Rattle.std.specs.Prelude.{◌≡◌, ◌≤◌, ◌+◌, ◌^◌, IfEr
 ghost use Rattle.std.specs.Arc.{arc_value};
 ghost use Rattle.mcs_core.specs.Clock.{schedule};
 ghost use Rattle.mcs_report.specs.Reports.{reports_of};
+ghost use Rattle.mcs_report.specs.laws.Bandwidth.{RunsWithinBandwidth};
 ghost use Rattle.mcs_report.specs.laws.Demand.{AreWithinDemand};
 ghost use Rattle.mcs_team.specs.Flow.{rows_from, Given, GivenUntil, IsFlowFault, IsRestFault};
 ghost use Rattle.mcs_team.specs.Headline.{Headline};
 
+use crate::here::flow_here;
 use crate::sink::Stop;
 use crate::stream::flow;
 use crate::{FlowFault, Gate, Refused, Sink, simulate_alone};
-use mcs_report::{Reports, demand_is_bounded};
+use mcs_report::{Reports, bandwidth_is_bounded, demand_is_bounded};
 use mcs_system::System;
 use mcs_ticks::{Row, Tick};
 use mcs_window::Desk;
@@ -18,11 +20,13 @@ use std::marker::Brand;
 use std::sync::{Arc, Wait};
 use std::thread::Threads;
 
-/// The whole simulation up to the horizon, at most 2^40, whose rows go to a sink: the schedule's, in order, each as soon
-/// as the clocks of all cores have passed its moment. It gives the reports of the schedule. Threads work at one desk, as
-/// many as the lesser of `workers` and the number of cores, and this one where none can be started. `Sink` is answered
-/// where the sink has refused a row, after which it's given no other; and after `NoMemory` it has taken some first rows of
-/// the schedule. The gate is told of each piece of work.
+/// The whole simulation up to the horizon, at most 2^40, whose rows go to a sink: the schedule's, in order, some
+/// thousand at a time, once the clocks of all cores have passed them, and at the latest about a millisecond later while
+/// threads work. It gives the reports of the schedule. Threads work at one desk, as many as the lesser of `workers` and
+/// the number of cores, beside this one, which gives the rows; where that number is less than two this one takes all
+/// turns. `Sink` is answered where the sink has refused a row, after which it's given no other; and after `NoMemory` it
+/// has taken some first rows of the schedule. The gate is told of each piece of work that is lent; where this thread
+/// takes all turns none is.
 pub fn simulate_to<R: Threads + Wait + Sync, G: Gate + Sync, S: Sink>(
     rt: &R,
     alloc: Global,
@@ -38,25 +42,48 @@ pub fn simulate_to<R: Threads + Wait + Sync, G: Gate + Sync, S: Sink>(
     ensures reports { IfOk result
         (λ reports. reports ≡ reports_of (arc_value system) horizon (schedule (arc_value system) horizon)) }
     ensures demand { IfOk result (λ reports. AreWithinDemand (arc_value system) horizon reports) }
+    ensures bandwidth { OnOk result (RunsWithinBandwidth (arc_value system) horizon (schedule (arc_value system) horizon)) }
     ensures headline { IfOk result
         (λ reports. Headline (arc_value system) horizon (schedule (arc_value system) horizon) reports) }
 {
     demand_is_bounded();
+    bandwidth_is_bounded();
+    let workers = workers.min(system.parts().cores);
+    if workers < 2 {
+        flow_here(alloc, system, horizon, sink)
+    } else {
+        flow_team(rt, alloc, system, horizon, workers, gate, sink)
+    }
+}
+
+// Threads work, and this one gives the rows.
+fn flow_team<R: Threads + Wait + Sync, G: Gate + Sync, S: Sink>(
+    rt: &R,
+    alloc: Global,
+    system: Arc<System>,
+    horizon: Tick,
+    workers: usize,
+    gate: &G,
+    sink: &mut S,
+) -> Result<Reports, FlowFault>
+    requires { horizon ≤ 2 ^ 40 }
+    ensures given { OnOk result (Given S.takes sink.old (schedule (arc_value system) horizon) sink.new) }
+    ensures fault { IfErr result (IsFlowFault S.takes (arc_value system) horizon sink.old sink.new) }
+    ensures reports { IfOk result
+        (λ reports. reports ≡ reports_of (arc_value system) horizon (schedule (arc_value system) horizon)) }
+{
     let Ok(shared) = Arc::try_clone(&system) else {
         return Err(FlowFault::NoMemory);
     };
-    let cores = system.parts().cores;
     let Ok(desk) = Desk::new(alloc, shared, horizon) else {
         return Err(FlowFault::NoMemory);
     };
-    let workers = workers.min(cores);
     let stop = match flow::<Brand, R, G, S>(rt, alloc, &system, desk, workers, gate, sink) {
         Ok(reports) => return Ok(reports),
         Err(stop) => stop,
     };
     match stop {
-        Stop::Refused => return Err(FlowFault::Sink),
-        Stop::NoMemory => return Err(FlowFault::NoMemory),
+        Stop::Fault(fault) => return Err(fault),
         Stop::Odd(from) => return rest_alone(alloc, system, horizon, from, sink),
     }
 }

@@ -1,19 +1,9 @@
-ghost use Rattle.std.specs.Prelude.{◌≡◌, ◌≤◌, ◌+◌, ◌^◌, fold, IfOk};
-ghost use Rattle.mcs_core.specs.Clock.{schedule};
-ghost use Rattle.mcs_merge.specs.Lists.{rows_of_lists};
-ghost use Rattle.mcs_report.specs.Reports.{reports_of};
-ghost use Rattle.mcs_report.specs.Tally.{added, finished, opened_tally};
-ghost use Rattle.mcs_report.specs.laws.Demand.{AreWithinDemand};
-ghost use Rattle.mcs_system.specs.WellFormed.{IsWellFormed};
-ghost use Rattle.mcs_team.specs.Headline.{Headline};
-ghost use Rattle.mcs_window.specs.Desk.{IsFinished, IsUntaken, IsWhole};
-ghost use Rattle.mcs_window.specs.laws.Merging.{rows_of_cores};
+//! Simulations whose rows are kept.
+ghost use Rattle.std.specs.Prelude.{◌≡◌, []};
 
-use crate::SimFault;
-use mcs_merge::merge;
-use mcs_report::{Reports, Tally, demand_is_bounded, schedules_are_reported};
-use mcs_ticks::{CoreId, NoMemory, Row, Sequence};
-use mcs_window::{Desk, rows_merge};
+use crate::{Refused, Sink};
+use mcs_report::Reports;
+use mcs_ticks::{Row, Sequence};
 use std::alloc::Global;
 
 /// What a whole simulation gives.
@@ -25,59 +15,31 @@ pub struct Whole {
     pub reports: Reports,
 }
 
-/// Runs on this thread what is left on a desk from which no core is lent, merges the rows of all cores, and counts them.
-pub(crate) fn finish(
-    alloc: Global,
-    mut desk: Desk,
-    tally: Tally,
-    cores: usize,
-) -> Result<Whole, SimFault>
-    requires whole { IsWhole desk }
-    requires well_formed { IsWellFormed desk.system }
-    requires early { desk.horizon ≤ 2 ^ 40 }
-    requires cores { cores ≡ desk.system.cores }
-    requires tally { tally ≡ opened_tally desk.system desk.horizon }
-    ensures rows { IfOk result (λ whole. whole.rows ≡ schedule desk.system desk.horizon) }
-    ensures reports { IfOk result
-        (λ whole. whole.reports ≡ reports_of desk.system desk.horizon (schedule desk.system desk.horizon)) }
-    ensures demand { IfOk result (λ whole. AreWithinDemand desk.system desk.horizon whole.reports) }
-    ensures headline { IfOk result (λ whole. Headline desk.system desk.horizon whole.rows whole.reports) }
-{
-    desk.finish()?;
-    let lists = all_rows(alloc, &mut desk, cores)?;
-    let rows = merge(alloc, lists)?;
-    rows_merge();
-    let reports = counted(tally, rows.as_slice());
-    schedules_are_reported();
-    demand_is_bounded();
-    Ok(Whole {
-        rows: Sequence::new(rows),
-        reports,
-    })
+/// A sink that keeps the rows. It refuses one only where there is no memory.
+#[derive(Drop)]
+pub(crate) struct Kept {
+    pub(crate) rows: Vec<Row>,
 }
 
-// The rows of each core, from moment 0 to the horizon.
-fn all_rows(alloc: Global, desk: &mut Desk, cores: usize) -> Result<Vec<Vec<Row>>, NoMemory>
-    requires cores { cores ≡ desk.old.system.cores }
-    requires at_end { IsFinished desk.old }
-    requires untaken { IsUntaken desk.old }
-    ensures { IfOk result (λ lists. rows_of_lists lists.items ≡ rows_of_cores desk.old.system desk.old.horizon) }
-{
-    let mut lists = Vec::with_capacity(alloc, cores)?;
-    for number in 0..cores {
-        let core = CoreId(number);
-        let rows = desk.take_rows(core);
-        lists.push(rows)?;
+impl Sink for Kept {
+    ghost use Rattle.std.specs.Prelude.{◌≡◌, ◌++◌, ◌∷◌, [], true};
+
+    ghost takes = { λ before row taken after. taken ≡ true → after.rows.items ≡ before.rows.items ++ row ∷ [] };
+
+    fn row(&mut self, row: &Row) -> Result<(), Refused> {
+        let Row { moment, core, what } = *row;
+        let row = Row { moment, core, what };
+        self.rows.push(row).ok().ok_or(Refused)
     }
-    Ok(lists)
 }
 
-// The reports of what the tally has and these rows.
-fn counted(mut tally: Tally, rows: &[Row]) -> Reports
-    ensures { result ≡ finished (fold added tally rows.now) }
-{
-    for row in rows {
-        tally.add(row);
+impl Kept {
+    /// No row was kept yet.
+    pub(crate) fn new(alloc: Global) -> Kept
+        ensures { result.rows.items ≡ [] }
+    {
+        Kept {
+            rows: Vec::new(alloc),
+        }
     }
-    tally.finish()
 }

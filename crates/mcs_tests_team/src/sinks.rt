@@ -89,3 +89,18 @@ fn a_sink_refuses_its_third_row(rt: HostRuntime) -> Result<(), Fail> {
     }
     Ok(())
 }
+
+#[test]
+fn a_sink_refuses_its_first_row(rt: HostRuntime) -> Result<(), Fail> {
+    let alloc = rt.alloc();
+    let system = system(alloc, TWO_MAKERS)?;
+    let horizon = moment(1_000_000)?;
+    for workers in [1usize, 2] {
+        let mut sink = comparing(&[], 0);
+        let shared = Arc::try_clone(&system)?;
+        let ended = simulate_to(&rt, alloc, shared, horizon, workers, &Open, &mut sink);
+        assert!(rt; matches!(ended, Err(FlowFault::Sink)), "with {workers}");
+        assert_eq!(rt; sink.given, 0, "with {workers}");
+    }
+    Ok(())
+}

@@ -3,10 +3,13 @@
 use super::systems::{SIGNALS, TWO_MAKERS, moment, system};
 use mcs_team::{Gate, Open, Whole, simulate, simulate_alone};
 use mcs_ticks::{CoreId, Tick};
+use std::alloc::Global;
 use std::process::Abort;
+use std::sync::Wait;
 use std::sync::atomic::{AtomicU64, Ordering};
 use std::test::Fail;
 use std::thread;
+use std::thread::Threads;
 
 // Whether two runs gave the same rows.
 fn are_same(one: &Whole, other: &Whole) -> bool {
@@ -72,5 +75,50 @@ fn two_pieces_run_at_once(rt: HostRuntime) -> Result<(), Fail> {
     assert!(rt; !whole.rows.is_empty());
     assert_eq!(rt; gate.begun.load(Ordering::SeqCst), 2);
     assert_eq!(rt; gate.alone.load(Ordering::SeqCst), 0);
+    Ok(())
+}
+
+/// Counts the pieces before and after they are run.
+#[derive(Drop)]
+struct Counts {
+    before: AtomicU64,
+    after: AtomicU64,
+}
+
+impl Gate for Counts {
+    fn before(&self, _core: CoreId, _first: Tick) {
+        self.before.fetch_add(1, Ordering::SeqCst);
+    }
+
+    fn after(&self, _core: CoreId, _past: Tick) {
+        self.after.fetch_add(1, Ordering::SeqCst);
+    }
+}
+
+// How many pieces were begun and ended by so many workers.
+fn pieces(
+    rt: &(impl Threads + Wait + Sync),
+    alloc: Global,
+    workers: usize,
+) -> Result<(u64, u64), Fail> {
+    let gate = Counts {
+        before: AtomicU64::new(0),
+        after: AtomicU64::new(0),
+    };
+    let system = system(alloc, TWO_MAKERS)?;
+    simulate(rt, alloc, system, moment(20)?, workers, &gate)?;
+    Ok((
+        gate.before.load(Ordering::SeqCst),
+        gate.after.load(Ordering::SeqCst),
+    ))
+}
+
+#[test]
+fn two_workers_run_pieces_and_one_runs_none(rt: HostRuntime) -> Result<(), Fail> {
+    let alloc = rt.alloc();
+    let (begun, ended) = pieces(&rt, alloc, 2)?;
+    assert!(rt; begun > 0);
+    assert_eq!(rt; begun, ended);
+    assert_eq!(rt; pieces(&rt, alloc, 1)?, (0, 0));
     Ok(())
 }

@@ -1,4 +1,4 @@
-use Rattle.mcs_team.proofs.to_sink.simulate_to.Given as goal
+use Rattle.mcs_team.proofs.to_sink.flow_team.Given as goal
 
 -- the system and the horizon of the desk that was just made
 abbrev pub ghosts-flow : goal.ghosts-flow
