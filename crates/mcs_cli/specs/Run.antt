@@ -73,12 +73,11 @@ module _ (read_old read_new : Option (List ℕ)) where
       IsBegun = (system : System) × IsRead system
           × AppendsPrefix write_old write_new (output_of options.show system options.horizon)
 
-      -- The file is to blame before anything else. Before the text is whole nothing is written.
-      -- A device is blamed only where it has failed.
+      -- The file is to blame before anything else, and then nothing is written. A device is blamed only where it has failed.
       abbrev pub IsFault : RunFault → Type 0
       IsFault fault.Read = Keeps write_old write_new × ((read_failed ≡ true) ⊎ IsTooLong)
       IsFault (fault.Load f) = Keeps write_old write_new × (f ≢ no_memory → IsFaultOfInput f)
-      IsFault (fault.Sim f) = Keeps write_old write_new × ((system : System) × IsRead system)
+      IsFault (fault.Sim f) = IsBegun
       IsFault fault.Write = (write_failed ≡ true) × IsBegun
 
       abbrev pub IsRun : Result (Unit {0}) RunFault → Type 0

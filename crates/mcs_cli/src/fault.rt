@@ -1,25 +1,36 @@
-ghost use Rattle.std.specs.Prelude.{◌≡◌};
+ghost use Rattle.std.specs.Prelude.{◌≡◌, Some};
+ghost use Rattle.mcs_cli.specs.Fault.{run_fault_text};
 ghost use Rattle.mcs_cli.specs.Status.{status_of_run};
 
 use mcs_load::{FaultKind, LoadFault};
 use mcs_team::SimFault;
+use std::fmt;
 use thiserror::Error;
 
 /// Why a run did not end well. Its text is the line that the program writes to standard error.
 #[derive(Clone, Copy, Debug, PartialEq, Eq, Error)]
 pub enum RunFault {
     /// The source failed, or gave more than 2^26 bytes.
-    #[error("mcsim: read failed")]
     Read,
     /// The text that was read is no system, or there was no memory for it.
-    #[error("mcsim: {0}")]
     Load(LoadFault),
     /// There was no memory for the run.
-    #[error("mcsim: {0}")]
     Sim(SimFault),
     /// The target failed, or took no bytes.
-    #[error("mcsim: write failed")]
     Write,
+}
+
+impl fmt::Display for RunFault {
+    ghost output = { λ fault. Some (run_fault_text fault) };
+
+    fn fmt<W: fmt::Write>(&self, f: &mut fmt::Formatter<W>) -> fmt::Result {
+        match self {
+            RunFault::Read => f.write_str("mcsim: read failed"),
+            RunFault::Load(fault) => write!(f, "mcsim: {fault}"),
+            RunFault::Sim(SimFault::NoMemory) => f.write_str("mcsim: no memory"),
+            RunFault::Write => f.write_str("mcsim: write failed"),
+        }
+    }
 }
 
 impl RunFault {

@@ -1,23 +1,29 @@
-ghost use Rattle.std.specs.Prelude.{Err, ◌≡◌, ◌≤◌, ◌^◌, ◌++◌, true, false, length, IfErr, IfOk, OnErr, OnOk};
+ghost use Rattle.std.specs.Prelude.{Err, ◌≡◌, ◌≤◌, ◌^◌, ◌++◌, [], true, false, length, IfErr, IfOk, OnErr, OnOk};
+ghost use Rattle.std.specs.Arc.{arc_value};
 ghost use Rattle.std.specs.Io.KnownBytes.{Appends, Consumes, IsAtEnd};
-ghost use Rattle.mcs_text.specs.Text.{schedule_text};
+ghost use Rattle.mcs_core.specs.Clock.{schedule};
+ghost use Rattle.mcs_report.specs.Reports.{reports_of};
+ghost use Rattle.mcs_text.specs.Text.{reports_text, schedule_text};
 ghost use Rattle.mcs_cli.specs.Devices.{AppendsPrefix};
-ghost use Rattle.mcs_cli.specs.Run.{IsRead, IsReadFault, IsRun, output_of, shown_text};
+ghost use Rattle.mcs_cli.specs.Flow.{AppendsBefore, IsWriteFault};
+ghost use Rattle.mcs_cli.specs.Run.{IsRead, IsReadFault, IsRun, output_of};
 
+use crate::sink::{Dropped, Lines};
 use crate::{Gate, Options, RunFault, Show, Source, Target};
 use mcs_load::{LoadFault, load};
+use mcs_report::Reports;
 use mcs_system::System;
-use mcs_team::{SimFault, Whole, simulate};
-use mcs_text::{put_reports, put_row};
-use mcs_ticks::{Limits, NoMemory, Row};
+use mcs_team::{FlowFault, SimFault, simulate_to};
+use mcs_text::put_reports;
+use mcs_ticks::Limits;
 use std::alloc::Global;
 use std::sync::{Arc, Wait};
 use std::thread::Threads;
 
 /// Reads a file to its end, simulates the system that it describes by as many workers as the options say, and writes
-/// what they ask for. For every number of workers the same bytes are written. The whole text is made before the first
-/// byte is written. Neither device may have failed before, and one is blamed only where it has failed since. What was
-/// written is a first part of the output after `Write`, and nothing after any other fault.
+/// what they ask for: the lines of rows as the rows come, and the reports after them. For every number of workers the
+/// same bytes are written. Neither device may have failed before, and one is blamed only where it has failed since. After
+/// `Read` and `Load` nothing was written, and after `Sim` and `Write` a first part of the output.
 pub fn run<H: Threads + Wait + Sync, S: Source, T: Target, G: Gate + Sync>(
     rt: &H,
     alloc: Global,
@@ -34,8 +40,7 @@ pub fn run<H: Threads + Wait + Sync, S: Source, T: Target, G: Gate + Sync>(
     ensures target_blamed { T.has_failed target.new ≡ true → result ≡ Err RunFault.Write }
 {
     let system = read_system(alloc, source)?;
-    let text = simulated(rt, alloc, system, options, gate).map_err(RunFault::Sim)?;
-    write_text(target, text.as_slice())
+    write_output(rt, alloc, target, system, options, gate)
 }
 
 /// Reads a file to its end, and loads the system that it describes.
@@ -79,6 +84,149 @@ fn read_text<S: Source>(alloc: Global, source: &mut S) -> Result<Vec<u8>, RunFau
     Err(RunFault::Read)
 }
 
+/// Simulates a system, and writes what the options ask for: the lines of rows as the rows come, the reports after them.
+fn write_output<H: Threads + Wait + Sync, T: Target, G: Gate + Sync>(
+    rt: &H,
+    alloc: Global,
+    target: &mut T,
+    system: System,
+    options: &Options,
+    gate: &G,
+) -> Result<(), RunFault>
+    requires { T.has_failed target.old ≡ false }
+    ensures ok { OnOk result
+        (Appends (T.contents target.old) (T.contents target.new) (output_of options.now.show system options.now.horizon)) }
+    ensures working { OnOk result (T.has_failed target.new ≡ false) }
+    ensures fault { IfErr result
+        (IsWriteFault (T.contents target.old) (T.contents target.new) (T.has_failed target.new)
+        (output_of options.now.show system options.now.horizon)) }
+{
+    let Ok(system) = Arc::new(alloc, system) else {
+        return Err(RunFault::Sim(SimFault::NoMemory));
+    };
+    let mut text = Vec::new(alloc);
+    put_output(rt, alloc, target, &mut text, &system, options, gate)?;
+    write_text(target, text.as_slice())
+}
+
+/// Writes a first part of the output as the rows come; the rest of it is then the text.
+fn put_output<H: Threads + Wait + Sync, T: Target, G: Gate + Sync>(
+    rt: &H,
+    alloc: Global,
+    target: &mut T,
+    text: &mut Vec<u8>,
+    system: &Arc<System>,
+    options: &Options,
+    gate: &G,
+) -> Result<(), RunFault>
+    requires working { T.has_failed target.old ≡ false }
+    requires empty { text.old.items ≡ [] }
+    ensures ok { OnOk result
+        (AppendsBefore (T.contents target.old) (T.contents target.new)
+        (output_of options.now.show (arc_value system.now) options.now.horizon) text.new.items) }
+    ensures working { OnOk result (T.has_failed target.new ≡ false) }
+    ensures fault { IfErr result
+        (IsWriteFault (T.contents target.old) (T.contents target.new) (T.has_failed target.new)
+        (output_of options.now.show (arc_value system.now) options.now.horizon)) }
+{
+    match options.show {
+        Show::Schedule => {
+            write_rows(rt, alloc, target, text, system, options, gate)?;
+            Ok(())
+        }
+        Show::Reports => {
+            let reports = count_rows(rt, alloc, system, options, gate)?;
+            put_last(text, system, &reports)
+        }
+        Show::Both => {
+            let reports = write_rows(rt, alloc, target, text, system, options, gate)?;
+            put_last(text, system, &reports)
+        }
+    }
+}
+
+/// Writes the lines of the schedule's rows as they come, but for the last ones, which stand in the text.
+fn write_rows<H: Threads + Wait + Sync, T: Target, G: Gate + Sync>(
+    rt: &H,
+    alloc: Global,
+    target: &mut T,
+    text: &mut Vec<u8>,
+    system: &Arc<System>,
+    options: &Options,
+    gate: &G,
+) -> Result<Reports, RunFault>
+    requires working { T.has_failed target.old ≡ false }
+    requires empty { text.old.items ≡ [] }
+    ensures ok { OnOk result
+        (AppendsBefore (T.contents target.old) (T.contents target.new)
+        (schedule_text (arc_value system.now) (schedule (arc_value system.now) options.now.horizon)) text.new.items) }
+    ensures working { OnOk result (T.has_failed target.new ≡ false) }
+    ensures reports { IfOk result (λ reports. reports
+        ≡ reports_of (arc_value system.now) options.now.horizon (schedule (arc_value system.now) options.now.horizon)) }
+    ensures fault { IfErr result
+        (IsWriteFault (T.contents target.old) (T.contents target.new) (T.has_failed target.new)
+        (schedule_text (arc_value system.now) (schedule (arc_value system.now) options.now.horizon))) }
+{
+    let Ok(shared) = Arc::try_clone(system) else {
+        return Err(RunFault::Sim(SimFault::NoMemory));
+    };
+    let mut lines = Lines::new(target, system, text);
+    let result = simulate_to(
+        rt,
+        alloc,
+        shared,
+        options.horizon,
+        options.workers,
+        gate,
+        &mut lines,
+    );
+    match result {
+        Ok(reports) => Ok(reports),
+        Err(FlowFault::NoMemory) => Err(RunFault::Sim(SimFault::NoMemory)),
+        Err(FlowFault::Sink) => {
+            if target.failed() {
+                return Err(RunFault::Write);
+            }
+            Err(RunFault::Sim(SimFault::NoMemory))
+        }
+    }
+}
+
+/// The reports of the schedule, of which no row is kept.
+fn count_rows<H: Threads + Wait + Sync, G: Gate + Sync>(
+    rt: &H,
+    alloc: Global,
+    system: &Arc<System>,
+    options: &Options,
+    gate: &G,
+) -> Result<Reports, RunFault>
+    ensures reports { IfOk result (λ reports. reports
+        ≡ reports_of (arc_value system.now) options.now.horizon (schedule (arc_value system.now) options.now.horizon)) }
+    ensures fault { IfErr result (λ f. f ≡ RunFault.Sim SimFault.NoMemory) }
+{
+    let Ok(shared) = Arc::try_clone(system) else {
+        return Err(RunFault::Sim(SimFault::NoMemory));
+    };
+    simulate_to(
+        rt,
+        alloc,
+        shared,
+        options.horizon,
+        options.workers,
+        gate,
+        &mut Dropped,
+    )
+    .map_err(|_| RunFault::Sim(SimFault::NoMemory))
+}
+
+/// Puts the reports behind the text.
+fn put_last(text: &mut Vec<u8>, system: &System, reports: &Reports) -> Result<(), RunFault>
+    ensures ok { OnOk result (text.new.items ≡ text.old.items ++ reports_text system.now reports.now) }
+    ensures fault { IfErr result (λ f. f ≡ RunFault.Sim SimFault.NoMemory) }
+{
+    put_reports(text, system, reports).map_err(|_| RunFault::Sim(SimFault::NoMemory))
+}
+
 /// Writes the whole text, and flushes the target.
 fn write_text<T: Target>(target: &mut T, text: &[u8]) -> Result<(), RunFault>
     requires { T.has_failed target.old ≡ false }
@@ -95,10 +243,9 @@ fn write_text<T: Target>(target: &mut T, text: &[u8]) -> Result<(), RunFault>
 }
 
 /// Writes all bytes, or a first part of them.
-fn write_bytes<T: Target>(target: &mut T, bytes: &[u8]) -> Result<(), RunFault>
-    requires { T.has_failed target.old ≡ false }
+pub(crate) fn write_bytes<T: Target>(target: &mut T, bytes: &[u8]) -> Result<(), RunFault>
     ensures ok { OnOk result (Appends (T.contents target.old) (T.contents target.new) bytes.now) }
-    ensures working { OnOk result (T.has_failed target.new ≡ false) }
+    ensures working { OnOk result (T.has_failed target.new ≡ T.has_failed target.old) }
     ensures prefix { OnErr result (AppendsPrefix (T.contents target.old) (T.contents target.new) bytes.now) }
     ensures fault { IfErr result (λ f. (f ≡ RunFault.Write) × (T.has_failed target.new ≡ true)) }
 {
@@ -108,47 +255,6 @@ fn write_bytes<T: Target>(target: &mut T, bytes: &[u8]) -> Result<(), RunFault>
             Ok(0) | Err(_) => return Err(RunFault::Write),
             Ok(n) => at += n,
         }
-    }
-    Ok(())
-}
-
-/// The text of a system's run, as the options ask for it.
-fn simulated<H: Threads + Wait + Sync, G: Gate + Sync>(
-    rt: &H,
-    alloc: Global,
-    system: System,
-    options: &Options,
-    gate: &G,
-) -> Result<Vec<u8>, SimFault>
-    ensures { IfOk result (λ text. text.items ≡ output_of options.now.show system options.now.horizon) }
-{
-    let system = Arc::new(alloc, system).map_err(|_| SimFault::NoMemory)?;
-    let shared = Arc::try_clone(&system).map_err(|_| SimFault::NoMemory)?;
-    let whole = simulate(rt, alloc, shared, options.horizon, options.workers, gate)?;
-    shown(alloc, &system, &whole, options.show).map_err(|_| SimFault::NoMemory)
-}
-
-/// The text of a schedule, of its reports, or of both.
-fn shown(alloc: Global, system: &System, whole: &Whole, show: Show) -> Result<Vec<u8>, NoMemory>
-    ensures { IfOk result (λ text. text.items ≡ shown_text show system.now whole.now.rows whole.now.reports) }
-{
-    let mut text = Vec::new(alloc);
-    match show {
-        Show::Schedule => put_rows(&mut text, system, whole.rows.as_slice())?,
-        Show::Reports => put_reports(&mut text, system, &whole.reports)?,
-        Show::Both => {
-            put_rows(&mut text, system, whole.rows.as_slice())?;
-            put_reports(&mut text, system, &whole.reports)?;
-        }
-    }
-    Ok(text)
-}
-
-fn put_rows(text: &mut Vec<u8>, system: &System, rows: &[Row]) -> Result<(), NoMemory>
-    ensures { OnOk result (text.new.items ≡ text.old.items ++ schedule_text system.now rows.now) }
-{
-    for row in rows {
-        put_row(text, system, row)?;
     }
     Ok(())
 }

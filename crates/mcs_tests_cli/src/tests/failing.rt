@@ -83,12 +83,18 @@ script = [\"compute 1\", \"signal n 1\", \"signal n 2\", \"signal n 4\"]
     ),
 ];
 
-fn schedule_to_twenty() -> Options {
+/// What is reported of the first of them up to moment 20.
+const REPORTED: &str = "\
+thread A ran 5 rounds 1 least 11 greatest 11 total 11 late 0 spent 2 throttled 6 longest 3
+core 0 busy 5 idle 15
+";
+
+fn to_twenty(show: Show) -> Options {
     Options {
         file: None,
         horizon: Tick::new(20).unwrap(),
         workers: 1,
-        show: Show::Schedule,
+        show,
     }
 }
 
@@ -108,7 +114,7 @@ fn reads(
             alloc,
             &mut source,
             &mut target,
-            &schedule_to_twenty(),
+            &to_twenty(Show::Schedule),
             &Open,
         );
         if ended.is_ok() {
@@ -136,27 +142,23 @@ fn writes(
     rt: &(impl Threads + Wait + Sync + Abort),
     alloc: Global,
     file: &str,
+    show: Show,
     want: &str,
     most: usize,
 ) -> Result<usize, Fail> {
     for calls in 0..4096 {
         let mut source = FailingSlice::new(file.as_bytes(), usize::MAX, usize::MAX);
         let mut target = FailingVec::new(Vec::with_capacity(alloc, 4096)?, most, calls);
-        let ended = run(
-            rt,
-            alloc,
-            &mut source,
-            &mut target,
-            &schedule_to_twenty(),
-            &Open,
-        );
+        let ended = run(rt, alloc, &mut source, &mut target, &to_twenty(show), &Open);
         if ended.is_ok() {
             assert_eq!(rt; target.bytes.as_slice(), want.as_bytes());
             return Ok(calls);
         }
         assert_eq!(rt; ended, Err(RunFault::Write), "write {calls}");
-        let taken = want.len().min(calls.saturating_mul(most));
-        assert_eq!(rt; target.bytes.len(), taken, "write {calls}");
+        assert!(rt;
+            target.bytes.len() >= want.len().min(calls),
+            "write {calls}"
+        );
         assert!(rt;
             want.as_bytes().starts_with(target.bytes.as_slice()),
             "write {calls}"
@@ -165,17 +167,35 @@ fn writes(
     Ok(0)
 }
 
-// A text is written a byte a call, a hundred bytes a call, or whole; the last call is the flush.
+// A text is written a byte a call, or in its pieces, each of which ends with the row that makes it as long as 1, 2, 4 and so
+// on bytes: of the first system's rows 14, 10, 27, 14, 38, 44 and 19 bytes, of the second's 14, 10, 17, 17, 17, 34, 70 and
+// 35. The last call is the flush.
 #[test]
 fn each_write_fails(rt: HostRuntime) -> Result<(), Fail> {
-    for (file, want) in WORKED.as_slice() {
-        assert_eq!(rt; writes(&rt, rt.alloc(), *file, *want, 1)?, want.len() + 1);
-        assert_eq!(rt;
-            writes(&rt, rt.alloc(), *file, *want, 100)?,
-            want.len().div_ceil(100) + 1
-        );
-        assert_eq!(rt; writes(&rt, rt.alloc(), *file, *want, 4096)?, 2);
+    for ((file, want), pieces) in WORKED.as_slice().iter().zip([7, 8]) {
+        let bytes = writes(&rt, rt.alloc(), *file, Show::Schedule, *want, 1)?;
+        assert_eq!(rt; bytes, want.len() + 1);
+        let whole = writes(&rt, rt.alloc(), *file, Show::Schedule, *want, 4096)?;
+        assert_eq!(rt; whole, pieces + 1);
     }
+    Ok(())
+}
+
+// The reports follow the last rows in the last piece.
+#[test]
+fn each_write_of_rows_and_reports_fails(rt: HostRuntime) -> Result<(), Fail> {
+    let (file, rows) = WORKED[0];
+    let want = format!(in rt.alloc(); "{rows}{REPORTED}")?;
+    let bytes = writes(&rt, rt.alloc(), file, Show::Both, want.as_str(), 1)?;
+    assert_eq!(rt; bytes, want.len() + 1);
+    assert_eq!(rt;
+        writes(&rt, rt.alloc(), file, Show::Both, want.as_str(), 4096)?,
+        8
+    );
+    assert_eq!(rt;
+        writes(&rt, rt.alloc(), file, Show::Reports, REPORTED, 4096)?,
+        2
+    );
     Ok(())
 }
 
@@ -189,7 +209,7 @@ fn a_target_that_takes_nothing_has_failed(rt: HostRuntime) -> Result<(), Fail> {
         rt.alloc(),
         &mut source,
         &mut target,
-        &schedule_to_twenty(),
+        &to_twenty(Show::Schedule),
         &Open,
     );
     assert_eq!(rt; ended, Err(RunFault::Write));
@@ -211,7 +231,7 @@ fn what_is_interrupted_is_read_again(rt: HostRuntime) -> Result<(), Fail> {
                 rt.alloc(),
                 &mut source,
                 &mut target,
-                &schedule_to_twenty(),
+                &to_twenty(Show::Schedule),
                 &Open,
             );
             let outcome = if fails { Err(RunFault::Read) } else { Ok(()) };
@@ -228,11 +248,11 @@ fn what_is_interrupted_is_read_again(rt: HostRuntime) -> Result<(), Fail> {
     Ok(())
 }
 
-// The text is written in the first call, and flushed in the second.
+// The first row is written in the first call; the seventh writes the last one, and the eighth flushes.
 #[test]
 fn what_is_interrupted_is_written_again(rt: HostRuntime) -> Result<(), Fail> {
     let (file, want) = WORKED[0];
-    for calls in [0, 1] {
+    for (calls, before) in [(0, ""), (1, "0 0 release A\n"), (7, want)] {
         for (kind, fails) in [(ErrorKind::Interrupted, false), (ErrorKind::Other, true)] {
             let inner = Vec::with_capacity(rt.alloc(), 4096)?;
             let mut source = FromRead::new(file.as_bytes());
@@ -242,13 +262,13 @@ fn what_is_interrupted_is_written_again(rt: HostRuntime) -> Result<(), Fail> {
                 rt.alloc(),
                 &mut source,
                 &mut target,
-                &schedule_to_twenty(),
+                &to_twenty(Show::Schedule),
                 &Open,
             );
             let outcome = if fails { Err(RunFault::Write) } else { Ok(()) };
             assert_eq!(rt; ended, outcome, "write {calls}");
             assert_eq!(rt; target.failed(), fails, "write {calls}");
-            let written = if fails && calls == 0 { "" } else { want };
+            let written = if fails { before } else { want };
             let text = target.into_inner().inner;
             assert_eq!(rt; text.as_slice(), written.as_bytes(), "write {calls}");
         }
