@@ -4,6 +4,7 @@ use Rattle.std.proofs.Common.{sym, ap, ◌∙◌, subst, arith}
 use Rattle.mcs_ticks.specs.declared.row.What.{What}
 use Rattle.mcs_ticks.specs.declared.row.What.TheVariants as row
 use Rattle.mcs_ticks.specs.declared.row.Why.TheVariants as why
+use Rattle.mcs_control.specs.declared.config.Mode.TheVariants as mode
 use Rattle.mcs_control.specs.Context.{Context}
 use Rattle.mcs_control.specs.Context.Budget.{Dates}
 use Rattle.mcs_mail.specs.declared.mail.Mail.{Mail}
@@ -45,7 +46,7 @@ depletes running state dates =
       threads = state ∷ [];
       ready = [];
       releases = [];
-      contexts = Some (record { config = record { budget = 2; period = 5; extra = 0 }; budget = Dates dates }) ∷ [];
+      contexts = Some (record { config = record { budget = 2; period = 5; extra = 0 }; mode = mode.Sporadic; budget = Dates dates }) ∷ [];
       notes = [];
     }
 
@@ -162,9 +163,9 @@ waiting =
       ready = [];
       releases = record { thread = 1; date = 6 } ∷ [];
       contexts =
-          Some (record { config = record { budget = 5; period = 10; extra = 0 }; budget = Dates (1 ∷ 2 ∷ 3 ∷ 4 ∷ 10 ∷ []) })
-          ∷ Some (record { config = record { budget = 5; period = 10; extra = 0 }; budget = Dates (6 ∷ 7 ∷ 8 ∷ 9 ∷ 10 ∷ []) })
-          ∷ Some (record { config = record { budget = 5; period = 10; extra = 0 }; budget = Dates (0 ∷ 1 ∷ 2 ∷ 3 ∷ 4 ∷ []) })
+          Some (record { config = record { budget = 5; period = 10; extra = 0 }; mode = mode.Sporadic; budget = Dates (1 ∷ 2 ∷ 3 ∷ 4 ∷ 10 ∷ []) })
+          ∷ Some (record { config = record { budget = 5; period = 10; extra = 0 }; mode = mode.Sporadic; budget = Dates (6 ∷ 7 ∷ 8 ∷ 9 ∷ 10 ∷ []) })
+          ∷ Some (record { config = record { budget = 5; period = 10; extra = 0 }; mode = mode.Sporadic; budget = Dates (0 ∷ 1 ∷ 2 ∷ 3 ∷ 4 ∷ []) })
           ∷ [];
       notes = record { word = 0; waiters = record { thread = 0; priority = 5 } ∷ [] } ∷ [];
     }

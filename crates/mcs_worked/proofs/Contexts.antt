@@ -8,8 +8,8 @@ use Rattle.mcs_system.specs.System.{System}
 use Rattle.mcs_core.specs.Clock.{world, core_at}
 use Rattle.mcs_core.specs.Views.{views_of}
 use Rattle.mcs_laws.specs.Changes.{Change, changed_by, taken_by}
-use Rattle.mcs_laws.specs.Changes.Change.{Charged, Unblocked, Ordered}
-use Rattle.mcs_laws.specs.Histories.{charges_at, unblocks_at, context_before, opening_context}
+use Rattle.mcs_laws.specs.Changes.Change.{Charged, Woken, Ordered}
+use Rattle.mcs_laws.specs.Histories.{charges_at, wakes_at, context_before, opening_context}
 use Rattle.mcs_laws.specs.Slices.{charges_from, charges_in, HasLeft, IsOneSlice}
 use Rattle.mcs_worked.specs.Parts.{order}
 use Rattle.mcs_worked.proofs.Schedules as worked
@@ -87,13 +87,13 @@ one_slice = record { full = refl; next = refl; once = refl }
 slice_in_part : HasLeft worked.round_robin_takes_turns_system 0 4 2
 slice_in_part = refl
 
--- one whose thread waits after a tick, and is woken at moment 4: nothing else unblocks the context
-told_of_the_wake : flat_map (unblocks_at worked.arrival_before_order_before_release_system 0) (range_with_len 0 5) ≡ 4 ∷ []
+-- one whose thread waits after a tick, and is woken at moment 4
+told_of_the_wake : flat_map (wakes_at worked.arrival_before_order_before_release_system 0) (range_with_len 0 5) ≡ 4 ∷ []
 told_of_the_wake = refl
 
 -- of the dates 1, 2 and 20 that the charge left the first two become 4 and 5
 left_by_a_wake :
-    changed_by 1 (Charged 1 ∷ Unblocked 4 ∷ []) (opening_context worked.arrival_before_order_before_release_system 0)
+    changed_by 1 (Charged 1 ∷ Woken 4 ∷ []) (opening_context worked.arrival_before_order_before_release_system 0)
     ≡ context_before worked.arrival_before_order_before_release_system 0 5
 left_by_a_wake = refl
 

@@ -2,6 +2,7 @@
 use Rattle.std.specs.Prelude.{ℕ, List, []}
 use Rattle.mcs_ticks.specs.declared.row.Row.{Row}
 use Rattle.mcs_ticks.specs.declared.row.What.{What}
+use Rattle.mcs_control.specs.declared.config.Mode.TheVariants.{Sporadic, Bandwidth}
 use Rattle.mcs_control.specs.declared.config.Order.{Order}
 use Rattle.mcs_script.specs.declared.item.Item.{Item}
 use Rattle.mcs_system.specs.declared.part.ContextPart.{ContextPart}
@@ -13,7 +14,12 @@ use Rattle.mcs_system.specs.System.{System}
 -- a context: its name, core, budget, period, and extra refills
 abbrev pub context : List ℕ → ℕ → ℕ → ℕ → ℕ → ContextPart
 context name core budget period extra =
-    record { name = name; core = core; config = record { budget = budget; period = period; extra = extra } }
+    record { name = name; core = core; config = record { budget = budget; period = period; extra = extra }; mode = Sporadic }
+
+-- the same in bandwidth mode
+abbrev pub bandwidth_context : List ℕ → ℕ → ℕ → ℕ → ℕ → ContextPart
+bandwidth_context name core budget period extra =
+    record { name = name; core = core; config = record { budget = budget; period = period; extra = extra }; mode = Bandwidth }
 
 -- a notification: its name and its home
 abbrev pub note : List ℕ → ℕ → NotePart
