@@ -1,4 +1,5 @@
-use mcs_control::{Config, Context, ContextView, ControlFault, Kind};
+ghost use Rattle.std.specs.Prelude.{◌^◌, ◌≤◌};
+use mcs_control::{Config, Context, ContextView, ControlFault, Kind, Mode};
 use mcs_refills::Refill;
 use mcs_ticks::{ContextId, Tick};
 use std::process::Abort;
@@ -6,8 +7,11 @@ use std::test::Fail;
 
 const LATEST: u64 = 1 << 40;
 
-fn moment(rt: &impl Abort, t: u64) -> Tick {
-    Tick::new(t).expect(rt, "a moment of at most 2^42")
+fn moment(rt: &impl Abort, t: u64) -> Tick
+    ensures { result ≤ 2 ^ 40 }
+{
+    assert!(rt; t <= LATEST);
+    Tick::new(t).expect(rt, "a moment of at most 2^40")
 }
 
 /// Charges ticks of the head, which are asserted to be there.
@@ -81,7 +85,7 @@ fn small_head_joins(rt: HostRuntime) -> Result<(), Fail> {
         period: 100,
         extra: 0,
     };
-    let mut context = Context::new(rt.alloc(), config, Tick::ZERO, 2)?;
+    let mut context = Context::new(rt.alloc(), config, Mode::Sporadic, Tick::ZERO, 2)?;
     charge(&rt, &mut context, 7, 4);
     let view = context.view(rt.alloc(), ContextId(0), 0)?;
     let refill = Refill {
@@ -93,5 +97,28 @@ fn small_head_joins(rt: HostRuntime) -> Result<(), Fail> {
     assert_eq!(rt; context.head_amount(), 10);
     assert!(rt; !context.ready(moment(&rt, 96)));
     assert!(rt; context.ready(moment(&rt, 97)));
+    Ok(())
+}
+
+// A context of 4 ticks in 10 in bandwidth mode: its wake leaves it, and its choice at 3 moves its head there.
+#[test]
+fn bandwidth_unblocks_when_chosen(rt: HostRuntime) -> Result<(), Fail> {
+    let config = Config {
+        budget: 4,
+        period: 10,
+        extra: 0,
+    };
+    let mut context = Context::new(rt.alloc(), config, Mode::Bandwidth, Tick::ZERO, 2)?;
+    context.wake(moment(&rt, 2));
+    assert_eq!(rt; context.head_moment().get(), 0);
+    context.chosen(moment(&rt, 3));
+    assert_eq!(rt; context.head_moment().get(), 3);
+    charge(&rt, &mut context, 4, 1);
+    let view = context.view(rt.alloc(), ContextId(0), 0)?;
+    let refill = Refill {
+        begins: 13,
+        amount: 4,
+    };
+    assert_refills(&rt, &view, &[refill]);
     Ok(())
 }
