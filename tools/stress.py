@@ -1,11 +1,13 @@
 #!/usr/bin/env python3
 """stress.py [options] [PROGRAM]: runs small random systems with several workers, and compares status and bytes with those of one worker.
 
-Each system has 1 to 8 cores and is run up to a random horizon with 2 to 8 workers, as it is, on one processor (`taskset -c 0`), with more
-workers than processors (64), and with no thread to be had (an address space too small for a thread's stack, and no further process
-allowed). A run that gives no answer within the time limit is a failure. Without PROGRAM it takes crates/mcsim/out/mcsim, which
-`./mcsim --prove` builds. The last line is 'N passed, M failed', and the status is 0 where M is 0 and N is not."""
+Each system has 1 to 8 cores, some with delays of their own for pairs of cores, and is run up to a random horizon with 2 to 8 workers, as
+it is, on one processor (`taskset -c 0`), with more workers than processors (64), and with no thread to be had (an address space too small
+for a thread's stack, and no further process allowed). A run that gives no answer within the time limit is a failure. Without PROGRAM it
+takes crates/mcsim/out/mcsim, which `./mcsim --prove` builds. The last line is 'N passed, M failed', and the status is 0 where M is 0 and N
+is not."""
 import argparse
+import os
 import pathlib
 import random
 import resource
@@ -24,7 +26,8 @@ def contexts_of(rng, cores):
         period = rng.randint(2, 20)
         budget = rng.randint(1, period)
         extra = rng.choice([0, 0, 1, 3, 8]) if budget < period else 0
-        tables.append((f'c{number}', rng.randrange(cores), budget, period, extra))
+        bandwidth = budget < period and rng.random() < 0.3
+        tables.append((f'c{number}', rng.randrange(cores), budget, period, extra, bandwidth))
     return tables
 
 
@@ -52,11 +55,17 @@ def random_system(rng):
     notes = [(f'n{number}', rng.randrange(cores)) for number in range(rng.randint(0, cores))]
     contexts = contexts_of(rng, cores)
     homes = {name: core for name, core, *_ in contexts}
-    text = [f'version = 1\ncores = {cores}\ndelay = {rng.choice([1, 1, 2, 3, 10, 50])}\n']
-    for name, core, budget, period, extra in contexts:
+    pairs = [(maker, home) for maker in range(cores) for home in range(cores) if maker != home]
+    links = rng.sample(pairs, rng.randint(0, len(pairs))) if rng.random() < 0.4 else []
+    text = [f'version = 2\ncores = {cores}\ndelay = {rng.choice([1, 1, 2, 3, 10, 50])}\n']
+    for maker, home in links:
+        text.append(f'[[link]]\nmaker = {maker}\nhome = {home}\ndelay = {rng.choice([1, 2, 5, 20, 100])}\n')
+    for name, core, budget, period, extra, bandwidth in contexts:
         text.append(f'[[context]]\nname = "{name}"\ncore = {core}\nbudget = {budget}\nperiod = {period}\n')
         if extra:
             text.append(f'extra_refills = {extra}\n')
+        if bandwidth:
+            text.append('mode = "bandwidth"\n')
     for name, core in notes:
         text.append(f'[[note]]\nname = "{name}"\ncore = {core}\n')
     for name, core, *_ in contexts:
@@ -72,8 +81,17 @@ def random_system(rng):
     return ''.join(text)
 
 
+# a user of no other process: the limit doesn't hold for the superuser, and it counts all that the user runs
+STRANGER = 60001
+
+
 def no_threads():
-    resource.setrlimit(resource.RLIMIT_NPROC, (0, 0))
+    """in the process that becomes the program: it may start no other"""
+    if os.geteuid() == 0:
+        os.setgroups([])
+        os.setgid(STRANGER)
+        os.setuid(STRANGER)
+    resource.setrlimit(resource.RLIMIT_NPROC, (1, 1))
 
 
 def limited(program):
@@ -103,6 +121,7 @@ def main():
         with tempfile.NamedTemporaryFile('w', suffix='.toml') as file:
             file.write(text)
             file.flush()
+            os.chmod(file.name, 0o644)
             words = ['--horizon', str(rng.choice([0, 10, 60, 200])), '--show', 'both', '--workers']
             alone = ran([asked.program, *words, '1'], file, asked.limit)
             accepted += alone[0] == 0

@@ -65,7 +65,8 @@ def name_term(part):
 
 
 def context_term(part):
-    return f'context {name_term(part)} {part["core"]} {part["budget"]} {part["period"]} {part.get("extra_refills", 0)}'
+    word = 'bandwidth_context' if part.get('mode') == 'bandwidth' else 'context'
+    return f'{word} {name_term(part)} {part["core"]} {part["budget"]} {part["period"]} {part.get("extra_refills", 0)}'
 
 
 def note_term(part):
@@ -181,7 +182,7 @@ def main():
         parts=' and '.join(parts),
         prelude='◌≡◌, ' + imports(['List', '[]'], body) + ', ◌∷◌, ' + imports(['Some', 'None', 'refl', 'codes'], body),
         items=imports(['Compute', 'Signal', 'Wait', 'Yield'], body),
-        words=imports(['context', 'note', 'thread', 'order', 'link', 'at'], body),
+        words=imports(['context', 'bandwidth_context', 'note', 'thread', 'order', 'link', 'at'], body),
     )
     pathlib.Path(out).write_text(head + '\n' + body)
 

@@ -1,0 +1,65 @@
+ghost use Rattle.std.specs.Prelude.{◌≡◌, ◌≤◌, ◌^◌, IfOk};
+ghost use Rattle.std.specs.Arc.{arc_value};
+ghost use Rattle.mcs_core.specs.Clock.{schedule};
+ghost use Rattle.example_longest_wait.specs.Waits.{longest_of, wait_after};
+
+use mcs_system::System;
+use mcs_team::{FlowFault, Open, Refused, Sink, simulate_to};
+use mcs_ticks::{Row, ThreadId, Tick, What};
+use std::alloc::Global;
+use std::sync::{Arc, Wait};
+use std::thread::Threads;
+
+/// A sink that keeps the longest time for which a thread waited for its budget, in ticks, and no row.
+#[derive(Debug, Drop)]
+pub struct LongestWait {
+    /// The thread.
+    pub thread: ThreadId,
+    /// The longest wait so far; 0 where there was none.
+    pub longest: u64,
+}
+
+impl Sink for LongestWait {
+    ghost use Rattle.std.specs.Prelude.{true, max};
+
+    ghost takes = { λ before row taken after.
+        (taken ≡ true) × (after.thread ≡ before.thread) × (after.longest ≡ max before.longest (wait_after before.thread row)) };
+
+    fn row(&mut self, row: &Row) -> Result<(), Refused> {
+        self.longest = self.longest.max(wait(row, self.thread));
+        Ok(())
+    }
+}
+
+// How long the thread waits for its budget after this row, in ticks.
+fn wait(row: &Row, thread: ThreadId) -> u64
+    ensures { result ≡ wait_after thread row.now }
+{
+    match row.what {
+        What::Stop {
+            thread: stopped,
+            until: Some(until),
+            ..
+        } if stopped == thread => until.get().saturating_sub(row.moment.get()),
+        _ => 0,
+    }
+}
+
+/// The longest time, in ticks, for which a thread waits for its budget after a stop, whatever the cause, in the schedule of a system
+/// up to the horizon, at most 2^40; 0 where it never waits. The whole wait counts, also where it ends after the horizon. The rows
+/// go by, by so many workers, and none is kept. `NoMemory` is answered where a growth was refused.
+pub fn longest_wait<R: Threads + Wait + Sync>(
+    rt: &R,
+    alloc: Global,
+    system: Arc<System>,
+    horizon: Tick,
+    workers: usize,
+    thread: ThreadId,
+) -> Result<u64, FlowFault>
+    requires { horizon ≤ 2 ^ 40 }
+    ensures { IfOk result (λ ticks. ticks ≡ longest_of thread (schedule (arc_value system) horizon)) }
+{
+    let mut sink = LongestWait { thread, longest: 0 };
+    simulate_to(rt, alloc, system, horizon, workers, &Open, &mut sink)?;
+    Ok(sink.longest)
+}
