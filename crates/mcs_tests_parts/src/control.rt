@@ -1,4 +1,5 @@
 ghost use Rattle.std.specs.Prelude.{◌^◌, ◌≤◌};
+
 use mcs_control::{Config, Context, ContextView, ControlFault, Kind, Mode};
 use mcs_refills::Refill;
 use mcs_ticks::{ContextId, Tick};
