@@ -2,19 +2,27 @@
 use Rattle.std.proofs.Common.{◌≡◌, ℕ, suc, ◌<◌, ◌≤◌, true, false, List, [], ◌∷◌, ◌++◌, Some, length, get_or, set, drop, slice_get, slice_index, inl, inr, refl, sym, ap, ◌∙◌, subst, arith, get_or-set_same, get_or-set_other}
 use Rattle.std.specs.Prelude.{flat_map, Contains}
 use Rattle.std.proofs.lemmas.Bool.{cases_eq}
+use Rattle.std.proofs.lemmas.Bool.Decides.{nat_tests}
 use Rattle.std.proofs.lemmas.List.{length-set, length-replicate, get_or-replicate, get_or_default}
 use Rattle.mcs_ticks.specs.declared.row.Row.{Row}
 use Rattle.mcs_merge.specs.declared.heads.Head.{Head}
 use Rattle.mcs_merge.specs.Merge.{rows_at, merged_before, AreFrom, DoNotFall}
 use Rattle.mcs_merge.specs.Merging.{Merging, starting, list_of, least_clock, passed, next_row, after_add, AreOf, AreBefore, IsListOf, CanAdd, IsInOrder}
-use Rattle.mcs_merge.specs.stored.Heads.{blank, head_of, head_at, rank, IsKept}
+use Rattle.mcs_merge.specs.stored.Heads.{at_clock, at_row, blank, core_of, has_row, head_of, head_at, rank, IsKept}
 use Rattle.mcs_merge.proofs.Joins.{AreFrom-earlier, rows_at-later}
 use Rattle.mcs_merge.proofs.Pushes.{AreUntil, DoNotFall-append}
 use Rattle.mcs_merge.proofs.Passing.{flat_map-none, none-at, merged-first, least-above, least-of}
 
-head_of-core : (core : ℕ) (rows : List Row) (clock : ℕ) → (head_of core rows clock).core ≡ core
-head_of-core core [] clock = refl
-head_of-core core (row ∷ rows) clock = refl
+head_of-core : (core : ℕ) (rows : List Row) (clock : ℕ) → core < 64 → core_of (head_of core rows clock) ≡ core
+head_of-core core [] clock l = omega arith
+head_of-core core (row ∷ rows) clock l = omega arith
+
+-- its head says whether a core has a row
+at_clock-row : (core clock : ℕ) → core < 64 → has_row (at_clock core clock) ≡ true → ⊥
+at_clock-row core clock l e = grind (arith, nat_tests)
+
+at_row-row : (core moment : ℕ) → has_row (at_row core moment) ≡ false → ⊥
+at_row-row core moment e = grind (arith, nat_tests)
 
 -- a core without a row comes first: no row is before its clock
 empty-first : (c d clock other : ℕ) (rows : List Row) → d < 64 → rank (head_of c [] clock) ≤ rank (head_of d rows other) → DoNotFall rows → AreFrom clock rows
@@ -42,64 +50,67 @@ pub record IsNext (m : Merging) (core : ℕ) (row : Row) (rest : List Row) : Typ
   pub next : next_row m ≡ Some row
 
 module _ (m : Merging) (heads : List Head) (h : IsKept m heads) (first : Head) (among : Contains heads first) (least : (core : ℕ) → core < length heads → rank first ≤ rank (head_at core heads)) where
-  first-at : (k : ℕ) → k < length heads → get_or heads k first ≡ first → (first.core ≡ k) × (first ≡ head_of k (list_of k m.left) (slice_index m.clocks k))
+  first-at : (k : ℕ) → k < length heads → get_or heads k first ≡ first → (core_of first ≡ k) × (first ≡ head_of k (list_of k m.left) (slice_index m.clocks k))
   first-at k l e =
       let is : first ≡ head_of k (list_of k m.left) (slice_index m.clocks k) = sym e ∙ get_or_default heads k first blank l ∙ h.each k (let same = h.same in omega arith) in
-      (ap (λ (x : Head). x.core) is ∙ head_of-core k (list_of k m.left) (slice_index m.clocks k), is)
+      (ap core_of is ∙ head_of-core k (list_of k m.left) (slice_index m.clocks k) (let same = h.same in let few = h.few in omega arith), is)
 
-  pub first-within : first.core < length m.left
+  first-within : core_of first < length m.left
   first-within =
       let at = first-at among.0 among.1 among.2 in
       let e = at.0 in let l = among.1 in let same = h.same in omega arith
 
-  pub first-is : first ≡ head_of first.core (list_of first.core m.left) (slice_index m.clocks first.core)
+  pub of-within : (core : ℕ) → core ≡ core_of first → core < length m.left
+  of-within core of = rw of first-within
+
+  first-is : first ≡ head_of (core_of first) (list_of (core_of first) m.left) (slice_index m.clocks (core_of first))
   first-is =
       let at = first-at among.0 among.1 among.2 in
       subst (λ k. first ≡ head_of k (list_of k m.left) (slice_index m.clocks k)) (sym at.0) at.1
 
-  least-of-all : (d : ℕ) → d < length m.left → rank (head_of first.core (list_of first.core m.left) (slice_index m.clocks first.core)) ≤ rank (head_of d (list_of d m.left) (slice_index m.clocks d))
+  least-of-all : (d : ℕ) → d < length m.left → rank (head_of (core_of first) (list_of (core_of first) m.left) (slice_index m.clocks (core_of first))) ≤ rank (head_of d (list_of d m.left) (slice_index m.clocks d))
   least-of-all d l =
       subst (λ (x : Head). rank x ≤ rank (head_of d (list_of d m.left) (slice_index m.clocks d))) first-is
       (subst (λ (x : Head). rank first ≤ rank x) (h.each d l) (least d (let same = h.same in omega arith)))
 
-  pub none-passed : first.has_row ≡ false → passed m ≡ []
-  none-passed e = by (list_of first.core m.left) (sym (ap (λ (x : Head). x.has_row) first-is) ∙ e) least-of-all
+  pub none-passed : has_row first ≡ false → passed m ≡ []
+  none-passed e = by (list_of (core_of first) m.left) (sym (ap has_row first-is) ∙ e) least-of-all
     where
-      by : (rows : List Row) → (head_of first.core rows (slice_index m.clocks first.core)).has_row ≡ false →
-          ((d : ℕ) → d < length m.left → rank (head_of first.core rows (slice_index m.clocks first.core)) ≤ rank (head_of d (list_of d m.left) (slice_index m.clocks d))) → passed m ≡ []
+      by : (rows : List Row) → has_row (head_of (core_of first) rows (slice_index m.clocks (core_of first))) ≡ false →
+          ((d : ℕ) → d < length m.left → rank (head_of (core_of first) rows (slice_index m.clocks (core_of first))) ≤ rank (head_of d (list_of d m.left) (slice_index m.clocks d))) → passed m ≡ []
       by [] f g =
           flat_map-none (λ t. flat_map (rows_at t) m.left) (least_clock m.clocks) 0
           (λ t p q. none-at t m.left (λ d l.
           let within = first-within in
           let same = h.in_order.same in
           let few = h.few in
-          let clock = least-of m.clocks first.core (omega arith) in
-          rows_at-later t (slice_index m.clocks first.core) (list_of d m.left) (omega arith)
-          (empty-first first.core d (slice_index m.clocks first.core) (slice_index m.clocks d) (list_of d m.left) (omega arith) (g d l) (h.in_order.lists d l).in_order)))
-      by (row ∷ rows) f g = cc
+          let clock = least-of m.clocks (core_of first) (omega arith) in
+          rows_at-later t (slice_index m.clocks (core_of first)) (list_of d m.left) (omega arith)
+          (empty-first (core_of first) d (slice_index m.clocks (core_of first)) (slice_index m.clocks d) (list_of d m.left) (omega arith) (g d l) (h.in_order.lists d l).in_order)))
+      by (row ∷ rows) f g = absurd (at_row-row (core_of first) row.moment f)
 
-  pub is-next : first.has_row ≡ true → (row : Row) × ((rest : List Row) × IsNext m first.core row rest)
-  is-next e = by (list_of first.core m.left) refl (sym (ap (λ (x : Head). x.has_row) first-is) ∙ e) least-of-all
+  pub is-next : has_row first ≡ true → (row : Row) × ((rest : List Row) × IsNext m (core_of first) row rest)
+  is-next e = by (list_of (core_of first) m.left) refl (sym (ap has_row first-is) ∙ e) least-of-all
     where
-      by : (rows : List Row) → list_of first.core m.left ≡ rows → (head_of first.core rows (slice_index m.clocks first.core)).has_row ≡ true →
-          ((d : ℕ) → d < length m.left → rank (head_of first.core rows (slice_index m.clocks first.core)) ≤ rank (head_of d (list_of d m.left) (slice_index m.clocks d))) →
-          (row : Row) × ((rest : List Row) × IsNext m first.core row rest)
-      by [] i f g = cc
+      by : (rows : List Row) → list_of (core_of first) m.left ≡ rows → has_row (head_of (core_of first) rows (slice_index m.clocks (core_of first))) ≡ true →
+          ((d : ℕ) → d < length m.left → rank (head_of (core_of first) rows (slice_index m.clocks (core_of first))) ≤ rank (head_of d (list_of d m.left) (slice_index m.clocks d))) →
+          (row : Row) × ((rest : List Row) × IsNext m (core_of first) row rest)
+      by [] i f g = absurd (at_clock-row (core_of first) (slice_index m.clocks (core_of first)) (let within = first-within in let few = h.few in omega arith) f)
       by (row ∷ rest) i f g =
           let within = first-within in
           let same = h.in_order.same in
           let few = h.few in
-          let is_of = subst (AreOf first.core) i (h.in_order.lists first.core within).of_core in
-          let ready : passed m ≡ row ∷ merged_before (least_clock m.clocks) (set m.left first.core rest) =
-          merged-first (least_clock m.clocks) m.left first.core row rest within i
+          let is_of = subst (AreOf (core_of first)) i (h.in_order.lists (core_of first) within).of_core in
+          let ready : passed m ≡ row ∷ merged_before (least_clock m.clocks) (set m.left (core_of first) rest) =
+          merged-first (least_clock m.clocks) m.left (core_of first) row rest within i
           (least-above m.clocks row.moment (omega arith)
-          (λ d l. let k : d < length m.left = omega arith in row-passed first.core d (slice_index m.clocks first.core) (slice_index m.clocks d) row rest (list_of d m.left) (omega arith) (g d k) (h.in_order.lists d k).before))
+          (λ d l. let k : d < length m.left = omega arith in row-passed (core_of first) d (slice_index m.clocks (core_of first)) (slice_index m.clocks d) row rest (list_of d m.left) (omega arith) (g d k) (h.in_order.lists d k).before))
           (λ t l. none-at t m.left (λ d k.
           rows_at-later t row.moment (list_of d m.left) l
-          (row-first first.core d (slice_index m.clocks first.core) (slice_index m.clocks d) row rest (list_of d m.left) (omega arith) (omega arith) (g d k) (h.in_order.lists d k).in_order)))
+          (row-first (core_of first) d (slice_index m.clocks (core_of first)) (slice_index m.clocks d) row rest (list_of d m.left) (omega arith) (omega arith) (g d k) (h.in_order.lists d k).in_order)))
           (λ d l. let k : d < length m.left = omega arith in
           rows_at-later row.moment (suc row.moment) (list_of d m.left) (omega arith)
-          (row-before first.core d (slice_index m.clocks first.core) (slice_index m.clocks d) row rest (list_of d m.left) (omega arith) l (g d k) (h.in_order.lists d k).in_order))
+          (row-before (core_of first) d (slice_index m.clocks (core_of first)) (slice_index m.clocks d) row rest (list_of d m.left) (omega arith) l (g d k) (h.in_order.lists d k).in_order))
           in
           (row, (rest, record { list = i; of_core = is_of.0; next = ap (λ rows. slice_get rows 0) ready }))
 

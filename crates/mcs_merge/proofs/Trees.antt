@@ -28,10 +28,10 @@ lesser-second a b = by (ltb (rank b) (rank a)) refl
     by true e = omega arith
     by false e = grind (arith, nat_tests)
 
-lesser-small : (a b : Head) → a.core < 64 → b.core < 64 → (lesser a b).core < 64
+lesser-small : (a b : Head) → a.place < 128 → b.place < 128 → (lesser a b).place < 128
 lesser-small a b l m = by (ltb (rank b) (rank a))
   where
-    by : (t : Bool) → (cond t b a).core < 64
+    by : (t : Bool) → (cond t b a).place < 128
     by true = m
     by false = l
 
@@ -45,19 +45,19 @@ pub record IsPlaying (cores place core : ℕ) (head : Head) (old nodes : List He
   pub some : 1 ≤ cores
   pub few : cores ≤ 64
   pub wide : length nodes ≡ 2 * cores
-  pub small : (i : ℕ) → (head_at i nodes).core < 64
+  pub small : (i : ℕ) → (head_at i nodes).place < 128
   pub others : (i : ℕ) → 1 ≤ i → i < cores → 2 * i ≢ place → 2 * i + 1 ≢ place →
       head_at i nodes ≡ lesser (head_at (2 * i) nodes) (head_at (2 * i + 1) nodes)
   pub leaves : drop cores nodes ≡ set (drop cores old) core head
 
-set-small : (nodes : List Head) (place : ℕ) (head : Head) → head.core < 64 → ((i : ℕ) → (head_at i nodes).core < 64) → (i : ℕ) → (head_at i (set nodes place head)).core < 64
+set-small : (nodes : List Head) (place : ℕ) (head : Head) → head.place < 128 → ((i : ℕ) → (head_at i nodes).place < 128) → (i : ℕ) → (head_at i (set nodes place head)).place < 128
 set-small nodes place head l h i =
     elim (cases_eq i place) [
       | inl e ↦ elim (cases_lt place (length nodes)) [
-        | inl m ↦ subst (λ (x : Head). x.core < 64) (sym (ap (λ k. head_at k (set nodes place head)) e ∙ get_or-set_same nodes place head blank m)) l
-        | inr m ↦ subst (λ (x : Head). x.core < 64) (sym (get_or_past (set nodes place head) i blank (omega (arith, length-set nodes place head)))) (omega arith)
+        | inl m ↦ subst (λ (x : Head). x.place < 128) (sym (ap (λ k. head_at k (set nodes place head)) e ∙ get_or-set_same nodes place head blank m)) l
+        | inr m ↦ subst (λ (x : Head). x.place < 128) (sym (get_or_past (set nodes place head) i blank (omega (arith, length-set nodes place head)))) (omega arith)
       ]
-      | inr e ↦ subst (λ (x : Head). x.core < 64) (sym (get_or-set_other nodes place i head blank e)) (h i)
+      | inr e ↦ subst (λ (x : Head). x.place < 128) (sym (get_or-set_other nodes place i head blank e)) (h i)
     ]
 
 -- a leaf that is written as it was changes none
@@ -65,7 +65,7 @@ pub same-leaf : (cores core : ℕ) (nodes : List Head) (head : Head) → head_at
 same-leaf cores core nodes head is =
     sym (ap (set (drop cores nodes) core) (sym (get_or-drop cores nodes core blank ∙ is)) ∙ set-get_or (drop cores nodes) core blank)
 
-pub IsPlaying-starts : (cores core : ℕ) (head : Head) (old : List Head) → IsTree cores old → core < cores → head.core < 64 →
+pub IsPlaying-starts : (cores core : ℕ) (head : Head) (old : List Head) → IsTree cores old → core < cores → head.place < 128 →
     IsPlaying cores (cores + core) core head old (set old (cores + core) head)
 IsPlaying-starts cores core head old h l m =
     record {
@@ -92,7 +92,7 @@ IsPlaying-up cores place core head old nodes q best h l e b =
       some = h.some;
       few = h.few;
       wide = length-set nodes q best ∙ h.wide;
-      small = set-small nodes q best (subst (λ (x : Head). x.core < 64) (sym b) (lesser-small _ _ (h.small (2 * q)) (h.small (2 * q + 1)))) h.small;
+      small = set-small nodes q best (subst (λ (x : Head). x.place < 128) (sym b) (lesser-small _ _ (h.small (2 * q)) (h.small (2 * q + 1)))) h.small;
       others = λ i p k f g.
           at i _ _ _ (get_or-set_other nodes q (2 * i) best blank f) (get_or-set_other nodes q (2 * i + 1) best blank g)
           (elim (cases_eq i q) [
@@ -180,7 +180,7 @@ IsTree-blank cores l m =
       some = l;
       few = m;
       wide = length-replicate (2 * cores) blank;
-      small = λ i. subst (λ (x : Head). x.core < 64) (sym (all i)) (omega arith);
+      small = λ i. subst (λ (x : Head). x.place < 128) (sym (all i)) (omega arith);
       least = λ i p q. all i ∙ sym (rw (all (2 * i), all (2 * i + 1)) (same (ltb (rank blank) (rank blank))));
     }
   where

@@ -1,16 +1,16 @@
 ghost use Rattle.std.specs.Prelude.{◌≡◌, ◌<◌, ◌≤◌, ℕ, nat_lt, drop, length, slice_set, replicate, Contains, IfOk, IsTrue};
-ghost use Rattle.mcs_merge.specs.stored.Heads.{blank, head_at, lesser, rank, IsTree};
+ghost use Rattle.mcs_merge.specs.stored.Heads.{at_clock, at_row, blank, core_of, has_row, head_at, lesser, rank, IsTree};
 
-use mcs_ticks::{NoMemory, Tick};
+use mcs_ticks::{Limits, NoMemory, Tick};
 use std::alloc::Global;
 use std::marker::Model;
 
 /// What comes next of a core: its first row, or where none is left whatever is at its clock or later.
 #[derive(Clone, Copy, Debug, PartialEq, Eq)]
 pub(crate) struct Head {
-    pub(crate) moment: Tick,
-    pub(crate) has_row: bool,
-    pub(crate) core: usize,
+    moment: Tick,
+    // where it stands among those of its moment: the core's number, and `Limits::CORES` more where the core has a row
+    place: usize,
 }
 
 /// The heads of all cores. Contracts see them by core.
@@ -35,18 +35,51 @@ impl Model for Heads {
 }
 
 impl Head {
+    /// That of a core without a row: whatever comes of it is at its clock or later.
+    pub(crate) fn at_clock(core: usize, clock: Tick) -> Self
+        ensures { result ≡ at_clock core clock }
+    {
+        Head {
+            moment: clock,
+            place: core,
+        }
+    }
+
+    /// That of a core whose first row is at this moment.
+    pub(crate) fn at_row(core: usize, moment: Tick) -> Self
+        requires { core < 64 }
+        ensures { result ≡ at_row core moment }
+    {
+        Head {
+            moment,
+            place: Limits::CORES + core,
+        }
+    }
+
+    /// Whether the core has a row.
+    pub(crate) fn has_row(&self) -> bool
+        ensures { result ≡ has_row self.now }
+    {
+        self.place >= Limits::CORES
+    }
+
+    /// The core that it is of.
+    pub(crate) fn core(&self) -> usize
+        ensures { result ≡ core_of self.now }
+    {
+        self.place % Limits::CORES
+    }
+
     // Whether it comes before the other: by moment, then the one without a row, then by core.
     fn is_before(&self, other: &Head) -> bool
-        requires this { self.now.core < 64 }
-        requires other { other.now.core < 64 }
+        requires this { self.now.place < 128 }
+        requires other { other.now.place < 128 }
         ensures { result ≡ nat_lt (rank self.now) (rank other.now) }
     {
         if self.moment != other.moment {
             self.moment < other.moment
-        } else if self.has_row != other.has_row {
-            other.has_row
         } else {
-            self.core < other.core
+            self.place < other.place
         }
     }
 }
@@ -58,11 +91,7 @@ impl Heads {
         requires few { cores ≤ 64 }
         ensures { IfOk result (λ heads. heads ≡ replicate cores blank) }
     {
-        let blank = Head {
-            moment: Tick::ZERO,
-            has_row: false,
-            core: 0,
-        };
+        let blank = Head::at_clock(0, Tick::ZERO);
         let nodes = vec![in alloc; blank; 2 * cores]?;
         Ok(Heads { nodes, cores })
     }
@@ -78,7 +107,7 @@ impl Heads {
     /// Changes the head of a core. Where it is the same as before, as between rows of one core at one moment, nothing is compared.
     pub(crate) fn set(&mut self, core: usize, head: Head)
         requires core { core < length self.old }
-        requires small { head.core < 64 }
+        requires small { head.place < 128 }
         ensures { self.new ≡ slice_set self.old core head }
     {
         if is_at(self.nodes.as_slice(), self.cores + core, &head) {
@@ -100,7 +129,7 @@ fn is_at(nodes: &[Head], place: usize, head: &Head) -> bool
 fn play(nodes: &mut [Head], cores: usize, core: usize, head: Head)
     requires tree { IsTree cores nodes.old }
     requires core { core < cores }
-    requires small { head.core < 64 }
+    requires small { head.place < 128 }
     ensures tree { IsTree cores nodes.new }
     ensures leaves { drop cores nodes.new ≡ slice_set (drop cores nodes.old) core head }
 {
@@ -114,8 +143,8 @@ fn play(nodes: &mut [Head], cores: usize, core: usize, head: Head)
 
 // The one that comes first.
 fn lesser(a: Head, b: Head) -> Head
-    requires a { a.core < 64 }
-    requires b { b.core < 64 }
+    requires a { a.place < 128 }
+    requires b { b.place < 128 }
     ensures { result ≡ lesser a b }
 {
     if b.is_before(&a) { b } else { a }

@@ -1,4 +1,4 @@
-ghost use Rattle.std.specs.Prelude.{◌≡◌, ◌++◌, [], drop, slice_get, IfErr, IsOk, OnErr, OnOk};
+ghost use Rattle.std.specs.Prelude.{◌≡◌, ◌<◌, ◌++◌, [], drop, slice_get, IfErr, IsOk, OnErr, OnOk};
 ghost use Rattle.mcs_merge.specs.stored.Heads.{head_of};
 
 use crate::heads::Head;
@@ -15,19 +15,12 @@ pub(crate) struct Held {
 impl Held {
     /// What comes next of this core.
     pub(crate) fn head(&self, core: usize) -> Head
+        requires { core < 64 }
         ensures { result ≡ head_of core self.now.rows.items self.now.clock }
     {
         match self.rows.front() {
-            Some(row) => Head {
-                moment: row.moment,
-                has_row: true,
-                core,
-            },
-            None => Head {
-                moment: self.clock,
-                has_row: false,
-                core,
-            },
+            Some(row) => Head::at_row(core, row.moment),
+            None => Head::at_clock(core, self.clock),
         }
     }
 

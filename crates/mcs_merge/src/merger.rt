@@ -75,11 +75,12 @@ impl Merger {
         ensures clocks { self.new.clocks ≡ self.old.clocks }
     {
         let first = self.heads.first();
-        if !first.has_row {
+        if !first.has_row() {
             return None;
         }
-        let (row, head) = take_first(self.cores.as_mut_slice(), first.core);
-        self.heads.set(first.core, head);
+        let core = first.core();
+        let (row, head) = take_first(self.cores.as_mut_slice(), core);
+        self.heads.set(core, head);
         row
     }
 }
@@ -106,14 +107,7 @@ fn first_heads(alloc: Global, cores: usize) -> Result<Heads, NoMemory>
 {
     let mut heads = Heads::new(alloc, cores)?;
     for core in 0..cores {
-        heads.set(
-            core,
-            Head {
-                moment: Tick::ZERO,
-                has_row: false,
-                core,
-            },
-        );
+        heads.set(core, Head::at_clock(core, Tick::ZERO));
     }
     Ok(heads)
 }
@@ -125,7 +119,8 @@ fn append(
     rows: Vec<Row>,
     clock: Tick,
 ) -> Result<Head, (Vec<Row>, NoMemory)>
-    requires { core < length cores.old }
+    requires core { core < length cores.old }
+    requires few { core < 64 }
     ensures added { OnOk result (merging_of cores.new ≡ after_add core rows.items clock (merging_of cores.old)) }
     ensures head { IfOk result
         (λ head. head ≡ head_of core (list_of core (lists_of cores.new)) (slice_index (clocks_of cores.new) core)) }
@@ -141,7 +136,8 @@ fn append(
 
 // Takes the first row of a core, and gives the head that the core has then.
 fn take_first(cores: &mut [Held], core: usize) -> (Option<Row>, Head)
-    requires { core < length cores.old }
+    requires core { core < length cores.old }
+    requires few { core < 64 }
     ensures row { result.0 ≡ slice_get (list_of core (lists_of cores.old)) 0 }
     ensures left { lists_of cores.new
         ≡ slice_set (lists_of cores.old) core (drop 1 (list_of core (lists_of cores.old))) }

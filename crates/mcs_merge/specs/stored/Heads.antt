@@ -1,25 +1,41 @@
 -- What comes next of each core, and a tree with the least of them at its root.
-use Rattle.std.specs.Prelude.{◌≡◌, ℕ, ◌+◌, ◌*◌, ◌<◌, ◌≤◌, nat_lt, true, false, if◌then◌else◌, List, [], ◌∷◌, length}
+use Rattle.std.specs.Prelude.{◌≡◌, ℕ, ◌+◌, ◌*◌, ◌%◌, ◌<◌, ◌≤◌, nat_lt, nat_le, Bool, if◌then◌else◌, List, [], ◌∷◌, length}
 use Rattle.std.specs.Prelude.{slice_index, slice_index_or}
 use Rattle.mcs_ticks.specs.declared.row.Row.{Row}
 use Rattle.mcs_merge.specs.Merging.{Merging, IsInOrder, list_of}
 use Rattle.mcs_merge.specs.declared.heads.Head.{Head}
 
+-- of a core without a row: whatever comes is at its clock or later
+abbrev pub at_clock : ℕ → ℕ → Head
+at_clock core clock = record { moment = clock; place = core }
+
+-- of a core whose first row is at this moment: behind those without a row, of which there are at most 64
+abbrev pub at_row : ℕ → ℕ → Head
+at_row core moment = record { moment = moment; place = 64 + core }
+
 -- what comes next of a core: its first row, or without one whatever is at its clock or later
 abbrev pub head_of : ℕ → List Row → ℕ → Head
-head_of core [] clock = record { moment = clock; has_row = false; core = core }
-head_of core (row ∷ rows) clock = record { moment = row.moment; has_row = true; core = core }
+head_of core [] clock = at_clock core clock
+head_of core (row ∷ rows) clock = at_row core row.moment
+
+-- whether the head is that of a core with a row
+abbrev pub has_row : Head → Bool
+has_row head = nat_le 64 head.place
+
+-- the core that the head is of
+abbrev pub core_of : Head → ℕ
+core_of head = head.place % 64
 
 abbrev pub blank : Head
-blank = record { moment = 0; has_row = false; core = 0 }
+blank = at_clock 0 0
 
 -- the head in this place
 abbrev pub head_at : ℕ → List Head → Head
 head_at i heads = slice_index_or heads i blank
 
--- heads by moment, then those of cores without a row, then by core; there are at most 64 cores
+-- heads by moment, then by place: those of cores without a row, then those of cores with one, each by core
 abbrev pub rank : Head → ℕ
-rank head = 64 * (2 * head.moment + (if head.has_row then 1 else 0)) + head.core
+rank head = 128 * head.moment + head.place
 
 -- the head that comes first
 abbrev pub lesser : Head → Head → Head
@@ -31,7 +47,7 @@ pub record IsTree (cores : ℕ) (nodes : List Head) : Type 0 where
   pub some : 1 ≤ cores
   pub few : cores ≤ 64
   pub wide : length nodes ≡ 2 * cores
-  pub small : (i : ℕ) → (head_at i nodes).core < 64
+  pub small : (i : ℕ) → (head_at i nodes).place < 128
   pub least : (i : ℕ) → 1 ≤ i → i < cores → head_at i nodes ≡ lesser (head_at (2 * i) nodes) (head_at (2 * i + 1) nodes)
 
 -- each core's head is what comes next of it

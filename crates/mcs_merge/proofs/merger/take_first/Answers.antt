@@ -10,12 +10,12 @@ returns-clause-left c =
     let is = c.index-cores-core.is in
     map-set (λ (held : Held). held.rows.items) c.args.cores.now c.args.core _
     ∙ ap (set (lists_of c.args.cores.now) c.args.core)
-    (c.take_first-row.ensures.left ∙ ap (λ (held : Held). drop 1 held.rows.items) (sym is) ∙ ap (drop 1) (sym (its-list _ _ _ c.requires is)))
+    (c.take_first-row.ensures.left ∙ ap (λ (held : Held). drop 1 held.rows.items) (sym is) ∙ ap (drop 1) (sym (its-list _ _ _ c.requires.core is)))
 
 pub returns-clause-clocks : goal.returns-clause-clocks
 returns-clause-clocks c =
     let is = c.index-cores-core.is in
-    same-clocks _ _ _ c.requires is _ (c.take_first-row.ensures.clock ∙ ap (λ (held : Held). held.clock) (sym is))
+    same-clocks _ _ _ c.requires.core is _ (c.take_first-row.ensures.clock ∙ ap (λ (held : Held). held.clock) (sym is))
 
 pub returns-clause-head : goal.returns-clause-head
-returns-clause-head c = new-head _ _ _ _ c.requires c.head.ensures
+returns-clause-head c = new-head _ _ _ _ c.requires.core c.head.ensures
