@@ -8,7 +8,7 @@ use Rattle.mcs_ticks.specs.declared.row.Row.{Row}
 use Rattle.mcs_merge.specs.declared.heads.Head.{Head}
 use Rattle.mcs_merge.specs.Merge.{rows_at, merged_before, AreFrom, DoNotFall}
 use Rattle.mcs_merge.specs.Merging.{Merging, starting, list_of, least_clock, passed, next_row, after_add, AreOf, AreBefore, IsListOf, CanAdd, IsInOrder}
-use Rattle.mcs_merge.specs.stored.Heads.{at_clock, at_row, blank, core_of, has_row, head_of, head_at, rank, IsKept}
+use Rattle.mcs_merge.specs.stored.Heads.{at_clock, at_row, blank, core_of, has_row, head_of, head_at, IsKept}
 use Rattle.mcs_merge.proofs.Joins.{AreFrom-earlier, rows_at-later}
 use Rattle.mcs_merge.proofs.Pushes.{AreUntil, DoNotFall-append}
 use Rattle.mcs_merge.proofs.Passing.{flat_map-none, none-at, merged-first, least-above, least-of}
@@ -21,25 +21,25 @@ head_of-core core (row ∷ rows) clock l = omega arith
 at_clock-row : (core clock : ℕ) → core < 64 → has_row (at_clock core clock) ≡ true → ⊥
 at_clock-row core clock l e = grind (arith, nat_tests)
 
-at_row-row : (core moment : ℕ) → has_row (at_row core moment) ≡ false → ⊥
-at_row-row core moment e = grind (arith, nat_tests)
+at_row-row : (core moment : ℕ) → core < 64 → has_row (at_row core moment) ≡ false → ⊥
+at_row-row core moment l e = grind (arith, nat_tests)
 
 -- a core without a row comes first: no row is before its clock
-empty-first : (c d clock other : ℕ) (rows : List Row) → d < 64 → rank (head_of c [] clock) ≤ rank (head_of d rows other) → DoNotFall rows → AreFrom clock rows
+empty-first : (c d clock other : ℕ) (rows : List Row) → d < 64 → (head_of c [] clock).rank ≤ (head_of d rows other).rank → DoNotFall rows → AreFrom clock rows
 empty-first c d clock other [] l h k = tt
 empty-first c d clock other (row ∷ rows) l h k = (omega arith, AreFrom-earlier clock row.moment rows (omega arith) k.0)
 
 -- the row of a core comes first: no row is earlier, those of lower cores are later ..
-row-first : (c d clock other : ℕ) (row : Row) (tail rows : List Row) → c < 64 → d < 64 → rank (head_of c (row ∷ tail) clock) ≤ rank (head_of d rows other) → DoNotFall rows → AreFrom row.moment rows
+row-first : (c d clock other : ℕ) (row : Row) (tail rows : List Row) → c < 64 → d < 64 → (head_of c (row ∷ tail) clock).rank ≤ (head_of d rows other).rank → DoNotFall rows → AreFrom row.moment rows
 row-first c d clock other row tail [] l m h k = tt
 row-first c d clock other row tail (first ∷ rows) l m h k = (omega arith, AreFrom-earlier row.moment first.moment rows (omega arith) k.0)
 
-row-before : (c d clock other : ℕ) (row : Row) (tail rows : List Row) → c < 64 → d < c → rank (head_of c (row ∷ tail) clock) ≤ rank (head_of d rows other) → DoNotFall rows → AreFrom (suc row.moment) rows
+row-before : (c d clock other : ℕ) (row : Row) (tail rows : List Row) → c < 64 → d < c → (head_of c (row ∷ tail) clock).rank ≤ (head_of d rows other).rank → DoNotFall rows → AreFrom (suc row.moment) rows
 row-before c d clock other row tail [] l m h k = tt
 row-before c d clock other row tail (first ∷ rows) l m h k = (omega arith, AreFrom-earlier (suc row.moment) first.moment rows (omega arith) k.0)
 
 -- .. and it is before all clocks
-row-passed : (c d clock other : ℕ) (row : Row) (tail rows : List Row) → d < 64 → rank (head_of c (row ∷ tail) clock) ≤ rank (head_of d rows other) → AreBefore other rows → row.moment < other
+row-passed : (c d clock other : ℕ) (row : Row) (tail rows : List Row) → d < 64 → (head_of c (row ∷ tail) clock).rank ≤ (head_of d rows other).rank → AreBefore other rows → row.moment < other
 row-passed c d clock other row tail [] l h k = omega arith
 row-passed c d clock other row tail (first ∷ rows) l h k = let before = k.0 in omega arith
 
@@ -49,7 +49,7 @@ pub record IsNext (m : Merging) (core : ℕ) (row : Row) (rest : List Row) : Typ
   pub of_core : row.core ≡ core
   pub next : next_row m ≡ Some row
 
-module _ (m : Merging) (heads : List Head) (h : IsKept m heads) (first : Head) (among : Contains heads first) (least : (core : ℕ) → core < length heads → rank first ≤ rank (head_at core heads)) where
+module _ (m : Merging) (heads : List Head) (h : IsKept m heads) (first : Head) (among : Contains heads first) (least : (core : ℕ) → core < length heads → first.rank ≤ (head_at core heads).rank) where
   first-at : (k : ℕ) → k < length heads → get_or heads k first ≡ first → (core_of first ≡ k) × (first ≡ head_of k (list_of k m.left) (slice_index m.clocks k))
   first-at k l e =
       let is : first ≡ head_of k (list_of k m.left) (slice_index m.clocks k) = sym e ∙ get_or_default heads k first blank l ∙ h.each k (let same = h.same in omega arith) in
@@ -68,16 +68,16 @@ module _ (m : Merging) (heads : List Head) (h : IsKept m heads) (first : Head) (
       let at = first-at among.0 among.1 among.2 in
       subst (λ k. first ≡ head_of k (list_of k m.left) (slice_index m.clocks k)) (sym at.0) at.1
 
-  least-of-all : (d : ℕ) → d < length m.left → rank (head_of (core_of first) (list_of (core_of first) m.left) (slice_index m.clocks (core_of first))) ≤ rank (head_of d (list_of d m.left) (slice_index m.clocks d))
+  least-of-all : (d : ℕ) → d < length m.left → (head_of (core_of first) (list_of (core_of first) m.left) (slice_index m.clocks (core_of first))).rank ≤ (head_of d (list_of d m.left) (slice_index m.clocks d)).rank
   least-of-all d l =
-      subst (λ (x : Head). rank x ≤ rank (head_of d (list_of d m.left) (slice_index m.clocks d))) first-is
-      (subst (λ (x : Head). rank first ≤ rank x) (h.each d l) (least d (let same = h.same in omega arith)))
+      subst (λ (x : Head). x.rank ≤ (head_of d (list_of d m.left) (slice_index m.clocks d)).rank) first-is
+      (subst (λ (x : Head). first.rank ≤ x.rank) (h.each d l) (least d (let same = h.same in omega arith)))
 
   pub none-passed : has_row first ≡ false → passed m ≡ []
   none-passed e = by (list_of (core_of first) m.left) (sym (ap has_row first-is) ∙ e) least-of-all
     where
       by : (rows : List Row) → has_row (head_of (core_of first) rows (slice_index m.clocks (core_of first))) ≡ false →
-          ((d : ℕ) → d < length m.left → rank (head_of (core_of first) rows (slice_index m.clocks (core_of first))) ≤ rank (head_of d (list_of d m.left) (slice_index m.clocks d))) → passed m ≡ []
+          ((d : ℕ) → d < length m.left → (head_of (core_of first) rows (slice_index m.clocks (core_of first))).rank ≤ (head_of d (list_of d m.left) (slice_index m.clocks d)).rank) → passed m ≡ []
       by [] f g =
           flat_map-none (λ t. flat_map (rows_at t) m.left) (least_clock m.clocks) 0
           (λ t p q. none-at t m.left (λ d l.
@@ -87,13 +87,13 @@ module _ (m : Merging) (heads : List Head) (h : IsKept m heads) (first : Head) (
           let clock = least-of m.clocks (core_of first) (omega arith) in
           rows_at-later t (slice_index m.clocks (core_of first)) (list_of d m.left) (omega arith)
           (empty-first (core_of first) d (slice_index m.clocks (core_of first)) (slice_index m.clocks d) (list_of d m.left) (omega arith) (g d l) (h.in_order.lists d l).in_order)))
-      by (row ∷ rows) f g = absurd (at_row-row (core_of first) row.moment f)
+      by (row ∷ rows) f g = absurd (at_row-row (core_of first) row.moment (let within = first-within in let few = h.few in omega arith) f)
 
   pub is-next : has_row first ≡ true → (row : Row) × ((rest : List Row) × IsNext m (core_of first) row rest)
   is-next e = by (list_of (core_of first) m.left) refl (sym (ap has_row first-is) ∙ e) least-of-all
     where
       by : (rows : List Row) → list_of (core_of first) m.left ≡ rows → has_row (head_of (core_of first) rows (slice_index m.clocks (core_of first))) ≡ true →
-          ((d : ℕ) → d < length m.left → rank (head_of (core_of first) rows (slice_index m.clocks (core_of first))) ≤ rank (head_of d (list_of d m.left) (slice_index m.clocks d))) →
+          ((d : ℕ) → d < length m.left → (head_of (core_of first) rows (slice_index m.clocks (core_of first))).rank ≤ (head_of d (list_of d m.left) (slice_index m.clocks d)).rank) →
           (row : Row) × ((rest : List Row) × IsNext m (core_of first) row rest)
       by [] i f g = absurd (at_clock-row (core_of first) (slice_index m.clocks (core_of first)) (let within = first-within in let few = h.few in omega arith) f)
       by (row ∷ rest) i f g =

@@ -1,22 +1,15 @@
 -- A row is taken.
-use Rattle.std.proofs.Common.{◌≡◌, ℕ, ◌<◌, true, List, [], ◌∷◌, Option, length, drop, set, slice_get, slice_index, subst, sym, ap, ◌∙◌, arith, get_or-set_same}
+use Rattle.std.proofs.Common.{◌≡◌, ℕ, ◌<◌, true, List, [], Option, length, drop, set, slice_get, slice_index, subst, sym, ap, ◌∙◌, get_or-set_same}
 use Rattle.std.specs.Prelude.{Contains}
 use Rattle.std.proofs.lemmas.List.{set-get_or}
 use Rattle.std.specs.Prelude.{◌≤◌}
 use Rattle.mcs_ticks.specs.declared.row.Row.{Row}
 use Rattle.mcs_merge.specs.declared.heads.Head.{Head}
 use Rattle.mcs_merge.specs.Merging.{Merging, list_of, next_row, without_row}
-use Rattle.mcs_merge.specs.stored.Heads.{core_of, has_row, head_of, head_at, rank, IsKept}
+use Rattle.mcs_merge.specs.stored.Heads.{core_of, has_row, head_of, head_at, IsKept}
 use Rattle.mcs_merge.proofs.Kept.{of-within, is-next, same_merging, IsKept-set, IsListOf-rest}
 
-pub head-small : (core : ℕ) (rows : List Row) (clock : ℕ) (head : Head) → head ≡ head_of core rows clock → core < 64 → head.place < 128
-head-small core rows clock head e l = subst (λ (x : Head). x.place < 128) (sym e) (by rows)
-  where
-    by : (rows : List Row) → (head_of core rows clock).place < 128
-    by [] = omega arith
-    by (row ∷ rest) = omega arith
-
-module _ (m : Merging) (heads : List Head) (h : IsKept m heads) (first : Head) (among : Contains heads first) (least : (core : ℕ) → core < length heads → rank first ≤ rank (head_at core heads))
+module _ (m : Merging) (heads : List Head) (h : IsKept m heads) (first : Head) (among : Contains heads first) (least : (core : ℕ) → core < length heads → first.rank ≤ (head_at core heads).rank)
     (core : ℕ) (of : core ≡ core_of first) (left : List (List Row)) (clocks : List ℕ) (head : Head) (e : left ≡ set m.left core (drop 1 (list_of core m.left))) (f : clocks ≡ m.clocks)
     (is : head ≡ head_of core (list_of core left) (slice_index clocks core)) where
   -- the heads are those of what is left

@@ -5,7 +5,7 @@ use Rattle.std.proofs.lemmas.Bool.{cases_eq, cases_lt}
 use Rattle.std.proofs.lemmas.Bool.Decides.{nat_tests}
 use Rattle.std.proofs.lemmas.List.{length-set, length-replicate, get_or-drop, get_or-replicate, get_or_default, get_or_past, drop-set-add, drop-set-lt, drop-replicate, set-get_or}
 use Rattle.mcs_merge.specs.declared.heads.Head.{Head}
-use Rattle.mcs_merge.specs.stored.Heads.{blank, head_at, lesser, rank, IsTree}
+use Rattle.mcs_merge.specs.stored.Heads.{blank, head_at, lesser, IsTree}
 
 trans : (a b c : ℕ) → a ≤ b → b ≤ c → a ≤ c
 trans a b c l m = omega arith
@@ -14,29 +14,45 @@ itself : (a : ℕ) → a ≤ a
 itself a = omega arith
 
 -- the lesser comes no later than each, and is one of them
-lesser-first : (a b : Head) → rank (lesser a b) ≤ rank a
-lesser-first a b = by (ltb (rank b) (rank a)) refl
+lesser-first : (a b : Head) → (lesser a b).rank ≤ a.rank
+lesser-first a b = by (ltb b.rank a.rank) refl
   where
-    by : (t : Bool) → ltb (rank b) (rank a) ≡ t → rank (cond t b a) ≤ rank a
+    by : (t : Bool) → ltb b.rank a.rank ≡ t → (cond t b a).rank ≤ a.rank
     by true e = grind (arith, nat_tests)
     by false e = omega arith
 
-lesser-second : (a b : Head) → rank (lesser a b) ≤ rank b
-lesser-second a b = by (ltb (rank b) (rank a)) refl
+lesser-second : (a b : Head) → (lesser a b).rank ≤ b.rank
+lesser-second a b = by (ltb b.rank a.rank) refl
   where
-    by : (t : Bool) → ltb (rank b) (rank a) ≡ t → rank (cond t b a) ≤ rank b
+    by : (t : Bool) → ltb b.rank a.rank ≡ t → (cond t b a).rank ≤ b.rank
     by true e = omega arith
     by false e = grind (arith, nat_tests)
 
-lesser-small : (a b : Head) → a.place < 128 → b.place < 128 → (lesser a b).place < 128
-lesser-small a b l m = by (ltb (rank b) (rank a))
+-- of two heads the lesser is the same, whichever is named first
+lesser-either : (a b : Head) → lesser a b ≡ lesser b a
+lesser-either a b = by (ltb b.rank a.rank) (ltb a.rank b.rank) refl refl
   where
-    by : (t : Bool) → (cond t b a).place < 128
-    by true = m
-    by false = l
+    by : (t u : Bool) → ltb b.rank a.rank ≡ t → ltb a.rank b.rank ≡ u → cond t b a ≡ cond u a b
+    by true true e f = absurd (grind (arith, nat_tests))
+    by true false e f = refl
+    by false true e f = refl
+    by false false e f = let is : a.rank ≡ b.rank = grind (arith, nat_tests) in ap (λ rank. let head : Head = record { rank = rank } in head) is
 
 halves : (j : ℕ) → (j ≡ 2 * (j / 2)) ⊎ (j ≡ 2 * (j / 2) + 1)
 halves j = elim (cases_eq (j % 2) 0) [ inl e ↦ inl (omega arith) | inr e ↦ inr (omega arith) ]
+
+-- a head and the one beside it are the two below a place
+pub lesser-beside : (place : ℕ) (best : Head) (nodes : List Head) → head_at place nodes ≡ best →
+    lesser best (head_at (4 * (place / 2) + 1 - place) nodes) ≡ lesser (head_at (2 * (place / 2)) nodes) (head_at (2 * (place / 2) + 1) nodes)
+lesser-beside place best nodes is =
+    elim (halves place) [
+      | inl e ↦ both _ _ _ _ (sym is ∙ ap (λ i. head_at i nodes) e) (ap (λ i. head_at i nodes) (let beside : 4 * (place / 2) + 1 - place ≡ 2 * (place / 2) + 1 = omega arith in beside))
+      | inr e ↦ lesser-either best (head_at (4 * (place / 2) + 1 - place) nodes)
+          ∙ both _ _ _ _ (ap (λ i. head_at i nodes) (let beside : 4 * (place / 2) + 1 - place ≡ 2 * (place / 2) = omega arith in beside)) (sym is ∙ ap (λ i. head_at i nodes) e)
+    ]
+  where
+    both : (a b c d : Head) → a ≡ c → b ≡ d → lesser a b ≡ lesser c d
+    both a b c d e f = rw (e, f) refl
 
 -- while a place is written, all but what stands above it is as in a tree
 pub record IsPlaying (cores place core : ℕ) (head : Head) (old nodes : List Head) : Type 0 where
@@ -45,36 +61,24 @@ pub record IsPlaying (cores place core : ℕ) (head : Head) (old nodes : List He
   pub some : 1 ≤ cores
   pub few : cores ≤ 64
   pub wide : length nodes ≡ 2 * cores
-  pub small : (i : ℕ) → (head_at i nodes).place < 128
   pub others : (i : ℕ) → 1 ≤ i → i < cores → 2 * i ≢ place → 2 * i + 1 ≢ place →
       head_at i nodes ≡ lesser (head_at (2 * i) nodes) (head_at (2 * i + 1) nodes)
   pub leaves : drop cores nodes ≡ set (drop cores old) core head
-
-set-small : (nodes : List Head) (place : ℕ) (head : Head) → head.place < 128 → ((i : ℕ) → (head_at i nodes).place < 128) → (i : ℕ) → (head_at i (set nodes place head)).place < 128
-set-small nodes place head l h i =
-    elim (cases_eq i place) [
-      | inl e ↦ elim (cases_lt place (length nodes)) [
-        | inl m ↦ subst (λ (x : Head). x.place < 128) (sym (ap (λ k. head_at k (set nodes place head)) e ∙ get_or-set_same nodes place head blank m)) l
-        | inr m ↦ subst (λ (x : Head). x.place < 128) (sym (get_or_past (set nodes place head) i blank (omega (arith, length-set nodes place head)))) (omega arith)
-      ]
-      | inr e ↦ subst (λ (x : Head). x.place < 128) (sym (get_or-set_other nodes place i head blank e)) (h i)
-    ]
 
 -- a leaf that is written as it was changes none
 pub same-leaf : (cores core : ℕ) (nodes : List Head) (head : Head) → head_at (cores + core) nodes ≡ head → drop cores nodes ≡ set (drop cores nodes) core head
 same-leaf cores core nodes head is =
     sym (ap (set (drop cores nodes) core) (sym (get_or-drop cores nodes core blank ∙ is)) ∙ set-get_or (drop cores nodes) core blank)
 
-pub IsPlaying-starts : (cores core : ℕ) (head : Head) (old : List Head) → IsTree cores old → core < cores → head.place < 128 →
+pub IsPlaying-starts : (cores core : ℕ) (head : Head) (old : List Head) → IsTree cores old → core < cores →
     IsPlaying cores (cores + core) core head old (set old (cores + core) head)
-IsPlaying-starts cores core head old h l m =
+IsPlaying-starts cores core head old h l =
     record {
       from = let some = h.some in omega arith;
       until = omega arith;
       some = h.some;
       few = h.few;
       wide = length-set old (cores + core) head ∙ h.wide;
-      small = set-small old (cores + core) head m h.small;
       others = λ i p q e f. at i _ _ _ (get_or-set_other old (cores + core) i head blank (omega arith)) (get_or-set_other old (cores + core) (2 * i) head blank e)
           (get_or-set_other old (cores + core) (2 * i + 1) head blank f) (h.least i p q);
       leaves = drop-set-add cores old core head;
@@ -92,7 +96,6 @@ IsPlaying-up cores place core head old nodes q best h l e b =
       some = h.some;
       few = h.few;
       wide = length-set nodes q best ∙ h.wide;
-      small = set-small nodes q best (subst (λ (x : Head). x.place < 128) (sym b) (lesser-small _ _ (h.small (2 * q)) (h.small (2 * q + 1)))) h.small;
       others = λ i p k f g.
           at i _ _ _ (get_or-set_other nodes q (2 * i) best blank f) (get_or-set_other nodes q (2 * i + 1) best blank g)
           (elim (cases_eq i q) [
@@ -118,34 +121,33 @@ IsPlaying-ends cores place core head old nodes h l =
       some = h.some;
       few = h.few;
       wide = h.wide;
-      small = h.small;
       least = λ i p q. h.others i p q (λ e. let from = h.from in omega arith) (λ e. omega arith);
     }
 
 module _ (cores : ℕ) (nodes : List Head) (h : IsTree cores nodes) where
   -- the root comes no later than any place ..
-  root-above : (j : ℕ) → 1 < j → j < 2 * cores → rank (head_at (j / 2) nodes) ≤ rank (head_at j nodes)
+  root-above : (j : ℕ) → 1 < j → j < 2 * cores → (head_at (j / 2) nodes).rank ≤ (head_at j nodes).rank
   root-above j o k =
       let below = h.least (j / 2) (omega arith) (omega arith) in
       elim (halves j) [
-        | inl e ↦ subst (λ i. rank (head_at (j / 2) nodes) ≤ rank (head_at i nodes)) (sym e)
-            (subst (λ x. rank x ≤ rank (head_at (2 * (j / 2)) nodes)) (sym below) (lesser-first _ _))
-        | inr e ↦ subst (λ i. rank (head_at (j / 2) nodes) ≤ rank (head_at i nodes)) (sym e)
-            (subst (λ x. rank x ≤ rank (head_at (2 * (j / 2) + 1) nodes)) (sym below) (lesser-second _ _))
+        | inl e ↦ subst (λ i. (head_at (j / 2) nodes).rank ≤ (head_at i nodes).rank) (sym e)
+            (subst (λ (x : Head). x.rank ≤ (head_at (2 * (j / 2)) nodes).rank) (sym below) (lesser-first _ _))
+        | inr e ↦ subst (λ i. (head_at (j / 2) nodes).rank ≤ (head_at i nodes).rank) (sym e)
+            (subst (λ (x : Head). x.rank ≤ (head_at (2 * (j / 2) + 1) nodes).rank) (sym below) (lesser-second _ _))
       ]
 
-  root-first : (fuel j : ℕ) → j ≤ fuel → 1 ≤ j → j < 2 * cores → rank (head_at 1 nodes) ≤ rank (head_at j nodes)
+  root-first : (fuel j : ℕ) → j ≤ fuel → 1 ≤ j → j < 2 * cores → (head_at 1 nodes).rank ≤ (head_at j nodes).rank
   root-first zero j l m k = absurd (omega arith)
   root-first (suc fuel) j l m k = by (cases_lt 1 j) (root-first fuel (j / 2))
     where
-      by : (1 < j) ⊎ (j ≤ 1) → (j / 2 ≤ fuel → 1 ≤ j / 2 → j / 2 < 2 * cores → rank (head_at 1 nodes) ≤ rank (head_at (j / 2) nodes)) →
-          rank (head_at 1 nodes) ≤ rank (head_at j nodes)
+      by : (1 < j) ⊎ (j ≤ 1) → (j / 2 ≤ fuel → 1 ≤ j / 2 → j / 2 < 2 * cores → (head_at 1 nodes).rank ≤ (head_at (j / 2) nodes).rank) →
+          (head_at 1 nodes).rank ≤ (head_at j nodes).rank
       by (inl o) i = trans _ _ _ (i (omega arith) (omega arith) (omega arith)) (root-above j o k)
-      by (inr o) i = subst (λ i. rank (head_at 1 nodes) ≤ rank (head_at i nodes)) (let e : 1 ≡ j = omega arith in e) (itself _)
+      by (inr o) i = subst (λ i. (head_at 1 nodes).rank ≤ (head_at i nodes).rank) (let e : 1 ≡ j = omega arith in e) (itself _)
 
-  pub root-least : (core : ℕ) → core < cores → rank (head_at 1 nodes) ≤ rank (head_at core (drop cores nodes))
+  pub root-least : (core : ℕ) → core < cores → (head_at 1 nodes).rank ≤ (head_at core (drop cores nodes)).rank
   root-least core l =
-      subst (λ x. rank (head_at 1 nodes) ≤ rank x) (sym (get_or-drop cores nodes core blank))
+      subst (λ (x : Head). (head_at 1 nodes).rank ≤ x.rank) (sym (get_or-drop cores nodes core blank))
       (root-first (cores + core) (cores + core) (omega arith) (let some = h.some in omega arith) (omega arith))
 
   -- .. and is a leaf
@@ -160,7 +162,7 @@ module _ (cores : ℕ) (nodes : List Head) (h : IsTree cores nodes) where
 
       by : (j < cores) ⊎ (cores ≤ j) → ((i : ℕ) → 2 * cores ≤ i + fuel → 1 ≤ i → i < 2 * cores → (k : ℕ) × (k < cores) × (head_at (cores + k) nodes ≡ head_at i nodes)) →
           (k : ℕ) × (k < cores) × (head_at (cores + k) nodes ≡ head_at j nodes)
-      by (inl p) i = one (ltb (rank (head_at (2 * j + 1) nodes)) (rank (head_at (2 * j) nodes))) i p (h.least j m p)
+      by (inl p) i = one (ltb (head_at (2 * j + 1) nodes).rank (head_at (2 * j) nodes).rank) i p (h.least j m p)
       by (inr p) i =
           let e : j ≡ cores + (j - cores) = omega arith in
           (j - cores, omega arith, ap (λ i. head_at i nodes) (sym e))
@@ -180,8 +182,7 @@ IsTree-blank cores l m =
       some = l;
       few = m;
       wide = length-replicate (2 * cores) blank;
-      small = λ i. subst (λ (x : Head). x.place < 128) (sym (all i)) (omega arith);
-      least = λ i p q. all i ∙ sym (rw (all (2 * i), all (2 * i + 1)) (same (ltb (rank blank) (rank blank))));
+      least = λ i p q. all i ∙ sym (rw (all (2 * i), all (2 * i + 1)) (same (ltb blank.rank blank.rank)));
     }
   where
     all : (i : ℕ) → head_at i (replicate (2 * cores) blank) ≡ blank

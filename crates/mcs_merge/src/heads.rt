@@ -1,16 +1,20 @@
 ghost use Rattle.std.specs.Prelude.{◌≡◌, ◌<◌, ◌≤◌, ℕ, nat_lt, drop, length, slice_set, replicate, Contains, IfOk, IsTrue};
-ghost use Rattle.mcs_merge.specs.stored.Heads.{at_clock, at_row, blank, core_of, has_row, head_at, lesser, rank, IsTree};
+ghost use Rattle.mcs_merge.specs.stored.Heads.{at_clock, at_row, blank, core_of, has_row, head_at, lesser, IsTree};
 
 use mcs_ticks::{Limits, NoMemory, Tick};
 use std::alloc::Global;
 use std::marker::Model;
 
+const CORES: u64 = Limits::CORES as u64;
+
+// Of each moment there is a rank for each core without a row, and behind them one for each core with a row.
+const RANKS: u64 = 2 * CORES;
+
 /// What comes next of a core: its first row, or where none is left whatever is at its clock or later.
 #[derive(Clone, Copy, Debug, PartialEq, Eq)]
 pub(crate) struct Head {
-    moment: Tick,
-    // where it stands among those of its moment: the core's number, and `Limits::CORES` more where the core has a row
-    place: usize,
+    // heads are ordered by it: by moment, then those of cores without a row, then by core
+    rank: u64,
 }
 
 /// The heads of all cores. Contracts see them by core.
@@ -37,11 +41,11 @@ impl Model for Heads {
 impl Head {
     /// That of a core without a row: whatever comes of it is at its clock or later.
     pub(crate) fn at_clock(core: usize, clock: Tick) -> Self
+        requires { core < 64 }
         ensures { result ≡ at_clock core clock }
     {
         Head {
-            moment: clock,
-            place: core,
+            rank: RANKS * clock.get() + core as u64,
         }
     }
 
@@ -51,8 +55,7 @@ impl Head {
         ensures { result ≡ at_row core moment }
     {
         Head {
-            moment,
-            place: Limits::CORES + core,
+            rank: RANKS * moment.get() + CORES + core as u64,
         }
     }
 
@@ -60,27 +63,14 @@ impl Head {
     pub(crate) fn has_row(&self) -> bool
         ensures { result ≡ has_row self.now }
     {
-        self.place >= Limits::CORES
+        self.rank % RANKS >= CORES
     }
 
     /// The core that it is of.
     pub(crate) fn core(&self) -> usize
         ensures { result ≡ core_of self.now }
     {
-        self.place % Limits::CORES
-    }
-
-    // Whether it comes before the other: by moment, then the one without a row, then by core.
-    fn is_before(&self, other: &Head) -> bool
-        requires this { self.now.place < 128 }
-        requires other { other.now.place < 128 }
-        ensures { result ≡ nat_lt (rank self.now) (rank other.now) }
-    {
-        if self.moment != other.moment {
-            self.moment < other.moment
-        } else {
-            self.place < other.place
-        }
+        (self.rank % CORES) as usize
     }
 }
 
@@ -99,7 +89,7 @@ impl Heads {
     /// The head that comes first.
     pub(crate) fn first(&self) -> Head
         ensures among { Contains self.now result }
-        ensures least { (core : ℕ) → core < length self.now → rank result ≤ rank (head_at core self.now) }
+        ensures least { (core : ℕ) → core < length self.now → result.rank ≤ (head_at core self.now).rank }
     {
         self.nodes[1]
     }
@@ -107,7 +97,6 @@ impl Heads {
     /// Changes the head of a core. Where it is the same as before, as between rows of one core at one moment, nothing is compared.
     pub(crate) fn set(&mut self, core: usize, head: Head)
         requires core { core < length self.old }
-        requires small { head.place < 128 }
         ensures { self.new ≡ slice_set self.old core head }
     {
         if is_at(self.nodes.as_slice(), self.cores + core, &head) {
@@ -129,23 +118,24 @@ fn is_at(nodes: &[Head], place: usize, head: &Head) -> bool
 fn play(nodes: &mut [Head], cores: usize, core: usize, head: Head)
     requires tree { IsTree cores nodes.old }
     requires core { core < cores }
-    requires small { head.place < 128 }
     ensures tree { IsTree cores nodes.new }
     ensures leaves { drop cores nodes.new ≡ slice_set (drop cores nodes.old) core head }
 {
     let mut place = cores + core;
-    nodes[place] = head;
+    let mut best = head;
+    nodes[place] = best;
     'up: while place > 1 {
+        // the head beside was not written on this way up, so no step waits for what the step before it stored
+        let beside = 4 * (place / 2) + 1 - place;
+        best = lesser(best, nodes[beside]);
         place /= 2;
-        nodes[place] = lesser(nodes[2 * place], nodes[2 * place + 1]);
+        nodes[place] = best;
     }
 }
 
 // The one that comes first.
 fn lesser(a: Head, b: Head) -> Head
-    requires a { a.place < 128 }
-    requires b { b.place < 128 }
     ensures { result ≡ lesser a b }
 {
-    if b.is_before(&a) { b } else { a }
+    if b.rank < a.rank { b } else { a }
 }

@@ -2,7 +2,7 @@ use Rattle.std.proofs.Common.{◌≡◌, ◌<◌, ◌≤◌, ℕ, List, arith, d
 use Rattle.std.specs.Prelude.{Contains}
 use Rattle.std.proofs.lemmas.List.{get_or_read}
 use Rattle.mcs_merge.specs.declared.heads.Head.{Head}
-use Rattle.mcs_merge.specs.stored.Heads.{blank, head_at, rank}
+use Rattle.mcs_merge.specs.stored.Heads.{blank, head_at}
 use Rattle.mcs_merge.proofs.Trees.{root-among, root-least}
 use Rattle.mcs_merge.proofs.heads.Heads.first.Goals as goal
 
@@ -14,6 +14,6 @@ returns-clause-among c =
 pub returns-clause-least : goal.returns-clause-least
 returns-clause-least c =
     let is : c.index.result.now ≡ head_at 1 c.self.inside.nodes.items = get_or_read c.self.inside.nodes.items 1 _ (omega arith) c.index.ensures blank in
-    subst (λ (heads : List Head). (core : ℕ) → core < length heads → rank c.index.result.now ≤ rank (head_at core heads)) c.self.view_is
-    (λ core l. subst (λ (head : Head). rank head ≤ rank (head_at core (drop c.self.inside.cores c.self.inside.nodes.items))) (sym is)
+    subst (λ (heads : List Head). (core : ℕ) → core < length heads → c.index.result.now.rank ≤ (head_at core heads).rank) c.self.view_is
+    (λ core l. subst (λ (head : Head). head.rank ≤ (head_at core (drop c.self.inside.cores c.self.inside.nodes.items)).rank) (sym is)
     (root-least _ _ c.self.invariant core (omega (arith, l, length-drop c.self.inside.cores c.self.inside.nodes.items))))

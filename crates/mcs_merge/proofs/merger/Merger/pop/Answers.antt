@@ -1,4 +1,4 @@
-use Rattle.std.proofs.Common.{◌≡◌, ◌∙◌, ◌++◌, List, None, ap, arith, drop, length, set, slice_get, slice_index, subst, sym, take}
+use Rattle.std.proofs.Common.{◌≡◌, ◌∙◌, ◌++◌, List, None, ap, arith, drop, length, set, slice_get, subst, sym, take}
 use Rattle.std.proofs.lemmas.List.{length-map, with_items_is}
 use Rattle.mcs_ticks.specs.declared.row.Row.{Row}
 use Rattle.mcs_merge.specs.declared.heads.Head.{Head}
@@ -8,7 +8,7 @@ use Rattle.mcs_merge.specs.stored.Held.{clocks_of, lists_of, merging_of}
 use Rattle.mcs_merge.specs.stored.Heads.{IsKept}
 use Rattle.mcs_merge.proofs.Helds.{written_whole}
 use Rattle.mcs_merge.proofs.Kept.{of-within, none-passed}
-use Rattle.mcs_merge.proofs.Pops.{pops, pops-left, pops-row, head-small}
+use Rattle.mcs_merge.proofs.Pops.{pops, pops-left, pops-row}
 use Rattle.mcs_merge.proofs.merger.Merger.pop.Goals as goal
 
 pub returns-then-not-has_row-clause-row : goal.returns-then-not-has_row-clause-row
@@ -25,15 +25,10 @@ take_first-row-requires-clause-core c =
     let within = of-within _ _ c.self.invariant _ c.first-first.ensures.among c.first-first.ensures.least _ c.core-core.ensures in
     omega (arith, within, c.as_mut_slice.ensures.len, length-map c.self.inside.cores.items (λ (held : Held). held.rows.items))
 
-pub set-requires-clause-core : goal.set-requires-clause-core
-set-requires-clause-core c =
+pub set-requires : goal.set-requires
+set-requires c =
     let within = of-within _ _ c.self.invariant _ c.first-first.ensures.among c.first-first.ensures.least _ c.core-core.ensures in
     omega (arith, within, c.self.invariant.same)
-
-pub set-requires-clause-small : goal.set-requires-clause-small
-set-requires-clause-small c =
-    let within = of-within _ _ c.self.invariant _ c.first-first.ensures.among c.first-first.ensures.least _ c.core-core.ensures in
-    head-small c.core-core.result (list_of c.core-core.result (lists_of c.take_first-row.new.cores)) (slice_index (clocks_of c.take_first-row.new.cores) c.core-core.result) _ c.take_first-row.ensures.head (omega (arith, within, c.self.invariant.few))
 
 pub invariant_of-self : goal.invariant_of-self
 invariant_of-self c =
