@@ -15,6 +15,9 @@ use std::thread;
 use std::thread::{Parker, Threads};
 use std::time::Duration;
 
+// A piece of fewer moments costs less than to wake a thread for it.
+const LONG: u64 = 32;
+
 // So long, in milliseconds, the caller's thread sleeps at most before it looks for rows.
 const NAP: u64 = 1;
 
@@ -55,14 +58,22 @@ fn run_piece<G: Gate>(gate: &G, piece: Piece) -> Result<Done, Lost>
     ran
 }
 
-// Takes pieces until none is to be had any more. Who takes one wakes another thread only where a further piece is to be
-// had.
+// Whether a piece is worth a thread of its own.
+fn is_long(piece: &Piece) -> bool {
+    piece.past.get().saturating_sub(piece.first.get()) >= LONG
+}
+
+// Takes pieces until none is to be had any more. Who takes a long one wakes another thread where a further piece is to be
+// had. Who has run a short one sleeps where another thread is awake: pieces that are short are run by one thread.
 fn work<B: Run, R: Wait, G: Gate>(rt: &R, room: &Room<B>, gate: &G) {
     let mut guard = room.seat.lock(rt);
+    guard.wakes();
     for _ in rt.forever() {
+        let mut sleeps = true;
         match guard.lend() {
             Some(piece) => {
-                let more = guard.can_lend();
+                let is_long = is_long(&piece);
+                let more = is_long && guard.can_lend();
                 drop(guard);
                 if more {
                     room.free.notify_one();
@@ -73,6 +84,7 @@ fn work<B: Run, R: Wait, G: Gate>(rt: &R, room: &Room<B>, gate: &G) {
                 if guard.is_due() {
                     room.due.unpark();
                 }
+                sleeps = !is_long && guard.others_are_awake();
             }
             None => {
                 if guard.is_over() {
@@ -80,8 +92,12 @@ fn work<B: Run, R: Wait, G: Gate>(rt: &R, room: &Room<B>, gate: &G) {
                     room.free.notify_all();
                     return;
                 }
-                guard = room.free.wait(rt, guard);
             }
+        }
+        if sleeps {
+            guard.sleeps();
+            guard = room.free.wait(rt, guard);
+            guard.wakes();
         }
     }
 }

@@ -18,6 +18,8 @@ const FULL: usize = 65_536;
 #[derive(Drop)]
 pub(crate) struct Seat<B: Run> {
     desk: Desk,
+    // how many threads of the team do not sleep
+    awake: usize,
     of: PhantomData<B>,
     ghost ours: { (desk.system ≡ B.system) × (desk.horizon ≡ B.horizon) },
 }
@@ -29,6 +31,7 @@ impl<B: Run> Seat<B> {
     {
         Seat {
             desk,
+            awake: 0,
             of: PhantomData,
         }
     }
@@ -46,6 +49,21 @@ impl<B: Run> Seat<B> {
     /// Whether a further piece is to be had now.
     pub(crate) fn can_lend(&self) -> bool {
         !self.is_full() && self.desk.can_lend()
+    }
+
+    /// A thread of the team begins to work, or has slept.
+    pub(crate) fn wakes(&mut self) {
+        self.awake = self.awake.saturating_add(1);
+    }
+
+    /// A thread of the team is about to sleep.
+    pub(crate) fn sleeps(&mut self) {
+        self.awake = self.awake.saturating_sub(1);
+    }
+
+    /// Whether a thread of the team that is awake is not the only one.
+    pub(crate) fn others_are_awake(&self) -> bool {
+        self.awake > 1
     }
 
     /// Takes what a piece of this run has come to. The run is lost where there was no memory, or where it is of no loan.
