@@ -6,6 +6,7 @@ ghost use Rattle.mcs_system.specs.System.{delay_between};
 ghost use Rattle.mcs_window.specs.Idle.{IsIdleUntil};
 ghost use Rattle.mcs_window.specs.Inbox.{inbox};
 ghost use Rattle.mcs_window.specs.Stretch.{rows_between};
+ghost use Rattle.mcs_window.specs.stored.Slots.{IsEarliest};
 ghost use Rattle.mcs_window.specs.Desk.{opening_table, clock_of, taken_of, past_of, loan_of, MayLend, IsChosen, IsBest, lent_at, settled_at, taken_at, IsSkipped, IsAwake, IsLent, IsSameRun, with_lost, IsLoan, IsSettleFault, AllAreHere, IsFinished, IsUntaken, IsWhole, IsLater, rows_kept, turns_left};
 
 use crate::delivery::{deliver, deliver_reserved, make_room};
@@ -213,12 +214,31 @@ impl Desk {
         Tick::new(past).unwrap()
     }
 
+    // Whether a core may not be lent up to the moment after this one. It looks no further than at the first core that it waits for.
+    fn must_wait(&self, core: CoreId, moment: Tick) -> bool
+        requires { core < self.now.system.cores }
+        ensures { IsTrue result ↔ (past_of self.now core ≤ moment) }
+    {
+        if moment > self.horizon {
+            return true;
+        }
+        for other in 0..self.cores() {
+            if other != core.0 {
+                let maker = CoreId(other);
+                if self.clock(maker).get() + self.delay(maker, CoreId(core.0)) <= moment.get() {
+                    return true;
+                }
+            }
+        }
+        false
+    }
+
     // Whether a core may be lent.
     fn may_lend(&self, core: CoreId) -> bool
         requires { core < self.now.system.cores }
         ensures { IsTrue result ↔ MayLend self.now core }
     {
-        self.is_here(core) && self.clock(core) < self.past(core)
+        self.is_here(core) && !self.must_wait(core, self.clock(core))
     }
 
     // A core if it may be lent and is earlier than the one that was chosen before, and else that one.
@@ -239,11 +259,44 @@ impl Desk {
         }
     }
 
-    // The core to be lent.
+    // A core if it is not lent and is earlier than the one that was found before, and else that one.
+    fn earlier(&self, core: CoreId, found: Option<CoreId>) -> Option<CoreId>
+        requires known { core < self.now.system.cores }
+        requires lower { IsEarliest self.now core found }
+        ensures { IsEarliest self.now (suc core) result }
+    {
+        if !self.is_here(core) {
+            return found;
+        }
+        if let Some(other) = found {
+            if self.clock(other) <= self.clock(core) {
+                return found;
+            }
+        }
+        Some(core)
+    }
+
+    // Of the cores that are not lent the one with the least clock, and of those the one with the least number.
+    fn earliest(&self) -> Option<CoreId>
+        ensures { IsEarliest self.now self.now.system.cores result }
+    {
+        let mut found = None;
+        for core in 0..self.cores() {
+            found = self.earlier(CoreId(core), found);
+        }
+        found
+    }
+
+    // The core to be lent. That is mostly the earliest that is not lent.
     fn choice(&self) -> Option<CoreId>
         ensures some { IfSome result (IsChosen self.now) }
         ensures none { IfNone result ((c : ℕ) → ¬ MayLend self.now c) }
     {
+        if let Some(core) = self.earliest() {
+            if self.may_lend(core) {
+                return Some(core);
+            }
+        }
         let mut chosen = None;
         for core in 0..self.cores() {
             chosen = self.better(CoreId(core), chosen);
@@ -266,13 +319,17 @@ impl Desk {
     }
 
     // The first moment at which some core does more than count a tick, or the moment after the horizon where that comes first. Notes the
-    // next busy moment of each core that has one.
-    fn idle_until(&self, busy: &mut Front) -> Tick
-        requires { AllAreHere self.now }
+    // next busy moment of each core that has one, but looks at no further core where one is busy before `enough`: no clock is earlier.
+    fn idle_until(&self, enough: Tick, busy: &mut Front) -> Tick
+        requires here { AllAreHere self.now }
+        requires enough { (c : ℕ) → c < self.now.system.cores → enough ≤ clock_of self.now c + 1 }
         ensures { IsIdleUntil self.now.system self.now.clocks (self.now.horizon + 1) result }
     {
         let mut until = self.horizon.plus(1).unwrap();
         for core in 0..self.cores() {
+            if until < enough {
+                return until;
+            }
             if let Some(moment) = self.next_busy(CoreId(core)) {
                 busy[core] = moment;
                 if moment.get() < until.get() {
@@ -283,22 +340,35 @@ impl Desk {
         until
     }
 
+    // The moment after the least clock, or 0 where that is past the horizon.
+    fn after_least(&self) -> Tick
+        requires { AllAreHere self.now }
+        ensures { (c : ℕ) → c < self.now.system.cores → result ≤ clock_of self.now c + 1 }
+    {
+        match self.earliest() {
+            Some(core) if self.clock(core) <= self.horizon => self.clock(core).plus(1).unwrap(),
+            _ => Tick::ZERO,
+        }
+    }
+
     /// Idle time, where no core is lent: all cores whose clocks are earlier go at once to the first moment at which some core does more
     /// than count a tick, or to the moment after the horizon where that comes first. Until then no core makes a row.
     pub fn skip_idle(&mut self)
         requires { AllAreHere self.old }
         ensures { IsSkipped self.old self.new }
     {
+        let enough = self.after_least();
         let mut busy = [Tick::ZERO; 64];
-        self.skip_until_busy(&mut busy);
+        self.skip_until_busy(enough, &mut busy);
     }
 
-    // The same. Notes the next busy moment of each core that has one, from before the skip.
-    fn skip_until_busy(&mut self, busy: &mut Front)
-        requires { AllAreHere self.old }
+    // The same. Notes the next busy moment of each core that has one, from before the skip, as `idle_until` does.
+    fn skip_until_busy(&mut self, enough: Tick, busy: &mut Front)
+        requires here { AllAreHere self.old }
+        requires enough { (c : ℕ) → c < self.old.system.cores → enough ≤ clock_of self.old c + 1 }
         ensures { IsSkipped self.old self.new }
     {
-        let moment = self.idle_until(busy);
+        let moment = self.idle_until(enough, busy);
         skip_slots(&self.system, &mut self.clocks, &mut self.slots, moment);
     }
 
@@ -525,11 +595,11 @@ impl Desk {
         ensures fewer { IfOk result (λ moved. IsTrue moved → turns_left self.new < turns_left self.old) }
     {
         let horizon = self.horizon;
-        if busy[core.0] > horizon {
+        if busy[core.0] > horizon || self.must_wait(core, busy[core.0]) {
             return Ok(false);
         }
         let past = self.past(core);
-        if busy[core.0] < past && self.clock(core) < past {
+        if self.clock(core) < past {
             self.run_here(core, past, most)?;
             return Ok(true);
         }
@@ -588,7 +658,7 @@ impl Desk {
         ensures done { IfOk result (λ more. IsFalse more → IsFinished self.new) }
     {
         let mut busy = [self.horizon.plus(1).unwrap(); 64];
-        self.skip_until_busy(&mut busy);
+        self.skip_until_busy(Tick::ZERO, &mut busy);
         let moved = self.sweep(&busy, most)?;
         if moved {
             return Ok(true);

@@ -1,6 +1,6 @@
 -- What a desk keeps between its calls: each core that is not lent stands as the clock has it, and for each that is lent there lie the
 -- signals that were made for it since.
-use Rattle.std.specs.Prelude.{◌≡◌, ℕ, ◌+◌, ◌-◌, ◌<◌, ◌≤◌, ◌^◌, false, Option, Some, None, List, [], ◌++◌, map, length, slice_index, slice_index_or}
+use Rattle.std.specs.Prelude.{◌≡◌, ◌≢◌, ℕ, ◌+◌, ◌-◌, ◌<◌, ◌≤◌, ◌^◌, false, Option, Some, None, List, [], ◌++◌, map, length, slice_index, slice_index_or}
 use Rattle.std.specs.Arc.{arc_value}
 use Rattle.std.specs.declared.alloc.Global.{Global}
 use Rattle.mcs_mail.specs.declared.mail.Mail.{Mail}
@@ -14,7 +14,7 @@ use Rattle.mcs_window.specs.Inbox.{AreNews, Rises, inbox, signals_between}
 use Rattle.mcs_window.specs.Stretch.{StandsAt, NothingArrivesBefore, rows_between}
 use Rattle.mcs_window.specs.stored.Cores.{IsHere, AreSince, AreSetBelow}
 use Rattle.mcs_window.specs.stored.Opening.{AreDelays}
-use Rattle.mcs_window.specs.Desk.{Table}
+use Rattle.mcs_window.specs.Desk.{Table, clock_of, loan_of}
 use Rattle.mcs_window.specs.declared.slot.Loan.{Loan}
 use Rattle.mcs_window.specs.declared.slot.Slot.{Slot}
 use Rattle.mcs_window.specs.declared.slot.Slot.TheVariants.{Here, Away}
@@ -132,3 +132,15 @@ pub record HasGone (system : System) (c past : ℕ) (front : List ℕ) (before :
   pub box_is : box ≡ inbox system c to front
   pub rows_are : rows ≡ before ++ rows_between system c (slice_index front c) to
   pub signals_are : signals ≡ signals_between system c (slice_index front c) to
+
+-- of the cores below number n that are not lent core c has the least clock, and of those with that clock the least number
+pub record IsEarliestBelow (table : Table) (n c : ℕ) : Type 0 where
+  pub below : c < n
+  pub here : loan_of table c ≡ None
+  pub least : (k : ℕ) → k < n → loan_of table k ≡ None → clock_of table c ≤ clock_of table k
+  pub first : (k : ℕ) → k < c → loan_of table k ≡ None → clock_of table c < clock_of table k
+
+-- and none where all of them are lent
+abbrev pub IsEarliest : Table → ℕ → Option ℕ → Type 0
+IsEarliest table n None = (k : ℕ) → k < n → loan_of table k ≢ None
+IsEarliest table n (Some c) = IsEarliestBelow table n c
