@@ -1,9 +1,9 @@
 #!/usr/bin/env python3
-"""refused_tests.py [CRATE..]: runs each test of each crate that has some, or of these, with its n-th growth of memory refused, for n = 1,
+"""refused_tests.py [--built] [CRATE..]: runs each test of each crate that has some, or of these, with its n-th growth of memory refused, for n = 1,
 2, .. until a run meets none; past the thousandth n goes on by a hundredth of its thousands.
 
 `rt test` builds the tests of a crate first, and proves what has changed (`rt try --test --fail-alloc N`, which does this of one growth,
-would build them anew for each). A test passes, or ends with a text that tells of want of memory; anything else is a failure, whose text is
+would build them anew for each); with --built they are run as the gate or an earlier `rt test` left them. A test passes, or ends with a text that tells of want of memory; anything else is a failure, whose text is
 shown once for each test. Each test has a line. The last line is 'N passed, M failed', and the status is 0 where M is 0 and N is not."""
 import os
 import pathlib
@@ -22,10 +22,13 @@ FULL = 1000
 
 def built(crate):
     """The program of a crate's tests."""
+    program = crate / 'out' / f'{crate.name}_tests'
+    if '--built' in sys.argv:
+        return program
     made = subprocess.run(['rt', 'test', '--jobs', '1'], cwd=crate, stdout=subprocess.PIPE, stderr=subprocess.STDOUT)
     if made.returncode:
         sys.exit(made.stdout.decode(errors='replace') + f'\nthe tests of {crate.name} do not pass')
-    return crate / 'out' / f'{crate.name}_tests'
+    return program
 
 
 def tried(program, test, library):
@@ -51,7 +54,7 @@ def tried(program, test, library):
 passed = failed = 0
 with tempfile.TemporaryDirectory() as folder:
     library = compiled(folder)
-    for crate in [crates / name for name in sys.argv[1:]] or sorted(crates.iterdir()):
+    for crate in [crates / name for name in sys.argv[1:] if name != '--built'] or sorted(crates.iterdir()):
         if not any('#[test]' in file.read_text() for file in crate.glob('src/**/*.rt')):
             continue
         program = built(crate)
