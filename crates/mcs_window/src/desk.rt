@@ -319,17 +319,20 @@ impl Desk {
     }
 
     // The first moment at which some core does more than count a tick, or the moment after the horizon where that comes first. Notes the
-    // next busy moment of each core that has one, but looks at no further core where one is busy before `enough`: no clock is earlier.
+    // next busy moment of each core, or that after the horizon where it has none, but looks at no further core where one is busy before
+    // `enough`: no clock is earlier.
     fn idle_until(&self, enough: Tick, busy: &mut Front) -> Tick
         requires here { AllAreHere self.now }
         requires enough { (c : ℕ) → c < self.now.system.cores → enough ≤ clock_of self.now c + 1 }
         ensures { IsIdleUntil self.now.system self.now.clocks (self.now.horizon + 1) result }
     {
-        let mut until = self.horizon.plus(1).unwrap();
+        let end = self.horizon.plus(1).unwrap();
+        let mut until = end;
         for core in 0..self.cores() {
             if until < enough {
                 return until;
             }
+            busy[core] = end;
             if let Some(moment) = self.next_busy(CoreId(core)) {
                 busy[core] = moment;
                 if moment.get() < until.get() {
@@ -362,7 +365,7 @@ impl Desk {
         self.skip_until_busy(enough, &mut busy);
     }
 
-    // The same. Notes the next busy moment of each core that has one, from before the skip, as `idle_until` does.
+    // The same. Notes the next busy moment of each core, from before the skip, as `idle_until` does.
     fn skip_until_busy(&mut self, enough: Tick, busy: &mut Front)
         requires here { AllAreHere self.old }
         requires enough { (c : ℕ) → c < self.old.system.cores → enough ≤ clock_of self.old c + 1 }
@@ -649,17 +652,16 @@ impl Desk {
         Ok(true)
     }
 
-    // Skips idle time, and then takes turns of the cores that are busy. Answers whether there were turns to take.
-    fn round(&mut self, most: usize) -> Result<bool, NoMemory>
+    // Skips idle time, and then takes turns of the cores that are busy, as it notes. Answers whether there were turns to take.
+    fn round(&mut self, busy: &mut Front, most: usize) -> Result<bool, NoMemory>
         requires sound { self.old.lost ≡ false }
         requires here { AllAreHere self.old }
         ensures later { OnOk result (IsLater self.old self.new) }
         ensures more { IfOk result (λ more. IsTrue more → turns_left self.new < turns_left self.old) }
         ensures done { IfOk result (λ more. IsFalse more → IsFinished self.new) }
     {
-        let mut busy = [self.horizon.plus(1).unwrap(); 64];
-        self.skip_until_busy(Tick::ZERO, &mut busy);
-        let moved = self.sweep(&busy, most)?;
+        self.skip_until_busy(Tick::ZERO, busy);
+        let moved = self.sweep(busy, most)?;
         if moved {
             return Ok(true);
         }
@@ -677,7 +679,8 @@ impl Desk {
         ensures fewer { OnOk result (IsFinished self.new ⊎ (turns_left self.new < turns_left self.old)) }
         ensures enough { OnOk result (IsFinished self.new ⊎ (rows ≤ rows_kept self.new)) }
     {
-        'rounds: while self.round(rows)? {
+        let mut busy = [Tick::ZERO; 64];
+        'rounds: while self.round(&mut busy, rows)? {
             if self.kept() >= rows {
                 return Ok(());
             }
@@ -693,7 +696,8 @@ impl Desk {
         ensures later { OnOk result (IsLater self.old self.new) }
         ensures finished { OnOk result (IsFinished self.new) }
     {
-        while self.round(usize::MAX)? {}
+        let mut busy = [Tick::ZERO; 64];
+        while self.round(&mut busy, usize::MAX)? {}
         Ok(())
     }
 }
