@@ -1,4 +1,4 @@
-ghost use Rattle.std.specs.Prelude.{◌≡◌, ◌≢◌, ◌↔◌, ℕ, ◌+◌, ◌-◌, ◌≤◌, ◌<◌, ◌^◌, min, ◌⊎◌, suc, true, false, None, length, IfOk, IfErr, OnOk, OnErr, IfSome, IfNone, IsTrue, IsFalse};
+ghost use Rattle.std.specs.Prelude.{◌≡◌, ◌≢◌, ◌↔◌, ℕ, ◌+◌, ◌-◌, ◌≤◌, ◌<◌, ◌^◌, min, max, ◌⊎◌, suc, true, false, None, length, slice_index, IfOk, IfErr, OnOk, OnErr, IfSome, IfNone, IsTrue, IsFalse};
 ghost use Rattle.std.specs.Arc.{arc_value};
 ghost use Rattle.mcs_core.specs.Clock.{world, core_at};
 ghost use Rattle.mcs_core.specs.Quiet.{IsNextBusy};
@@ -343,24 +343,16 @@ impl Desk {
         until
     }
 
-    // The moment after the least clock, or 0 where that is past the horizon.
-    fn after_least(&self) -> Tick
-        requires { AllAreHere self.now }
-        ensures { (c : ℕ) → c < self.now.system.cores → result ≤ clock_of self.now c + 1 }
-    {
-        match self.earliest() {
-            Some(core) if self.clock(core) <= self.horizon => self.clock(core).plus(1).unwrap(),
-            _ => Tick::ZERO,
-        }
-    }
-
     /// Idle time, where no core is lent: all cores whose clocks are earlier go at once to the first moment at which some core does more
     /// than count a tick, or to the moment after the horizon where that comes first. Until then no core makes a row.
     pub fn skip_idle(&mut self)
         requires { AllAreHere self.old }
         ensures { IsSkipped self.old self.new }
     {
-        let enough = self.after_least();
+        let enough = match self.earliest() {
+            Some(core) if self.clock(core) <= self.horizon => self.clock(core).plus(1).unwrap(),
+            _ => Tick::ZERO,
+        };
         let mut busy = [Tick::ZERO; 64];
         self.skip_until_busy(enough, &mut busy);
     }
@@ -595,10 +587,12 @@ impl Desk {
         requires here { AllAreHere self.old }
         ensures later { OnOk result (IsLater self.old self.new) }
         ensures same { IfOk result (λ moved. IsFalse moved → self.new ≡ self.old) }
+        ensures waits { IfOk result (λ moved. IsFalse moved →
+            past_of self.old core ≤ max (clock_of self.old core) (slice_index busy.now core)) }
         ensures fewer { IfOk result (λ moved. IsTrue moved → turns_left self.new < turns_left self.old) }
     {
-        let horizon = self.horizon;
-        if busy[core.0] > horizon || self.must_wait(core, busy[core.0]) {
+        let _lost = self.lost;
+        if self.must_wait(core, busy[core.0]) {
             return Ok(false);
         }
         let past = self.past(core);
@@ -614,6 +608,9 @@ impl Desk {
         requires sound { self.old.lost ≡ false }
         requires here { AllAreHere self.old }
         ensures later { OnOk result (IsLater self.old self.new) }
+        ensures same { IfOk result (λ moved. IsFalse moved → self.new ≡ self.old) }
+        ensures waits { IfOk result (λ moved. IsFalse moved → (c : ℕ) → c < self.old.system.cores →
+            past_of self.old c ≤ max (clock_of self.old c) (slice_index busy.now c)) }
         ensures no_more { OnOk result (turns_left self.new ≤ turns_left self.old) }
         ensures fewer { IfOk result (λ moved. IsTrue moved → turns_left self.new < turns_left self.old) }
     {
