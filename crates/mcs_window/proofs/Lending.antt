@@ -1,10 +1,10 @@
 -- How far a core may be lent, and that some core may where nothing is lent and there is still something to do.
-use Rattle.std.proofs.Common.{◌≡◌, ◌≢◌, ℕ, zero, suc, ◌+◌, ◌-◌, ◌<◌, ◌≤◌, Bool, true, false, List, length, set, min, inl, inr, refl, sym, ap, ◌∙◌, subst, arith}
+use Rattle.std.proofs.Common.{◌≡◌, ◌≢◌, ℕ, zero, suc, ◌+◌, ◌-◌, ◌<◌, ◌≤◌, Bool, true, false, length, set, min, inl, inr, refl, ap, ◌∙◌, arith}
 use Rattle.std.specs.Prelude.{fold, sum_by, slice_index, ◌==◌, nat_le, if◌then◌else◌}
 use Rattle.std.specs.List.{range_with_len}
 use Rattle.std.proofs.lemmas.Bool.Decides.{eqb_tells, nat_tests}
 use Rattle.std.proofs.lemmas.List.{get_or-set_same, get_or-set_other}
-use Rattle.mcs_system.specs.System.{System, delay_between, TakesTime}
+use Rattle.mcs_system.specs.System.{delay_between, TakesTime}
 use Rattle.mcs_window.specs.Desk.{Table, clock_of, past_of, MayLend, AllAreHere, IsFinished, settled_at, turns_left}
 
 pub fold-range_more : {B : Type 0} (f : B → ℕ → B) (a : B) (n b : ℕ) → fold f a (range_with_len b (suc n)) ≡ f (fold f a (range_with_len b n)) (b + n)

@@ -1,5 +1,5 @@
 -- A desk of which a core is lent.
-use Rattle.std.proofs.Common.{◌≡◌, ◌≢◌, ℕ, ◌+◌, ◌<◌, ◌≤◌, Option, Some, None, List, [], length, map, get_or, set, inl, inr, refl, sym, ap, ◌∙◌, subst, arith}
+use Rattle.std.proofs.Common.{◌≡◌, ℕ, ◌<◌, Some, None, List, [], length, map, get_or, set, inl, inr, refl, sym, ap, ◌∙◌, subst, arith}
 use Rattle.std.specs.Prelude.{slice_index}
 use Rattle.std.specs.Arc.{arc_value}
 use Rattle.std.specs.Vec.{with_item}
@@ -11,7 +11,7 @@ use Rattle.mcs_mail.specs.declared.mail.Mail.{Mail}
 use Rattle.mcs_mail.specs.Box.{Content}
 use Rattle.mcs_system.specs.System.{System}
 use Rattle.mcs_core.specs.State.{State}
-use Rattle.mcs_window.specs.Desk.{Table, clock_of, past_of, loan_of, MayLend, lent_at, IsFinished, AllAreHere}
+use Rattle.mcs_window.specs.Desk.{past_of, loan_of, MayLend, lent_at, IsFinished, AllAreHere}
 use Rattle.mcs_window.specs.Pieces.{IsWork}
 use Rattle.mcs_window.specs.stored.Cores.{IsHere}
 use Rattle.mcs_window.specs.stored.Slots.{slot_loan, table_of, IsAway, IsPlaced, ArePlaced, IsKept}

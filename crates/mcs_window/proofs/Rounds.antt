@@ -1,6 +1,6 @@
 -- A desk that takes turns by itself: the core that goes on, and idle time that is skipped.
-use Rattle.std.proofs.Common.{◌≡◌, ℕ, zero, suc, ◌<◌, ◌≤◌, false, Option, None, List, [], ◌∷◌, get_or, set, inl, refl, subst, sym}
-use Rattle.mcs_window.specs.Desk.{Table, AllAreHere, IsLater, IsSkipped, loan_of, settled_at, turns_left}
+use Rattle.std.proofs.Common.{◌≡◌, ℕ, zero, suc, ◌≤◌, false, Option, None, List, [], ◌∷◌, get_or, set, inl, refl, subst, sym}
+use Rattle.mcs_window.specs.Desk.{Table, AllAreHere, IsLater, IsSkipped, settled_at, turns_left}
 use Rattle.mcs_window.specs.declared.slot.Loan.{Loan}
 use Rattle.mcs_window.proofs.Waking.{awake-turns}
 

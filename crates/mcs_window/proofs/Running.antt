@@ -1,5 +1,5 @@
 -- A desk whose cores take their turns where they lie.
-use Rattle.std.proofs.Common.{◌≡◌, ◌≢◌, ℕ, ◌+◌, ◌-◌, ◌<◌, ◌≤◌, ◌^◌, max, Option, Some, None, List, [], ◌++◌, length, map, Vec, get_or, set, inl, inr, refl, sym, ap, ◌∙◌, subst, arith}
+use Rattle.std.proofs.Common.{◌≡◌, ◌≢◌, ℕ, ◌+◌, ◌<◌, ◌≤◌, Some, None, List, [], length, map, Vec, get_or, set, inl, inr, refl, sym, ap, ◌∙◌, subst, arith}
 use Rattle.std.specs.Prelude.{filter, slice_index}
 use Rattle.std.specs.Arc.{arc_value}
 use Rattle.std.specs.Vec.{with_item, with_items}
@@ -10,13 +10,12 @@ use Rattle.mcs_ticks.specs.declared.row.Row.{Row}
 use Rattle.mcs_mail.specs.declared.mail.Mail.{Mail}
 use Rattle.mcs_mail.specs.Box.{Content, put_all}
 use Rattle.mcs_system.specs.System.{System}
-use Rattle.mcs_system.specs.WellFormed.{IsWellFormed}
-use Rattle.mcs_window.specs.Desk.{Table, clock_of, past_of, MayLend, settled_at, lent_at, taken_at, turns_left}
-use Rattle.mcs_window.specs.Inbox.{inbox, signals_between}
-use Rattle.mcs_window.specs.Stretch.{StandsAt, rows_between, NothingArrivesBefore}
-use Rattle.mcs_window.specs.stored.Cores.{IsHere, AreSince}
+use Rattle.mcs_window.specs.Desk.{Table, past_of, MayLend, settled_at, lent_at, taken_at, turns_left}
+use Rattle.mcs_window.specs.Inbox.{inbox}
+use Rattle.mcs_window.specs.Stretch.{rows_between, NothingArrivesBefore}
+use Rattle.mcs_window.specs.stored.Cores.{AreSince}
 use Rattle.mcs_window.specs.stored.Delivery.{is_home, AreDelivered, AreSameMail}
-use Rattle.mcs_window.specs.stored.Slots.{slot_loan, table_of, IsAway, IsPlaced, ArePlaced, IsKept, StandsIn, MayGo, HasGone}
+use Rattle.mcs_window.specs.stored.Slots.{slot_loan, table_of, IsPlaced, ArePlaced, IsKept, StandsIn, MayGo, HasGone}
 use Rattle.mcs_window.specs.declared.slot.Loan.{Loan}
 use Rattle.mcs_window.specs.declared.slot.Slot.{Slot}
 use Rattle.mcs_window.specs.declared.slot.Slot.TheVariants.{Here, Away}

@@ -1,5 +1,5 @@
 -- A desk all of whose cores skip idle time.
-use Rattle.std.proofs.Common.{◌≡◌, ◌≢◌, ℕ, ◌+◌, ◌-◌, ◌<◌, ◌≤◌, ◌^◌, Option, Some, None, List, [], ◌++◌, length, map, max, replicate, get_or, set, inl, inr, refl, sym, ap, ◌∙◌, subst, arith, append-nil}
+use Rattle.std.proofs.Common.{◌≡◌, ℕ, ◌+◌, ◌<◌, ◌≤◌, None, List, [], ◌++◌, length, map, replicate, get_or, set, inl, inr, refl, sym, ap, ◌∙◌, subst, arith, append-nil}
 use Rattle.std.specs.Prelude.{slice_index}
 use Rattle.std.specs.Arc.{arc_value}
 use Rattle.std.specs.Vec.{with_items}
@@ -8,14 +8,11 @@ use Rattle.std.proofs.lemmas.List.{get_or-set_same, get_or-set_other, length-set
 use Rattle.mcs_mail.specs.declared.mail.Mail.{Mail}
 use Rattle.mcs_mail.specs.Box.{Content}
 use Rattle.mcs_system.specs.System.{System, TakesTime}
-use Rattle.mcs_core.specs.State.{State}
 use Rattle.mcs_window.specs.Idle.{AreIdle, AreReached, AreSet, OnlyCounts}
 use Rattle.mcs_window.specs.Inbox.{inbox}
-use Rattle.mcs_window.specs.stored.Cores.{AreSetBelow, IsHere}
 use Rattle.mcs_window.specs.stored.Slots.{slot_loan, table_of, IsPlaced, ArePlaced, IsKept, StandsIn, AllStand, MaySkip, HasSkipped, HaveSkipped}
-use Rattle.mcs_window.specs.Stretch.{StandsAt, NothingArrivesBefore, rows_between}
-use Rattle.mcs_window.specs.Desk.{Table, AllAreHere, loan_of}
-use Rattle.mcs_window.specs.declared.slot.Loan.{Loan}
+use Rattle.mcs_window.specs.Stretch.{NothingArrivesBefore, rows_between}
+use Rattle.mcs_window.specs.Desk.{AllAreHere}
 use Rattle.mcs_window.specs.declared.slot.Slot.{Slot}
 use Rattle.mcs_window.specs.declared.slot.Slot.TheVariants.{Here, Away}
 use Rattle.mcs_window.specs.declared.desk.Desk.TheInside.{Inside}

@@ -1,9 +1,8 @@
 -- A core is lent when idle time was skipped.
-use Rattle.std.proofs.Common.{◌≡◌, ℕ, ◌≤◌, ◌<◌, ◌+◌, ◌-◌, false, Option, Some, None, length, max, inl, inr, refl, sym, ap, ◌∙◌, subst, arith}
+use Rattle.std.proofs.Common.{◌≡◌, ◌≤◌, ◌+◌, ◌-◌, false, Option, Some, None, inl, inr, sym, ap, ◌∙◌, subst, arith}
 use Rattle.std.specs.Prelude.{IfSome}
-use Rattle.mcs_system.specs.System.{System}
 use Rattle.mcs_window.specs.Pieces.{Work}
-use Rattle.mcs_window.specs.Desk.{Table, AllAreHere, IsSkipped, IsAwake, IsLent, IsChosen, MayLend, lent_at, clock_of, past_of, loan_of, turns_left}
+use Rattle.mcs_window.specs.Desk.{Table, AllAreHere, IsAwake, IsLent, IsChosen, lent_at, clock_of, past_of, turns_left}
 use Rattle.mcs_window.proofs.Lending.{sum-le}
 
 awake-system : (before table : Table) → IsAwake before table → table.system ≡ before.system

@@ -1,5 +1,5 @@
 -- What each core has at the beginning: its first state, an empty box, no rows, and the delays of the signals to it.
-use Rattle.std.specs.Prelude.{◌≡◌, ℕ, ◌<◌, ◌≤◌, ◌^◌, List, [], length, slice_index, slice_index_or, Vec}
+use Rattle.std.specs.Prelude.{◌≡◌, ℕ, ◌<◌, List, [], length, slice_index, slice_index_or, Vec}
 use Rattle.std.specs.declared.alloc.Global.{Global}
 use Rattle.mcs_ticks.specs.declared.row.Row.{Row}
 use Rattle.mcs_mail.specs.Box.{Content}

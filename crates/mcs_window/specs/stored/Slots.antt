@@ -2,7 +2,6 @@
 -- signals that were made for it since.
 use Rattle.std.specs.Prelude.{◌≡◌, ◌≢◌, ℕ, ◌+◌, ◌-◌, ◌<◌, ◌≤◌, ◌^◌, false, Option, Some, None, List, [], ◌++◌, map, length, slice_index, slice_index_or}
 use Rattle.std.specs.Arc.{arc_value}
-use Rattle.std.specs.declared.alloc.Global.{Global}
 use Rattle.mcs_mail.specs.declared.mail.Mail.{Mail}
 use Rattle.mcs_mail.specs.Box.{Content}
 use Rattle.mcs_system.specs.System.{System}

@@ -1,10 +1,7 @@
 use Rattle.std.proofs.Common.{◌≡◌, ◌∙◌, sym, ap, subst, refl, get_or}
-use Rattle.std.specs.Arc.{arc_value}
 use Rattle.mcs_mail.specs.Box.{Content}
-use Rattle.mcs_window.specs.Desk.{Table, AllAreHere, IsFinished, MayLend, clock_of, past_of, lent_at}
+use Rattle.mcs_window.specs.Desk.{Table, AllAreHere, IsFinished, MayLend, lent_at}
 use Rattle.mcs_window.specs.stored.Slots.{table_of}
-use Rattle.mcs_window.specs.declared.slot.Slot.{Slot}
-use Rattle.mcs_window.specs.declared.slot.Slot.TheVariants.{Here, Away}
 use Rattle.mcs_window.proofs.Lends.{here_at, lent_work, lent_kept, lent_shows, all_done}
 use Rattle.mcs_window.proofs.desk.Desk.lend_now.Goals as goal
 

@@ -1,4 +1,4 @@
-use Rattle.std.proofs.Common.{◌≡◌, ◌≢◌, ◌≤◌, ◌<◌, ◌+◌, ◌∙◌, ℕ, suc, min, sym, ap, subst, rules, arith}
+use Rattle.std.proofs.Common.{◌≡◌, ◌≢◌, ◌≤◌, ◌<◌, ◌+◌, ◌∙◌, suc, ap, subst, rules, arith}
 use Rattle.mcs_system.specs.System.{delay_between}
 use Rattle.mcs_window.specs.Desk.{clock_of}
 use Rattle.mcs_window.proofs.Lending.{past_by, past_by-own, past_by-other, past_by-in_time, past_by-reached}

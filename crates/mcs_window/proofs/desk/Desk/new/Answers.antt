@@ -1,6 +1,5 @@
 use Rattle.std.proofs.Common.{◌∙◌, false, refl, ap, replicate}
 use Rattle.std.specs.Arc.{arc_value}
-use Rattle.mcs_window.specs.stored.Slots.{AreFresh}
 use Rattle.mcs_window.proofs.Slots.{opened_desk, opened_loans, with_loans}
 use Rattle.mcs_window.proofs.desk.Desk.new.Goals as goal
 

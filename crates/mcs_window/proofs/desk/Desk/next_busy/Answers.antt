@@ -1,11 +1,8 @@
-use Rattle.std.proofs.Common.{◌≡◌, ◌<◌, ◌∙◌, ℕ, ap, sym, subst, arith}
-use Rattle.std.specs.Prelude.{Option, slice_index}
+use Rattle.std.proofs.Common.{◌<◌, ℕ, ap, subst, arith}
+use Rattle.std.specs.Prelude.{slice_index}
 use Rattle.std.specs.Arc.{arc_value}
-use Rattle.mcs_mail.specs.Box.{Content}
 use Rattle.mcs_core.specs.Clock.{world, core_at}
 use Rattle.mcs_core.specs.Quiet.{IsNextBusy}
-use Rattle.mcs_core.specs.State.{Fits}
-use Rattle.mcs_system.specs.System.{System}
 use Rattle.mcs_window.specs.Desk.{Table, clock_of}
 use Rattle.mcs_window.specs.Inbox.{inbox}
 use Rattle.mcs_window.specs.stored.Cores.{IsHere}

@@ -1,9 +1,8 @@
-use Rattle.std.proofs.Common.{◌≡◌, ◌<◌, ◌∙◌, get_or, length, set, refl, ap, sym, subst, arith}
+use Rattle.std.proofs.Common.{◌≡◌, ◌<◌, ◌∙◌, get_or, set, refl, ap, sym, subst}
 use Rattle.std.specs.Prelude.{slice_index}
 use Rattle.std.specs.Arc.{arc_value}
-use Rattle.std.specs.Vec.{with_item, with_items}
 use Rattle.std.proofs.lemmas.List.{set-set, get_or_default}
-use Rattle.mcs_window.specs.Desk.{Table, MayLend, past_of, lent_at, settled_at, taken_at, turns_left}
+use Rattle.mcs_window.specs.Desk.{lent_at, settled_at, taken_at, turns_left}
 use Rattle.mcs_window.specs.stored.Delivery.{AreDelivered, AreSameMail}
 use Rattle.mcs_window.specs.stored.Slots.{table_of, HasGone}
 use Rattle.mcs_window.proofs.Running.{at_core, may_go, in_clocks, in_boxes, gone_kept, gone_shows, gone_clock, gone_fewer, spent_kept, spent_shows, same-mail, same-respent, respent_are}

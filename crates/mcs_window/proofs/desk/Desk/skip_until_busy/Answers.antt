@@ -1,9 +1,9 @@
-use Rattle.std.proofs.Common.{◌≡◌, ◌∙◌, ap, sym, subst, ◌+◌}
+use Rattle.std.proofs.Common.{◌∙◌, ap, sym, subst, ◌+◌}
 use Rattle.std.specs.Arc.{arc_value}
-use Rattle.mcs_window.specs.Desk.{Table, AllAreHere, IsSkipped}
+use Rattle.mcs_window.specs.Desk.{Table, AllAreHere}
 use Rattle.mcs_window.specs.Idle.{AreSet, IsIdleUntil}
-use Rattle.mcs_window.specs.stored.Slots.{table_of, HaveSkipped}
-use Rattle.mcs_window.proofs.Skipping.{all-stand, all-reached, skipped_desk, skipped_shows, all-set}
+use Rattle.mcs_window.specs.stored.Slots.{HaveSkipped}
+use Rattle.mcs_window.proofs.Skipping.{all-stand, all-reached, skipped_desk, skipped_shows}
 use Rattle.mcs_window.proofs.desk.Desk.skip_until_busy.Goals as goal
 
 pub skip_slots-requires-clause-stand : goal.skip_slots-requires-clause-stand
