@@ -64,7 +64,8 @@ fn is_long(piece: &Piece) -> bool {
 }
 
 // Takes pieces until none is to be had any more. Who takes a long one wakes another thread where a further piece is to be
-// had. Who has run a short one sleeps where another thread is awake: pieces that are short are run by one thread.
+// had. Who has run a short one sleeps where another thread is awake: pieces that are short are run by one thread. Where the
+// run is over nobody sleeps, since who has ended wakes no one later.
 fn work<B: Run, R: Wait, G: Gate>(rt: &R, room: &Room<B>, gate: &G) {
     let mut guard = room.seat.lock(rt);
     guard.wakes();
@@ -84,10 +85,11 @@ fn work<B: Run, R: Wait, G: Gate>(rt: &R, room: &Room<B>, gate: &G) {
                 if guard.is_due() {
                     room.due.unpark();
                 }
-                sleeps = !is_long && guard.others_are_awake();
+                sleeps = !is_long && guard.others_are_awake() && !guard.is_over();
             }
             None => {
                 if guard.is_over() {
+                    guard.sleeps();
                     room.due.unpark();
                     room.free.notify_all();
                     return;

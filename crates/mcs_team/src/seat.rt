@@ -56,7 +56,7 @@ impl<B: Run> Seat<B> {
         self.awake = self.awake.saturating_add(1);
     }
 
-    /// A thread of the team is about to sleep.
+    /// A thread of the team is about to sleep, or to end.
     pub(crate) fn sleeps(&mut self) {
         self.awake = self.awake.saturating_sub(1);
     }
