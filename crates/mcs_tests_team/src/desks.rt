@@ -46,7 +46,7 @@ fn lends(
         return Ok(false);
     };
     let Ok(done) = piece.run() else {
-        return Err(Fail::from("memory"));
+        return Err(Fail::from("no memory"));
     };
     let same = done.core == CoreId(core) && done.first.get() == first && done.past.get() == past;
     away.push(done)?;
@@ -98,12 +98,20 @@ fn refusal(desk: &mut Desk, done: Done) -> Option<SettleFault>
 }
 
 // Whether the stretch of a core comes back so.
-fn settles(desk: &mut Desk, away: &mut Vec<Done>, core: usize, fault: Option<SettleFault>) -> bool
-    ensures { desk.new.system ≡ desk.old.system }
+fn settles(
+    desk: &mut Desk,
+    away: &mut Vec<Done>,
+    core: usize,
+    fault: Option<SettleFault>,
+) -> Result<bool, Fail>
+    ensures { OnOk result (desk.new.system ≡ desk.old.system) }
 {
-    match taken_out(away, core) {
-        Some(done) => refusal(desk, done) == fault,
-        None => false,
+    let Some(done) = taken_out(away, core) else {
+        return Ok(false);
+    };
+    match refusal(desk, done) {
+        Some(SettleFault::NoMemory) => Err(Fail::from("no memory")),
+        refused => Ok(refused == fault),
     }
 }
 
@@ -156,8 +164,8 @@ fn goes(desk: &mut Desk, away: &mut Vec<Done>, step: Step) -> Result<bool, Fail>
         Step::LendsNone => Ok(lends_none(desk)),
         Step::Front(core, front) => Ok(is_by(kept(away.as_slice(), core), front)),
         Step::Mail(core, out, arrived) => Ok(has_mail(kept(away.as_slice(), core), out, arrived)),
-        Step::Settles(core) => Ok(settles(desk, away, core, None)),
-        Step::Refuses(core, fault) => Ok(settles(desk, away, core, Some(fault))),
+        Step::Settles(core) => settles(desk, away, core, None),
+        Step::Refuses(core, fault) => settles(desk, away, core, Some(fault)),
         Step::Forfeits(core) => Ok(forfeits(desk, away, core)),
     }
 }
@@ -379,8 +387,8 @@ fn a_desk_is_finished_by_one_thread(rt: HostRuntime) -> Result<(), Fail> {
     if !desk.is_whole() {
         return Err(Fail::from("a whole desk"));
     }
-    let finished = desk.finish().is_ok();
-    assert!(rt; finished && says(&desk) == (true, true, false));
+    desk.finish()?;
+    assert!(rt; says(&desk) == (true, true, false));
     assert_eq!(rt; desk.cores(), 3);
     // the rows of the whole schedule
     let many = rows_of(&mut desk, 0)
