@@ -5,10 +5,9 @@ ghost use Rattle.mcs_core.specs.stored.Sound.{IsSound};
 ghost use Rattle.mcs_core.specs.stored.Sound.Phase.{Between};
 ghost use Rattle.mcs_system.specs.WellFormed.{IsWellFormed};
 
+use crate::Chosen;
 use crate::local::Local;
 use crate::log::Here;
-use crate::{Chosen, Thread};
-use mcs_script::Place;
 use mcs_ticks::Tick;
 
 impl Local {
@@ -49,26 +48,16 @@ impl Local {
         requires fits { IfSome self.old.running (λ chosen. chosen.using + ticks < 2 ^ 64) }
         ensures { self.new ≡ counted_for ticks self.old.running self.old }
     {
+        if ticks == 0 {
+            return;
+        }
         if let Some(chosen) = self.running() {
             let thread = chosen.thread;
-            let state = self.thread(thread);
-            let place = Place {
-                round: state.place.round,
-                item: state.place.item,
-                left: state.place.left.saturating_sub(ticks),
-            };
             self.set_running(Chosen {
                 using: chosen.using + ticks,
                 thread,
             });
-            self.set_thread(
-                thread,
-                Thread {
-                    standing: state.standing,
-                    place,
-                    since: state.since,
-                },
-            );
+            self.use_up(thread, ticks);
         }
     }
 }

@@ -1,4 +1,4 @@
-ghost use Rattle.std.specs.Prelude.{◌≡◌, ◌^◌, ◌<◌, ◌≤◌, true, length, get_or, Some, None, option_map, IfOk};
+ghost use Rattle.std.specs.Prelude.{◌≡◌, ◌-◌, ◌^◌, ◌<◌, ◌≤◌, true, length, get_or, Some, None, option_map, IfOk};
 ghost use Rattle.mcs_ticks.specs.Queue.{by_priority};
 ghost use Rattle.mcs_control.specs.Context.{head_amount, head_moment, context_woken, view_of};
 ghost use Rattle.mcs_control.specs.Control.{IsConfig, kind_of};
@@ -69,6 +69,17 @@ impl Local {
         ensures { self.new ≡ with_thread thread state self.old }
     {
         self.threads[thread.0] = state;
+    }
+
+    /// So many ticks less are left of the thread's item, and no less than none.
+    pub(crate) fn use_up(&mut self, thread: ThreadId, ticks: u64)
+        requires { thread < length self.old.threads }
+        ensures { let state = thread_of self.old thread in
+            self.new
+            ≡ with_thread thread (record state { place = record (state.place) { left = state.place.left - ticks } }) self.old }
+    {
+        let state = &mut self.threads[thread.0];
+        state.place.left = state.place.left.saturating_sub(ticks);
     }
 
     /// The thread is in the release queue with this date.

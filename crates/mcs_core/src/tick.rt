@@ -13,10 +13,10 @@ ghost use Rattle.mcs_system.specs.WellFormed.{IsWellFormed};
 
 use crate::local::Local;
 use crate::log::{Here, Log};
-use crate::{AfterItem, Chosen, Thread};
+use crate::{AfterItem, Chosen};
 use mcs_mail::Mail;
 use mcs_notify::Waited;
-use mcs_script::{Item, Moved, Place};
+use mcs_script::{Item, Moved};
 use mcs_system::SystemParts;
 use mcs_ticks::{NoMemory, NoteId, ThreadId, What};
 
@@ -28,24 +28,11 @@ impl Local {
         ensures { self.new ≡ counts chosen self.old }
     {
         let thread = chosen.thread;
-        let state = self.thread(thread);
-        let place = Place {
-            round: state.place.round,
-            item: state.place.item,
-            left: state.place.left.saturating_sub(1),
-        };
         self.set_running(Chosen {
             using: chosen.using + 1,
             thread,
         });
-        self.set_thread(
-            thread,
-            Thread {
-                standing: state.standing,
-                place,
-                since: state.since,
-            },
-        );
+        self.use_up(thread, 1);
     }
 
     /// What follows a wait: the thread blocks where the word is 0.
