@@ -1,4 +1,4 @@
-ghost use Rattle.std.specs.Prelude.{◌≡◌, ◌<◌, OnOk, length};
+ghost use Rattle.std.specs.Prelude.{◌≡◌, ◌<◌, OnOk, IfOk, length};
 ghost use Rattle.mcs_core.specs.Turn.{item_of, move_of, moves_on, given};
 ghost use Rattle.mcs_core.specs.stored.Parts.{Makes};
 ghost use Rattle.mcs_core.specs.stored.Sound.{IsPlaced};
@@ -40,11 +40,12 @@ impl Local {
         here: &Here<'_>,
         thread: ThreadId,
         log: &mut Log<'_>,
-    ) -> Result<(), NoMemory>
+    ) -> Result<Moved, NoMemory>
         requires known { thread < length self.old.threads }
         requires placed { IsPlaced here.now.system.now thread self.old }
-        ensures { OnOk result
+        ensures makes { OnOk result
             (Makes here.now (moves_on here.now.system.now here.now.moment thread self.old) self.new log.old log.new) }
+        ensures moved { IfOk result (λ moved. moved ≡ move_of here.now.system.now thread self.old) }
     {
         let part = here.system.thread(thread);
         let state = self.thread(thread);
@@ -72,7 +73,7 @@ impl Local {
                 },
             );
         }
-        Ok(())
+        Ok(moved)
     }
 
     /// The thread's wait gives its word: where it is the first item, the round begins.

@@ -1,12 +1,12 @@
-ghost use Rattle.std.specs.Prelude.{◌≡◌, ◌^◌, ◌≤◌, ◌<◌, OnOk, Some, None, length};
+ghost use Rattle.std.specs.Prelude.{◌≡◌, ◌^◌, ◌≤◌, ◌<◌, OnOk, IfOk, Some, None, length};
 ghost use Rattle.mcs_ticks.specs.Queue.{by_priority};
 ghost use Rattle.mcs_notify.specs.Note.{waited};
 ghost use Rattle.mcs_core.specs.Core.{note_of};
 ghost use Rattle.mcs_core.specs.State.{delays_from};
 ghost use Rattle.mcs_core.specs.Turn.{counts, mail_to, signals, waits_as, takes_effect, item_of, after_item, after_move, after_waited, finishes, tick};
-ghost use Rattle.mcs_core.specs.stored.Items.{IsNoted, CanTakeEffect};
+ghost use Rattle.mcs_core.specs.stored.Items.{CanTakeEffect};
 ghost use Rattle.mcs_core.specs.stored.Parts.{HasDelays, Makes};
-ghost use Rattle.mcs_core.specs.stored.Sound.{IsPlaced, IsFree, WakesFree, IsSound};
+ghost use Rattle.mcs_core.specs.stored.Sound.{IsFree, WakesFree, IsSound};
 ghost use Rattle.mcs_core.specs.Places.{times_waiting};
 ghost use Rattle.mcs_core.specs.stored.Sound.Phase.{Between, InTick};
 ghost use Rattle.mcs_system.specs.WellFormed.{IsWellFormed};
@@ -17,7 +17,6 @@ use crate::{AfterItem, Chosen};
 use mcs_mail::Mail;
 use mcs_notify::Waited;
 use mcs_script::{Item, Moved};
-use mcs_system::SystemParts;
 use mcs_ticks::{NoMemory, NoteId, ThreadId, What};
 
 impl Local {
@@ -44,22 +43,6 @@ impl Local {
             AfterItem::Blocks
         } else {
             AfterItem::GoesOn
-        }
-    }
-
-    /// What follows the thread's item when it is finished.
-    fn after_item(&self, system: &SystemParts, thread: ThreadId, item: &Option<Item>) -> AfterItem
-        requires known { thread < length self.now.threads }
-        requires placed { IsPlaced system.now thread self.now }
-        requires noted { IsNoted (length self.now.notes) item.now }
-        ensures { result ≡ after_item system.now thread item.now self.now }
-    {
-        match item {
-            Some(Item::Yield) => after_move(self.move_of(system, thread), AfterItem::Yields),
-            Some(Item::Wait(note)) => self.after_wait(*note),
-            Some(Item::Compute(_)) => after_move(self.move_of(system, thread), AfterItem::GoesOn),
-            Some(Item::Signal(_, _)) => after_move(self.move_of(system, thread), AfterItem::GoesOn),
-            None => AfterItem::GoesOn,
         }
     }
 
@@ -117,37 +100,51 @@ impl Local {
             Waited::Got(word) => {
                 log.tell(here, What::Got { thread, note, word })?;
                 self.give(here.moment, thread);
-                self.move_on(here, thread, log)
+                self.move_on(here, thread, log)?;
+                Ok(())
             }
             Waited::Blocks => Ok(()),
         }
     }
 
-    /// The thread's item takes effect, and the thread moves on unless it blocks.
+    /// The thread's item takes effect, and the thread moves on unless it blocks. It answers what follows the item.
     fn take_effect(
         &mut self,
         here: &Here<'_>,
         thread: ThreadId,
         item: &Option<Item>,
         log: &mut Log<'_>,
-    ) -> Result<(), NoMemory>
+    ) -> Result<AfterItem, NoMemory>
         requires can { CanTakeEffect here.now.system.now here.now.core here.now.moment thread item.now self.old }
         requires soon { here.now.moment ≤ 2 ^ 40 }
         requires delays { HasDelays here.now }
-        ensures { OnOk result
+        ensures makes { OnOk result
             (Makes here.now
             (takes_effect by_priority here.now.system.now here.now.core here.now.moment thread item.now self.old)
             self.new log.old log.new) }
+        ensures after { IfOk result (λ after. after ≡ after_item here.now.system.now thread item.now self.old) }
     {
         match item {
             Some(Item::Signal(note, badge)) => {
+                let moved = self.move_of(here.system, thread);
                 self.signal(here, thread, *note, *badge, log)?;
-                self.move_on(here, thread, log)
+                self.move_on(here, thread, log)?;
+                Ok(after_move(moved, AfterItem::GoesOn))
             }
-            Some(Item::Wait(note)) => self.wait_on(here, thread, *note, log),
-            Some(Item::Compute(_)) => self.move_on(here, thread, log),
-            Some(Item::Yield) => self.move_on(here, thread, log),
-            None => Ok(()),
+            Some(Item::Wait(note)) => {
+                let after = self.after_wait(*note);
+                self.wait_on(here, thread, *note, log)?;
+                Ok(after)
+            }
+            Some(Item::Compute(_)) => {
+                let moved = self.move_on(here, thread, log)?;
+                Ok(after_move(moved, AfterItem::GoesOn))
+            }
+            Some(Item::Yield) => {
+                let moved = self.move_on(here, thread, log)?;
+                Ok(after_move(moved, AfterItem::Yields))
+            }
+            None => Ok(AfterItem::GoesOn),
         }
     }
 
@@ -171,8 +168,7 @@ impl Local {
             self.new log.old log.new) }
     {
         let item = self.item_of(here.system, thread);
-        let after = self.after_item(here.system, thread, &item);
-        self.take_effect(here, thread, &item, log)?;
+        let after = self.take_effect(here, thread, &item, log)?;
         self.may_stop(here, thread, used, after, log)
     }
 

@@ -23,7 +23,7 @@ take_effect-requires-clause-delays c = has-delays c.args.here.now c.requires.wel
 
 pub may_stop-requires : goal.may_stop-requires
 may_stop-requires c =
-    rw (c.in_ok-take_effect.ensures.core, c.item_of-item.ensures)
+    rw (c.in_ok-after.ensures.makes.core, c.item_of-item.ensures)
     (can_stop_after c.args.here.now.system.now c.args.here.now.core c.args.here.now.moment (one-each c.args.here.now.system.now c.requires.well_formed) c.args.here.now.moment (record { thread = c.args.thread; using = c.args.used })
     (item_of c.args.here.now.system.now c.args.thread c.args.self.now) c.args.self.now c.requires.soon (omega arith)
     (all-noted c.args.here.now.system.now c.requires.well_formed c.args.thread (thread_of c.args.self.now c.args.thread).place.item) c.requires.sound c.requires.running)
@@ -38,5 +38,5 @@ returns c =
     (then-makes c.args.here.now
     (takes_effect by_priority c.args.here.now.system.now c.args.here.now.core c.args.here.now.moment c.args.thread c.item_of-item.result c.args.self.now)
     (may_stop by_priority c.args.here.now.system.now c.args.here.now.moment c.args.thread c.args.used (after_item c.args.here.now.system.now c.args.thread c.item_of-item.result c.args.self.now))
-    c.take_effect.new.self c.may_stop.new.self c.args.log.now c.take_effect.new.log c.may_stop.new.log c.in_ok-take_effect.ensures)
-    (rw (← c.after_item-after.ensures) c.may_stop.ensures))
+    c.take_effect.new.self c.may_stop.new.self c.args.log.now c.take_effect.new.log c.may_stop.new.log c.in_ok-after.ensures.makes)
+    (rw (← c.in_ok-after.ensures.after) c.may_stop.ensures))
