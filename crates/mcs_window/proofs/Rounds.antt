@@ -1,8 +1,9 @@
 -- A desk that takes turns by itself: the core that goes on, and idle time that is skipped.
-use Rattle.std.proofs.Common.{◌≡◌, ℕ, zero, suc, ◌≤◌, false, Option, None, List, [], ◌∷◌, get_or, set, inl, refl, subst, sym}
-use Rattle.mcs_window.specs.Desk.{Table, AllAreHere, IsLater, IsSkipped, settled_at, turns_left}
+use Rattle.std.proofs.Common.{◌≡◌, ℕ, zero, suc, ◌+◌, ◌-◌, ◌≤◌, false, Option, None, List, [], ◌∷◌, get_or, set, refl, subst, sym, arith}
+use Rattle.mcs_window.specs.Desk.{Table, AllAreHere, IsLater, clock_of, settled_at, turns_left}
+use Rattle.mcs_window.specs.Idle.{AreSet}
 use Rattle.mcs_window.specs.declared.slot.Loan.{Loan}
-use Rattle.mcs_window.proofs.Waking.{awake-turns}
+use Rattle.mcs_window.proofs.Lending.{sum-le}
 
 none-set : (loans : List (Option Loan)) (c b : ℕ) → get_or loans b None ≡ None → get_or (set loans c None) b None ≡ None
 none-set [] c b e = e
@@ -16,5 +17,8 @@ settled-later table after c to sound here e =
     subst (IsLater table) (sym e)
     (record { system_is = refl; horizon_is = refl; taken_are = refl; sound = sound; here = λ b l. none-set table.loans c b (here b l) })
 
-pub skipped-turns : (before after : Table) → before.lost ≡ false → AllAreHere before → IsSkipped before after → turns_left after ≤ turns_left before
-skipped-turns before after sound here skipped = awake-turns before after (inl (sound, here, skipped))
+pub skipped-turns : (before after : Table) (moment : ℕ) → AreSet before.system before.clocks moment after.clocks → after ≡ record before { clocks = after.clocks } → turns_left after ≤ turns_left before
+skipped-turns before after moment set same =
+    subst (λ (t : Table). turns_left t ≤ turns_left before) (sym same)
+    (sum-le (λ b. before.horizon + 1 - clock_of before b) (λ b. before.horizon + 1 - clock_of after b) before.system.cores
+    (λ b l. let at = set b l in omega arith))

@@ -106,7 +106,7 @@ module _ (a : Inside) (kept : IsKept a) (here : AllAreHere (table_of a)) where
     pub all-set : AreSet system a.clocks moment later
     all-set = skipped.clocks_are.done
 
-    counts : (c : ℕ) → c < system.cores → OnlyCounts system a.clocks later c
+    pub counts : (c : ℕ) → c < system.cores → OnlyCounts system a.clocks later c
     counts = idle-passes system (takes_time system kept.well_formed) a.clocks later moment all-reached idle all-set
 
     slots-are : (with_items a.slots slots).items ≡ slots

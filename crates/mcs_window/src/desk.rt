@@ -1,14 +1,15 @@
-ghost use Rattle.std.specs.Prelude.{◌≡◌, ◌≢◌, ◌↔◌, ℕ, ◌+◌, ◌-◌, ◌≤◌, ◌<◌, ◌^◌, min, max, ◌⊎◌, suc, true, false, None, length, slice_index, IfOk, IfErr, OnOk, OnErr, IfSome, IfNone, IsTrue, IsFalse};
+ghost use Rattle.std.specs.Prelude.{◌≡◌, ◌≢◌, ◌↔◌, ℕ, ◌+◌, ◌-◌, ◌≤◌, ◌<◌, ◌^◌, min, max, ◌⊎◌, suc, true, false, [], None, length, slice_index, IfOk, IfErr, OnOk, OnErr, IfSome, IfNone, IsTrue, IsFalse};
 ghost use Rattle.std.specs.Arc.{arc_value};
 ghost use Rattle.mcs_core.specs.Clock.{world, core_at};
 ghost use Rattle.mcs_core.specs.Quiet.{IsNextBusy};
 ghost use Rattle.mcs_system.specs.System.{delay_between};
-ghost use Rattle.mcs_window.specs.Idle.{IsIdleUntil};
-ghost use Rattle.mcs_window.specs.Inbox.{inbox};
+ghost use Rattle.mcs_window.specs.Idle.{IsIdle, AreIdle, AreSet, IsIdleUntil, OnlyCounts};
+ghost use Rattle.mcs_window.specs.Inbox.{inbox, signals_between};
 ghost use Rattle.mcs_window.specs.Stretch.{rows_between};
-ghost use Rattle.mcs_window.specs.stored.Slots.{IsEarliest};
+ghost use Rattle.mcs_window.specs.stored.Slots.{IsEarliest, HoldsAt};
 ghost use Rattle.mcs_window.specs.Desk.{opening_table, clock_of, taken_of, past_of, loan_of, MayLend, IsChosen, IsBest, lent_at, settled_at, taken_at, IsSkipped, IsAwake, IsLent, IsSameRun, with_lost, IsLoan, IsSettleFault, AllAreHere, IsFinished, IsUntaken, IsWhole, IsLater, rows_kept, turns_left};
 
+use crate::calendar::Calendar;
 use crate::delivery::{deliver, deliver_reserved, make_room};
 use crate::opening::{delay_rows, empty_boxes, empty_rows};
 use crate::settle::{make_own_room, put_box, put_rows, same_front};
@@ -158,8 +159,8 @@ impl Desk {
         matches!(self.slots[core.0], Slot::Here { .. })
     }
 
-    // Whether no core is lent.
-    fn all_are_here(&self) -> bool
+    /// Whether no core is lent.
+    pub fn all_are_here(&self) -> bool
         ensures { IsTrue result ↔ AllAreHere self.now }
     {
         for core in 0..self.cores() {
@@ -318,23 +319,19 @@ impl Desk {
         }
     }
 
-    // The first moment at which some core does more than count a tick, or the moment after the horizon where that comes first. Notes the
-    // next busy moment of each core, or that after the horizon where it has none, but looks at no further core where one is busy before
-    // `enough`: no clock is earlier.
-    fn idle_until(&self, enough: Tick, busy: &mut Front) -> Tick
+    // The first moment at which some core does more than count a tick, or the moment after the horizon where that comes first. It looks at
+    // no further core where one is busy before `enough`: no clock is earlier.
+    fn idle_until(&self, enough: Tick) -> Tick
         requires here { AllAreHere self.now }
         requires enough { (c : ℕ) → c < self.now.system.cores → enough ≤ clock_of self.now c + 1 }
         ensures { IsIdleUntil self.now.system self.now.clocks (self.now.horizon + 1) result }
     {
-        let end = self.horizon.plus(1).unwrap();
-        let mut until = end;
+        let mut until = self.horizon.plus(1).unwrap();
         for core in 0..self.cores() {
             if until < enough {
                 return until;
             }
-            busy[core] = end;
             if let Some(moment) = self.next_busy(CoreId(core)) {
-                busy[core] = moment;
                 if moment.get() < until.get() {
                     until = moment;
                 }
@@ -353,17 +350,19 @@ impl Desk {
             Some(core) if self.clock(core) <= self.horizon => self.clock(core).plus(1).unwrap(),
             _ => Tick::ZERO,
         };
-        let mut busy = [Tick::ZERO; 64];
-        self.skip_until_busy(enough, &mut busy);
+        let moment = self.idle_until(enough);
+        self.skip_to(moment);
     }
 
-    // The same. Notes the next busy moment of each core, from before the skip, as `idle_until` does.
-    fn skip_until_busy(&mut self, enough: Tick, busy: &mut Front)
+    // Each core whose clock is before the moment goes to it: until then all cores only count ticks.
+    fn skip_to(&mut self, moment: Tick)
         requires here { AllAreHere self.old }
-        requires enough { (c : ℕ) → c < self.old.system.cores → enough ≤ clock_of self.old c + 1 }
-        ensures { IsSkipped self.old self.new }
+        requires in_time { moment ≤ self.old.horizon + 1 }
+        requires idle { AreIdle self.old.system self.old.clocks moment }
+        ensures clocks { AreSet self.old.system self.old.clocks moment self.new.clocks }
+        ensures rest { self.new ≡ record self.old { clocks = self.new.clocks } }
+        ensures count { (c : ℕ) → c < self.old.system.cores → OnlyCounts self.old.system self.old.clocks self.new.clocks c }
     {
-        let moment = self.idle_until(enough, busy);
         skip_slots(&self.system, &mut self.clocks, &mut self.slots, moment);
     }
 
@@ -535,15 +534,64 @@ impl Desk {
         kept
     }
 
+    // Until when a core only counts ticks, at most to the moment after the horizon.
+    fn idle_of(&self, core: CoreId) -> Tick
+        requires known { core < self.now.system.cores }
+        requires here { loan_of self.now core ≡ None }
+        ensures { IsIdle self.now.system self.now.clocks result core }
+    {
+        let end = self.horizon.plus(1).unwrap();
+        let Some(moment) = self.next_busy(core) else {
+            return end;
+        };
+        if moment < end { moment } else { end }
+    }
+
+    // The same where it is known until when the core was idle at least, unless that is stale: it is looked up where its clock has come to it.
+    fn idle_since(&self, core: CoreId, until: Tick, stale: bool) -> Tick
+        requires known { core < self.now.system.cores }
+        requires here { loan_of self.now core ≡ None }
+        requires holds { stale ≡ false → IsIdle self.now.system self.now.clocks until core }
+        ensures { IsIdle self.now.system self.now.clocks result core }
+    {
+        if stale || until <= self.clock(core) {
+            return self.idle_of(core);
+        }
+        until
+    }
+
+    // Until when all cores only count ticks, by the calendar, at most to the moment after the horizon.
+    fn look_ahead(&self, calendar: &mut Calendar) -> Tick
+        requires here { AllAreHere self.now }
+        requires holds { HoldsAt self.now calendar.old }
+        ensures holds { HoldsAt self.now calendar.new }
+        ensures in_time { result ≤ self.now.horizon + 1 }
+        ensures idle { AreIdle self.now.system self.now.clocks result }
+    {
+        let mut moment = self.horizon.plus(1).unwrap();
+        for core in 0..self.cores() {
+            let until = self.idle_since(CoreId(core), calendar.until[core], calendar.stale);
+            calendar.until[core] = until;
+            if until < moment {
+                moment = until;
+            }
+        }
+        calendar.stale = false;
+        moment
+    }
+
     // Takes turns of a core that may be lent, where it lies, until it comes to `past` or has that many rows on the desk: at least one.
-    // Where memory is refused the core stays lent, and its rows are gone.
-    fn run_here(&mut self, core: CoreId, past: Tick, most: usize) -> Result<(), NoMemory>
+    // Answers whether it made a signal for another core. Where memory is refused the core stays lent, and its rows are gone.
+    fn run_here(&mut self, core: CoreId, past: Tick, most: usize) -> Result<bool, NoMemory>
         requires may { MayLend self.old core }
         requires past { past ≡ past_of self.old core }
         ensures ok { OnOk result (self.new ≡ settled_at self.old core (clock_of self.new core)) }
         ensures moved { OnOk result ((clock_of self.old core < clock_of self.new core) × (clock_of self.new core ≤ past)) }
         ensures fewer { OnOk result (turns_left self.new < turns_left self.old) }
         ensures err { OnErr result (self.new ≡ taken_at (lent_at self.old core) core) }
+        ensures silent { IfOk result (λ signals. IsFalse signals →
+            signals_between self.old.system core (clock_of self.old core) (clock_of self.new core) ≡ []) }
+        ensures run { (self.new.system ≡ self.old.system) × (self.new.horizon ≡ self.old.horizon) }
     {
         let index = core.0;
         let slot = &mut self.slots[index];
@@ -576,47 +624,82 @@ impl Desk {
             return Err(NoMemory);
         };
         self.clocks[index] = to;
+        Ok(!self.signals.is_empty())
+    }
+
+    // The same with a calendar, in which nothing is known of the core from then on, and of no core where a signal was made.
+    fn run_noted(
+        &mut self,
+        core: CoreId,
+        past: Tick,
+        most: usize,
+        calendar: &mut Calendar,
+    ) -> Result<(), NoMemory>
+        requires may { MayLend self.old core }
+        requires past { past ≡ past_of self.old core }
+        requires here { AllAreHere self.old }
+        requires holds { HoldsAt self.old calendar.old }
+        ensures ok { OnOk result (self.new ≡ settled_at self.old core (clock_of self.new core)) }
+        ensures fewer { OnOk result (turns_left self.new < turns_left self.old) }
+        ensures holds { OnOk result (HoldsAt self.new calendar.new) }
+        ensures run { (self.new.system ≡ self.old.system) × (self.new.horizon ≡ self.old.horizon) }
+    {
+        let _lost = self.lost;
+        let signals = self.run_here(core, past, most)?;
+        calendar.until[core.0] = Tick::ZERO;
+        calendar.stale = calendar.stale || signals;
         Ok(())
     }
 
-    // The same where the core may be lent and its next busy moment, as it was noted, comes before the moment up to which it may be.
-    // Answers whether it took turns.
-    fn run_busy(&mut self, core: CoreId, busy: &Front, most: usize) -> Result<bool, NoMemory>
+    // The same where the core may be lent and is busy, as the calendar has it, before the moment up to which it may be. Answers whether it
+    // took turns.
+    fn run_busy(
+        &mut self,
+        core: CoreId,
+        most: usize,
+        calendar: &mut Calendar,
+    ) -> Result<bool, NoMemory>
         requires known { core < self.old.system.cores }
         requires sound { self.old.lost ≡ false }
         requires here { AllAreHere self.old }
+        requires holds { HoldsAt self.old calendar.old }
         ensures later { OnOk result (IsLater self.old self.new) }
-        ensures same { IfOk result (λ moved. IsFalse moved → self.new ≡ self.old) }
+        ensures holds { OnOk result (HoldsAt self.new calendar.new) }
+        ensures same { IfOk result (λ moved. IsFalse moved → (self.new ≡ self.old) × (calendar.new ≡ calendar.old)) }
         ensures waits { IfOk result (λ moved. IsFalse moved →
-            past_of self.old core ≤ max (clock_of self.old core) (slice_index busy.now core)) }
+            past_of self.old core ≤ max (clock_of self.old core) (slice_index calendar.old.until core)) }
         ensures fewer { IfOk result (λ moved. IsTrue moved → turns_left self.new < turns_left self.old) }
+        ensures run { (self.new.system ≡ self.old.system) × (self.new.horizon ≡ self.old.horizon) }
     {
         let _lost = self.lost;
-        if self.must_wait(core, busy[core.0]) {
+        if self.must_wait(core, calendar.until[core.0]) {
             return Ok(false);
         }
         let past = self.past(core);
         if self.clock(core) < past {
-            self.run_here(core, past, most)?;
+            self.run_noted(core, past, most, calendar)?;
             return Ok(true);
         }
         Ok(false)
     }
 
     // Takes turns of each core that is busy before it waits for another one. Answers whether some core took any.
-    fn sweep(&mut self, busy: &Front, most: usize) -> Result<bool, NoMemory>
+    fn sweep(&mut self, most: usize, calendar: &mut Calendar) -> Result<bool, NoMemory>
         requires sound { self.old.lost ≡ false }
         requires here { AllAreHere self.old }
+        requires holds { HoldsAt self.old calendar.old }
         ensures later { OnOk result (IsLater self.old self.new) }
-        ensures same { IfOk result (λ moved. IsFalse moved → self.new ≡ self.old) }
+        ensures holds { OnOk result (HoldsAt self.new calendar.new) }
+        ensures same { IfOk result (λ moved. IsFalse moved → (self.new ≡ self.old) × (calendar.new ≡ calendar.old)) }
         ensures waits { IfOk result (λ moved. IsFalse moved → (c : ℕ) → c < self.old.system.cores →
-            past_of self.old c ≤ max (clock_of self.old c) (slice_index busy.now c)) }
+            past_of self.old c ≤ max (clock_of self.old c) (slice_index calendar.old.until c)) }
         ensures no_more { OnOk result (turns_left self.new ≤ turns_left self.old) }
         ensures fewer { IfOk result (λ moved. IsTrue moved → turns_left self.new < turns_left self.old) }
+        ensures run { (self.new.system ≡ self.old.system) × (self.new.horizon ≡ self.old.horizon) }
     {
         let mut moved = false;
         for core in 0..self.cores() {
-            let ran = self.run_busy(CoreId(core), busy, most)?;
+            let ran = self.run_busy(CoreId(core), most, calendar)?;
             moved = moved || ran;
         }
         Ok(moved)
@@ -632,37 +715,44 @@ impl Desk {
     }
 
     // Takes turns of the core that would be lent. Answers whether there is one.
-    fn run_first(&mut self, most: usize) -> Result<bool, NoMemory>
+    fn run_first(&mut self, most: usize, calendar: &mut Calendar) -> Result<bool, NoMemory>
         requires sound { self.old.lost ≡ false }
         requires here { AllAreHere self.old }
+        requires holds { HoldsAt self.old calendar.old }
+        ensures holds { OnOk result (HoldsAt self.new calendar.new) }
         ensures later { OnOk result (IsLater self.old self.new) }
         ensures more { IfOk result (λ more. IsTrue more → turns_left self.new < turns_left self.old) }
         ensures same { IfOk result (λ more. IsFalse more → self.new ≡ self.old) }
         ensures done { IfOk result (λ more. IsFalse more → IsFinished self.new) }
+        ensures run { (self.new.system ≡ self.old.system) × (self.new.horizon ≡ self.old.horizon) }
     {
         let Some(core) = self.choice() else {
             self.none_waits();
             return Ok(false);
         };
         let past = self.past(core);
-        self.run_here(core, past, most)?;
+        self.run_noted(core, past, most, calendar)?;
         Ok(true)
     }
 
-    // Skips idle time, and then takes turns of the cores that are busy, as it notes. Answers whether there were turns to take.
-    fn round(&mut self, busy: &mut Front, most: usize) -> Result<bool, NoMemory>
+    // Skips idle time, and then takes turns of the cores that are busy, as the calendar has it. Answers whether there were turns to take.
+    fn round(&mut self, most: usize, calendar: &mut Calendar) -> Result<bool, NoMemory>
         requires sound { self.old.lost ≡ false }
         requires here { AllAreHere self.old }
+        requires holds { HoldsAt self.old calendar.old }
+        ensures holds { OnOk result (HoldsAt self.new calendar.new) }
         ensures later { OnOk result (IsLater self.old self.new) }
         ensures more { IfOk result (λ more. IsTrue more → turns_left self.new < turns_left self.old) }
         ensures done { IfOk result (λ more. IsFalse more → IsFinished self.new) }
+        ensures run { (self.new.system ≡ self.old.system) × (self.new.horizon ≡ self.old.horizon) }
     {
-        self.skip_until_busy(Tick::ZERO, busy);
-        let moved = self.sweep(busy, most)?;
+        let moment = self.look_ahead(calendar);
+        self.skip_to(moment);
+        let moved = self.sweep(most, calendar)?;
         if moved {
             return Ok(true);
         }
-        let more = self.run_first(most)?;
+        let more = self.run_first(most, calendar)?;
         Ok(more)
     }
 
@@ -675,9 +765,10 @@ impl Desk {
         ensures later { OnOk result (IsLater self.old self.new) }
         ensures fewer { OnOk result (IsFinished self.new ⊎ (turns_left self.new < turns_left self.old)) }
         ensures enough { OnOk result (IsFinished self.new ⊎ (rows ≤ rows_kept self.new)) }
+        ensures run { (self.new.system ≡ self.old.system) × (self.new.horizon ≡ self.old.horizon) }
     {
-        let mut busy = [Tick::ZERO; 64];
-        'rounds: while self.round(&mut busy, rows)? {
+        let mut calendar = Calendar::new();
+        'rounds: while self.round(rows, &mut calendar)? {
             if self.kept() >= rows {
                 return Ok(());
             }
@@ -692,9 +783,10 @@ impl Desk {
         requires here { AllAreHere self.old }
         ensures later { OnOk result (IsLater self.old self.new) }
         ensures finished { OnOk result (IsFinished self.new) }
+        ensures run { (self.new.system ≡ self.old.system) × (self.new.horizon ≡ self.old.horizon) }
     {
-        let mut busy = [Tick::ZERO; 64];
-        while self.round(&mut busy, usize::MAX)? {}
+        let mut calendar = Calendar::new();
+        while self.round(usize::MAX, &mut calendar)? {}
         Ok(())
     }
 }

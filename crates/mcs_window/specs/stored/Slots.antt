@@ -9,11 +9,13 @@ use Rattle.mcs_system.specs.WellFormed.{IsWellFormed}
 use Rattle.mcs_core.specs.Quiet.{AreQuiet, counted_times}
 use Rattle.mcs_core.specs.State.{Fits, opening_state}
 use Rattle.mcs_ticks.specs.declared.row.Row.{Row}
+use Rattle.mcs_window.specs.Idle.{IsIdle}
 use Rattle.mcs_window.specs.Inbox.{AreNews, Rises, inbox, signals_between}
 use Rattle.mcs_window.specs.Stretch.{StandsAt, NothingArrivesBefore, rows_between}
 use Rattle.mcs_window.specs.stored.Cores.{IsHere, AreSince, AreSetBelow}
 use Rattle.mcs_window.specs.stored.Opening.{AreDelays}
 use Rattle.mcs_window.specs.Desk.{Table, clock_of, loan_of}
+use Rattle.mcs_window.specs.declared.calendar.Calendar.{Calendar}
 use Rattle.mcs_window.specs.declared.slot.Loan.{Loan}
 use Rattle.mcs_window.specs.declared.slot.Slot.{Slot}
 use Rattle.mcs_window.specs.declared.slot.Slot.TheVariants.{Here, Away}
@@ -143,3 +145,9 @@ pub record IsEarliestBelow (table : Table) (n c : ℕ) : Type 0 where
 abbrev pub IsEarliest : Table → ℕ → Option ℕ → Type 0
 IsEarliest table n None = (k : ℕ) → k < n → loan_of table k ≢ None
 IsEarliest table n (Some c) = IsEarliestBelow table n c
+
+-- by the clocks each core only counts ticks until the moment that the calendar has for it; nothing is said of one that is stale
+abbrev pub HoldsAt : Table → Calendar → Type 0
+HoldsAt table calendar =
+    calendar.stale ≡ false → (c : ℕ) → c < table.system.cores →
+    IsIdle table.system table.clocks (slice_index calendar.until c) c

@@ -1,0 +1,49 @@
+use Rattle.std.proofs.Common.{◌∙◌, ◌≤◌, ◌<◌, ◌+◌, ℕ, ap, sym, subst}
+use Rattle.std.specs.Arc.{arc_value}
+use Rattle.mcs_window.specs.Desk.{Table, AllAreHere}
+use Rattle.mcs_window.specs.Idle.{AreIdle, OnlyCounts}
+use Rattle.mcs_window.specs.stored.Slots.{HaveSkipped}
+use Rattle.mcs_window.proofs.Skipping.{all-stand, all-reached, counts, skipped_desk, skipped_shows}
+use Rattle.mcs_window.proofs.desk.Desk.skip_to.Goals as goal
+
+pub skip_slots-requires-clause-stand : goal.skip_slots-requires-clause-stand
+skip_slots-requires-clause-stand c =
+    rw (c.deref.ensures, c.deref_mut.ensures.value) (all-stand c.self.inside c.self.invariant (subst AllAreHere (sym c.self.view_is) c.requires.here))
+
+pub skip_slots-requires-clause-reached : goal.skip_slots-requires-clause-reached
+skip_slots-requires-clause-reached c =
+    rw c.deref.ensures (all-reached c.self.inside c.self.invariant (subst AllAreHere (sym c.self.view_is) c.requires.here))
+
+pub skip_slots-requires-clause-idle : goal.skip_slots-requires-clause-idle
+skip_slots-requires-clause-idle c =
+    let P : Table → Type 0 = λ t. AreIdle t.system t.clocks c.args.moment in
+    subst (λ system. AreIdle system c.self.inside.clocks c.args.moment) (sym c.deref.ensures) (subst P (sym c.self.view_is) c.requires.idle)
+
+pub invariant_of-self : goal.invariant_of-self
+invariant_of-self c =
+    let P : Table → Type 0 = λ t. AreIdle t.system t.clocks c.args.moment in
+    let Q : Table → Type 0 = λ t. c.args.moment ≤ t.horizon + 1 in
+    skipped_desk c.self.inside c.self.invariant (subst AllAreHere (sym c.self.view_is) c.requires.here) c.args.moment c.skip_slots.new.clocks c.skip_slots.new.slots
+    (subst Q (sym c.self.view_is) c.requires.in_time) (subst P (sym c.self.view_is) c.requires.idle)
+    (rw c.deref.ensures at c.skip_slots.ensures)
+
+pub returns-clause-rest : goal.returns-clause-rest
+returns-clause-rest c =
+    let P : Table → Type 0 = λ t. AreIdle t.system t.clocks c.args.moment in
+    let Q : Table → Type 0 = λ t. c.args.moment ≤ t.horizon + 1 in
+    let skipped : HaveSkipped (arc_value c.self.inside.system) c.self.inside.clocks c.args.moment (arc_value c.self.inside.system).cores c.skip_slots.new.clocks c.skip_slots.new.slots =
+    rw c.deref.ensures at c.skip_slots.ensures in
+    skipped_shows c.self.inside c.self.invariant (subst AllAreHere (sym c.self.view_is) c.requires.here) c.args.moment c.skip_slots.new.clocks c.skip_slots.new.slots
+    (subst Q (sym c.self.view_is) c.requires.in_time) (subst P (sym c.self.view_is) c.requires.idle) skipped
+    ∙ ap (λ (t : Table). record t { clocks = c.skip_slots.new.clocks }) c.self.view_is
+
+pub returns-clause-count : goal.returns-clause-count
+returns-clause-count c =
+    let P : Table → Type 0 = λ t. AreIdle t.system t.clocks c.args.moment in
+    let Q : Table → Type 0 = λ t. c.args.moment ≤ t.horizon + 1 in
+    let R : Table → Type 0 = λ t. (k : ℕ) → k < t.system.cores → OnlyCounts t.system t.clocks c.skip_slots.new.clocks k in
+    let skipped : HaveSkipped (arc_value c.self.inside.system) c.self.inside.clocks c.args.moment (arc_value c.self.inside.system).cores c.skip_slots.new.clocks c.skip_slots.new.slots =
+    rw c.deref.ensures at c.skip_slots.ensures in
+    subst R c.self.view_is
+    (counts c.self.inside c.self.invariant (subst AllAreHere (sym c.self.view_is) c.requires.here) c.args.moment c.skip_slots.new.clocks c.skip_slots.new.slots
+    (subst Q (sym c.self.view_is) c.requires.in_time) (subst P (sym c.self.view_is) c.requires.idle) skipped)
