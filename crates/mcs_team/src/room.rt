@@ -15,9 +15,6 @@ use std::thread;
 use std::thread::{Parker, Threads};
 use std::time::Duration;
 
-// A piece of fewer moments costs less than to wake a thread for it.
-const LONG: u64 = 32;
-
 // So long, in milliseconds, the caller's thread sleeps at most before it looks for rows.
 const NAP: u64 = 1;
 
@@ -58,23 +55,14 @@ fn run_piece<G: Gate>(gate: &G, piece: Piece) -> Result<Done, Lost>
     ran
 }
 
-// Whether a piece is worth a thread of its own.
-fn is_long(piece: &Piece) -> bool {
-    piece.past.get().saturating_sub(piece.first.get()) >= LONG
-}
-
-// Takes pieces until none is to be had any more. Who takes a long one wakes another thread where a further piece is to be
-// had. Who has run a short one sleeps where another thread is awake: pieces that are short are run by one thread. Where the
-// run is over nobody sleeps, since who has ended wakes no one later.
+// Takes pieces until none is to be had any more. Who takes one wakes another thread only where a further piece is to be
+// had.
 fn work<B: Run, R: Wait, G: Gate>(rt: &R, room: &Room<B>, gate: &G) {
     let mut guard = room.seat.lock(rt);
-    guard.wakes();
     for _ in rt.forever() {
-        let mut sleeps = true;
         match guard.lend() {
             Some(piece) => {
-                let is_long = is_long(&piece);
-                let more = is_long && guard.can_lend();
+                let more = guard.can_lend();
                 drop(guard);
                 if more {
                     room.free.notify_one();
@@ -85,21 +73,15 @@ fn work<B: Run, R: Wait, G: Gate>(rt: &R, room: &Room<B>, gate: &G) {
                 if guard.is_due() {
                     room.due.unpark();
                 }
-                sleeps = !is_long && guard.others_are_awake() && !guard.is_over();
             }
             None => {
                 if guard.is_over() {
-                    guard.sleeps();
                     room.due.unpark();
                     room.free.notify_all();
                     return;
                 }
+                guard = room.free.wait(rt, guard);
             }
-        }
-        if sleeps {
-            guard.sleeps();
-            guard = room.free.wait(rt, guard);
-            guard.wakes();
         }
     }
 }
@@ -123,10 +105,13 @@ pub(crate) fn crew<B: Run + Send + Sync, R: Threads + Wait + Sync, G: Gate + Syn
     });
 }
 
-// Waits for more rows. Where no thread has begun it runs a piece itself.
+// Waits for more rows. Where no thread has begun it runs a piece itself, and where the team has ended it does not wait.
 fn wait<B: Run, R: Wait, G: Gate>(rt: &R, room: &Room<B>, gate: &G) {
     if room.begun.load(Ordering::SeqCst) != 0 {
-        room.due.park_timeout(rt, Duration::from_millis(NAP));
+        let is_left = room.seat.lock(rt).is_left();
+        if !is_left {
+            room.due.park_timeout(rt, Duration::from_millis(NAP));
+        }
         return;
     }
     let piece = room.seat.lock(rt).lend();
@@ -137,7 +122,8 @@ fn wait<B: Run, R: Wait, G: Gate>(rt: &R, room: &Room<B>, gate: &G) {
     }
 }
 
-/// Waits until some clock has moved, and takes the rows of all cores.
+/// Waits until some clock has moved, and takes the rows of all cores. Where the team has ended since its pieces were short
+/// it takes turns itself.
 pub(crate) fn more<B: Run, R: Wait, G: Gate>(
     rt: &R,
     room: &Room<B>,
@@ -151,7 +137,7 @@ pub(crate) fn more<B: Run, R: Wait, G: Gate>(
     for _ in rt.forever() {
         wait(rt, room, gate);
         let mut guard = room.seat.lock(rt);
-        if guard.is_lost() {
+        if guard.is_lost() || guard.take_turns().is_err() {
             return Err(Stop::Fault(FlowFault::NoMemory));
         }
         if guard.has_moved(batches) {

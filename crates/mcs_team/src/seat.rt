@@ -4,7 +4,7 @@ ghost use Rattle.mcs_team.specs.Flow.{pasts_of, AreBatches};
 
 use crate::batch::{Batch, are_taken_to, gather};
 use crate::run::Run;
-use mcs_ticks::{CoreId, Tick};
+use mcs_ticks::{CoreId, NoMemory, Tick};
 use mcs_window::{Desk, Done, Lost, Piece};
 use std::marker::PhantomData;
 
@@ -14,12 +14,18 @@ const ENOUGH: usize = 4096;
 // With so many rows on the desk no piece is lent until they were taken.
 const FULL: usize = 65_536;
 
+// A piece of fewer moments may cost less than to lend it.
+const LONG: u64 = 32;
+
+// After so many short pieces, one after the other, the team ends, and the caller's thread takes the turns that are left.
+const SHORT_PIECES: usize = 1024;
+
 /// A desk for the system and the horizon of the run.
 #[derive(Drop)]
 pub(crate) struct Seat<B: Run> {
     desk: Desk,
-    // how many threads of the team do not sleep
-    awake: usize,
+    // how many pieces were short since the last long one
+    short: usize,
     of: PhantomData<B>,
     ghost ours: { (desk.system ≡ B.system) × (desk.horizon ≡ B.horizon) },
 }
@@ -31,39 +37,48 @@ impl<B: Run> Seat<B> {
     {
         Seat {
             desk,
-            awake: 0,
+            short: 0,
             of: PhantomData,
         }
     }
 
-    /// A piece, if one is to be had now: none where too many rows lie on the desk.
+    /// A piece, if one is to be had now: none where too many rows lie on the desk, or where the team has ended.
     pub(crate) fn lend(&mut self) -> Option<Piece>
         ensures { IfSome result (λ piece. piece.system ≡ B.system) }
     {
-        if self.is_full() {
+        if self.is_full() || self.has_ended() {
             return None;
         }
-        self.desk.lend()
+        let piece = self.desk.lend()?;
+        self.short = if is_long(&piece) {
+            0
+        } else {
+            self.short.saturating_add(1)
+        };
+        Some(piece)
     }
 
     /// Whether a further piece is to be had now.
     pub(crate) fn can_lend(&self) -> bool {
-        !self.is_full() && self.desk.can_lend()
+        !self.is_full() && !self.has_ended() && self.desk.can_lend()
     }
 
-    /// A thread of the team begins to work, or has slept.
-    pub(crate) fn wakes(&mut self) {
-        self.awake = self.awake.saturating_add(1);
+    // Whether the team has ended, since to lend its pieces costs more than to run them.
+    fn has_ended(&self) -> bool {
+        self.short >= SHORT_PIECES
     }
 
-    /// A thread of the team is about to sleep, or to end.
-    pub(crate) fn sleeps(&mut self) {
-        self.awake = self.awake.saturating_sub(1);
+    /// Whether the turns are left to the caller's thread: the team has ended, and all cores are back.
+    pub(crate) fn is_left(&self) -> bool {
+        self.has_ended() && self.desk.all_are_here()
     }
 
-    /// Whether a thread of the team that is awake is not the only one.
-    pub(crate) fn others_are_awake(&self) -> bool {
-        self.awake > 1
+    /// Takes some turns, where they are left to the caller's thread.
+    pub(crate) fn take_turns(&mut self) -> Result<(), NoMemory> {
+        if self.has_ended() && !self.desk.lost() && self.desk.all_are_here() {
+            self.desk.go(ENOUGH)?;
+        }
+        Ok(())
     }
 
     /// Takes what a piece of this run has come to. The run is lost where there was no memory, or where it is of no loan.
@@ -95,7 +110,7 @@ impl<B: Run> Seat<B> {
 
     /// Whether no piece is to be had any more.
     pub(crate) fn is_over(&self) -> bool {
-        self.desk.finished() || self.desk.lost()
+        self.has_ended() || self.desk.finished() || self.desk.lost()
     }
 
     /// Whether a piece was lost.
@@ -130,6 +145,11 @@ impl<B: Run> Seat<B> {
         gather(&mut self.desk, batches);
         Ok(())
     }
+}
+
+// Whether a piece is worth a thread of its own.
+fn is_long(piece: &Piece) -> bool {
+    piece.past.get().saturating_sub(piece.first.get()) >= LONG
 }
 
 /// The desk is not as this run left it.

@@ -95,30 +95,48 @@ impl Gate for Counts {
     }
 }
 
-// How many pieces were begun and ended by so many workers.
-fn pieces(
-    rt: &(impl Threads + Wait + Sync),
-    alloc: Global,
-    workers: usize,
-) -> Result<(u64, u64), Fail> {
-    let gate = Counts {
+// Counts from 0.
+fn counts() -> Counts {
+    Counts {
         before: AtomicU64::new(0),
         after: AtomicU64::new(0),
-    };
-    let system = system(alloc, TWO_MAKERS)?;
-    simulate(rt, alloc, system, moment(20)?, workers, &gate)?;
-    Ok((
+    }
+}
+
+// How many pieces were begun and ended.
+fn counted(gate: &Counts) -> (u64, u64) {
+    (
         gate.before.load(Ordering::SeqCst),
         gate.after.load(Ordering::SeqCst),
-    ))
+    )
 }
 
 #[test]
 fn two_workers_run_pieces_and_one_runs_none(rt: HostRuntime) -> Result<(), Fail> {
     let alloc = rt.alloc();
-    let (begun, ended) = pieces(&rt, alloc, 2)?;
-    assert!(rt; begun > 0);
-    assert_eq!(rt; begun, ended);
-    assert_eq!(rt; pieces(&rt, alloc, 1)?, (0, 0));
+    for (workers, some) in [(2, true), (1, false)] {
+        let gate = counts();
+        let system = system(alloc, TWO_MAKERS)?;
+        simulate(&rt, alloc, system, moment(20)?, workers, &gate)?;
+        let (begun, ended) = counted(&gate);
+        assert_eq!(rt; begun > 0, some, "{workers} workers");
+        assert_eq!(rt; begun, ended, "{workers} workers");
+    }
+    Ok(())
+}
+
+// Each piece is of a moment or two. After 1,024 of them the team ends, and the caller's thread takes the turns that are left.
+#[test]
+fn a_team_with_short_pieces_ends(rt: HostRuntime) -> Result<(), Fail> {
+    let alloc = rt.alloc();
+    let horizon = moment(10_000)?;
+    let alone = simulate_alone(alloc, system(alloc, TWO_MAKERS)?, horizon)?;
+    for workers in [2, 64] {
+        let gate = counts();
+        let system = system(alloc, TWO_MAKERS)?;
+        let whole = simulate(&rt, alloc, system, horizon, workers, &gate)?;
+        assert!(rt; are_same(&whole, &alone), "{workers} workers");
+        assert_eq!(rt; counted(&gate), (1024, 1024), "{workers} workers");
+    }
     Ok(())
 }
