@@ -3,9 +3,10 @@
 
 Each system has 1 to 8 cores, some with delays of their own for pairs of cores, and is run up to a random horizon with 2 to 8 workers, as
 it is, on one processor (`taskset -c 0`), with more workers than processors (64), and with no thread to be had (an address space too small
-for a thread's stack, and no further process allowed). A run that gives no answer within the time limit is a failure. Without PROGRAM it
-takes crates/mcsim/out/mcsim, which `./mcsim --prove` builds. The last line is 'N passed, M failed', and the status is 0 where M is 0 and N
-is not."""
+for a thread's stack, and no further process allowed). Some are run on to a far horizon, and their reader leaves after the first line: then
+the program ends too, with that line as one worker has it, and says that it could not write. A run that gives no answer within the time
+limit is a failure. Without PROGRAM it takes crates/mcsim/out/mcsim, which `./mcsim --prove` builds. The last line is 'N passed, M failed',
+and the status is 0 where M is 0 and N is not."""
 import argparse
 import os
 import pathlib
@@ -107,6 +108,40 @@ def ran(words, file, limit, **options):
     return it.returncode, it.stdout, it.stderr
 
 
+def left(words, file, limit):
+    """first line and status of a run whose reader leaves after that line; all that was said, where it ended before"""
+    it = subprocess.Popen([*words, file.name], stdout=subprocess.PIPE, stderr=subprocess.PIPE, stdin=subprocess.DEVNULL)
+    line = it.stdout.readline()
+    it.stdout.close()
+    try:
+        _, said = it.communicate(timeout=limit)
+    except subprocess.TimeoutExpired:
+        it.kill()
+        it.communicate()
+        return 'no answer'
+    return line, it.returncode, said
+
+
+# so many moments make more rows than a pipe holds, where a system goes on at all
+FAR = 1_000_000
+CANNOT_WRITE = (3, b'mcsim: write failed\n')
+WHOLE = (0, b'')
+# the part of the systems that is run so
+LEAVING = 0.25
+
+
+def is_left(got, alone):
+    """whether a run whose reader left ended so, or well, since the pipe held all; a system that is refused is refused alike"""
+    return got != 'no answer' and got[0] == alone[0] and (got[1:] == alone[1:] or got[1:] in (CANNOT_WRITE, WHOLE))
+
+
+def kept_text(asked, text, number):
+    """the file in which the text of a system is kept"""
+    kept = pathlib.Path(tempfile.gettempdir()) / f'stress-{asked.seed}-{number}.toml'
+    kept.write_text(text)
+    return kept
+
+
 def main():
     parser = argparse.ArgumentParser(description=__doc__, formatter_class=argparse.RawDescriptionHelpFormatter)
     parser.add_argument('program', nargs='?', default=str(built))
@@ -122,7 +157,7 @@ def main():
             file.write(text)
             file.flush()
             os.chmod(file.name, 0o644)
-            words = ['--horizon', str(rng.choice([0, 10, 60, 200])), '--show', 'both', '--workers']
+            words = ['--horizon', str(rng.choice([0, 10, 60, 200, 200, 3000])), '--show', 'both', '--workers']
             alone = ran([asked.program, *words, '1'], file, asked.limit)
             accepted += alone[0] == 0
             workers = str(rng.randint(2, 8))
@@ -133,14 +168,20 @@ def main():
                 ('no thread', [asked.program, *words, workers], {'preexec_fn': no_threads}),
                 ('little space', [*limited(asked.program), *words, workers], {}),
             ]
+            if rng.random() < LEAVING:
+                far = [asked.program, '--horizon', str(FAR), '--show', 'both', '--workers']
+                got = left([*far, workers], file, asked.limit)
+                if is_left(got, left([*far, '1'], file, asked.limit)):
+                    passed += 1
+                else:
+                    failed += 1
+                    print(f'the reader left: {got}: {kept_text(asked, text, passed + failed)}', flush=True)
             for what, line, options in others:
                 if ran(line, file, asked.limit, **options) == alone:
                     passed += 1
                     continue
                 failed += 1
-                kept = pathlib.Path(tempfile.gettempdir()) / f'stress-{asked.seed}-{passed + failed}.toml'
-                kept.write_text(text)
-                print(f'{what}: differs from one worker: {kept} {" ".join(line[-6:])}', flush=True)
+                print(f'{what}: differs from one worker: {kept_text(asked, text, passed + failed)} {" ".join(line[-6:])}', flush=True)
     print(f'{accepted} systems were accepted')
     print(f'{passed} passed, {failed} failed')
     return 0 if passed and not failed else 1
