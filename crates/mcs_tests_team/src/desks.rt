@@ -274,7 +274,7 @@ fn after_a_loss_nothing_is_lent(rt: HostRuntime) -> Result<(), Fail> {
     let mut away = Vec::new(alloc);
     let differs = differs(&mut desk, &mut away, AFTER_A_LOSS.as_slice())?;
     assert_eq!(rt; differs, None);
-    assert!(rt; desk.lost());
+    assert!(rt; desk.lost() && !desk.all_are_here());
     assert_eq!(rt; desk.cores(), 3);
     let clocks = (desk.clock(CoreId(0)).get(), desk.clock(CoreId(1)).get());
     assert_eq!(rt; clocks, (0, 1));
