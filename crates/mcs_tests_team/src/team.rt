@@ -96,7 +96,7 @@ impl Gate for Counts {
 }
 
 // Counts from 0.
-fn counts() -> Counts {
+fn zero_counts() -> Counts {
     Counts {
         before: AtomicU64::new(0),
         after: AtomicU64::new(0),
@@ -115,7 +115,7 @@ fn counted(gate: &Counts) -> (u64, u64) {
 fn two_workers_run_pieces_and_one_runs_none(rt: HostRuntime) -> Result<(), Fail> {
     let alloc = rt.alloc();
     for (workers, some) in [(2, true), (1, false)] {
-        let gate = counts();
+        let gate = zero_counts();
         let system = system(alloc, TWO_MAKERS)?;
         simulate(&rt, alloc, system, moment(20)?, workers, &gate)?;
         let (begun, ended) = counted(&gate);
@@ -132,7 +132,7 @@ fn a_team_with_short_pieces_ends(rt: HostRuntime) -> Result<(), Fail> {
     let horizon = moment(10_000)?;
     let alone = simulate_alone(alloc, system(alloc, TWO_MAKERS)?, horizon)?;
     for workers in [2, 64] {
-        let gate = counts();
+        let gate = zero_counts();
         let system = system(alloc, TWO_MAKERS)?;
         let whole = simulate(&rt, alloc, system, horizon, workers, &gate)?;
         assert!(rt; are_same(&whole, &alone), "{workers} workers");
