@@ -15,9 +15,10 @@ use std::sync::{Arc, Wait};
 use std::thread::Threads;
 
 /// The whole simulation up to the horizon, at most 2^40, by threads that work at one desk, as many as the lesser of `workers` and the
-/// number of cores, beside this one, which takes the rows; where that number is less than two this one takes all turns. It promises what
-/// `simulate_alone` does, for every number of workers. A thread that can't be started is done without. The gate is told of each piece of
-/// work that is lent; where this thread takes all turns none is.
+/// number of cores, beside this one, which takes the rows; where that number is less than two this one takes all turns, and where pieces of
+/// work stay short it takes those that are left after a while, as `simulate_to` says. It promises what `simulate_alone` does, for every
+/// number of workers. A thread that can't be started is done without. The gate is told of each piece of work that is lent; where this
+/// thread takes turns none is.
 pub fn simulate<R: Threads + Wait + Sync, G: Gate + Sync>(
     rt: &R,
     alloc: Global,
