@@ -2,7 +2,7 @@
 """costs.py [PROGRAM]: what runs of the built program cost on this machine: seconds of the processor and the greatest memory.
 
 Each line is a system that is made here: many threads on one core, many ticks in which nothing happens, as many cores and threads as the
-limits allow, and a file as large as the limits on scripts allow. Without PROGRAM it takes crates/mcsim/out/mcsim, which ./mcsim builds."""
+limits allow, and a file as large as the limits on scripts allow. Without PROGRAM it takes crates/mcsim/out/mcsim, which ./mcsim --prove builds."""
 import os
 import resource
 import subprocess

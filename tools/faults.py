@@ -2,7 +2,7 @@
 """faults.py [PROGRAM]: runs the built program where it is to give nothing but a fault, its help, or the schedule of a file that is named,
 and compares standard output, standard error and status with docs/FORMAT.md.
 
-Without PROGRAM it takes crates/mcsim/out/mcsim, which ./mcsim builds. The last line is 'N passed, M failed', and the status is 0 where M is 0
+Without PROGRAM it takes crates/mcsim/out/mcsim, which ./mcsim --prove builds. The last line is 'N passed, M failed', and the status is 0 where M is 0
 and N is not."""
 import pathlib
 import subprocess

@@ -3,7 +3,7 @@
 
 Each option, with its value, default and range, each status and each word of `--show` stands both in the page and in the program's `--help`;
 the page's keys are those of docs/mcsim.schema.json; the program gives what the page's examples say; and mandoc, where it is installed, has
-nothing to say of the page. Without PROGRAM it takes crates/mcsim/out/mcsim, which ./mcsim builds. The last line is 'N passed, M failed', and the
+nothing to say of the page. Without PROGRAM it takes crates/mcsim/out/mcsim, which ./mcsim --prove builds. The last line is 'N passed, M failed', and the
 status is 0 where M is 0 and N is not."""
 import json
 import pathlib

@@ -3,7 +3,7 @@
 page shows after it is what it wrote.
 
 The lines of a block that follows a command are lines of its output, in order; a page may leave lines out. Each command ends with status 0 and
-says nothing on standard error. Without PROGRAM it takes crates/mcsim/out/mcsim, which ./mcsim builds. The last line is 'N passed, M failed', and
+says nothing on standard error. Without PROGRAM it takes crates/mcsim/out/mcsim, which ./mcsim --prove builds. The last line is 'N passed, M failed', and
 the status is 0 where M is 0 and N is not."""
 import pathlib
 import re

@@ -4,7 +4,7 @@
 It makes systems, runs the built program on each, and prints tables in Markdown: rows of the schedule, seconds that pass, seconds of the processor
 and the greatest memory, where the schedule is written (to /dev/null) and where only the reports are. With --write the tables are put into
 docs/PERFORMANCE.md in place of those that stand there. --quick takes a tenth of each horizon. --case takes only the tables whose title begins
-with the word. Without PROGRAM it takes crates/mcsim/out/mcsim, which ./mcsim builds. Nothing else should run meanwhile."""
+with the word. Without PROGRAM it takes crates/mcsim/out/mcsim, which ./mcsim --prove builds. Nothing else should run meanwhile."""
 import argparse
 import datetime
 import os

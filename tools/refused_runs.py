@@ -2,7 +2,7 @@
 """refused_runs.py [PROGRAM]: runs the built program with its n-th growth of memory refused, for n = 1, 2, .. until a run meets none, and
 then with all growths from the n-th on refused.
 
-Without PROGRAM it takes crates/mcsim/out/mcsim, which ./mcsim builds. Worked systems run with 1 and 2 workers, and there are a malformed
+Without PROGRAM it takes crates/mcsim/out/mcsim, which ./mcsim --prove builds. Worked systems run with 1 and 2 workers, and there are a malformed
 file and the help. Each run gives the bytes and the status that it must give, or `mcsim: no memory` with status 4 and a first part of those
 bytes. Each kind of run has a line. The last line is 'N passed, M failed', and the status is 0 where M is 0 and N is not."""
 import pathlib

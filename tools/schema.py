@@ -6,7 +6,7 @@ out, a key is added, a value becomes one of another kind, or one past an end of 
 refuses too. What a schema cannot say stays with the program alone: how values fit one another (a core within `cores`, a budget within its
 period, names that are defined once, a wait that is not last), and that 1.0 is no integer.
 
-It needs the Python package jsonschema (Debian's python3-jsonschema). Without PROGRAM it takes crates/mcsim/out/mcsim, which ./mcsim builds. The last
+It needs the Python package jsonschema (Debian's python3-jsonschema). Without PROGRAM it takes crates/mcsim/out/mcsim, which ./mcsim --prove builds. The last
 line is 'N passed, M failed', and the status is 0 where M is 0 and N is not."""
 import copy
 import json
