@@ -132,8 +132,8 @@ for item in ITEMS:
 for script in ([], ['compute 1'] * 1024, ['compute 1'] * 1025):
     system = one_thread(script)
     expect(f'a script of {len(script)} items', validator.is_valid(system) == (fault_of(system) is None))
-for name in ('context', 'note', 'thread', 'order'):
-    system = one_thread(['compute 1']) | {name: [{}] * 4097}
+for name in ('context', 'note', 'thread', 'order', 'link'):
+    system = one_thread(['compute 1']) | {'version': 2, name: [{}] * 4097}
     expect(f'4,097 rows of {name}', not validator.is_valid(system) and fault_of(system) == f'mcsim: too many at {name}')
 for file in sorted((data / 'examples').glob('*.toml')):
     for what, system in changes(tomllib.loads(file.read_text())):
