@@ -23,8 +23,8 @@ module _ (system : System) where
   abbrev pub BudgetsStand : ℕ → List ContextView → Type 0
   BudgetsStand t views = AreShownBefore system (suc t) views
 
-  -- Both halves. `simulate` promises this of its rows and its reports for every number of workers, and `simulate_alone` on the caller's
-  -- thread; `run` of `mcs_cli` writes their text and nothing else.
+  -- Both halves. `simulate` promises this of its rows and its reports for every number of workers, `simulate_alone` on the caller's thread, and
+  -- `simulate_to` of the schedule and its reports; `run` of `mcs_cli` writes their text and nothing else.
   pub record Headline (horizon : ℕ) (rows : List Row) (reports : Reports) : Type 0 where
     -- the first
     pub rows_are : rows ≡ schedule system horizon

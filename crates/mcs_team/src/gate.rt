@@ -1,7 +1,8 @@
 use mcs_ticks::{CoreId, Tick};
 
-/// What is told of each piece of work that is lent, with no lock held, by the thread that runs it. Where the caller's
-/// thread takes all turns itself, as for one worker or one core, no piece is lent and nothing is told.
+/// What is told of each piece of work that is lent, with no lock held, by the thread that runs it. Of turns that the
+/// caller's thread takes itself, as for one worker or one core, or once a team has ended, no piece is lent and nothing is
+/// told.
 pub trait Gate {
     /// Just before the turns of a core from the moment `first` on are run.
     fn before(&self, core: CoreId, first: Tick);

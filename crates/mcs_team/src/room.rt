@@ -97,15 +97,14 @@ pub(crate) fn crew<B: Run + Send + Sync, R: Threads + Wait + Sync, G: Gate + Syn
     room.begun.store(1, Ordering::SeqCst);
     thread::scope(thread::scope_env(), rt, |scope| {
         for _ in 1..workers {
-            if scope.spawn(move || work(rt, room, gate)).is_err() {
-                break;
-            }
+            let _started = scope.spawn(move || work(rt, room, gate)).is_ok();
         }
         work(rt, room, gate);
     });
 }
 
-// Waits for more rows. Where no thread has begun it runs a piece itself, and where the team has ended it does not wait.
+// Waits for more rows. Where no thread has begun it runs a piece itself, and where the team has ended and all cores are
+// back it does not wait.
 fn wait<B: Run, R: Wait, G: Gate>(rt: &R, room: &Room<B>, gate: &G) {
     if room.begun.load(Ordering::SeqCst) != 0 {
         let is_left = room.seat.lock(rt).is_left();
@@ -150,7 +149,7 @@ pub(crate) fn more<B: Run, R: Wait, G: Gate>(
             return gathered.map_err(|_| Stop::Odd(reached));
         }
     }
-    Err(Stop::Fault(FlowFault::NoMemory))
+    Err(Stop::Odd(reached))
 }
 
 /// Ends the work of all threads.

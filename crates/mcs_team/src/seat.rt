@@ -1,6 +1,7 @@
 //! The desk of one run, which the threads share. Its system is known by the type.
-ghost use Rattle.std.specs.Prelude.{◌≡◌, IfOk, IfSome, OnOk};
+ghost use Rattle.std.specs.Prelude.{◌≡◌, ◌⊎◌, IfErr, IfOk, IfSome, OnOk};
 ghost use Rattle.mcs_team.specs.Flow.{pasts_of, AreBatches};
+ghost use Rattle.mcs_window.specs.Desk.{settled_at, with_lost};
 
 use crate::batch::{Batch, are_taken_to, gather};
 use crate::run::Run;
@@ -84,6 +85,9 @@ impl<B: Run> Seat<B> {
     /// Takes what a piece of this run has come to. The run is lost where there was no memory, or where it is of no loan.
     pub(crate) fn settle(&mut self, ran: Result<Done, Lost>)
         requires { IfOk ran (λ done. done.system ≡ B.system) }
+        ensures ok { IfOk ran (λ done. (self.new.desk ≡ settled_at self.old.desk done.core done.past)
+            ⊎ (self.new.desk ≡ with_lost self.old.desk)) }
+        ensures err { IfErr ran (λ lost. self.new.desk ≡ with_lost self.old.desk) }
     {
         match ran {
             Ok(done) => {
