@@ -156,6 +156,14 @@ pub record IsLater (before after : Table) : Type 0 where
   pub sound : after.lost ≡ false
   pub here : AllAreHere after
 
+-- where memory was refused: the cores went on, and then core `core` stays lent for good, and its rows that were not taken are gone
+pub record IsSpent (before after : Table) : Type 0 where
+  pub table : Table
+  pub core : ℕ
+  pub later : IsLater before table
+  pub may : MayLend table core
+  pub spent : after ≡ taken_at (lent_at table core) core
+
 -- how many turns there are still to be taken
 abbrev pub turns_left : Table → ℕ
 turns_left table = sum_by (λ c. table.horizon + 1 - clock_of table c) (range_with_len 0 table.system.cores)

@@ -7,7 +7,7 @@ ghost use Rattle.mcs_window.specs.Idle.{IsIdle, AreIdle, AreSet, IsIdleUntil, On
 ghost use Rattle.mcs_window.specs.Inbox.{inbox, signals_between};
 ghost use Rattle.mcs_window.specs.Stretch.{rows_between};
 ghost use Rattle.mcs_window.specs.stored.Slots.{IsEarliest, HoldsAt};
-ghost use Rattle.mcs_window.specs.Desk.{opening_table, clock_of, taken_of, past_of, loan_of, MayLend, IsChosen, IsBest, lent_at, settled_at, taken_at, IsSkipped, IsAwake, IsLent, IsSameRun, with_lost, IsLoan, IsSettleFault, AllAreHere, IsFinished, IsUntaken, IsWhole, IsLater, rows_kept, turns_left};
+ghost use Rattle.mcs_window.specs.Desk.{opening_table, clock_of, taken_of, past_of, loan_of, MayLend, IsChosen, IsBest, lent_at, settled_at, taken_at, IsSkipped, IsAwake, IsLent, IsSameRun, with_lost, IsLoan, IsSettleFault, AllAreHere, IsFinished, IsUntaken, IsWhole, IsLater, IsSpent, rows_kept, turns_left};
 
 use crate::calendar::Calendar;
 use crate::delivery::{deliver, deliver_reserved, make_room};
@@ -642,7 +642,7 @@ impl Desk {
         ensures ok { OnOk result (self.new ≡ settled_at self.old core (clock_of self.new core)) }
         ensures fewer { OnOk result (turns_left self.new < turns_left self.old) }
         ensures holds { OnOk result (HoldsAt self.new calendar.new) }
-        ensures run { (self.new.system ≡ self.old.system) × (self.new.horizon ≡ self.old.horizon) }
+        ensures err { OnErr result (self.new ≡ taken_at (lent_at self.old core) core) }
     {
         let _lost = self.lost;
         let signals = self.run_here(core, past, most)?;
@@ -669,7 +669,7 @@ impl Desk {
         ensures waits { IfOk result (λ moved. IsFalse moved →
             past_of self.old core ≤ max (clock_of self.old core) (slice_index calendar.old.until core)) }
         ensures fewer { IfOk result (λ moved. IsTrue moved → turns_left self.new < turns_left self.old) }
-        ensures run { (self.new.system ≡ self.old.system) × (self.new.horizon ≡ self.old.horizon) }
+        ensures spent { OnErr result (IsSpent self.old self.new) }
     {
         let _lost = self.lost;
         if self.must_wait(core, calendar.until[core.0]) {
@@ -695,7 +695,7 @@ impl Desk {
             past_of self.old c ≤ max (clock_of self.old c) (slice_index calendar.old.until c)) }
         ensures no_more { OnOk result (turns_left self.new ≤ turns_left self.old) }
         ensures fewer { IfOk result (λ moved. IsTrue moved → turns_left self.new < turns_left self.old) }
-        ensures run { (self.new.system ≡ self.old.system) × (self.new.horizon ≡ self.old.horizon) }
+        ensures spent { OnErr result (IsSpent self.old self.new) }
     {
         let mut moved = false;
         for core in 0..self.cores() {
@@ -724,7 +724,7 @@ impl Desk {
         ensures more { IfOk result (λ more. IsTrue more → turns_left self.new < turns_left self.old) }
         ensures same { IfOk result (λ more. IsFalse more → self.new ≡ self.old) }
         ensures done { IfOk result (λ more. IsFalse more → IsFinished self.new) }
-        ensures run { (self.new.system ≡ self.old.system) × (self.new.horizon ≡ self.old.horizon) }
+        ensures spent { OnErr result (IsSpent self.old self.new) }
     {
         let Some(core) = self.choice() else {
             self.none_waits();
@@ -744,7 +744,7 @@ impl Desk {
         ensures later { OnOk result (IsLater self.old self.new) }
         ensures more { IfOk result (λ more. IsTrue more → turns_left self.new < turns_left self.old) }
         ensures done { IfOk result (λ more. IsFalse more → IsFinished self.new) }
-        ensures run { (self.new.system ≡ self.old.system) × (self.new.horizon ≡ self.old.horizon) }
+        ensures spent { OnErr result (IsSpent self.old self.new) }
     {
         let moment = self.look_ahead(calendar);
         self.skip_to(moment);
@@ -758,13 +758,14 @@ impl Desk {
 
     /// Takes turns in the caller's thread until at least this many rows lie on the desk, as `kept` counts them, or every core has taken
     /// its turn at the horizon. Unless all have, it takes at least one turn or skips idle time, also where there are as many rows already.
-    /// After `NoMemory` a core may be lent for good, and then its rows that were not taken are gone.
+    /// After `NoMemory` one core stays lent for good, and its rows that were not taken are gone; nothing else is lent or lost.
     pub fn go(&mut self, rows: usize) -> Result<(), NoMemory>
         requires sound { self.old.lost ≡ false }
         requires here { AllAreHere self.old }
         ensures later { OnOk result (IsLater self.old self.new) }
         ensures fewer { OnOk result (IsFinished self.new ⊎ (turns_left self.new < turns_left self.old)) }
         ensures enough { OnOk result (IsFinished self.new ⊎ (rows ≤ rows_kept self.new)) }
+        ensures spent { OnErr result (IsSpent self.old self.new) }
         ensures run { (self.new.system ≡ self.old.system) × (self.new.horizon ≡ self.old.horizon) }
     {
         let mut calendar = Calendar::new();
@@ -776,14 +777,14 @@ impl Desk {
         Ok(())
     }
 
-    /// Takes all turns that are left, in the caller's thread. After `NoMemory` a core may be lent for good, and then its rows that were not
-    /// taken are gone.
+    /// Takes all turns that are left, in the caller's thread. After `NoMemory` one core stays lent for good, and its rows that were not taken
+    /// are gone; nothing else is lent or lost.
     pub fn finish(&mut self) -> Result<(), NoMemory>
         requires sound { self.old.lost ≡ false }
         requires here { AllAreHere self.old }
         ensures later { OnOk result (IsLater self.old self.new) }
         ensures finished { OnOk result (IsFinished self.new) }
-        ensures run { (self.new.system ≡ self.old.system) × (self.new.horizon ≡ self.old.horizon) }
+        ensures spent { OnErr result (IsSpent self.old self.new) }
     {
         let mut calendar = Calendar::new();
         while self.round(usize::MAX, &mut calendar)? {}
