@@ -44,7 +44,7 @@ impl Gate for Both {
             return;
         }
         self.begun.fetch_add(1, Ordering::SeqCst);
-        for _ in 0..100_000_000u64 {
+        for _ in 0..10_000_000u64 {
             if self.begun.load(Ordering::SeqCst) >= 2 {
                 return;
             }
@@ -64,15 +64,9 @@ fn two_pieces_run_at_once(rt: HostRuntime) -> Result<(), Fail> {
         begun: AtomicU64::new(0),
         alone: AtomicU64::new(0),
     };
-    let whole = simulate(
-        &rt,
-        alloc,
-        system(alloc, TWO_MAKERS)?,
-        moment(20)?,
-        2,
-        &gate,
-    )?;
-    assert!(rt; !whole.rows.is_empty());
+    let system = system(alloc, SIGNALS)?;
+    let whole = simulate(&rt, alloc, system, moment(7)?, 2, &gate)?;
+    assert_eq!(rt; whole.rows.len(), 13);
     assert_eq!(rt; gate.begun.load(Ordering::SeqCst), 2);
     assert_eq!(rt; gate.alone.load(Ordering::SeqCst), 0);
     Ok(())
