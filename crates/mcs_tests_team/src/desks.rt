@@ -1,7 +1,7 @@
 //! Desks, from which cores are lent and to which they come back. Each test is a list of steps, with how each of them goes.
 ghost use Rattle.std.specs.Prelude.{◌≡◌, ◌<◌, OnOk};
 
-use super::systems::{IDLE, RING, RING_OF_LINKS, SIGNALS, TWO_MAKERS, moment, system};
+use super::systems::{IDLE, ONE_ROUND, RING, RING_OF_LINKS, SIGNALS, TWO_MAKERS, moment, system};
 use mcs_ticks::{CoreId, Row, What};
 use mcs_window::{Desk, Done, Lost, SettleFault};
 use std::alloc::Global;
@@ -347,23 +347,38 @@ fn a_stretch_of_another_length(rt: HostRuntime) -> Result<(), Fail> {
     Ok(())
 }
 
-// Core 1 is lent while core 0 is away, and once it is back: its stretch is the same, but not the clocks.
+// The stretches that a fresh desk has away after steps, of which none goes otherwise.
+fn away_after(alloc: Global, text: &str, steps: &[Step]) -> Result<Vec<Done>, Fail> {
+    let mut desk = desk(alloc, text, 4)?;
+    let mut away = Vec::new(alloc);
+    match differs(&mut desk, &mut away, steps)? {
+        None => Ok(away),
+        Some(_) => Err(Fail::from("a step that goes otherwise")),
+    }
+}
+
+// Core 1 is lent once core 0 is back, and at another desk while core 0 is away: its stretch is the same, but not the clocks. A third desk
+// lends it by the same clocks, and gives a copy of what has come back.
 #[test]
 fn a_stretch_by_other_clocks(rt: HostRuntime) -> Result<(), Fail> {
-    let lent = [Step::Lends(0, 0, 2), Step::Lends(1, 0, 2), Step::Settles(0)];
-    let refused = [
-        Step::Lends(0, 0, 2),
-        Step::Settles(0),
-        Step::Lends(1, 0, 2),
-        Step::Refuses(1, SettleFault::OtherLoan),
-        Step::Settles(1),
-    ];
-    let differs = differs_at_another(
-        rt.alloc(),
-        (TWO_MAKERS, 4, lent.as_slice()),
-        (TWO_MAKERS, 4, refused.as_slice()),
-    )?;
-    assert_eq!(rt; differs, (None, None));
+    let alloc = rt.alloc();
+    let lent = [Step::Lends(0, 0, 2), Step::Settles(0), Step::Lends(1, 0, 2)];
+    let ahead = [Step::Lends(0, 0, 2), Step::Lends(1, 0, 2)];
+    let mut others = away_after(alloc, ONE_ROUND, ahead.as_slice())?;
+    let mut copies = away_after(alloc, ONE_ROUND, lent.as_slice())?;
+    let mut foreign = away_after(alloc, RING, [Step::Lends(0, 0, 1)].as_slice())?;
+    let mut desk = desk(alloc, ONE_ROUND, 4)?;
+    let mut own = Vec::new(alloc);
+    assert_eq!(rt; differs(&mut desk, &mut own, lent.as_slice())?, None);
+    let other = settles(&mut desk, &mut others, 1, Some(SettleFault::OtherLoan))?;
+    assert!(rt; other);
+    let back = settles(&mut desk, &mut own, 1, None)?;
+    assert!(rt; back);
+    let again = settles(&mut desk, &mut copies, 1, Some(SettleFault::NotLent))?;
+    assert!(rt; again);
+    // core 0 is not lent, which is not what is told of a stretch of another system
+    let strange = settles(&mut desk, &mut foreign, 0, Some(SettleFault::Foreign))?;
+    assert!(rt; strange);
     Ok(())
 }
 

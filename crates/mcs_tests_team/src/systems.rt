@@ -56,6 +56,24 @@ thread = [
 ]
 "#;
 
+/// The same, each of them once.
+pub const ONE_ROUND: &str = r#"
+version = 1
+cores = 3
+delay = 2
+context = [
+    { name = "s", core = 0, budget = 5, period = 10 },
+    { name = "t", core = 1, budget = 5, period = 10 },
+    { name = "w", core = 2, budget = 5, period = 10 },
+]
+note = [{ name = "n", core = 2 }]
+thread = [
+    { name = "S", context = "s", priority = 5, rounds = 1, script = ["compute 1", "signal n 1"] },
+    { name = "T", context = "t", priority = 5, rounds = 1, script = ["compute 1", "signal n 2"] },
+    { name = "W", context = "w", priority = 5, rounds = 1, script = ["wait n", "compute 1"] },
+]
+"#;
+
 /// Each of three cores signals the next one when the last one has signalled it, and the first one begins.
 pub const RING: &str = r#"
 version = 1
@@ -68,9 +86,9 @@ context = [
 ]
 note = [{ name = "p", core = 0 }, { name = "q", core = 1 }, { name = "r", core = 2 }]
 thread = [
-    { name = "A", context = "a", priority = 5, rounds = 1, script = ["signal q 1", "wait p", "compute 1"] },
-    { name = "B", context = "b", priority = 5, rounds = 1, script = ["wait q", "signal r 1"] },
-    { name = "C", context = "c", priority = 5, rounds = 1, script = ["wait r", "signal p 1"] },
+    { name = "A", context = "a", priority = 1, rounds = 1, script = ["signal q 1", "wait p", "compute 1"] },
+    { name = "B", context = "b", priority = 1, rounds = 1, script = ["wait q", "signal r 1"] },
+    { name = "C", context = "c", priority = 1, rounds = 1, script = ["wait r", "signal p 1"] },
 ]
 "#;
 
