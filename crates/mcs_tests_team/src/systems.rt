@@ -110,3 +110,19 @@ thread = [
     { name = "C", context = "c", priority = 5, script = ["wait r", "signal p 1"] },
 ]
 "#;
+
+/// Two cores signal each other again and again, and the signals are under way for long.
+pub const LONG_DELAY: &str = r#"
+version = 1
+cores = 2
+delay = 40
+context = [
+    { name = "a", core = 0, budget = 5, period = 20 },
+    { name = "b", core = 1, budget = 5, period = 20 },
+]
+note = [{ name = "n", core = 1 }, { name = "m", core = 0 }]
+thread = [
+    { name = "A", context = "a", priority = 5, script = ["compute 4", "signal n 1"] },
+    { name = "B", context = "b", priority = 5, script = ["compute 4", "signal m 1"] },
+]
+"#;

@@ -1,6 +1,6 @@
 //! Teams of all sizes, and workers at work at once.
 
-use super::systems::{SIGNALS, TWO_MAKERS, moment, system};
+use super::systems::{LONG_DELAY, SIGNALS, TWO_MAKERS, moment, system};
 use mcs_team::{Gate, Open, Whole, simulate, simulate_alone};
 use mcs_ticks::{CoreId, Tick};
 use std::alloc::Global;
@@ -132,5 +132,21 @@ fn a_team_with_short_pieces_ends(rt: HostRuntime) -> Result<(), Fail> {
         assert!(rt; are_same(&whole, &alone), "{workers} workers");
         assert_eq!(rt; counted(&gate), (1024, 1024), "{workers} workers");
     }
+    Ok(())
+}
+
+// Each piece that is lent while no other one is away is of 40 moments or more, so there are few short ones in a row.
+#[test]
+fn a_team_with_long_pieces_goes_on(rt: HostRuntime) -> Result<(), Fail> {
+    let alloc = rt.alloc();
+    let horizon = moment(100_000)?;
+    let alone = simulate_alone(alloc, system(alloc, LONG_DELAY)?, horizon)?;
+    let gate = zero_counts();
+    let system = system(alloc, LONG_DELAY)?;
+    let whole = simulate(&rt, alloc, system, horizon, 2, &gate)?;
+    assert!(rt; are_same(&whole, &alone));
+    let (begun, ended) = counted(&gate);
+    assert!(rt; begun > 1024);
+    assert_eq!(rt; begun, ended);
     Ok(())
 }
