@@ -2,9 +2,11 @@
 ghost use Rattle.std.specs.Prelude.{◌≡◌, ◌<◌, OnOk};
 
 use super::systems::{IDLE, ONE_ROUND, RING, RING_OF_LINKS, SIGNALS, TWO_MAKERS, moment, system};
+use mcs_team::simulate_alone;
 use mcs_ticks::{CoreId, Row, What};
 use mcs_window::{Desk, Done, Lost, SettleFault};
 use std::alloc::Global;
+use std::process::Abort;
 use std::test::Fail;
 
 /// A step of a desk, and how it goes. A stretch that is lent is run at once, and kept until it comes back.
@@ -410,6 +412,74 @@ fn a_desk_is_finished_by_one_thread(rt: HostRuntime) -> Result<(), Fail> {
         .saturating_add(rows_of(&mut desk, 1))
         .saturating_add(rows_of(&mut desk, 2));
     assert_eq!(rt; many, 27);
+    Ok(())
+}
+
+// Whether rows are those that a schedule has of a core, in order.
+fn are_of(rows: &[Row], core: CoreId, schedule: &[Row]) -> bool {
+    let mut many = 0usize;
+    for row in schedule {
+        if row.core == core {
+            if rows.get(many) != Some(row) {
+                return false;
+            }
+            many = many.saturating_add(1);
+        }
+    }
+    many == rows.len()
+}
+
+// Whether a core has made the rows that a schedule has of it.
+fn has_made(desk: &mut Desk, core: usize, schedule: &[Row]) -> bool
+    requires { core < desk.old.system.cores }
+    ensures { desk.new.system ≡ desk.old.system }
+{
+    let rows = desk.take_rows(CoreId(core));
+    are_of(rows.as_slice(), CoreId(core), schedule)
+}
+
+// All three cores are lent before any comes back, and they come back in this order. Then the desk takes the turns that are left.
+fn makes(rt: &impl Abort, alloc: Global, order: [usize; 3], schedule: &[Row]) -> Result<(), Fail> {
+    let mut desk = desk(alloc, ONE_ROUND, 4)?;
+    let steps = [
+        Step::Lends(0, 0, 2),
+        Step::Lends(1, 0, 2),
+        Step::Lends(2, 0, 2),
+        Step::LendsNone,
+        Step::Settles(order[0]),
+        Step::Settles(order[1]),
+        Step::Settles(order[2]),
+    ];
+    let mut away = Vec::new(alloc);
+    assert_eq!(rt; differs(&mut desk, &mut away, steps.as_slice())?, None);
+    assert_eq!(rt; desk.cores(), 3);
+    if !desk.is_whole() {
+        return Err(Fail::from("a whole desk"));
+    }
+    desk.finish()?;
+    assert!(rt; has_made(&mut desk, 0, schedule));
+    assert!(rt; has_made(&mut desk, 1, schedule));
+    assert!(rt; has_made(&mut desk, 2, schedule));
+    Ok(())
+}
+
+static ORDERS: [[usize; 3]; 6] = [
+    [0, 1, 2],
+    [0, 2, 1],
+    [1, 0, 2],
+    [1, 2, 0],
+    [2, 0, 1],
+    [2, 1, 0],
+];
+
+#[test]
+fn stretches_come_back_in_any_order(rt: HostRuntime) -> Result<(), Fail> {
+    let alloc = rt.alloc();
+    let alone = simulate_alone(alloc, system(alloc, ONE_ROUND)?, moment(4)?)?;
+    assert_eq!(rt; alone.rows.len(), 18);
+    for order in ORDERS {
+        makes(&rt, alloc, order, alone.rows.as_slice())?;
+    }
     Ok(())
 }
 
