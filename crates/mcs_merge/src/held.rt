@@ -4,6 +4,7 @@ ghost use Rattle.mcs_merge.specs.stored.Heads.{head_of};
 use crate::heads::Head;
 use mcs_ticks::{NoMemory, Row, Tick};
 use std::collections::VecDeque;
+use std::mem;
 
 /// The rows of a core that are left, and its clock.
 #[derive(Debug, Drop)]
@@ -31,6 +32,19 @@ impl Held {
         ensures clock { self.new.clock ≡ self.old.clock }
     {
         self.rows.pop_front()
+    }
+
+    /// The room of the rows where none is left, as a list without rows; else a list without room.
+    pub(crate) fn take_room(&mut self) -> Vec<Row>
+        ensures room { result.items ≡ [] }
+        ensures rows { self.new.rows.items ≡ self.old.rows.items }
+        ensures clock { self.new.clock ≡ self.old.clock }
+    {
+        let none = VecDeque::new(*self.rows.allocator());
+        if !self.rows.is_empty() {
+            return none.into_vec();
+        }
+        mem::replace(&mut self.rows, none).into_vec()
     }
 
     /// Puts rows behind those that are left, and sets the clock. Where there is no memory the rows are handed back and

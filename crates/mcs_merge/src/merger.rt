@@ -67,6 +67,16 @@ impl Merger {
         Ok(())
     }
 
+    /// The room of a core's rows where none of them is left, as a list without rows that can be filled again; else a list
+    /// without room. It takes no memory.
+    pub fn take_room(&mut self, core: CoreId) -> Vec<Row>
+        requires { core < length self.old.clocks }
+        ensures room { result.items ≡ [] }
+        ensures same { self.new ≡ self.old }
+    {
+        take_room(self.cores.as_mut_slice(), core.0)
+    }
+
     /// Takes the row that is first by moment, core and place of those that are left, if its moment is below all clocks;
     /// else, or where none is left, None. Of `c` cores it takes the order of `log c` steps.
     pub fn pop(&mut self) -> Option<Row>
@@ -132,6 +142,16 @@ fn append(
     let held = &mut cores[core];
     held.append(rows, clock)?;
     Ok(held.head(core))
+}
+
+// The room of a core's rows where none is left.
+fn take_room(cores: &mut [Held], core: usize) -> Vec<Row>
+    requires { core < length cores.old }
+    ensures room { result.items ≡ [] }
+    ensures same { merging_of cores.new ≡ merging_of cores.old }
+{
+    let held = &mut cores[core];
+    held.take_room()
 }
 
 // Takes the first row of a core, and gives the head that the core has then.
