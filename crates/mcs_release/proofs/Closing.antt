@@ -1,27 +1,28 @@
 -- Entries move to the front, one after another.
 use Rattle.std.proofs.Common.{◌≡◌, ℕ, zero, suc, ◌+◌, ◌<◌, ◌≤◌, List, [], ◌∷◌, length, get_or, set, take, Option, Some, None, refl, sym, ap, ◌∙◌, inl, inr, arith, get_or-set_same, get_or-set_other}
-use Rattle.std.specs.Prelude.{sum_by, IsPermutation}
+use Rattle.std.specs.Prelude.{min, sum_by, IsPermutation}
 use Rattle.std.specs.declared.cmp.Reverse.{Reverse}
 use Rattle.std.specs.BinaryHeap.{IsHeap, KeepsHeap}
 use Rattle.std.proofs.lemmas.Bool.{cases_eq, cases_lt}
-use Rattle.std.proofs.lemmas.List.{get_or_past, set-get_or, take_all}
+use Rattle.std.proofs.lemmas.List.{get_or_past, set-get_or}
 use Rattle.std.proofs.lemmas.List.Sorted.{sum_by-IsPermutation}
 use Rattle.std.proofs.lemmas.List.Sums.{sum_by-cons}
 use Rattle.mcs_release.specs.declared.dated.Dated.{Dated}
 use Rattle.mcs_release.specs.declared.releases.Due.{Due}
 use Rattle.mcs_release.specs.stored.Heap.{entered, due_at, dues_from, due_cmp, IsPlaced}
-use Rattle.mcs_release.proofs.Dues.{dues-emptied, dues-moved, dues-count, count-is-length}
-use Rattle.mcs_release.proofs.Entered.{entered-moved}
+use Rattle.mcs_release.proofs.Dues.{dues-before, dues-emptied, dues-moved, dues-count, count-is-length}
+use Rattle.mcs_release.proofs.Entered.{entered-before, entered-moved}
 
 pub none_from : (place : Option Dated) → ((x : Dated) → place ≡ Some x → ⊥) → place ≡ None
 none_from None never = refl
 none_from (Some x) never = absurd (never x refl)
 
--- after i places: their entries are in front, and are what the heap holds
-pub record IsClosing (start places : List (Option Dated)) (end i : ℕ) (heap : List (Reverse Due)) (room capacity : ℕ) : Type 0 where
+-- after i of the places before `past`, behind which there are none: their entries are in front, and are what the heap holds
+pub record IsClosing (start places : List (Option Dated)) (end i : ℕ) (heap : List (Reverse Due)) (room capacity past : ℕ) : Type 0 where
   pub kept : entered places ≡ entered start
   pub before : end ≤ i
   pub gap : (j : ℕ) → end ≤ j → j < i → get_or places j None ≡ None
+  pub behind : (j : ℕ) → past ≤ j → get_or places j None ≡ None
   pub same : (f : Reverse Due → ℕ) → sum_by f heap ≡ sum_by f (dues_from 0 (take i places))
   pub order : IsHeap due_cmp heap
   pub filled : length heap ≡ end
@@ -42,13 +43,13 @@ taken-lt (Some y ∷ places) zero x e = omega arith
 taken-lt (None ∷ places) (suc i) x e = taken-lt places i x e
 taken-lt (Some y ∷ places) (suc i) x e = omega (arith, taken-lt places i x e)
 
-module _ (start places : List (Option Dated)) (end i : ℕ) (heap : List (Reverse Due)) (room capacity : ℕ) (closing : IsClosing start places end i heap room capacity) where
+module _ (start places : List (Option Dated)) (end i : ℕ) (heap : List (Reverse Due)) (room capacity past : ℕ) (closing : IsClosing start places end i heap room capacity past) where
   pub end-counts : end ≡ length (entered (take i places))
   end-counts =
       sym closing.filled ∙ sym (count-is-length heap) ∙ closing.same (λ (x : Reverse Due). 1) ∙ dues-count (take i places) 0
 
   -- the next place is empty
-  pub IsClosing-skip : i < length places → get_or places i None ≡ None → IsClosing start places end (i + 1) heap room capacity
+  pub IsClosing-skip : i < length places → get_or places i None ≡ None → IsClosing start places end (i + 1) heap room capacity past
   IsClosing-skip below none = record {
     kept = closing.kept;
     before = omega (arith, closing.before);
@@ -56,6 +57,7 @@ module _ (start places : List (Option Dated)) (end i : ℕ) (heap : List (Revers
       | inl e ↦ ap (λ (k : ℕ). get_or places k None) e ∙ none
       | inr ne ↦ closing.gap j from (omega arith)
     ];
+    behind = closing.behind;
     same = λ f. closing.same f ∙ sym (dues-emptied f places 0 i) ∙ ap (λ (ps : List (Option Dated)). sum_by f (dues_from 0 (take (suc i) ps))) unchanged
         ∙ ap (λ (n : ℕ). sum_by f (dues_from 0 (take n places))) next;
     order = closing.order;
@@ -70,16 +72,19 @@ module _ (start places : List (Option Dated)) (end i : ℕ) (heap : List (Revers
       unchanged = ap (set places i) (sym none) ∙ set-get_or places i None
 
   -- the entry of the next place moves
-  pub IsClosing-move : (x : Dated) (heap' : List (Reverse Due)) (capacity' : ℕ) → i < length places → get_or places i None ≡ Some x →
+  pub IsClosing-move : (x : Dated) (heap' : List (Reverse Due)) (capacity' : ℕ) → i < length places → i < past → get_or places i None ≡ Some x →
       IsPermutation (due_at end x ∷ heap) heap' → KeepsHeap due_cmp heap heap' → capacity ≤ capacity' → length heap' ≡ suc (length heap) →
-      IsClosing start (set (set places i None) end (Some x)) (end + 1) (i + 1) heap' room capacity'
-  IsClosing-move x heap' capacity' below e moved keeps more longer = record {
+      IsClosing start (set (set places i None) end (Some x)) (end + 1) (i + 1) heap' room capacity' past
+  IsClosing-move x heap' capacity' below within e moved keeps more longer = record {
     kept = entered-moved places i end x e closing.before closing.gap ∙ closing.kept;
     before = omega (arith, closing.before);
     gap = λ j from under. get_or-set_other (set places i None) end j (Some x) None (omega arith) ∙ elim (cases_eq j i) [
       | inl e ↦ ap (λ (k : ℕ). get_or (set places i None) k None) e ∙ get_or-set_same places i None None below
       | inr ne ↦ get_or-set_other places i j None None ne ∙ closing.gap j (omega arith) (omega arith)
     ];
+    behind = λ j from.
+        get_or-set_other (set places i None) end j (Some x) None (omega (arith, closing.before))
+        ∙ get_or-set_other places i j None None (omega arith) ∙ closing.behind j from;
     same = λ f. omega (
       arith,
       sum_by-IsPermutation f (due_at end x ∷ heap) heap' moved,
@@ -104,29 +109,38 @@ module _ (start places : List (Option Dated)) (end i : ℕ) (heap : List (Revers
   pub end-fits : (x : Dated) → get_or places i None ≡ Some x → length (entered start) ≤ room → length heap < capacity
   end-fits x e fits = omega (arith, taken-lt places i x e, ap length closing.kept, closing.space, closing.filled, end-counts)
 
-module _ (start places : List (Option Dated)) (end : ℕ) (heap : List (Reverse Due)) (room capacity : ℕ) (closing : IsClosing start places end (length places) heap room capacity) where
+module _ (start places : List (Option Dated)) (end past : ℕ) (heap : List (Reverse Due)) (room capacity : ℕ) (closing : IsClosing start places end past heap room capacity past) where
   pub count-closed : end ≡ length (entered start)
   count-closed =
-      end-counts start places end (length places) heap room capacity closing
-      ∙ ap (λ (ps : List (Option Dated)). length (entered ps)) (take_all (length places) places (omega arith)) ∙ ap length closing.kept
+      end-counts start places end past heap room capacity past closing
+      ∙ ap length (entered-before places past closing.behind) ∙ ap length closing.kept
 
   pub IsPlaced-closed : IsPlaced places end heap
   IsPlaced-closed = record {
-    behind = λ i from. elim (cases_lt i (length places)) [
+    behind = λ i from. elim (cases_lt i past) [
       | inl below ↦ closing.gap i from below
-      | inr past ↦ get_or_past places i None past
+      | inr above ↦ closing.behind i above
     ];
-    same = λ f. closing.same f ∙ ap (λ (ps : List (Option Dated)). sum_by f (dues_from 0 ps)) (take_all (length places) places (omega arith));
+    same = λ f. closing.same f ∙ dues-before f places 0 past closing.behind;
     order = closing.order;
   }
 
+-- the places from one on that are empty
+pub behind_both : (places : List (Option Dated)) (end past : ℕ) → ((j : ℕ) → end ≤ j → get_or places j None ≡ None) →
+    past ≡ min end (length places) → (j : ℕ) → past ≤ j → get_or places j None ≡ None
+behind_both places end past behind is j from = elim (cases_lt j (length places)) [
+  | inl below ↦ behind j (omega (arith, is))
+  | inr above ↦ get_or_past places j None above
+]
+
 -- at the start
-pub IsClosing-none : (start : List (Option Dated)) (heap : List (Reverse Due)) (room capacity : ℕ) → heap ≡ [] → IsHeap due_cmp heap → room ≤ capacity →
-    IsClosing start start 0 0 heap room capacity
-IsClosing-none start heap room capacity empty order space = record {
+pub IsClosing-none : (start : List (Option Dated)) (heap : List (Reverse Due)) (room capacity past : ℕ) → heap ≡ [] → IsHeap due_cmp heap → room ≤ capacity →
+    ((j : ℕ) → past ≤ j → get_or start j None ≡ None) → IsClosing start start 0 0 heap room capacity past
+IsClosing-none start heap room capacity past empty order space behind = record {
   kept = refl;
   before = omega arith;
   gap = λ j from under. absurd (omega arith);
+  behind = behind;
   same = λ f. ap (sum_by f) empty;
   order = order;
   filled = ap length empty;

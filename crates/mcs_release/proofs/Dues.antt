@@ -49,6 +49,26 @@ module _ (f : Reverse Due → ℕ) where
         ap (λ (m : ℕ). f (due_at m x)) same,
       )
 
+  dues-none : (places : List (Option Dated)) (n : ℕ) → ((i : ℕ) → get_or places i None ≡ None) → dues_from n places ≡ []
+  dues-none [] n none = refl
+  dues-none (place ∷ places) n none = by place (none zero) (dues-none places (suc n) (λ i. none (suc i)))
+    where
+      by : (place : Option Dated) → place ≡ None → dues_from (suc n) places ≡ [] → dues_from n (place ∷ places) ≡ []
+      by None e ih = ih
+      by (Some x) e ih = cc
+
+  -- what stands before empty places
+  pub dues-before : (places : List (Option Dated)) (n past : ℕ) → ((i : ℕ) → past ≤ i → get_or places i None ≡ None) →
+      sum_by f (dues_from n (take past places)) ≡ sum_by f (dues_from n places)
+  dues-before [] n zero behind = refl
+  dues-before [] n (suc past) behind = refl
+  dues-before (place ∷ places) n zero behind = sym (ap (sum_by f) (dues-none (place ∷ places) n (λ i. behind i (omega arith))))
+  dues-before (None ∷ places) n (suc past) behind = dues-before places (suc n) past (λ i from. behind (suc i) (omega (arith, from)))
+  dues-before (Some y ∷ places) n (suc past) behind =
+      sum_by-cons f (due_at n y) (dues_from (suc n) (take past places))
+      ∙ ap (λ (m : ℕ). f (due_at n y) + m) (dues-before places (suc n) past (λ i from. behind (suc i) (omega (arith, from))))
+      ∙ sym (sum_by-cons f (due_at n y) (dues_from (suc n) places))
+
   -- a place more that is empty
   pub dues-emptied : (places : List (Option Dated)) (n i : ℕ) → sum_by f (dues_from n (take (suc i) (set places i None))) ≡ sum_by f (dues_from n (take i places))
   dues-emptied [] n zero = refl

@@ -1,5 +1,5 @@
 -- The entries of places: one is put in, taken out, or moved to the front.
-use Rattle.std.proofs.Common.{◌≡◌, ℕ, zero, suc, ◌<◌, ◌≤◌, List, [], ◌∷◌, ◌++◌, length, get_or, set, Option, Some, None, refl, ap, arith}
+use Rattle.std.proofs.Common.{◌≡◌, ℕ, zero, suc, ◌<◌, ◌≤◌, List, [], ◌∷◌, ◌++◌, length, get_or, set, take, Option, Some, None, refl, sym, ap, arith}
 use Rattle.mcs_release.specs.declared.dated.Dated.{Dated}
 use Rattle.mcs_release.specs.stored.Heap.{entered, times}
 use Rattle.mcs_release.specs.Release.{without}
@@ -13,6 +13,16 @@ entered-none (place ∷ places) none = by place (none zero) (entered-none places
     by : (place : Option Dated) → place ≡ None → entered places ≡ [] → entered (place ∷ places) ≡ []
     by None e ih = ih
     by (Some x) e ih = cc
+
+-- what stands before empty places
+pub entered-before : (places : List (Option Dated)) (past : ℕ) → ((i : ℕ) → past ≤ i → get_or places i None ≡ None) →
+    entered (take past places) ≡ entered places
+entered-before [] zero behind = refl
+entered-before [] (suc past) behind = refl
+entered-before (place ∷ places) zero behind = sym (entered-none (place ∷ places) (λ i. behind i (omega arith)))
+entered-before (None ∷ places) (suc past) behind = entered-before places past (λ i from. behind (suc i) (omega (arith, from)))
+entered-before (Some x ∷ places) (suc past) behind =
+    ap (λ (xs : List Dated). x ∷ xs) (entered-before places past (λ i from. behind (suc i) (omega (arith, from))))
 
 pub empty_from : (places : List (Option Dated)) (i : ℕ) → entered places ≡ [] → get_or places i None ≡ None
 empty_from [] i none = refl

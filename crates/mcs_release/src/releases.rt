@@ -1,4 +1,4 @@
-ghost use Rattle.std.specs.Prelude.{◌≡◌, ℕ, ◌<◌, ◌≤◌, ◌++◌, ◌∷◌, false, [], length, slice_set, IfOk, IsPermutation};
+ghost use Rattle.std.specs.Prelude.{◌≡◌, ℕ, ◌<◌, ◌≤◌, ◌++◌, ◌∷◌, false, [], None, length, slice_index_or, slice_set, IfOk, IsPermutation};
 ghost use Rattle.std.specs.BinaryHeap.{heap_items, heap_len, heap_capacity, KeepsHeap};
 ghost use Rattle.mcs_release.specs.stored.Heap.{due_at, due_cmp, entered, IsPlaced};
 ghost use Rattle.mcs_release.specs.Release.{dated, is_held, next_date, first_due, without_first_due, thread_of, AreDistinct, AreBelow};
@@ -9,6 +9,9 @@ use std::alloc::Global;
 use std::cmp::Reverse;
 use std::collections::BinaryHeap;
 use std::marker::Model;
+
+// Twice so many places may be empty, beside as many as there are entries.
+const SPARE: usize = 16;
 
 /// A thread that is held, by its date and then by its place, which is later the later it entered.
 #[derive(Clone, Copy, Debug, PartialEq, Eq, PartialOrd, Ord)]
@@ -125,28 +128,31 @@ fn put(
     prove!(pushed);
 }
 
-/// Moves all entries to the front in their order, and answers how many there are.
-fn close_up(places: &mut [Option<Dated>], heap: &mut BinaryHeap<Reverse<Due>>) -> usize
-    requires { length (entered places.old) ≤ heap_capacity heap.old }
+/// Moves all entries, which stand before the place `past`, to the front in their order, and answers how many there are.
+fn close_up(places: &mut [Option<Dated>], heap: &mut BinaryHeap<Reverse<Due>>, past: usize) -> usize
+    requires room { length (entered places.old) ≤ heap_capacity heap.old }
+    requires within { past ≤ length places.old }
+    requires behind { (i : ℕ) → past ≤ i → slice_index_or places.old i None ≡ None }
     ensures entered { entered places.new ≡ entered places.old }
     ensures count { result ≡ length (entered places.old) }
     ensures placed { IsPlaced places.new result (heap_items heap.new) }
     ensures capacity { heap_capacity heap.old ≤ heap_capacity heap.new }
 {
     heap.clear();
-    let mut end = 0;
-    for i in 0..places.len() {
+    let mut front = 0;
+    for i in 0..past {
         if let Some(entry) = places[i] {
             places[i] = None;
-            put(places, heap, end, entry);
-            end += 1;
+            put(places, heap, front, entry);
+            front += 1;
         }
     }
-    end
+    front
 }
 
-/// An empty place behind all entries: the first one where there is no entry, and where the last place was taken, the entries
-/// move to the front. That comes once in as many entrances as there are threads, at most.
+/// An empty place behind all entries: the first one where there is no entry. Where most of the places before it are empty, or
+/// the last one was taken, the entries move to the front: so few threads stay in few places. Since the last time about half
+/// as many have left as there are places to look through.
 fn place_behind(
     places: &mut [Option<Dated>],
     heap: &mut BinaryHeap<Reverse<Due>>,
@@ -162,10 +168,11 @@ fn place_behind(
 {
     if heap.is_empty() {
         0
-    } else if end < places.len() {
+    } else if end < places.len() && end / 2 <= heap.len().saturating_add(SPARE) {
         end
     } else {
-        close_up(places, heap)
+        let past = end.min(places.len());
+        close_up(places, heap, past)
     }
 }
 
