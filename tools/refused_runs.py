@@ -4,7 +4,8 @@ then with all growths from the n-th on refused.
 
 Without PROGRAM it takes crates/mcsim/out/mcsim, which ./mcsim --prove builds. Worked systems run with 1 and 2 workers, and there are a malformed
 file and the help. Each run gives the bytes and the status that it must give, or `mcsim: no memory` with status 4 and a first part of those
-bytes. Each kind of run has a line. The last line is 'N passed, M failed', and the status is 0 where M is 0 and N is not."""
+bytes; where growths were refused only while the C library started a thread, it gives the bytes. Each kind of run has a line. The last line
+is 'N passed, M failed', and the status is 0 where M is 0 and N is not."""
 import pathlib
 import subprocess
 import sys
@@ -36,21 +37,23 @@ def cases():
 
 
 def tried(library, words, stdin, status, stdout, stderr, lasts):
-    """How many runs a kind has whose growths are refused from the n-th to `lasts(n)`, how many end with no memory, and the wrong ones."""
-    runs, without, wrong = 0, 0, []
+    """How many runs a kind has whose growths are refused from the n-th to `lasts(n)`, how many of them only while a thread is started, how
+    many end with no memory, and the wrong ones."""
+    runs, starts, without, wrong = 0, 0, 0, []
     while True:
         n = runs + 1
         try:
             *said, refused = answer([program, *words], library, n, lasts(n), stdin)
         except subprocess.TimeoutExpired:
-            return runs, without, [*wrong, n]
+            return runs, starts, without, [*wrong, n]
         runs = n
+        starts += set(refused) == set(b's')
         if tuple(said) != (status, stdout, stderr):
             without += 1
-            if not refused or (said[0], said[2]) != NO_MEMORY or not stdout.startswith(said[1]):
+            if b'r' not in refused or (said[0], said[2]) != NO_MEMORY or not stdout.startswith(said[1]):
                 wrong.append(n)
         if not refused:
-            return runs, without, wrong
+            return runs, starts, without, wrong
 
 
 passed = failed = 0
@@ -58,9 +61,10 @@ with tempfile.TemporaryDirectory() as folder:
     library = compiled(folder)
     for name, words, stdin, status, stdout, stderr in cases():
         for way, lasts in ('once', lambda n: n), ('from then on', lambda n: FOR_EVER):
-            runs, without, wrong = tried(library, words, stdin, status, stdout, stderr, lasts)
+            runs, starts, without, wrong = tried(library, words, stdin, status, stdout, stderr, lasts)
             passed += runs - len(wrong)
             failed += len(wrong)
-            print(f'{name}, {way}: {runs} runs, {without} without memory' + (f', wrong at {wrong}' if wrong else ''), flush=True)
+            line = f"{name}, {way}: {runs} runs, {starts} refused at a thread's start alone, {without} without memory"
+            print(line + (f', wrong at {wrong}' if wrong else ''), flush=True)
 print(f'{passed} passed, {failed} failed')
 sys.exit(0 if passed and not failed else 1)

@@ -2,13 +2,15 @@
 
 The growths are the calls of malloc, calloc, realloc and their relatives after the program was loaded. A few lines of C, which cc compiles
 here and the loader puts before the C library, count and refuse them."""
-import os
 import pathlib
 import subprocess
 import tempfile
 
 LIBRARY = r'''
+#define _GNU_SOURCE
+#include <dlfcn.h>
 #include <errno.h>
+#include <pthread.h>
 #include <stdatomic.h>
 #include <stddef.h>
 #include <stdlib.h>
@@ -20,11 +22,14 @@ void *__libc_realloc(void *, size_t);
 void *__libc_memalign(size_t, size_t);
 
 static unsigned long first, last; /* of the growths that are refused; 0 until the program is loaded */
-static int told; /* a byte is written here at each refusal */
+static int told; /* a byte is written here at each refusal: s while a thread is started, and else r */
 static atomic_ulong growths;
+static int (*create)(pthread_t *, const pthread_attr_t *, void *(*)(void *), void *);
+static _Thread_local int starts; /* whether this thread is starting another one */
 
 __attribute__((constructor)) static void begin(void)
 {
+    *(void **)&create = dlsym(RTLD_NEXT, "pthread_create");
     told = atoi(getenv("REFUSED_TOLD"));
     last = strtoul(getenv("REFUSED_LAST"), NULL, 10);
     first = strtoul(getenv("REFUSED_FIRST"), NULL, 10);
@@ -37,7 +42,7 @@ static int refused(void)
     unsigned long growth = atomic_fetch_add(&growths, 1) + 1;
     if (growth < first || growth > last)
         return 0;
-    if (write(told, "r", 1) != 1)
+    if (write(told, starts ? "s" : "r", 1) != 1)
         _exit(99);
     errno = ENOMEM;
     return 1;
@@ -57,6 +62,14 @@ int posix_memalign(void **to, size_t align, size_t size)
     *to = made;
     return 0;
 }
+
+int pthread_create(pthread_t *thread, const pthread_attr_t *attributes, void *(*run)(void *), void *with)
+{
+    starts = 1;
+    int fault = create(thread, attributes, run, with);
+    starts = 0;
+    return fault;
+}
 '''
 
 
@@ -69,11 +82,12 @@ def compiled(folder):
 
 
 def answer(command, library, first, last, stdin=b'', folder=None):
-    """Status, standard output and standard error of a run whose growths are refused from the first to the last of these (from 1), and how
-    many were. Where nothing is to be refused, the library is None."""
+    """Status, standard output and standard error of a run whose growths are refused from the first to the last of these (from 1), and a
+    byte for each that was: s while a thread was started, and else r. Where nothing is to be refused, the library is None."""
     with tempfile.TemporaryFile() as told:
         env = {'REFUSED_FIRST': str(first), 'REFUSED_LAST': str(last), 'REFUSED_TOLD': str(told.fileno())}
         if library:
             env['LD_PRELOAD'] = str(library)
         ran = subprocess.run(command, input=stdin, capture_output=True, env=env, pass_fds=(told.fileno(),), timeout=60, cwd=folder)
-        return ran.returncode, ran.stdout, ran.stderr, told.seek(0, os.SEEK_END)
+        told.seek(0)
+        return ran.returncode, ran.stdout, ran.stderr, told.read()
