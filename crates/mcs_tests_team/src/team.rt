@@ -68,7 +68,11 @@ fn two_pieces_run_at_once(rt: HostRuntime) -> Result<(), Fail> {
     let whole = simulate(&rt, alloc, system, moment(7)?, 2, &gate)?;
     assert_eq!(rt; whole.rows.len(), 13);
     assert_eq!(rt; gate.begun.load(Ordering::SeqCst), 2);
-    assert_eq!(rt; gate.alone.load(Ordering::SeqCst), 0);
+    assert_eq!(rt;
+        gate.alone.load(Ordering::SeqCst),
+        0,
+        "or no memory for a thread"
+    );
     Ok(())
 }
 
