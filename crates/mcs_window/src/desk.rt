@@ -451,6 +451,19 @@ impl Desk {
         mem::replace(&mut self.rows[core.0], Vec::new(self.alloc))
     }
 
+    /// The rows of a core that are yet to come have the room of this list, where none of them lies on the desk. What the list holds is
+    /// dropped, and no memory is taken.
+    pub fn put_room(&mut self, core: CoreId, list: Vec<Row>)
+        requires { core < self.old.system.cores }
+        ensures { self.new ≡ self.old }
+    {
+        if self.rows[core.0].is_empty() {
+            let mut room = list;
+            room.clear();
+            self.rows[core.0] = room;
+        }
+    }
+
     // Why a stretch of the desk's system is not the one that its core is lent for.
     fn fault_of(&self, done: &Done) -> Option<SettleFault>
         requires { done.now.system ≡ self.now.system }
