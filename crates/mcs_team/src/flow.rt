@@ -13,6 +13,7 @@ use mcs_merge::{Merger, steps_are_merged};
 use mcs_report::{Reports, Tally};
 use mcs_system::System;
 use mcs_ticks::{CoreId, NoMemory, Row, Tick};
+use mcs_window::Desk;
 use std::alloc::Global;
 use std::mem;
 
@@ -86,6 +87,15 @@ impl Flow {
         Ok(())
     }
 
+    /// The rows to come on a desk have the room of those that were given.
+    pub(crate) fn return_rooms(&mut self, desk: &mut Desk)
+        requires { desk.old.system.cores ≤ length self.old.merger.clocks }
+        ensures desk { desk.new ≡ desk.old }
+        ensures flow { self.new ≡ self.old }
+    {
+        return_rooms(&mut self.merger, desk);
+    }
+
     /// The reports of all rows that were given.
     pub(crate) fn finish(self) -> Reports
         ensures { result ≡ finished self.tally }
@@ -111,6 +121,19 @@ fn pour<S: Sink>(merger: &mut Merger, tally: &mut Tally, sink: &mut S) -> Result
         tally.add(&row);
     }
     Ok(())
+}
+
+// The rows to come of each core have the room of its rows that were taken from the merger.
+fn return_rooms(merger: &mut Merger, desk: &mut Desk)
+    requires { desk.old.system.cores ≤ length merger.old.clocks }
+    ensures merger { merger.new ≡ merger.old }
+    ensures desk { desk.new ≡ desk.old }
+{
+    for number in 0..desk.cores() {
+        let core = CoreId(number);
+        let room = merger.take_room(core);
+        desk.put_room(core, room);
+    }
 }
 
 // Adds the rows of a core, of which its batch then has none.

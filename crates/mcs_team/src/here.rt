@@ -20,7 +20,7 @@ use std::marker::Brand;
 use std::sync::Arc;
 
 // With so many rows on the desk they are taken.
-const ROWS: usize = 8192;
+const ROWS: usize = 2048;
 
 // Takes the turns in rounds, and gives the rows of each round that the clocks of all cores have passed.
 fn flow_rounds<B: Run, S: Sink>(
@@ -50,6 +50,7 @@ fn flow_rounds<B: Run, S: Sink>(
         if let Err(fault) = flow.give::<B, S>(sink) {
             return Err(fault);
         }
+        flow.return_rooms(&mut desk);
     }
     schedules_are_reported();
     Ok(flow.finish())

@@ -1,6 +1,8 @@
-use Rattle.std.proofs.Common.{◌≡◌, ◌≢◌, min, sym, ap, ◌∙◌, subst, rules}
+use Rattle.std.proofs.Common.{◌≡◌, ◌≢◌, min, sym, ap, ◌∙◌, subst, arith, rules}
 use Rattle.std.specs.Prelude.{fold}
 use Rattle.mcs_system.proofs.Linked.{takes_time}
+use Rattle.mcs_system.specs.System.{System}
+use Rattle.mcs_window.specs.Desk.{Table}
 use Rattle.mcs_team.specs.Flow.{pasts_of, AreBatches, AreTakenTo}
 use Rattle.mcs_team.proofs.Batches.{batches-written, pasts-written}
 use Rattle.mcs_team.proofs.Rounds.{may-gather, round-next, fewer-left}
@@ -32,6 +34,11 @@ give-requires-clause-taken g c =
     (subst (λ h. AreBatches g.B.Run.system h (pasts_of c.as_mut_slice.result.now) c.gather.new.batches) horizon
     (subst (λ s. AreBatches s c.go.new.self.horizon (pasts_of c.as_mut_slice.result.now) c.gather.new.batches) system c.gather.ensures.batches))
 
+pub return_rooms-requires : goal.return_rooms-requires
+return_rooms-requires g c =
+    let system = ap (λ (desk : Table). desk.system.cores) c.gather.ensures.rest ∙ ap (λ (system : System). system.cores) (c.in-Ok.ensures.later.system_is ∙ c.rounds.invariant.system_is) in
+    omega (arith, system, c.in_default-give.ensures.at.many_are)
+
 pub rounds-init : goal.rounds-init
 rounds-init g c = record {
   system_is = c.requires.run.0;
@@ -52,19 +59,23 @@ rounds-smaller g c =
     let batches = r.flow.batches in
     let wrote = pasts-written batches.len batches.items c.gather.new.batches c.as_mut_slice.result.now batches.ok.0 c.as_mut_slice.ensures.value c.gather.ensures.batches.many_are in
     let more : r.flow.reached ≢ r.flow.end = search rules in
+    rw (c.return_rooms.ensures.desk, c.return_rooms.ensures.flow) (
     fewer-left g.S.Sink.takes g.B.Run.system g.B.Run.horizon c.args.sink.now r.desk (pasts_of r.flow.batches.items) r.flow.merger r.flow.tally r.flow.reached r.flow.end r.sink r.invariant
     c.go.new.self c.in-Ok.ensures.later c.gather.new.desk (pasts_of c.gather.new.batches) c.gather.ensures.pasts c.gather.ensures.taken c.gather.ensures.rest
     c.give.new.self.reached c.give.new.self.end c.in_default-give.ensures.end more (c.in_default-give.ensures.reached ∙ ap (fold min r.flow.end) wrote) c.in-Ok.ensures.fewer
+    )
 
 pub rounds-preserved : goal.rounds-preserved
 rounds-preserved g c =
     let r = c.rounds in
     let batches = r.flow.batches in
     let wrote = pasts-written batches.len batches.items c.gather.new.batches c.as_mut_slice.result.now batches.ok.0 c.as_mut_slice.ensures.value c.gather.ensures.batches.many_are in
+    rw (c.return_rooms.ensures.desk, c.return_rooms.ensures.flow) (
     round-next g.S.Sink.takes g.B.Run.system g.B.Run.horizon c.args.sink.now r.desk (pasts_of r.flow.batches.items) r.flow.merger r.flow.tally r.flow.reached r.flow.end r.sink r.invariant
     c.go.new.self c.in-Ok.ensures.later c.gather.new.desk (pasts_of c.gather.new.batches) c.gather.ensures.pasts c.gather.ensures.taken c.gather.ensures.rest
     c.give.new.self.merger c.give.new.self.tally c.give.new.self.reached c.give.new.self.end (pasts_of c.give.new.self.batches.items) c.give.new.sink
     (c.in_default-give.ensures.pasts ∙ wrote) c.in_default-give.ensures.end c.in_default-give.ensures.clocks c.in_default-give.ensures.at c.in_default-give.ensures.given c.gather.ensures.long
+    )
 
 pub returns-clause-given : goal.returns-clause-given
 returns-clause-given g c =
