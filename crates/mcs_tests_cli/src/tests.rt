@@ -1,5 +1,7 @@
 mod devices;
 mod failing;
 mod faults;
+mod gates;
 mod runs;
 mod words;
+mod worked;

@@ -108,22 +108,26 @@ impl Target for FailingVec {
     }
 }
 
-/// A reader or a writer of which one call has a fault, after so many that have none.
+/// A reader or a writer of which some calls in a row have a fault, after so many that have none.
 #[derive(Drop)]
 pub struct Faulty<D> {
     pub inner: D,
     pub calls: usize,
+    pub times: usize,
     pub kind: ErrorKind,
 }
 
 impl<D> Faulty<D> {
     fn turn(&mut self) -> io::Result<()> {
-        if self.calls == 0 {
-            self.calls = usize::MAX;
-            return Err(io::Error::from(self.kind));
+        if self.calls > 0 {
+            self.calls -= 1;
+            return Ok(());
         }
-        self.calls -= 1;
-        Ok(())
+        if self.times == 0 {
+            return Ok(());
+        }
+        self.times -= 1;
+        Err(io::Error::from(self.kind))
     }
 }
 

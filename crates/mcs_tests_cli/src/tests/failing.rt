@@ -1,102 +1,12 @@
 use super::devices::{FailingSlice, FailingVec, Faulty};
+use super::worked::{REPORTED, WORKED, to_twenty};
 use mcs_cli::{FromRead, IntoWrite, Open, Options, RunFault, Show, Source, Target, run};
-use mcs_ticks::Tick;
 use std::alloc::Global;
 use std::io::ErrorKind;
 use std::process::Abort;
 use std::sync::Wait;
 use std::test::Fail;
 use std::thread::Threads;
-
-/// Two systems, and the schedule of each up to moment 20.
-static WORKED: [(&str, &str); 2] = [
-    (
-        "\
-version = 1
-cores = 1
-delay = 1
-
-[[context]]
-name = \"a\"
-core = 0
-budget = 2
-period = 5
-
-[[thread]]
-name = \"A\"
-context = \"a\"
-priority = 5
-rounds = 1
-script = [\"compute 5\"]
-",
-        "\
-0 0 release A
-0 0 run A
-2 0 stop A spent 2 until 5
-5 0 release A
-5 0 run A
-7 0 stop A spent 2 until 10
-10 0 release A
-10 0 run A
-11 0 round A 1 11
-11 0 stop A done 1
-",
-    ),
-    (
-        "\
-version = 1
-cores = 2
-delay = 3
-
-[[context]]
-name = \"s\"
-core = 1
-budget = 5
-period = 10
-
-[[note]]
-name = \"n\"
-core = 0
-
-[[thread]]
-name = \"S\"
-context = \"s\"
-priority = 5
-rounds = 1
-script = [\"compute 1\", \"signal n 1\", \"signal n 2\", \"signal n 4\"]
-",
-        "\
-0 1 release S
-0 1 run S
-2 1 signal S n 1
-3 1 signal S n 2
-4 1 signal S n 4
-4 1 round S 1 4
-4 1 stop S done 4
-5 0 arrive n 1 from 1
-5 0 hold n 1
-6 0 arrive n 2 from 1
-6 0 hold n 3
-7 0 arrive n 4 from 1
-7 0 hold n 7
-",
-    ),
-];
-
-/// What is reported of the first of them up to moment 20.
-const REPORTED: &str = "\
-thread A ran 5 rounds 1 least 11 greatest 11 total 11 late 0 spent 2 throttled 6 longest 3
-core 0 busy 5 idle 15
-";
-
-fn to_twenty(show: Show) -> Options {
-    Options {
-        file: None,
-        horizon: Tick::new(20).unwrap(),
-        workers: 1,
-        show,
-    }
-}
 
 /// The number of reads that a run makes, each of which fails once: then nothing is written.
 fn reads(
@@ -114,7 +24,7 @@ fn reads(
             alloc,
             &mut source,
             &mut target,
-            &to_twenty(Show::Schedule),
+            &to_twenty(Show::Schedule, false),
             &Open,
         );
         if ended.is_ok() {
@@ -142,14 +52,14 @@ fn writes(
     rt: &(impl Threads + Wait + Sync + Abort),
     alloc: Global,
     file: &str,
-    show: Show,
+    options: &Options,
     want: &str,
     most: usize,
 ) -> Result<usize, Fail> {
     for calls in 0..4096 {
         let mut source = FailingSlice::new(file.as_bytes(), usize::MAX, usize::MAX);
         let mut target = FailingVec::new(Vec::with_capacity(alloc, 4096)?, most, calls);
-        let ended = run(rt, alloc, &mut source, &mut target, &to_twenty(show), &Open);
+        let ended = run(rt, alloc, &mut source, &mut target, options, &Open);
         if ended.is_ok() {
             assert_eq!(rt; target.bytes.as_slice(), want.as_bytes());
             return Ok(calls);
@@ -172,11 +82,14 @@ fn writes(
 // 35. The last call is the flush.
 #[test]
 fn each_write_fails(rt: HostRuntime) -> Result<(), Fail> {
-    for ((file, want), pieces) in WORKED.as_slice().iter().zip([7, 8]) {
-        let bytes = writes(&rt, rt.alloc(), *file, Show::Schedule, *want, 1)?;
-        assert_eq!(rt; bytes, want.len() + 1);
-        let whole = writes(&rt, rt.alloc(), *file, Show::Schedule, *want, 4096)?;
-        assert_eq!(rt; whole, pieces + 1);
+    for team in [false, true] {
+        let options = to_twenty(Show::Schedule, team);
+        for ((file, want), pieces) in WORKED.as_slice().iter().zip([7, 8]) {
+            let bytes = writes(&rt, rt.alloc(), *file, &options, *want, 1)?;
+            assert_eq!(rt; bytes, want.len() + 1, "team: {team}");
+            let whole = writes(&rt, rt.alloc(), *file, &options, *want, 4096)?;
+            assert_eq!(rt; whole, pieces + 1, "team: {team}");
+        }
     }
     Ok(())
 }
@@ -186,16 +99,14 @@ fn each_write_fails(rt: HostRuntime) -> Result<(), Fail> {
 fn each_write_of_rows_and_reports_fails(rt: HostRuntime) -> Result<(), Fail> {
     let (file, rows) = WORKED[0];
     let want = format!(in rt.alloc(); "{rows}{REPORTED}")?;
-    let bytes = writes(&rt, rt.alloc(), file, Show::Both, want.as_str(), 1)?;
+    let both = to_twenty(Show::Both, false);
+    let bytes = writes(&rt, rt.alloc(), file, &both, want.as_str(), 1)?;
     assert_eq!(rt; bytes, want.len() + 1);
-    assert_eq!(rt;
-        writes(&rt, rt.alloc(), file, Show::Both, want.as_str(), 4096)?,
-        8
-    );
-    assert_eq!(rt;
-        writes(&rt, rt.alloc(), file, Show::Reports, REPORTED, 4096)?,
-        2
-    );
+    let whole = writes(&rt, rt.alloc(), file, &both, want.as_str(), 4096)?;
+    assert_eq!(rt; whole, 8);
+    let reports = to_twenty(Show::Reports, false);
+    let whole = writes(&rt, rt.alloc(), file, &reports, REPORTED, 4096)?;
+    assert_eq!(rt; whole, 2);
     Ok(())
 }
 
@@ -209,7 +120,7 @@ fn a_target_that_takes_nothing_has_failed(rt: HostRuntime) -> Result<(), Fail> {
         rt.alloc(),
         &mut source,
         &mut target,
-        &to_twenty(Show::Schedule),
+        &to_twenty(Show::Schedule, false),
         &Open,
     );
     assert_eq!(rt; ended, Err(RunFault::Write));
@@ -217,21 +128,33 @@ fn a_target_that_takes_nothing_has_failed(rt: HostRuntime) -> Result<(), Fail> {
     Ok(())
 }
 
+/// Kinds of faults, how many calls in a row have one, and whether the device has failed then.
+const FAULTS: [(ErrorKind, usize, bool); 3] = [
+    (ErrorKind::Interrupted, 1, false),
+    (ErrorKind::Interrupted, 2, false),
+    (ErrorKind::Other, 1, true),
+];
+
 // The text is read in two calls, and in two it is written and flushed.
 #[test]
 fn what_is_interrupted_is_read_again(rt: HostRuntime) -> Result<(), Fail> {
     let (file, want) = WORKED[0];
     for calls in [0, 1] {
-        for (kind, fails) in [(ErrorKind::Interrupted, false), (ErrorKind::Other, true)] {
+        for (kind, times, fails) in FAULTS {
             let inner = file.as_bytes();
-            let mut source = FromRead::new(Faulty { inner, calls, kind });
+            let mut source = FromRead::new(Faulty {
+                inner,
+                calls,
+                times,
+                kind,
+            });
             let mut target = IntoWrite::new(Vec::with_capacity(rt.alloc(), 4096)?);
             let ended = run(
                 &rt,
                 rt.alloc(),
                 &mut source,
                 &mut target,
-                &to_twenty(Show::Schedule),
+                &to_twenty(Show::Schedule, false),
                 &Open,
             );
             let outcome = if fails { Err(RunFault::Read) } else { Ok(()) };
@@ -253,16 +176,21 @@ fn what_is_interrupted_is_read_again(rt: HostRuntime) -> Result<(), Fail> {
 fn what_is_interrupted_is_written_again(rt: HostRuntime) -> Result<(), Fail> {
     let (file, want) = WORKED[0];
     for (calls, before) in [(0, ""), (1, "0 0 release A\n"), (7, want)] {
-        for (kind, fails) in [(ErrorKind::Interrupted, false), (ErrorKind::Other, true)] {
+        for (kind, times, fails) in FAULTS {
             let inner = Vec::with_capacity(rt.alloc(), 4096)?;
             let mut source = FromRead::new(file.as_bytes());
-            let mut target = IntoWrite::new(Faulty { inner, calls, kind });
+            let mut target = IntoWrite::new(Faulty {
+                inner,
+                calls,
+                times,
+                kind,
+            });
             let ended = run(
                 &rt,
                 rt.alloc(),
                 &mut source,
                 &mut target,
-                &to_twenty(Show::Schedule),
+                &to_twenty(Show::Schedule, false),
                 &Open,
             );
             let outcome = if fails { Err(RunFault::Write) } else { Ok(()) };
