@@ -146,7 +146,7 @@ map_alike f g e (x ∷ xs) =
 same_reports : (a b : Reports) → a.threads ≡ b.threads → a.cores ≡ b.cores → a ≡ b
 same_reports a b threads cores = grind arith
 
-same_tally : (a b : Tally) → a.horizon ≡ b.horizon → a.cores ≡ b.cores → a.last ≡ b.last → a.accounts ≡ b.accounts → a ≡ b
+pub same_tally : (a b : Tally) → a.horizon ≡ b.horizon → a.cores ≡ b.cores → a.last ≡ b.last → a.accounts ≡ b.accounts → a ≡ b
 same_tally a b horizon cores last accounts = grind arith
 
 tally_is : (system : System) (h : ℕ) (rows : List Row)

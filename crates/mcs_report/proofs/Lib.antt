@@ -9,3 +9,5 @@ pub mod Worked
 pub mod Ticks
 pub mod Demand
 pub mod Bandwidth
+pub mod Rounds
+pub mod ByCore

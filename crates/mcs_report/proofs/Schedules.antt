@@ -59,7 +59,7 @@ shut x (Some chosen) e = by (chosen.thread == x) e
     by true e = absurd (omega arith)
     by false e = refl
 
-absent : (x : ℕ) (k : Core) → places x k ≡ 0 → is_open x k.running ≡ false
+pub absent : (x : ℕ) (k : Core) → places x k ≡ 0 → is_open x k.running ≡ false
 absent x k e = shut x k.running (omega arith)
 
 -- at first a thread has no place on a core that is not its own
@@ -102,7 +102,7 @@ module _ (system : System) (takes_time : TakesTime system) (x : ℕ) where
   core : ℕ → ℕ → Core
   core t c = clocks.core_at system (clocks.world system t) c
 
-  away : (t c : ℕ) → c < system.cores → c ≢ own_core system x → places x (clocks.core_at system (clocks.world system t) c) ≡ 0
+  pub away : (t c : ℕ) → c < system.cores → c ≢ own_core system x → places x (clocks.core_at system (clocks.world system t) c) ≡ 0
   away zero c known other =
       rw (get_or-map-range_with_len (opening_core system) 0 system.cores c c (opening_core system c) known (omega arith)) (no_place system c x other)
   away (suc t) c known other =
@@ -122,7 +122,7 @@ module _ (system : System) (takes_time : TakesTime system) (x : ℕ) where
       rw (core_at-world system takes_time t c known)
       (turn-turns system c t x (filter (clocks.arrives_at system t c) (clocks.world system t).mails) (clocks.core_at system (clocks.world system t) c)).walks
 
-  turn-plain : (t c : ℕ) → c < system.cores → c ≢ own_core system x → ArePlain x (clocks.turn_of system c t).rows
+  pub turn-plain : (t c : ℕ) → c < system.cores → c ≢ own_core system x → ArePlain x (clocks.turn_of system c t).rows
   turn-plain t c known other =
       let turn = turn-turns system c t x (filter (clocks.arrives_at system t c) (clocks.world system t).mails) (clocks.core_at system (clocks.world system t) c) in
       let after = absent x (clocks.core_at system (clocks.world system (suc t)) c) (away (suc t) c known other) in

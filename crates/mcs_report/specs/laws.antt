@@ -2,3 +2,4 @@ pub mod Agreement
 pub mod Schedules
 pub mod Demand
 pub mod Bandwidth
+pub mod ByCore

@@ -2,6 +2,7 @@ ghost use Rattle.mcs_report.specs.laws.Agreement.{Agree, AgreeButRan};
 ghost use Rattle.mcs_report.specs.laws.Schedules.{SchedulesRunApart, SchedulesAreReported};
 ghost use Rattle.mcs_report.specs.laws.Bandwidth.{BandwidthIsBounded};
 ghost use Rattle.mcs_report.specs.laws.Demand.{RunsAreTicks, DemandIsBounded};
+ghost use Rattle.mcs_report.specs.laws.ByCore.{CoresAreCounted};
 
 /// A law of tallies, for every list of rows in which each run of a thread is stopped before the next one, as in every schedule:
 /// what is finished after adding the rows is the reports of the rows.
@@ -40,4 +41,10 @@ pub fn demand_is_bounded()
 /// names, runs in any stretch of a period or less below the horizon for at most its budget.
 pub fn bandwidth_is_bounded()
     ensures { BandwidthIsBounded }
+{}
+
+/// A law of tallies: where the rows of each core are counted by themselves, in their order, and the cores in any order, what is finished in
+/// the end is the reports of the schedule. So rows need not be merged to be counted.
+pub fn cores_are_counted()
+    ensures { CoresAreCounted }
 {}
