@@ -13,7 +13,7 @@ past-of [] core batch l = absurd (omega arith)
 past-of (x ∷ xs) zero batch l = refl
 past-of (x ∷ xs) (suc core) batch l = past-of xs core batch (omega arith)
 
-pasts-long : (batches : List Batch) → length (pasts_of batches) ≡ length batches
+pub pasts-long : (batches : List Batch) → length (pasts_of batches) ≡ length batches
 pasts-long batches = length-map batches (λ x. x.past)
 
 -- a list's elements that were all written

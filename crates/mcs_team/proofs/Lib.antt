@@ -4,6 +4,7 @@ mod Giving
 mod Flowing
 mod Batches
 mod Adding
+mod Counting
 mod Streaming
 mod Resting
 mod Rounds

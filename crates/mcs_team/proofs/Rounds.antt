@@ -12,7 +12,7 @@ use Rattle.mcs_system.specs.WellFormed.{IsWellFormed}
 use Rattle.mcs_core.specs.Clock.{clock}
 use Rattle.mcs_window.specs.Desk.{Table, clock_of, turns_left, opening_table, AllAreHere, IsFinished, IsLater}
 use Rattle.mcs_window.proofs.Openings.{zero_at}
-use Rattle.mcs_team.specs.Flow.{Given, GivesOn, AreAtClocks, AreTakenTo, IsAt}
+use Rattle.mcs_team.specs.Flow.{Given, AreAtClocks, AreTakenTo, IsAt}
 
 -- turns that are left, and one more where not all rows were given
 abbrev pub rounds_left : Table → ℕ → ℕ → ℕ
@@ -28,9 +28,9 @@ least-same end (clk ∷ clks) h =
     let e : min end clk ≡ end = (let g : clk ≡ end = h 0 (omega arith) in omega arith) in
     ap (λ m. fold min m clks) e ∙ least-same end clks (λ i l. h (suc i) (omega arith))
 
-module _ {S : Type 0} (takes : S → Row → Bool → S → Type 0) (system : System) (horizon : ℕ) (s : S) where
-  -- nothing is lent, the rows of the desk up to the batches were taken, and those before a moment were given
-  pub record IsRound (desk : Table) (pasts : List ℕ) (merging : Merging) (tally : Tally) (reached end : ℕ) (t : S) : Type 0 where
+module _ (system : System) (horizon : ℕ) where
+  -- nothing is lent, and the rows of the desk up to the batches were taken
+  pub record IsClear (desk : Table) (pasts : List ℕ) (end : ℕ) : Type 0 where
     pub system_is : desk.system ≡ system
     pub horizon_is : desk.horizon ≡ horizon
     pub sound : desk.lost ≡ false
@@ -38,12 +38,8 @@ module _ {S : Type 0} (takes : S → Row → Bool → S → Type 0) (system : Sy
     pub long : desk.system.cores ≤ length desk.taken
     pub taken : AreTakenTo pasts desk
     pub end_is : end ≡ horizon + 1
-    pub clocks_are : merging.clocks ≡ pasts
-    pub at : IsAt system horizon reached merging tally
-    pub given : Given takes s (clock system reached).rows t
 
-  module _ (desk : Table) (pasts : List ℕ) (merging : Merging) (tally : Tally) (reached end : ℕ) (t : S) (is : IsRound desk pasts merging tally reached end t)
-      (ran : Table) (later : IsLater desk ran) where
+  module _ (desk : Table) (pasts : List ℕ) (end : ℕ) (is : IsClear desk pasts end) (ran : Table) (later : IsLater desk ran) where
     ran-long : ran.system.cores ≤ length ran.taken
     ran-long =
         let a : ran.system.cores ≡ desk.system.cores = ap (λ (x : System). x.cores) later.system_is in
@@ -60,33 +56,22 @@ module _ {S : Type 0} (takes : S → Row → Bool → S → Type 0) (system : Sy
 
     module _ (next : Table) (news : List ℕ) (clocks : AreAtClocks news ran)
         (taken : ran.system.cores ≤ length ran.taken → AreTakenTo news next) (rest : next ≡ record ran { taken = next.taken }) where
-      system-now : next.system ≡ system
-      system-now = ap (λ (x : Table). x.system) rest ∙ later.system_is ∙ is.system_is
-
-      horizon-now : next.horizon ≡ horizon
-      horizon-now = ap (λ (x : Table). x.horizon) rest ∙ later.horizon_is ∙ is.horizon_is
-
-      module _ (after : Merging) (count : Tally) (now last : ℕ) (ends : List ℕ) (u : S) (same : ends ≡ news) (last_is : last ≡ end) (kept : after.clocks ≡ ends)
-          (at : IsAt system horizon now after count) (on : GivesOn takes system reached now t u) (long : length next.taken ≡ length ran.taken) where
-        pub round-next : IsRound next ends after count now last u
-        round-next =
-            record {
-              system_is = system-now;
-              horizon_is = horizon-now;
-              sound = ap (λ (x : Table). x.lost) rest ∙ later.sound;
-              here = subst AllAreHere (sym rest) later.here;
-              long = let e : next.system.cores ≡ ran.system.cores = ap (λ (x : Table). x.system.cores) rest in let r = ran-long in let k = long in omega arith;
-              taken = subst (λ ps. AreTakenTo ps next) (sym same) (taken ran-long);
-              end_is = last_is ∙ is.end_is;
-              clocks_are = kept;
-              at = at;
-              given = on s is.given;
-            }
+      pub clear-next : (last : ℕ) (ends : List ℕ) → ends ≡ news → last ≡ end → length next.taken ≡ length ran.taken → IsClear next ends last
+      clear-next last ends same last_is long =
+          record {
+            system_is = ap (λ (x : Table). x.system) rest ∙ later.system_is ∙ is.system_is;
+            horizon_is = ap (λ (x : Table). x.horizon) rest ∙ later.horizon_is ∙ is.horizon_is;
+            sound = ap (λ (x : Table). x.lost) rest ∙ later.sound;
+            here = subst AllAreHere (sym rest) later.here;
+            long = let e : next.system.cores ≡ ran.system.cores = ap (λ (x : Table). x.system.cores) rest in let r = ran-long in let k = long in omega arith;
+            taken = subst (λ ps. AreTakenTo ps next) (sym same) (taken ran-long);
+            end_is = last_is ∙ is.end_is;
+          }
 
       turns-same : turns_left next ≡ turns_left ran
       turns-same = ap turns_left rest
 
-      module _ (now last : ℕ) (last_is : last ≡ end) where
+      module _ (reached now last : ℕ) (last_is : last ≡ end) where
         pub fewer-left : reached ≢ end → now ≡ fold min end news → IsFinished ran ⊎ (turns_left ran < turns_left desk) → rounds_left next now last < rounds_left desk reached end
         fewer-left more least way = by (reached == end) refl (now == last) refl
           where
@@ -116,6 +101,14 @@ module _ {S : Type 0} (takes : S → Row → Bool → S → Type 0) (system : Sy
                 on-way (inl fin) = absurd (let z = all-ended fin in let g = last_is in let h : now ≢ last = grind (arith, nat_tests) in h (omega arith))
                 on-way (inr less) = let q = turns-same in omega arith
 
+-- the same, and the rows before a moment were given
+pub record IsRound {S : Type 0} (takes : S → Row → Bool → S → Type 0) (system : System) (horizon : ℕ) (s : S)
+    (desk : Table) (pasts : List ℕ) (merging : Merging) (tally : Tally) (reached end : ℕ) (t : S) : Type 0 where
+  pub clear : IsClear system horizon desk pasts end
+  pub clocks_are : merging.clocks ≡ pasts
+  pub at : IsAt system horizon reached merging tally
+  pub given : Given takes s (clock system reached).rows t
+
 -- a desk on which nothing has happened yet
 pub opening-taken : (system : System) (horizon : ℕ) (pasts : List ℕ) → pasts ≡ replicate system.cores 0 → AreTakenTo pasts (opening_table system horizon)
 opening-taken system horizon pasts e =
@@ -129,3 +122,17 @@ opening-here system horizon c p = get_or-replicate system.cores c _ _ p
 
 pub opening-long : (system : System) (horizon : ℕ) → IsWellFormed system → system.cores ≤ length (opening_table system horizon).taken
 opening-long system horizon well = let l = well.limits.cores.1 in let e = length-replicate {A = ℕ} 64 0 in omega arith
+
+pub clear-first : (system : System) (horizon : ℕ) (desk : Table) (pasts : List ℕ) (end : ℕ) → IsWellFormed system → desk ≡ opening_table system horizon →
+    pasts ≡ replicate system.cores 0 → end ≡ horizon + 1 → IsClear system horizon desk pasts end
+clear-first system horizon desk pasts end well e none last =
+    rw e
+    (record {
+      system_is = refl;
+      horizon_is = refl;
+      sound = refl;
+      here = opening-here system horizon;
+      long = opening-long system horizon well;
+      taken = opening-taken system horizon pasts none;
+      end_is = last;
+    })

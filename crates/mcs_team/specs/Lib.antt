@@ -1,3 +1,4 @@
+pub mod Counts
 pub mod Flow
 pub mod Headline
 pub mod NoSystem

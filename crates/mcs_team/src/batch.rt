@@ -6,6 +6,7 @@ ghost use Rattle.mcs_window.specs.Desk.{clock_of, taken_at, taken_of};
 use mcs_ticks::{CoreId, NoMemory, Row, Tick};
 use mcs_window::Desk;
 use std::alloc::Global;
+use std::mem;
 
 /// The rows of a core that were made since the last taking.
 #[derive(Debug, Drop)]
@@ -13,6 +14,17 @@ pub(crate) struct Batch {
     /// The core's clock: the rows are before it.
     pub(crate) past: Tick,
     pub(crate) rows: Vec<Row>,
+}
+
+impl Batch {
+    /// The rows, of which the batch then has none.
+    pub(crate) fn take_rows(&mut self) -> Vec<Row>
+        ensures rows { result.items ≡ self.old.rows.items }
+        ensures past { self.new.past ≡ self.old.past }
+    {
+        let alloc = *self.rows.allocator();
+        mem::replace(&mut self.rows, Vec::new(alloc))
+    }
 }
 
 /// A batch without rows for each core, at moment 0.

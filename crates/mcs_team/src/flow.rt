@@ -15,7 +15,6 @@ use mcs_system::System;
 use mcs_ticks::{CoreId, NoMemory, Row, Tick};
 use mcs_window::Desk;
 use std::alloc::Global;
-use std::mem;
 
 /// Rows on their way: those that were taken last, and those that not all clocks have passed.
 #[derive(Drop)]
@@ -142,8 +141,7 @@ fn add(merger: &mut Merger, core: CoreId, batch: &mut Batch) -> Result<(), NoMem
     ensures added { OnOk result (merger.new ≡ after_add core batch.old.rows.items batch.old.past merger.old) }
     ensures past { batch.new.past ≡ batch.old.past }
 {
-    let alloc = *batch.rows.allocator();
-    let rows = mem::replace(&mut batch.rows, Vec::new(alloc));
+    let rows = batch.take_rows();
     match merger.add(core, rows, batch.past) {
         Ok(()) => Ok(()),
         Err((_, refusal)) => Err(refusal),

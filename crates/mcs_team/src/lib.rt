@@ -3,10 +3,12 @@
 
 mod alone;
 mod batch;
+mod counts;
 mod fault;
 mod flow;
 mod gate;
 mod here;
+mod reporting;
 mod room;
 mod run;
 mod seat;
@@ -21,6 +23,7 @@ mod windows;
 pub use alone::simulate_alone;
 pub use fault::SimFault;
 pub use gate::{Gate, Open};
+pub use reporting::report;
 pub use sink::{FlowFault, Refused, Sink};
 pub use snapshot::probe;
 pub use to_sink::simulate_to;
