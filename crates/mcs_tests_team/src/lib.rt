@@ -10,6 +10,8 @@ mod idle;
 #[cfg(test)]
 mod orders;
 #[cfg(test)]
+mod reports;
+#[cfg(test)]
 mod sinks;
 #[cfg(test)]
 mod systems;

@@ -1,0 +1,56 @@
+//! Reports of simulations whose rows are not kept, by every number of threads.
+
+use super::systems::{ONE_ROUND, SIGNALS, moment, system};
+use mcs_report::{CoreReport, Reports, ThreadReport};
+use mcs_team::{Open, report};
+use std::process::Abort;
+use std::test::Fail;
+
+// Of a thread that ran so long, and ended at most one round, at this response: 0 where it ended none.
+fn ran(ran: u64, response: u64) -> ThreadReport {
+    ThreadReport {
+        ran,
+        rounds: if response > 0 { 1 } else { 0 },
+        least: response,
+        greatest: response,
+        total: response,
+        late: 0,
+        spent: 0,
+        throttled: 0,
+        longest: 0,
+    }
+}
+
+fn core(busy: u64, idle: u64) -> CoreReport {
+    CoreReport { busy, idle }
+}
+
+fn are(rt: &impl Abort, reports: &Reports, threads: &[ThreadReport], cores: &[CoreReport]) {
+    assert!(rt; reports.threads.as_slice() == threads);
+    assert!(rt; reports.cores.as_slice() == cores);
+}
+
+#[test]
+fn a_core_that_only_gets_signals_is_idle(rt: HostRuntime) -> Result<(), Fail> {
+    let alloc = rt.alloc();
+    for workers in [0usize, 1, 2, 64] {
+        let system = system(alloc, SIGNALS)?;
+        let reports = report(&rt, alloc, system, moment(20)?, workers, &Open)?;
+        are(&rt, &reports, &[ran(4, 4)], &[core(0, 20), core(4, 16)]);
+    }
+    Ok(())
+}
+
+// The third thread waits from moment 1 to moment 4, at which it begins to run again.
+#[test]
+fn a_run_ends_at_the_horizon(rt: HostRuntime) -> Result<(), Fail> {
+    let alloc = rt.alloc();
+    let threads = [ran(2, 2), ran(2, 2), ran(1, 0)];
+    let cores = [core(2, 2), core(2, 2), core(1, 3)];
+    for workers in [0usize, 1, 2, 64] {
+        let system = system(alloc, ONE_ROUND)?;
+        let reports = report(&rt, alloc, system, moment(4)?, workers, &Open)?;
+        are(&rt, &reports, &threads, &cores);
+    }
+    Ok(())
+}
