@@ -12,6 +12,8 @@ pub mod Told
 pub mod Spaced
 pub mod Consumed
 pub mod Places
+pub mod Homes
+pub mod Links
 pub mod OnTime
 pub mod Moments
 pub mod Spends

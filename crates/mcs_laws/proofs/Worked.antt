@@ -11,7 +11,7 @@ use Rattle.mcs_control.specs.declared.config.Mode.TheVariants as mode
 use Rattle.mcs_system.specs.declared.part.ContextPart.{ContextPart}
 use Rattle.mcs_system.specs.declared.part.ThreadPart.{ThreadPart}
 use Rattle.mcs_system.specs.System.{System}
-use Rattle.mcs_core.specs.Clock.{core_at, clock_with}
+use Rattle.mcs_core.specs.Clock.{core_at, clock_with, turn_of}
 use Rattle.mcs_laws.specs.Changes.{Change, taken_by}
 use Rattle.mcs_laws.specs.Changes.Change.{Charged, Ordered}
 use Rattle.mcs_laws.specs.Demand.{periods_begun, ticks_run, demand_of}
@@ -156,3 +156,30 @@ bandwidth_runs_one = refl
 -- the bound is met, and a tick more would be too much for a stretch of a period and a tick
 bandwidth_runs_again : ticks_run (kept_waiting mode.Bandwidth) 0 16 ∷ ticks_run (kept_waiting mode.Bandwidth) 0 17 ∷ [] ≡ 4 ∷ 5 ∷ []
 bandwidth_runs_again = refl
+
+-- Two cores whose notifications are both on core 1: the thread of core 0 signals both of them, and that of core 1 signals at home.
+abbrev signals_away : System
+signals_away =
+    record {
+      cores = 2;
+      delay = 3;
+      call = 1;
+      min_budget = 1;
+      contexts = context 9 50 ∷ record { name = []; core = 1; config = config 9 50; mode = mode.Sporadic } ∷ [];
+      notes = record { name = []; core = 1 } ∷ record { name = []; core = 1 } ∷ [];
+      threads = thread 0 5 (Signal 1 7 ∷ Compute 1 ∷ Signal 0 4 ∷ []) ∷ thread 1 5 (Signal 0 2 ∷ []) ∷ [];
+      orders = [];
+      links = [];
+    }
+
+-- the badges of the signals that a core makes for the other one at moments 0 to 3
+abbrev badges_of : ℕ → List (List ℕ)
+badges_of core = map (λ t. map (λ mail. mail.badge) (turn_of signals_away core t).mails) (0 ∷ 1 ∷ 2 ∷ 3 ∷ [])
+
+-- an item makes its signal where it ends, and at no other moment
+says_its_items : badges_of 0 ≡ [] ∷ (7 ∷ []) ∷ [] ∷ (4 ∷ []) ∷ []
+says_its_items = refl
+
+-- a signal at home is an item too, and goes to no other core
+says_nothing_at_home : badges_of 1 ≡ [] ∷ [] ∷ [] ∷ [] ∷ []
+says_nothing_at_home = refl

@@ -6,6 +6,7 @@ pub mod InForce
 pub mod Shown
 pub mod Slices
 pub mod Places
+pub mod Links
 pub mod OnTime
 pub mod Demand
 pub mod Bandwidth

@@ -2,6 +2,7 @@ ghost use Rattle.mcs_system.specs.System.{System, TakesTime};
 ghost use Rattle.mcs_system.specs.WellFormed.{IsWellFormed};
 ghost use Rattle.mcs_core.specs.Quiet.{OnlyCount};
 ghost use Rattle.mcs_laws.specs.Turns.{CoresAreOfTurns, RowsAreOfTurns, SignalsAreOfTurns, ArrivalsAreOfTurns};
+ghost use Rattle.mcs_laws.specs.Links.{SignalsAreSaid};
 ghost use Rattle.mcs_laws.specs.Disciplines.{DisciplinesAgree};
 ghost use Rattle.mcs_laws.specs.Places.{ThreadsHaveOnePlace};
 ghost use Rattle.mcs_laws.specs.OnTime.{ThreadsAreOnTime};
@@ -35,6 +36,12 @@ pub fn rows_are_of_turns()
 pub fn signals_are_of_turns()
     ensures under_way { (system : System) → IsWellFormed system → SignalsAreOfTurns system }
     ensures arriving { (system : System) → IsWellFormed system → ArrivalsAreOfTurns system }
+{}
+
+/// A law of the clock: each signal that a core makes for another one is an item of one of its own threads. So a core none of whose threads
+/// has an item that signals a notification of another core never reaches that one.
+pub fn signals_are_said()
+    ensures { SignalsAreSaid }
 {}
 
 /// A law of single cores: quiet turns make no row and no signal, leave the box as it was, and count their ticks.
