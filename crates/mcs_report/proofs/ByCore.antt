@@ -24,7 +24,8 @@ use Rattle.mcs_report.specs.laws.ByCore.{home_of, rows_within, CountsNone, Count
 use Rattle.mcs_report.proofs.Alone.{alone, told_alone, each_from, accounts-fold, horizon-fold, cores-fold}
 use Rattle.mcs_report.proofs.Agree.{same_tally}
 use Rattle.mcs_report.proofs.Walks.{ArePlain}
-use Rattle.mcs_report.proofs.Schedules.{own_core, own_core_known, away, turn-plain, reported}
+use Rattle.mcs_laws.proofs.Homes.{own_core, own_core_known, away}
+use Rattle.mcs_report.proofs.Schedules.{turn-plain, reported}
 use Rattle.mcs_report.proofs.Rounds.{ends_round, AreRoundless, turn-roundless}
 
 -- folding over the parts of a range, in order

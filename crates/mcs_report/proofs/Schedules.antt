@@ -1,25 +1,20 @@
 -- In a schedule each run of a thread is stopped before the next one.
-use Rattle.std.proofs.Common.{◌≡◌, ◌≢◌, ℕ, zero, suc, ◌+◌, ◌<◌, ◌≤◌, Bool, true, false, cond, ◌==◌, ◌⊎◌, inl, inr, List, [], ◌∷◌, ◌++◌, length, map, get_or, Option, Some, None, refl, sym, ap, subst, ◌∙◌, arith}
+use Rattle.std.proofs.Common.{◌≡◌, ◌≢◌, ℕ, zero, suc, ◌+◌, ◌<◌, ◌≤◌, Bool, true, false, cond, ◌==◌, ◌⊎◌, inl, inr, List, [], ◌∷◌, ◌++◌, map, Option, Some, None, refl, sym, ap, subst, ◌∙◌, arith}
 use Rattle.std.specs.Prelude.{filter, flat_map}
 use Rattle.std.specs.List.{range_with_len}
 use Rattle.std.proofs.lemmas.Bool.{cases_lt}
-use Rattle.std.proofs.lemmas.Bool.Decides.{nat_tests}
-use Rattle.std.proofs.lemmas.List.{get_or_past, map-append}
+use Rattle.std.proofs.lemmas.List.{map-append}
 use Rattle.std.proofs.lemmas.List.FromFn.{get_or-map-range_with_len}
 use Rattle.mcs_ticks.specs.declared.row.Row.{Row}
 use Rattle.mcs_ticks.specs.declared.row.What.{What}
-use Rattle.mcs_release.specs.declared.dated.Dated.{Dated}
 use Rattle.mcs_core.specs.declared.standing.Chosen.{Chosen}
-use Rattle.mcs_system.specs.declared.part.ThreadPart.{ThreadPart}
 use Rattle.mcs_system.proofs.Linked.{takes_time}
-use Rattle.mcs_system.specs.System.{System, TakesTime, no_thread, no_context, thread_part, context_part, core_of}
-use Rattle.mcs_core.specs.Core.{Core, opening_core, opening_releases}
+use Rattle.mcs_system.specs.System.{System, TakesTime}
+use Rattle.mcs_core.specs.Core.{Core, opening_core}
 use Rattle.mcs_core.specs.Clock as clocks
-use Rattle.mcs_system.specs.WellFormed.{IsWellFormed}
 use Rattle.mcs_core.proofs.Clock.{core_at-world, rows-clock}
 use Rattle.mcs_laws.specs.Places.{times_running, places}
-use Rattle.mcs_core.specs.Places.{times_dated}
-use Rattle.mcs_laws.proofs.Places.{turn-held, quiet-waiting}
+use Rattle.mcs_laws.proofs.Homes.{one_if, own_core, own_core_known, away}
 use Rattle.mcs_report.specs.Reports.{runs, stops}
 use Rattle.mcs_report.specs.laws.Agreement.{StopsFirst, RunsApart}
 use Rattle.mcs_report.specs.laws.Schedules.{SchedulesRunApart, SchedulesAreReported}
@@ -47,9 +42,6 @@ apart-walks x (r ∷ rows) before last walks =
       λ e. (not_again (runs x r.what) before e walks.0, λ f. rest.1 (still (runs x r.what) (stops x r.what) before e f)),
     )
 
-abbrev pub one_if : Bool → ℕ
-one_if b = cond b 1 0
-
 -- a thread that has no place on a core does not run there
 shut : (x : ℕ) (running : Option Chosen) → times_running x running ≡ 0 → is_open x running ≡ false
 shut x None e = refl
@@ -62,55 +54,9 @@ shut x (Some chosen) e = by (chosen.thread == x) e
 pub absent : (x : ℕ) (k : Core) → places x k ≡ 0 → is_open x k.running ≡ false
 absent x k e = shut x k.running (omega arith)
 
--- at first a thread has no place on a core that is not its own
-no_date : (system : System) (c x n : ℕ) (threads : List ThreadPart)
-    → ((i : ℕ) → i < length threads → core_of system (get_or threads i no_thread) ≡ c → n + i ≢ x) → times_dated x (opening_releases system c n threads) ≡ 0
-no_date system c x n [] h = refl
-no_date system c x n (part ∷ parts) h = by (core_of system part == c) refl (no_date system c x (n + 1) parts (λ i l e q. h (suc i) (omega arith) e (omega arith)))
-  where
-    others : List Dated
-    others = opening_releases system c (n + 1) parts
-
-    equal : (a b : ℕ) → (a == b) ≡ true → a ≡ b
-    equal a b e = grind (arith, nat_tests)
-
-    another : (a b : ℕ) → a ≢ b → one_if (a == b) ≡ 0
-    another a b h = grind (arith, nat_tests)
-
-    by : (b : Bool) → (core_of system part == c) ≡ b → times_dated x others ≡ 0 →
-        times_dated x (cond b (record { thread = n; date = part.start } ∷ others) others) ≡ 0
-    by true e none =
-        omega (
-          arith,
-          none,
-          another n x (λ q. h 0 (omega arith) (equal (core_of system part) c e) (omega arith)),
-        )
-    by false e none = none
-
-unfoldable pub own_core : System → ℕ → ℕ
-own_core system x = core_of system (thread_part system x)
-
-no_place : (system : System) (c x : ℕ) → c ≢ own_core system x → places x (opening_core system c) ≡ 0
-unfolding own_core
-no_place system c x away =
-    omega (arith, no_date system c x 0 system.threads (λ i l e q. away (elsewhere i (omega arith) e)), quiet-waiting x system.notes)
-  where
-    elsewhere : (i : ℕ) → i ≡ x → core_of system (get_or system.threads i no_thread) ≡ c → c ≡ core_of system (thread_part system x)
-    elsewhere i q e = sym e ∙ ap (λ k. core_of system (get_or system.threads k no_thread)) q
-
 module _ (system : System) (takes_time : TakesTime system) (x : ℕ) where
   core : ℕ → ℕ → Core
   core t c = clocks.core_at system (clocks.world system t) c
-
-  pub away : (t c : ℕ) → c < system.cores → c ≢ own_core system x → places x (clocks.core_at system (clocks.world system t) c) ≡ 0
-  away zero c known other =
-      rw (get_or-map-range_with_len (opening_core system) 0 system.cores c c (opening_core system c) known (omega arith)) (no_place system c x other)
-  away (suc t) c known other =
-      rw (core_at-world system takes_time t c known)
-      (still_none _ _ (turn-held system c t x (filter (clocks.arrives_at system t c) (clocks.world system t).mails) (clocks.core_at system (clocks.world system t) c)) (away t c known other))
-    where
-      still_none : (a b : ℕ) → a ≤ b → b ≡ 0 → a ≡ 0
-      still_none a b p q = omega arith
 
   unfoldable pub going : ℕ → ℕ → Bool
   going t c = is_open x (clocks.core_at system (clocks.world system t) c).running
@@ -125,9 +71,9 @@ module _ (system : System) (takes_time : TakesTime system) (x : ℕ) where
   pub turn-plain : (t c : ℕ) → c < system.cores → c ≢ own_core system x → ArePlain x (clocks.turn_of system c t).rows
   turn-plain t c known other =
       let turn = turn-turns system c t x (filter (clocks.arrives_at system t c) (clocks.world system t).mails) (clocks.core_at system (clocks.world system t) c) in
-      let after = absent x (clocks.core_at system (clocks.world system (suc t)) c) (away (suc t) c known other) in
+      let after = absent x (clocks.core_at system (clocks.world system (suc t)) c) (away system takes_time x (suc t) c known other) in
       turn.plain
-      (absent x (clocks.core_at system (clocks.world system t) c) (away t c known other))
+      (absent x (clocks.core_at system (clocks.world system t) c) (away system takes_time x t c known other))
       (rw (core_at-world system takes_time t c known) at after)
 
   same_whats : (t c : ℕ) (ws : List What) → whats (map (λ what. record { moment = t; core = c; what = what }) ws) ≡ ws
@@ -194,18 +140,6 @@ module _ (system : System) (takes_time : TakesTime system) (x : ℕ) where
       (walks-append x (whats (clocks.clock system t).rows) (whats (rows_from t 0 system.cores)) false (going t (own_core system x)) (going (suc t) (own_core system x))
       (walks-clock known t)
       (walks-from t system.cores 0 (omega arith) (omega arith) (omega arith)))
-
--- each thread has a core that there is
-core_of_context : (system : System) → IsWellFormed system → (context : ℕ) → (context_part system context).core < system.cores
-core_of_context system well context = by (cases_lt context (length system.contexts))
-  where
-    by : (context < length system.contexts) ⊎ (length system.contexts ≤ context) → (context_part system context).core < system.cores
-    by (inl within) = (well.contexts context no_context within).core
-    by (inr past) = rw (get_or_past system.contexts context no_context past) (omega (arith, well.limits.cores.0))
-
-pub own_core_known : (system : System) → IsWellFormed system → (x : ℕ) → own_core system x < system.cores
-unfolding own_core
-own_core_known system well x = core_of_context system well (thread_part system x).context
 
 pub apart : SchedulesRunApart
 apart system well horizon x =

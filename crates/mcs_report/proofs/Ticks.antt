@@ -17,7 +17,8 @@ use Rattle.mcs_report.specs.Tally.{ticks_since}
 use Rattle.mcs_report.specs.laws.Demand.{RunsAreTicks}
 use Rattle.mcs_report.proofs.Runs.{open_run, open_run-stop, open_run-other, run_lengths-run, run_lengths-other}
 use Rattle.mcs_report.proofs.Walks.{Walks, is_open, after_row}
-use Rattle.mcs_report.proofs.Schedules.{whats, one_if, own_core, own_core_known, going, rows_from, walks-from, walks-clock}
+use Rattle.mcs_laws.proofs.Homes.{one_if, own_core, own_core_known}
+use Rattle.mcs_report.proofs.Schedules.{whats, going, rows_from, walks-from, walks-clock}
 
 -- what a row says of a thread: it begins to run, it stops, or neither
 data Says (x : ℕ) (what : What) : Type 0 where
