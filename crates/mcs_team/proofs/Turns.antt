@@ -7,28 +7,44 @@ use Rattle.mcs_system.specs.System.{System, delay_between}
 use Rattle.mcs_window.specs.Idle.{IsIdleUntil}
 use Rattle.mcs_window.specs.Progress.{Progress, clock_of, advanced, skipped}
 use Rattle.mcs_window.specs.Stretch.{NothingArrivesBefore}
-use Rattle.mcs_team.specs.Windows.{AllAt, AreAllowed, AreBetween}
+use Rattle.mcs_window.proofs.Reaches.{by-delays, reached-later}
+use Rattle.mcs_team.specs.Windows.{AllAt, AreAllowed, AreBetween, AreFor}
+use Rattle.mcs_team.specs.declared.windows.Windows.{Windows}
 
 pub between-reached : (start : Progress) (past n : ℕ) (progress : Progress) → AreAllowed start past → n < start.system.cores → AreBetween start past n progress →
     NothingArrivesBefore progress.system n past progress.clocks
-between-reached start past n progress allowed l so_far b known other = by (nat_lt b n) refl
+between-reached start past n progress allowed l so_far =
+    subst (λ (system : System). NothingArrivesBefore system n past progress.clocks) (sym so_far.system_is)
+    (reached-later start.system n past start.clocks progress.clocks (λ b known. rises b known (nat_lt b n) refl) (allowed.reached n l))
   where
-    delay : delay_between progress.system b n ≡ delay_between start.system b n
-    delay = ap (λ system. delay_between system b n) so_far.system_is
-
-    there : b < start.system.cores
-    there = let e = ap (λ (system : System). system.cores) so_far.system_is in omega arith
-
-    by : (u : Bool) → nat_lt b n ≡ u → past ≤ slice_index progress.clocks b + delay_between progress.system b n
-    by true e =
+    rises : (b : ℕ) → b < start.system.cores → (u : Bool) → nat_lt b n ≡ u → slice_index start.clocks b ≤ slice_index progress.clocks b
+    rises b known true e =
         let k : b < n = grind (arith, nat_tests) in
         let clock : slice_index progress.clocks b ≡ past = so_far.done b k in
+        let before : slice_index start.clocks b ≤ past = allowed.not_back b known in
         omega arith
-    by false e =
+    rises b known false e =
         let k : n ≤ b = grind (arith, nat_tests) in
         let clock : slice_index progress.clocks b ≡ slice_index start.clocks b = so_far.left b k in
-        let reach : past ≤ slice_index start.clocks b + delay_between start.system b n = allowed.reached n l b there other in
-        let same = delay in
+        omega arith
+
+-- where all clocks are at one moment, each core may take its turns for the least delay
+pub all-allowed : (start : Progress) (windows : Windows) (first past : ℕ) → AreFor windows start → AllAt start.system start.horizon first start → first ≤ past → (2 ≤ windows.cores → past ≤ first + windows.delay) →
+    AreAllowed start past
+all-allowed start windows first past are at later near =
+    record {
+      many_are = at.many_are;
+      not_back = λ c known. let clock = at.clocks_are c known in omega arith;
+      reached = λ c l. by-delays start.system c past start.clocks (λ b known other. far c l b known other);
+    }
+  where
+    far : (c : ℕ) → c < start.system.cores → (b : ℕ) → b < start.system.cores → b ≢ c → past ≤ slice_index start.clocks b + delay_between start.system b c
+    far c l b known other =
+        let clock : slice_index start.clocks b ≡ first = at.clocks_are b known in
+        let least : windows.delay ≤ delay_between start.system b c = are.least.below b c known l other in
+        let same : windows.cores ≡ start.system.cores = are.cores_are in
+        let two : 2 ≤ windows.cores = omega arith in
+        let short : past ≤ first + windows.delay = near two in
         omega arith
 
 pub between-more : (start : Progress) (past n : ℕ) (progress next : Progress) → AreAllowed start past → n < start.system.cores → AreBetween start past n progress → next ≡ advanced progress n past →

@@ -100,7 +100,7 @@ module _ (system : System) (well : IsWellFormed system) where
     here_own state box l reached stands box_is =
         rw later_same
         (record {
-          reached = λ d q other. let f = reached d q other in let i = later_other d other in omega arith;
+          reached = λ d m x q k i e. reached d m x q (let up = rises l d q in omega arith) i e;
           state_is = stands;
           box_is = ap (with_delivered c) box_is ∙ inbox-delivered system takes_time c to front later (rises l) reached;
         })
@@ -111,7 +111,7 @@ module _ (system : System) (well : IsWellFormed system) where
     here_other b state box other l here =
         rw (later_other b other)
         (record {
-          reached = λ d q e. let f = here.reached d q e in let i = rises l d q in omega arith;
+          reached = λ d m x q k i e. here.reached d m x q (let up = rises l d q in omega arith) i e;
           state_is = here.state_is;
           box_is = ap (with_delivered b) here.box_is ∙ inbox-delivered system takes_time b (slice_index front b) front later (rises l) here.reached;
         })

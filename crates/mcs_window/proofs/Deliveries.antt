@@ -1,22 +1,19 @@
 -- Signals that are put into the boxes of their homes make the inboxes of the later clocks.
-use Rattle.std.proofs.Common.{◌≡◌, ◌≢◌, ℕ, zero, suc, ◌+◌, ◌-◌, ◌<◌, ◌≤◌, Bool, true, false, ◌&&◌, cond, List, [], ◌∷◌, ◌++◌, length, get_or, set, take, refl, sym, ap, ◌∙◌, arith, append-nil}
+use Rattle.std.proofs.Common.{◌≡◌, ◌≢◌, ℕ, zero, suc, ◌+◌, ◌-◌, ◌<◌, ◌≤◌, Bool, true, false, ◌&&◌, cond, List, [], ◌∷◌, ◌++◌, length, get_or, set, take, inl, inr, refl, sym, ap, ◌∙◌, arith, append-nil}
 use Rattle.std.specs.Prelude.{filter, flat_map, ◌==◌, nat_le, slice_index}
 use Rattle.std.specs.List.{range_with_len}
 use Rattle.std.proofs.lemmas.Bool.Decides.{nat_tests}
 use Rattle.std.proofs.lemmas.List.{get_or-set_same, get_or-set_other, get_or_default, length-set, take_more}
 use Rattle.std.proofs.lemmas.List.Elements.{filter-append}
-use Rattle.mcs_ticks.specs.Queue.{by_priority}
 use Rattle.mcs_mail.specs.declared.mail.Mail.{Mail}
-use Rattle.mcs_mail.specs.Box.{Content, put, put_all}
+use Rattle.mcs_mail.specs.Box.{Content, IsIn, put, put_all}
 use Rattle.mcs_merge.proofs.Merges.{flat_map-same}
-use Rattle.mcs_system.specs.System.{System, note_part, delay_between, TakesTime}
+use Rattle.mcs_system.specs.System.{System, note_part, TakesTime}
 use Rattle.mcs_core.specs.Clock as clocks
-use Rattle.mcs_core.proofs.Mails as mails
 use Rattle.mcs_window.specs.stored.Delivery.{is_home, AreDelivered}
 use Rattle.mcs_window.specs.Stretch.{NothingArrivesBefore}
 use Rattle.mcs_window.specs.Inbox as boxes
 use Rattle.mcs_window.specs.Inbox.{inbox, news, signals_between}
-use Rattle.mcs_window.proofs.Boxes.{out_of_turn}
 use Rattle.mcs_window.proofs.Joins.{inbox-joined}
 use Rattle.mcs_window.proofs.News.{news-are}
 
@@ -94,24 +91,21 @@ module _ (system : System) where
   abbrev pub signals_from : List ℕ → List ℕ → List Mail
   signals_from front later = flat_map (λ b. signals_between system b (slice_index front b) (slice_index later b)) (range_with_len 0 system.cores)
 
-  late : (c past : ℕ) (front : List ℕ) (b m : ℕ) → b < system.cores → NothingArrivesBefore system c past front → slice_index front b ≤ m →
-      (ms : List Mail) → mails.IsOutgoing by_priority system b m ms → filter (is_home system c) ms ≡ filter (boxes.is_for system c past) ms
-  late c past front b m h reached l [] k = refl
-  late c past front b m h reached l (mail ∷ []) k = by ((note_part system mail.note).core == c) refl
+  late : (c past : ℕ) (ms : List Mail) → ((mail : Mail) → IsIn mail ms → (note_part system mail.note).core ≡ c → past ≤ mail.arrives) →
+      filter (is_home system c) ms ≡ filter (boxes.is_for system c past) ms
+  late c past [] h = refl
+  late c past (mail ∷ ms) h = by ((note_part system mail.note).core == c) refl (late c past ms (λ x i. h x (inr i)))
     where
-      in_time : (note_part system mail.note).core ≡ c → nat_le past mail.arrives ≡ true
-      in_time e =
-          let other : b ≢ c = λ f. k.away (e ∙ sym f) in
-          let reach = reached b h other in
-          let arrives : mail.arrives ≡ m + delay_between system b c = k.arrives ∙ ap (λ home. m + delay_between system b home) e in
-          grind (arith, nat_tests)
+      in_time : (a : ℕ) → past ≤ a → nat_le past a ≡ true
+      in_time a l = grind (arith, nat_tests)
 
-      by : (u : Bool) → ((note_part system mail.note).core == c) ≡ u → cond u (mail ∷ []) [] ≡ cond (u && nat_le past mail.arrives) (mail ∷ []) []
-      by true e =
-          let same : (note_part system mail.note).core ≡ c = grind (arith, nat_tests) in
-          rw (in_time same) refl
-      by false e = refl
-  late c past front b m h reached l (mail ∷ next ∷ ms) k = absurd k
+      by : (u : Bool) → ((note_part system mail.note).core == c) ≡ u → filter (is_home system c) ms ≡ filter (boxes.is_for system c past) ms →
+          cond u (mail ∷ filter (is_home system c) ms) (filter (is_home system c) ms)
+          ≡ cond (u && nat_le past mail.arrives) (mail ∷ filter (boxes.is_for system c past) ms) (filter (boxes.is_for system c past) ms)
+      by true e same =
+          let at_home : (note_part system mail.note).core ≡ c = grind (arith, nat_tests) in
+          rw (in_time mail.arrives (h mail (inl refl) at_home)) (ap (λ xs. mail ∷ xs) same)
+      by false e same = same
 
   -- what is at home at c arrives no earlier than the clocks allow
   pub home-news : (c past : ℕ) (front later : List ℕ) → NothingArrivesBefore system c past front → filter (is_home system c) (signals_from front later) ≡ news system c past front later
@@ -119,7 +113,7 @@ module _ (system : System) where
       filter-flat_map (is_home system c) (λ b. signals_between system b (slice_index front b) (slice_index later b)) system.cores 0
       ∙ flat_map-same _ _ system.cores 0 (λ b _ h.
       filter-flat_map (is_home system c) (λ m. (clocks.turn_of system b m).mails) (slice_index later b - slice_index front b) (slice_index front b)
-      ∙ flat_map-same _ _ (slice_index later b - slice_index front b) (slice_index front b) (λ m l _. late c past front b m (omega arith) reached l (clocks.turn_of system b m).mails (out_of_turn system 0 [] b m))
+      ∙ flat_map-same _ _ (slice_index later b - slice_index front b) (slice_index front b) (λ m l _. late c past (clocks.turn_of system b m).mails (λ x i e. reached b m x (omega arith) l i e))
       ∙ sym (filter-flat_map (boxes.is_for system c past) (λ m. (clocks.turn_of system b m).mails) (slice_index later b - slice_index front b) (slice_index front b)))
 
   -- so an inbox with them is the inbox by the later clocks

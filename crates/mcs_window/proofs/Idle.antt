@@ -6,7 +6,7 @@ use Rattle.std.proofs.lemmas.Bool.Decides.{nat_tests}
 use Rattle.std.proofs.lemmas.List.FromFn.{get_or-map-range_with_len}
 use Rattle.mcs_mail.specs.declared.mail.Mail.{Mail}
 use Rattle.mcs_mail.specs.Box.{arriving, IsIn}
-use Rattle.mcs_system.specs.System.{System, TakesTime}
+use Rattle.mcs_system.specs.System.{System, note_part, TakesTime}
 use Rattle.mcs_core.specs.Core.{Core}
 use Rattle.mcs_core.specs.Turn.{Turn, turn, silent, stamped}
 use Rattle.mcs_core.specs.Clock as clocks
@@ -18,7 +18,9 @@ use Rattle.mcs_window.specs.Idle as idle
 use Rattle.mcs_window.specs.Idle.{AreReached, AreIdle, AreSet, OnlyCounts}
 use Rattle.mcs_window.proofs.Arrivals.{arrivals-known}
 use Rattle.mcs_window.proofs.Boxes.{arriving-inbox, inbox-step}
+use Rattle.mcs_window.proofs.Inboxes.{of_turn}
 use Rattle.mcs_window.proofs.Joins.{inbox-joined}
+use Rattle.mcs_window.proofs.Reaches.{by-delays}
 
 -- parts that are all empty
 none-joined : {A : Type 0} (f : ℕ → List A) (n a : ℕ) → ((i : ℕ) → i < n → f (a + i) ≡ []) → flat_map f (range_with_len a n) ≡ []
@@ -95,7 +97,7 @@ module _ (system : System) (takes_time : TakesTime system) (front : List ℕ) wh
     still-now c n known l still =
         let t = slice_index front c + n in
         let now : filter (clocks.arrives_at system t c) (clocks.world system t).mails ≡ known_at system c t (set_to t) =
-        arrivals-known system c t (set_to t) takes_time (λ b p q. let at = are-set t b p in let long = takes_time b c in omega arith) in
+        arrivals-known system c t (set_to t) takes_time (by-delays system c (t + 1) (set_to t) (λ b p q. let at = are-set t b p in let long = takes_time b c in omega arith)) in
         let mail : filter (clocks.arrives_at system t c) (clocks.world system t).mails ≡ arriving t (inbox system c (slice_index front c) front) =
         now ∙ sym (arriving-inbox system c (set_to t) t)
         ∙ ap (arriving t) (same-inbox t still (set_to t) (are-set t) c t ∙ inbox-waits c known n (omega arith)) in
@@ -124,7 +126,12 @@ module _ (system : System) (takes_time : TakesTime system) (front : List ℕ) wh
         let n = slice_index later c - slice_index front c in
         let e : slice_index front c + n ≡ slice_index later c = omega arith in
         record {
-          reached = λ b p q. let own = reached c known b p q in let other = set b p in let long = takes_time b c in omega arith;
+          reached = λ b k x p l i e.
+              let other = set b p in
+              let own = reached c known b k x p (omega arith) i e in
+              let made = (of_turn system b k x i).arrives in
+              let long = takes_time b (note_part system x.note).core in
+              omega arith;
           core_is = ap (λ t. clocks.core_at system (clocks.world system t) c) (sym e) ∙ core-still m c known still n (omega arith);
           no_rows = none-joined (clocks.rows_of system c) n (slice_index front c)
               (λ i l. ap (λ (made : Turn). stamped c (slice_index front c + i) made.rows) (still c i known (omega arith)));

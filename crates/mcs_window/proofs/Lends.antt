@@ -11,8 +11,9 @@ use Rattle.mcs_mail.specs.declared.mail.Mail.{Mail}
 use Rattle.mcs_mail.specs.Box.{Content}
 use Rattle.mcs_system.specs.System.{System}
 use Rattle.mcs_core.specs.State.{State}
-use Rattle.mcs_window.specs.Desk.{past_of, loan_of, MayLend, lent_at, IsFinished, AllAreHere}
+use Rattle.mcs_window.specs.Desk.{past_of, loan_of, MayGoOn, MayLend, lent_at, IsFinished, AllAreHere}
 use Rattle.mcs_window.specs.Pieces.{IsWork}
+use Rattle.mcs_window.specs.Stretch.{NothingArrivesBefore}
 use Rattle.mcs_window.specs.stored.Cores.{IsHere}
 use Rattle.mcs_window.specs.stored.Slots.{slot_loan, table_of, IsAway, IsPlaced, ArePlaced, IsKept}
 use Rattle.mcs_window.specs.declared.slot.Loan.{Loan}
@@ -22,6 +23,7 @@ use Rattle.mcs_window.specs.declared.desk.Desk.TheInside.{Inside}
 use Rattle.mcs_window.proofs.Advances.{takes_time}
 use Rattle.mcs_window.proofs.Lending.{past_by-in_time, past_by-reached, goes_on}
 use Rattle.mcs_window.proofs.News.{news-joined}
+use Rattle.mcs_window.proofs.Reaches.{by-delays}
 
 -- a slot and its box are written, and the others stay
 pub placed-set : (system : System) (horizon : ℕ) (clocks : List ℕ) (slots : List Slot) (boxes : List Content) (k : ℕ) (slot : Slot) (box : Content) → ArePlaced system horizon clocks slots boxes →
@@ -53,6 +55,17 @@ module _ (a : Inside) (kept : IsKept a) where
       here_of k (get_or a.slots.items k slot) box.mails spare state (sym at ∙ e)
       (subst (λ (y : Content). IsPlaced system a.horizon k a.clocks y.mails (get_or a.slots.items k slot)) (sym b_at) (kept.placed k slot box l))
 
+  -- a core that may be lent may go on as far as the clocks of all allow
+  pub may_go_on : (k : ℕ) → MayLend (table_of a) k → MayGoOn (table_of a) k (past_of (table_of a) k)
+  may_go_on k may =
+      record {
+        known = may.known;
+        here = may.here;
+        ahead = may.ahead;
+        in_time = past_by-in_time (table_of a) k system.cores;
+        reached = by-delays system k (past_of (table_of a) k) a.clocks (past_by-reached (table_of a) k system.cores);
+      }
+
   -- the piece that is lent
   pub lent_work : (k : ℕ) (slot : Slot) (box : Content) (spare : Arc System Global) (state : State) (first past : ℕ) → MayLend (table_of a) k → slot ≡ Here spare state →
       slot ≡ get_or a.slots.items k slot → box ≡ get_or a.boxes.items k box → first ≡ slice_index a.clocks k → past ≡ past_of (table_of a) k →
@@ -65,7 +78,7 @@ module _ (a : Inside) (kept : IsKept a) where
           known = may.known;
           in_order = (let ahead = may.ahead in omega arith);
           in_time = (let horizon = kept.horizon in omega arith);
-          reached = λ b l other. let reach = past_by-reached (table_of a) k system.cores b l other in omega arith;
+          reached = subst (λ m. NothingArrivesBefore system k m a.clocks) (sym past_is) (may_go_on k may).reached;
           idle = kept.idle;
         };
         state_is = here.1.state_is;
@@ -73,15 +86,12 @@ module _ (a : Inside) (kept : IsKept a) where
       })
 
   -- a core that is lent now, for which no mail was made since
-  pub away_at : (k : ℕ) (loan : Loan) (box : List Mail) → MayLend (table_of a) k → loan.past ≡ past_of (table_of a) k → loan.front ≡ a.clocks → box ≡ [] → IsAway system a.horizon k a.clocks loan box
-  away_at k loan box may past front none =
-      let far = past_by-in_time (table_of a) k system.cores in
-      let ahead = may.ahead in
+  pub away_at : (k : ℕ) (loan : Loan) (box : List Mail) → MayGoOn (table_of a) k loan.past → loan.front ≡ a.clocks → box ≡ [] → IsAway system a.horizon k a.clocks loan box
+  away_at k loan box may front none =
       record {
-        in_order = omega arith;
-        in_time = omega arith;
-        reached = λ b l other.
-            let reach = past_by-reached (table_of a) k system.cores b l other in let same : slice_index loan.front b ≡ slice_index a.clocks b = ap (λ xs. slice_index xs b) front in omega arith;
+        in_order = (let ahead = may.ahead in omega arith);
+        in_time = may.in_time;
+        reached = subst (NothingArrivesBefore system k loan.past) (sym front) may.reached;
         rises = λ b _. let same : slice_index loan.front b ≡ slice_index a.clocks b = ap (λ xs. slice_index xs b) front in omega arith;
         box_are = rw (none, front) (news-joined system k loan.past a.clocks).1;
       }
@@ -100,9 +110,10 @@ module _ (a : Inside) (kept : IsKept a) where
         slots_of = length-set a.slots.items k slot ∙ kept.slots_of;
         boxes_of = length-set a.boxes.items k box ∙ kept.boxes_of;
         delays_are = kept.delays_are;
+        reaches_are = kept.reaches_are;
         since = kept.since;
         placed = placed-set system a.horizon a.clocks a.slots.items a.boxes.items k slot box kept.placed (omega (arith, kept.slots_of, may.known)) (omega (arith, kept.boxes_of, may.known))
-            (subst (IsPlaced system a.horizon k a.clocks box.mails) (sym e) (away_at k loan box.mails may past front none));
+            (subst (IsPlaced system a.horizon k a.clocks box.mails) (sym e) (away_at k loan box.mails (subst (MayGoOn (table_of a) k) (sym past) (may_go_on k may)) front none));
       }
 
   -- what the desk shows

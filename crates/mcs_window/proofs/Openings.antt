@@ -133,7 +133,7 @@ opened_kept a in_time well clocks_are taken_are states boxes rows delays no_sign
       };
       whole = λ _. record {
         here = λ c x y l. record {
-          reached = λ b _ _. let e = clock c l in omega arith;
+          reached = λ b m x _ _ _ _. let e = clock c l in omega arith;
           state_is = rw (clock c l) (opening_stands (arc_value a.system) c _ l (states.each c x l) (states.fit c x l));
           box_is = boxes.each c y l ∙ sym (inbox-opening (arc_value a.system) c (slice_index a.clocks.items c) a.clocks.items clock);
         };

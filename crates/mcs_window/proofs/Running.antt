@@ -1,5 +1,5 @@
 -- A desk whose cores take their turns where they lie.
-use Rattle.std.proofs.Common.{◌≡◌, ◌≢◌, ℕ, ◌+◌, ◌<◌, ◌≤◌, Some, None, List, [], length, map, Vec, get_or, set, inl, inr, refl, sym, ap, ◌∙◌, subst, arith}
+use Rattle.std.proofs.Common.{◌≡◌, ◌≢◌, ℕ, ◌<◌, ◌≤◌, Some, None, List, [], length, map, Vec, get_or, set, inl, inr, refl, sym, ap, ◌∙◌, subst, arith}
 use Rattle.std.specs.Prelude.{filter, slice_index}
 use Rattle.std.specs.Arc.{arc_value}
 use Rattle.std.specs.Vec.{with_item, with_items}
@@ -10,7 +10,7 @@ use Rattle.mcs_ticks.specs.declared.row.Row.{Row}
 use Rattle.mcs_mail.specs.declared.mail.Mail.{Mail}
 use Rattle.mcs_mail.specs.Box.{Content, put_all}
 use Rattle.mcs_system.specs.System.{System}
-use Rattle.mcs_window.specs.Desk.{Table, past_of, MayLend, settled_at, lent_at, taken_at, turns_left}
+use Rattle.mcs_window.specs.Desk.{Table, MayGoOn, settled_at, lent_to, taken_at, turns_left}
 use Rattle.mcs_window.specs.Inbox.{inbox}
 use Rattle.mcs_window.specs.Stretch.{rows_between, NothingArrivesBefore}
 use Rattle.mcs_window.specs.stored.Cores.{AreSince}
@@ -22,14 +22,14 @@ use Rattle.mcs_window.specs.declared.slot.Slot.TheVariants.{Here, Away}
 use Rattle.mcs_window.specs.declared.desk.Desk.TheInside.{Inside}
 use Rattle.mcs_window.proofs.Advances.{signals_own, here_own, since_later}
 use Rattle.mcs_window.proofs.Deliveries.{signals_from}
-use Rattle.mcs_window.proofs.Lending.{past_by-in_time, past_by-reached, turns-fewer}
+use Rattle.mcs_window.proofs.Lending.{turns-fewer}
 use Rattle.mcs_window.proofs.Lends.{away_at, loan_at, placed-set}
 use Rattle.mcs_window.proofs.Ranges.{rows-none}
 use Rattle.mcs_window.proofs.Settling.{placed_other}
 use Rattle.mcs_window.proofs.Skipping.{placed-parts, stands-loan}
 
-pub at_core : (u t : Table) (k n past : ℕ) → u ≡ t → k ≡ n → MayLend t n → past ≡ past_of t n → MayLend u k × (past ≡ past_of u k)
-at_core u t k n past e f may is = rw (e, f) (may, is)
+pub at_core : (u t : Table) (k n past : ℕ) → u ≡ t → k ≡ n → MayGoOn t n past → MayGoOn u k past
+at_core u t k n past e f may = rw (e, f) may
 
 pub same-mail : (boxes : List Content) → AreSameMail boxes boxes
 same-mail boxes = record { many = refl; each = λ c x l. refl }
@@ -100,11 +100,12 @@ taken_kept a kept k clock none known none_is clock_is =
       slots_of = kept.slots_of;
       boxes_of = kept.boxes_of;
       delays_are = kept.delays_are;
+      reaches_are = kept.reaches_are;
       since = since_taken a kept k clock (set a.rows.items k none) none known none_is refl clock_is;
       placed = kept.placed;
     }
 
-module _ (a : Inside) (kept : IsKept a) (k past : ℕ) (may : MayLend (table_of a) k) (is : past ≡ past_of (table_of a) k) where
+module _ (a : Inside) (kept : IsKept a) (k past : ℕ) (may : MayGoOn (table_of a) k past) where
   abbrev system : System
   system = arc_value a.system
 
@@ -117,21 +118,15 @@ module _ (a : Inside) (kept : IsKept a) (k past : ℕ) (may : MayLend (table_of 
   pub in_boxes : k < length a.boxes.items
   in_boxes = let all = kept.boxes_of in let h = may.known in omega arith
 
-  reached : NothingArrivesBefore system k past a.clocks
-  reached b l other = let reach = past_by-reached (table_of a) k system.cores b l other in omega arith
-
-  in_time : past ≤ a.horizon + 1
-  in_time = let far = past_by-in_time (table_of a) k system.cores in omega arith
-
   pub may_go : (slot : Slot) (box : Content) → slot ≡ get_or a.slots.items k slot → box ≡ get_or a.boxes.items k box → MayGo system k past a.clocks slot box.mails
   may_go slot box at b_at =
       record {
         known = may.known;
         stands = subst (StandsIn system k (slice_index a.clocks k)) (sym at) parts.0;
         box_is = ap (λ (y : Content). y.mails) b_at ∙ parts.2;
-        ahead = (let ahead = may.ahead in omega arith);
-        in_time = (let h = in_time in let horizon = kept.horizon in omega arith);
-        reached = reached;
+        ahead = may.ahead;
+        in_time = (let h = may.in_time in let horizon = kept.horizon in omega arith);
+        reached = may.reached;
       }
     where
       parts : StandsIn system k (slice_index a.clocks k) (get_or a.slots.items k slot) × NothingArrivesBefore system k (slice_index a.clocks k) a.clocks
@@ -145,7 +140,7 @@ module _ (a : Inside) (kept : IsKept a) (k past : ℕ) (may : MayLend (table_of 
     forward = let l = gone.later in omega arith
 
     so_far : NothingArrivesBefore system k to a.clocks
-    so_far b l other = let reach = reached b l other in let h = gone.in_time in omega arith
+    so_far b m x l j i e = let reach = may.reached b m x l j i e in let h = gone.in_time in omega arith
 
     signals_are : out.items ≡ signals_from system a.clocks (set a.clocks k to)
     signals_are = gone.signals_are ∙ signals_own system kept.well_formed a.clocks k to in_clocks may.known
@@ -200,7 +195,8 @@ module _ (a : Inside) (kept : IsKept a) (k past : ℕ) (may : MayLend (table_of 
           slots_of = length-set a.slots.items k after ∙ kept.slots_of;
           boxes_of = ap length boxes_are ∙ delivered.many ∙ length-set a.boxes.items k left ∙ kept.boxes_of;
           delays_are = kept.delays_are;
-          since = since_later system kept.well_formed a.clocks k to in_clocks a.horizon a.taken a.rows.items kept.since may.known forward (let h = gone.in_time in let l = in_time in omega arith) old new at gone.rows_are;
+          reaches_are = kept.reaches_are;
+          since = since_later system kept.well_formed a.clocks k to in_clocks a.horizon a.taken a.rows.items kept.since may.known forward (let h = gone.in_time in let l = may.in_time in omega arith) old new at gone.rows_are;
           placed = subst (λ boxes. ArePlaced system a.horizon (set a.clocks k to) (set a.slots.items k after) boxes) (sym boxes_are) placed;
         }
 
@@ -216,18 +212,18 @@ module _ (a : Inside) (kept : IsKept a) (k past : ℕ) (may : MayLend (table_of 
     pub gone_fewer : turns_left (settled_at (table_of a) k to) < turns_left (table_of a)
     gone_fewer =
         turns-fewer (table_of a) k to may.known (let all = kept.clocks_of in let few = kept.few in omega arith) gone.later
-        (let l = gone.in_time in let h = in_time in omega arith)
+        (let l = gone.in_time in let h = may.in_time in omega arith)
 
   -- the desk shows a core that stays lent, and no rows of it that are not taken
   pub spent_shows : (slots : List Slot) (loan : Loan) (clock : ℕ) → loan.past ≡ past → loan.front ≡ a.clocks → slots ≡ set a.slots.items k (Away loan) → clock ≡ slice_index a.clocks k →
-      record (table_of a) { taken = set a.taken k clock; loans = map slot_loan slots } ≡ taken_at (lent_at (table_of a) k) k
+      record (table_of a) { taken = set a.taken k clock; loans = map slot_loan slots } ≡ taken_at (lent_to (table_of a) k past) k
   spent_shows slots loan clock past_is front_is slots_are clock_is =
       ap (λ loans. record (table_of a) { taken = set a.taken k clock; loans = loans })
       (ap (map slot_loan) slots_are ∙ map-set slot_loan a.slots.items k (Away loan) ∙ ap (λ l. set (map slot_loan a.slots.items) k (Some l)) one)
-      ∙ ap (λ t. record (lent_at (table_of a) k) { taken = set a.taken k t }) clock_is
+      ∙ ap (λ t. record (lent_to (table_of a) k past) { taken = set a.taken k t }) clock_is
     where
-      one : loan ≡ record { past = past_of (table_of a) k; front = a.clocks }
-      one = rw (← is, ← past_is, ← front_is) refl
+      one : loan ≡ record { past = past; front = a.clocks }
+      one = rw (← past_is, ← front_is) refl
 
   -- memory was refused: the core stays lent, without its mail and its rows
   module _ (slots : Vec Slot Global) (boxes : Vec Content Global) (rows : Vec (Vec Row Global) Global) (signals : Vec Mail Global) (loan : Loan) (box : Content) (none : Vec Row Global) (past_is : loan.past ≡ past)
@@ -238,7 +234,7 @@ module _ (a : Inside) (kept : IsKept a) (k past : ℕ) (may : MayLend (table_of 
         subst (λ xs. IsPlaced system a.horizon c a.clocks (get_or boxes.items c y).mails (get_or xs c x)) (sym slots_are)
         (subst (λ ms. IsPlaced system a.horizon c a.clocks ms (get_or (set a.slots.items k (Away loan)) c x)) (sym (boxes_are.each c y (let all = kept.boxes_of in let same = length-set a.boxes.items k box in omega arith)))
         (placed-set system a.horizon a.clocks a.slots.items a.boxes.items k (Away loan) box kept.placed in_slots (let all = kept.boxes_of in let h = may.known in omega arith)
-        (away_at a kept k loan box.mails may (past_is ∙ is) front_is box_is) c x y p))
+        (away_at a kept k loan box.mails (subst (MayGoOn (table_of a) k) (sym past_is) may) front_is box_is) c x y p))
 
     pub spent_kept : IsKept (record a {
       taken = set a.taken k clock;
@@ -258,6 +254,7 @@ module _ (a : Inside) (kept : IsKept a) (k past : ℕ) (may : MayLend (table_of 
           slots_of = ap length slots_are ∙ length-set a.slots.items k (Away loan) ∙ kept.slots_of;
           boxes_of = boxes_are.many ∙ length-set a.boxes.items k box ∙ kept.boxes_of;
           delays_are = kept.delays_are;
+          reaches_are = kept.reaches_are;
           since = since_taken a kept k clock rows.items none may.known none_is rows_are clock_is;
           placed = placed_away;
         }

@@ -158,7 +158,7 @@ module _ (system : System) (well : IsWellFormed system) (front : List ℕ) (c to
 
   -- what the loan allows, the clocks allow
   still : (b past : ℕ) (before : List ℕ) → NothingArrivesBefore system b past before → Rises system before front → NothingArrivesBefore system b past front
-  still b past before reached rise d q other = let f = reached d q other in let g = rise d q in omega arith
+  still b past before reached rise d m x q l i e = let g = rise d q in reached d m x q (omega arith) i e
 
   away_later : (horizon b : ℕ) (loan : Loan) (box : List Mail) → b ≢ c → IsAway system horizon b front loan box → IsAway system horizon b later loan (with_delivered b box)
   away_later horizon b loan box other away =
@@ -210,6 +210,7 @@ boxes_roomy a full kept same =
       slots_of = kept.slots_of;
       boxes_of = ap length are ∙ same.many ∙ kept.boxes_of;
       delays_are = kept.delays_are;
+      reaches_are = kept.reaches_are;
       since = kept.since;
       placed = subst (λ boxes. ArePlaced (arc_value a.system) a.horizon a.clocks a.slots.items boxes) (sym are) placed;
     }
@@ -236,6 +237,7 @@ rows_roomy a k old new kept h at same =
       slots_of = kept.slots_of;
       boxes_of = kept.boxes_of;
       delays_are = kept.delays_are;
+      reaches_are = kept.reaches_are;
       since = record {
         rows_of = length-set a.rows.items k new ∙ kept.since.rows_of;
         in_time = kept.since.in_time;
@@ -349,6 +351,7 @@ module _ (a : Inside) (kept : IsKept a) (done : Outcome) (are : IsOutcome done) 
           slots_of = length-set a.slots.items k back ∙ kept.slots_of;
           boxes_of = ap length boxes_are ∙ delivered.many ∙ is_joined.many ∙ kept.boxes_of;
           delays_are = kept.delays_are;
+          reaches_are = kept.reaches_are;
           since = since_later system kept.well_formed a.clocks k done.past there a.horizon a.taken a.rows.items kept.since inside forward (away mailbox).in_time old new at rows_more;
           placed = subst (λ boxes. ArePlaced system a.horizon (set a.clocks k done.past) (set a.slots.items k back) boxes) (sym boxes_are) placed;
         }

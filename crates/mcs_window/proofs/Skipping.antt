@@ -130,6 +130,7 @@ module _ (a : Inside) (kept : IsKept a) (here : AllAreHere (table_of a)) where
           slots_of = ap length slots-are ∙ skipped.many_are;
           boxes_of = kept.boxes_of;
           delays_are = kept.delays_are;
+          reaches_are = kept.reaches_are;
           since = record {
             rows_of = kept.since.rows_of;
             in_time = λ c p. (let l = kept.since.in_time c p in let now = all-set c p in omega arith);

@@ -7,6 +7,7 @@ use Rattle.std.proofs.lemmas.List.{get_or_append_left, get_or_push, length_push,
 use Rattle.mcs_mail.specs.declared.mail.Mail.{Mail}
 use Rattle.mcs_system.specs.System.{System}
 use Rattle.mcs_system.specs.WellFormed.{IsWellFormed}
+use Rattle.mcs_window.specs.stored.Reaches.{AreReaches}
 use Rattle.mcs_window.specs.stored.Opening.{AreEmptyBoxes, AreEmptyRows, AreDelays}
 use Rattle.mcs_window.specs.stored.Slots.{slot_loan, IsPlaced, IsKept, IsFresh, AreFresh}
 use Rattle.mcs_window.specs.Stretch.{rows_between}
@@ -45,7 +46,7 @@ fresh_placed : (system : System) (horizon c : ℕ) (clocks : List ℕ) (box : Li
 fresh_placed system horizon c clocks box (Here spare state) l zeros none fresh = (
   fresh.0,
   record {
-    reached = λ b _ _. let e = zeros c in omega arith;
+    reached = λ b m x _ _ _ _. let e = zeros c in omega arith;
     state_is = rw (zeros c) (opening_stands system c state l fresh.1 fresh.2);
     box_is = none ∙ sym (inbox-opening system c (slice_index clocks c) clocks (λ b _. zeros b));
   },
@@ -55,8 +56,8 @@ fresh_placed system horizon c clocks box (Away loan) l zeros none fresh = absurd
 -- a desk at the beginning
 pub opened_desk : (a : Inside) → a.horizon ≤ 2 ^ 40 → IsWellFormed (arc_value a.system) → a.clocks ≡ replicate 64 0 → a.taken ≡ replicate 64 0 →
     AreFresh (arc_value a.system) (arc_value a.system).cores a.slots.items → AreEmptyBoxes (arc_value a.system).cores a.boxes.items → AreEmptyRows (arc_value a.system).cores a.rows.items →
-    AreDelays (arc_value a.system) (arc_value a.system).cores a.delays.items → IsKept a
-opened_desk a in_time well clocks_are taken_are slots boxes rows delays =
+    AreDelays (arc_value a.system) (arc_value a.system).cores a.delays.items → AreReaches (arc_value a.system) a.reaches.items → IsKept a
+opened_desk a in_time well clocks_are taken_are slots boxes rows delays reaches =
     record {
       horizon = in_time;
       well_formed = well;
@@ -67,6 +68,7 @@ opened_desk a in_time well clocks_are taken_are slots boxes rows delays =
       slots_of = slots.many_are;
       boxes_of = boxes.many_are;
       delays_are = delays;
+      reaches_are = reaches;
       since = record {
         rows_of = rows.many_are;
         in_time = λ c _. let e = clock c in omega arith;

@@ -4,7 +4,7 @@ use Rattle.std.specs.List.{range_with_len}
 use Rattle.mcs_system.specs.System.{System, delay_between}
 use Rattle.mcs_window.specs.Idle.{AreSet, IsIdleUntil}
 use Rattle.mcs_window.specs.Pieces.{Outcome}
-use Rattle.mcs_window.specs.Stretch.{rows_between}
+use Rattle.mcs_window.specs.Stretch.{rows_between, NothingArrivesBefore}
 use Rattle.mcs_window.specs.declared.slot.Loan.{Loan}
 use Rattle.mcs_window.specs.declared.fault.SettleFault.{SettleFault}
 use Rattle.mcs_window.specs.declared.fault.SettleFault.TheVariants.{Foreign, NotLent, OtherLoan, NoMemory}
@@ -52,6 +52,14 @@ pub record MayLend (table : Table) (c : ℕ) : Type 0 where
   pub here : loan_of table c ≡ None
   pub ahead : clock_of table c < past_of table c
 
+-- core c is not lent, and it may go on up to before `past`: no signal that another core has still to make arrives before it
+pub record MayGoOn (table : Table) (c past : ℕ) : Type 0 where
+  pub known : c < table.system.cores
+  pub here : loan_of table c ≡ None
+  pub ahead : clock_of table c < past
+  pub in_time : past ≤ table.horizon + 1
+  pub reached : NothingArrivesBefore table.system c past table.clocks
+
 -- of the cores that may be lent it has the least clock, and of those with that clock the least number
 pub record IsChosen (table : Table) (c : ℕ) : Type 0 where
   pub may : MayLend table c
@@ -69,12 +77,14 @@ abbrev pub IsBest : Table → ℕ → Option ℕ → Type 0
 IsBest table n None = (k : ℕ) → k < n → ¬ MayLend table k
 IsBest table n (Some c) = IsChosenBelow table n c
 
+-- core c is lent up to before `past`
+abbrev pub lent_to : Table → ℕ → ℕ → Table
+lent_to table c past =
+    record table { loans = slice_set table.loans c (Some (record { past = past; front = table.clocks })) }
+
 -- core c is lent, as far as the clocks of all allow
 abbrev pub lent_at : Table → ℕ → Table
-lent_at table c =
-    record table {
-      loans = slice_set table.loans c (Some (record { past = past_of table c; front = table.clocks }));
-    }
+lent_at table c = lent_to table c (past_of table c)
 
 -- core c comes back after its stretch
 abbrev pub settled_at : Table → ℕ → ℕ → Table
@@ -156,13 +166,15 @@ pub record IsLater (before after : Table) : Type 0 where
   pub sound : after.lost ≡ false
   pub here : AllAreHere after
 
--- where memory was refused: the cores went on, and then core `core` stays lent for good, and its rows that were not taken are gone
+-- where memory was refused: the cores went on, and then core `core`, which was to go on up to before `past`, stays lent for good, and its
+-- rows that were not taken are gone
 pub record IsSpent (before after : Table) : Type 0 where
   pub table : Table
   pub core : ℕ
+  pub past : ℕ
   pub later : IsLater before table
-  pub may : MayLend table core
-  pub spent : after ≡ taken_at (lent_at table core) core
+  pub may : MayGoOn table core past
+  pub spent : after ≡ taken_at (lent_to table core past) core
 
 -- how many turns there are still to be taken
 abbrev pub turns_left : Table → ℕ

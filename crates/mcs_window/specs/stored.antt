@@ -2,4 +2,5 @@ pub mod Cores
 pub mod Views
 pub mod Opening
 pub mod Delivery
+pub mod Reaches
 pub mod Slots

@@ -5,13 +5,16 @@ ghost use Rattle.mcs_core.specs.Quiet.{IsNextBusy};
 ghost use Rattle.mcs_system.specs.System.{delay_between};
 ghost use Rattle.mcs_window.specs.Idle.{IsIdle, AreIdle, AreSet, IsIdleUntil, OnlyCounts};
 ghost use Rattle.mcs_window.specs.Inbox.{inbox, signals_between};
-ghost use Rattle.mcs_window.specs.Stretch.{rows_between};
+ghost use Rattle.mcs_laws.specs.Links.{Signals};
+ghost use Rattle.mcs_window.specs.Stretch.{rows_between, NothingArrivesBefore};
+ghost use Rattle.mcs_window.specs.stored.Reaches.{IsReach};
 ghost use Rattle.mcs_window.specs.stored.Slots.{IsEarliest, HoldsAt};
-ghost use Rattle.mcs_window.specs.Desk.{opening_table, clock_of, taken_of, past_of, loan_of, MayLend, IsChosen, IsBest, lent_at, settled_at, taken_at, IsSkipped, IsAwake, IsLent, IsSameRun, with_lost, IsLoan, IsSettleFault, AllAreHere, IsFinished, IsUntaken, IsWhole, IsLater, IsSpent, rows_kept, turns_left};
+ghost use Rattle.mcs_window.specs.Desk.{opening_table, clock_of, taken_of, past_of, loan_of, MayGoOn, MayLend, IsChosen, IsBest, lent_at, lent_to, settled_at, taken_at, IsSkipped, IsAwake, IsLent, IsSameRun, with_lost, IsLoan, IsSettleFault, AllAreHere, IsFinished, IsUntaken, IsWhole, IsLater, IsSpent, rows_kept, turns_left};
 
 use crate::calendar::Calendar;
 use crate::delivery::{deliver, deliver_reserved, make_room};
 use crate::opening::{delay_rows, empty_boxes, empty_rows};
+use crate::reach::{Reaches, reach_rows};
 use crate::settle::{make_own_room, put_box, put_rows, same_front};
 use crate::skip::skip_slots;
 use crate::slot::{Loan, Slot, opening_slots};
@@ -40,6 +43,8 @@ pub struct Desk {
     rows: Vec<Vec<Row>>,
     // For each core the delays of the signals to it.
     delays: Vec<[u64; Limits::CORES]>,
+    // For each core after how long a signal of it may reach the others.
+    reaches: Vec<Reaches>,
     // Those of the last turns that were taken here.
     signals: Vec<Mail>,
     alloc: Global,
@@ -68,6 +73,7 @@ impl Desk {
         let boxes = empty_boxes(alloc, cores)?;
         let rows = empty_rows(alloc, cores)?;
         let delays = delay_rows(alloc, &system)?;
+        let reaches = reach_rows(alloc, &system)?;
         Ok(Desk {
             system,
             horizon,
@@ -78,6 +84,7 @@ impl Desk {
             boxes,
             rows,
             delays,
+            reaches,
             signals: Vec::new(alloc),
             alloc,
         })
@@ -210,6 +217,33 @@ impl Desk {
             if other != core.0 {
                 let maker = CoreId(other);
                 past = past.min(self.clock(maker).get() + self.delay(maker, CoreId(core.0)));
+            }
+        }
+        Tick::new(past).unwrap()
+    }
+
+    // After how long a signal of this core may reach another one, from a moment on: after its delay, and never where no script says one.
+    fn reach(&self, maker: CoreId, home: CoreId) -> u64
+        requires maker { maker < self.now.system.cores }
+        requires home { home < self.now.system.cores }
+        ensures { IsReach self.now.system maker home (Signals self.now.system maker home) result }
+    {
+        self.reaches[maker.0][home.0]
+    }
+
+    // A moment before which no signal arrives at a core that another one has still to make. It is no earlier than the moment up to which the
+    // core may be lent.
+    fn farthest(&self, core: CoreId) -> Tick
+        requires { core < self.now.system.cores }
+        ensures reached { NothingArrivesBefore self.now.system core result self.now.clocks }
+        ensures in_time { result ≤ self.now.horizon + 1 }
+        ensures no_less { past_of self.now core ≤ result }
+    {
+        let mut past = self.horizon.get() + 1;
+        for other in 0..self.cores() {
+            if other != core.0 {
+                let maker = CoreId(other);
+                past = past.min(self.clock(maker).get() + self.reach(maker, CoreId(core.0)));
             }
         }
         Tick::new(past).unwrap()
@@ -593,15 +627,14 @@ impl Desk {
         moment
     }
 
-    // Takes turns of a core that may be lent, where it lies, until it comes to `past` or has that many rows on the desk: at least one.
+    // Takes turns of a core that may go on, where it lies, until it comes to `past` or has that many rows on the desk: at least one.
     // Answers whether it made a signal for another core. Where memory is refused the core stays lent, and its rows are gone.
     fn run_here(&mut self, core: CoreId, past: Tick, most: usize) -> Result<bool, NoMemory>
-        requires may { MayLend self.old core }
-        requires past { past ≡ past_of self.old core }
+        requires may { MayGoOn self.old core past }
         ensures ok { OnOk result (self.new ≡ settled_at self.old core (clock_of self.new core)) }
         ensures moved { OnOk result ((clock_of self.old core < clock_of self.new core) × (clock_of self.new core ≤ past)) }
         ensures fewer { OnOk result (turns_left self.new < turns_left self.old) }
-        ensures err { OnErr result (self.new ≡ taken_at (lent_at self.old core) core) }
+        ensures err { OnErr result (self.new ≡ taken_at (lent_to self.old core past) core) }
         ensures silent { IfOk result (λ signals. IsFalse signals →
             signals_between self.old.system core (clock_of self.old core) (clock_of self.new core) ≡ []) }
         ensures run { (self.new.system ≡ self.old.system) × (self.new.horizon ≡ self.old.horizon) }
@@ -648,14 +681,13 @@ impl Desk {
         most: usize,
         calendar: &mut Calendar,
     ) -> Result<(), NoMemory>
-        requires may { MayLend self.old core }
-        requires past { past ≡ past_of self.old core }
+        requires may { MayGoOn self.old core past }
         requires here { AllAreHere self.old }
         requires holds { HoldsAt self.old calendar.old }
         ensures ok { OnOk result (self.new ≡ settled_at self.old core (clock_of self.new core)) }
         ensures fewer { OnOk result (turns_left self.new < turns_left self.old) }
         ensures holds { OnOk result (HoldsAt self.new calendar.new) }
-        ensures err { OnErr result (self.new ≡ taken_at (lent_at self.old core) core) }
+        ensures err { OnErr result (self.new ≡ taken_at (lent_to self.old core past) core) }
     {
         let _lost = self.lost;
         let signals = self.run_here(core, past, most)?;
@@ -664,8 +696,8 @@ impl Desk {
         Ok(())
     }
 
-    // The same where the core may be lent and is busy, as the calendar has it, before the moment up to which it may be. Answers whether it
-    // took turns.
+    // The same where the core is busy, as the calendar has it, before the moment up to which it may be lent: then it goes on as far as it
+    // may, so that cores which others never signal need not wait for them. Answers whether it took turns.
     fn run_busy(
         &mut self,
         core: CoreId,
@@ -688,7 +720,7 @@ impl Desk {
         if self.must_wait(core, calendar.until[core.0]) {
             return Ok(false);
         }
-        let past = self.past(core);
+        let past = self.farthest(core);
         if self.clock(core) < past {
             self.run_noted(core, past, most, calendar)?;
             return Ok(true);
@@ -743,7 +775,7 @@ impl Desk {
             self.none_waits();
             return Ok(false);
         };
-        let past = self.past(core);
+        let past = self.farthest(core);
         self.run_noted(core, past, most, calendar)?;
         Ok(true)
     }

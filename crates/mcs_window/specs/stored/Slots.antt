@@ -14,6 +14,7 @@ use Rattle.mcs_window.specs.Inbox.{AreNews, Rises, inbox, signals_between}
 use Rattle.mcs_window.specs.Stretch.{StandsAt, NothingArrivesBefore, rows_between}
 use Rattle.mcs_window.specs.stored.Cores.{IsHere, AreSince, AreSetBelow}
 use Rattle.mcs_window.specs.stored.Opening.{AreDelays}
+use Rattle.mcs_window.specs.stored.Reaches.{AreReaches}
 use Rattle.mcs_window.specs.Desk.{Table, clock_of, loan_of}
 use Rattle.mcs_window.specs.declared.calendar.Calendar.{Calendar}
 use Rattle.mcs_window.specs.declared.slot.Loan.{Loan}
@@ -66,6 +67,7 @@ pub record IsKept (a : Inside) : Type 0 where
   pub slots_of : length a.slots.items ≡ (arc_value a.system).cores
   pub boxes_of : length a.boxes.items ≡ (arc_value a.system).cores
   pub delays_are : AreDelays (arc_value a.system) (arc_value a.system).cores a.delays.items
+  pub reaches_are : AreReaches (arc_value a.system) a.reaches.items
   pub since : AreSince (arc_value a.system) a.horizon a.clocks a.taken a.rows.items
   pub placed : ArePlaced (arc_value a.system) a.horizon a.clocks a.slots.items a.boxes.items
 

@@ -4,6 +4,7 @@ use Rattle.std.specs.Arc.{arc_value}
 use Rattle.mcs_system.specs.System.{System, IsLeastDelay}
 use Rattle.mcs_core.specs.State.{Fits, opening_state}
 use Rattle.mcs_window.proofs.Openings.{zero_at, opening_stands, inbox-opening}
+use Rattle.mcs_window.proofs.Reaches.{by-delays}
 use Rattle.mcs_window.proofs.tests.first_piece.Goals as goal
 
 pub invariant_of-result-3 : goal.invariant_of-result-3
@@ -18,7 +19,7 @@ invariant_of-result-3 c =
         known = c.requires;
         in_order = omega arith;
         in_time = (let range = c.least_delay-delay.ensures.range in omega arith);
-        reached = λ b l other. let none = zero_at 64 b in let low = least.below b c.args.core l c.requires other in omega (arith, early, low, none);
+        reached = by-delays s c.args.core c.in_ok-past.past (replicate 64 0) (λ b l other. let none = zero_at 64 b in let low = least.below b c.args.core l c.requires other in omega (arith, early, low, none));
         idle = λ b _. zero_at 64 b;
       };
       state_is = opening_stands s c.args.core c.in_ok-state.state c.requires opening fits;

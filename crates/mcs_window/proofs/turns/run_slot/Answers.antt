@@ -33,7 +33,7 @@ returns-in-Here c =
     let most = run.reaches.0 in
     let later : t < to = (let moved = run.reaches.1 (omega arith) in omega arith) in
     let in_time : to ≤ c.args.past = omega arith in
-    let reached : NothingArrivesBefore s k to front = λ b l other. (let reach = may.reached b l other in omega arith) in
+    let reached : NothingArrivesBefore s k to front = λ b m x l k i e. (let reach = may.reached b m x l k i e in omega arith) in
     let after : IsAfter s k t to front made = ran_here s c.requires.well_formed k t to front state c.args.mail.now.mails stands.1 may.box_is may.known (omega arith) reached in
     rw c.clock.ensures
     (record {

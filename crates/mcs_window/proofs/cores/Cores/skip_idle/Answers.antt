@@ -1,5 +1,6 @@
 use Rattle.std.proofs.Common.{◌+◌, ◌∙◌, length, ap, sym, subst}
-use Rattle.mcs_window.specs.Idle.{IsIdleUntil}
+use Rattle.std.specs.Arc.{arc_value}
+use Rattle.mcs_window.specs.Idle.{AreReached, IsIdleUntil}
 use Rattle.mcs_window.specs.Progress.{Progress}
 use Rattle.mcs_window.proofs.Skips.{at-clocks, all-reached, skipped_kept}
 use Rattle.mcs_window.proofs.cores.Cores.skip_idle.Goals as goal
@@ -8,7 +9,9 @@ pub skip_all-requires-clause-at_clocks : goal.skip_all-requires-clause-at_clocks
 skip_all-requires-clause-at_clocks c = rw (c.deref.ensures, c.deref_mut.ensures.value, c.deref_mut-2.ensures.value) (at-clocks c.self.inside c.self.invariant c.if-self.false)
 
 pub skip_all-requires-clause-reached : goal.skip_all-requires-clause-reached
-skip_all-requires-clause-reached c = rw (c.deref.ensures, c.deref_mut.ensures.value) (all-reached c.self.inside c.self.invariant c.if-self.false)
+skip_all-requires-clause-reached c =
+    subst (λ system. AreReached system c.deref_mut.result.now) (sym c.deref.ensures)
+    (subst (AreReached (arc_value c.self.inside.system)) (sym c.deref_mut.ensures.value) (all-reached c.self.inside c.self.invariant c.if-self.false))
 
 pub invariant_of-self : goal.invariant_of-self
 invariant_of-self c =

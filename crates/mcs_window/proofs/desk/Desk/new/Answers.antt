@@ -6,8 +6,8 @@ use Rattle.mcs_window.proofs.desk.Desk.new.Goals as goal
 pub invariant_of-result-3 : goal.invariant_of-result-3
 invariant_of-result-3 c =
     let same = c.parts.ensures.same ∙ c.deref.ensures in
-    opened_desk (record { system = c.args.system; horizon = c.args.horizon; lost = false; clocks = replicate 64 0; taken = replicate 64 0; slots = c.in_ok-slots.slots; boxes = c.in_ok-boxes.boxes; rows = c.in_ok-rows.rows; delays = c.in_ok-delays.delays; signals = c.new.result; alloc = c.args.alloc })
-    c.requires (rw c.deref.ensures at c.parts.ensures.well_formed) refl refl c.in_ok-slots.ensures (rw same at c.in_ok-boxes.ensures) (rw same at c.in_ok-rows.ensures) (rw c.deref-2.ensures at c.in_ok-delays.ensures)
+    opened_desk (record { system = c.args.system; horizon = c.args.horizon; lost = false; clocks = replicate 64 0; taken = replicate 64 0; slots = c.in_ok-slots.slots; boxes = c.in_ok-boxes.boxes; rows = c.in_ok-rows.rows; delays = c.in_ok-delays.delays; reaches = c.in_ok-reaches.reaches; signals = c.new.result; alloc = c.args.alloc })
+    c.requires (rw c.deref.ensures at c.parts.ensures.well_formed) refl refl c.in_ok-slots.ensures (rw same at c.in_ok-boxes.ensures) (rw same at c.in_ok-rows.ensures) (rw c.deref-2.ensures at c.in_ok-delays.ensures) (rw c.deref-3.ensures at c.in_ok-reaches.ensures)
 
 pub returns : goal.returns
 returns c =

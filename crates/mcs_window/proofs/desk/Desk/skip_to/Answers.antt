@@ -1,7 +1,7 @@
 use Rattle.std.proofs.Common.{◌∙◌, ◌≤◌, ◌<◌, ◌+◌, ℕ, ap, sym, subst}
 use Rattle.std.specs.Arc.{arc_value}
 use Rattle.mcs_window.specs.Desk.{Table, AllAreHere}
-use Rattle.mcs_window.specs.Idle.{AreIdle, OnlyCounts}
+use Rattle.mcs_window.specs.Idle.{AreIdle, AreReached, OnlyCounts}
 use Rattle.mcs_window.specs.stored.Slots.{HaveSkipped}
 use Rattle.mcs_window.proofs.Skipping.{all-stand, all-reached, counts, skipped_desk, skipped_shows}
 use Rattle.mcs_window.proofs.desk.Desk.skip_to.Goals as goal
@@ -12,7 +12,7 @@ skip_slots-requires-clause-stand c =
 
 pub skip_slots-requires-clause-reached : goal.skip_slots-requires-clause-reached
 skip_slots-requires-clause-reached c =
-    rw c.deref.ensures (all-reached c.self.inside c.self.invariant (subst AllAreHere (sym c.self.view_is) c.requires.here))
+    subst (λ system. AreReached system c.self.inside.clocks) (sym c.deref.ensures) (all-reached c.self.inside c.self.invariant (subst AllAreHere (sym c.self.view_is) c.requires.here))
 
 pub skip_slots-requires-clause-idle : goal.skip_slots-requires-clause-idle
 skip_slots-requires-clause-idle c =
