@@ -1,4 +1,4 @@
-//! Sinks that write the rows of a schedule, or drop them.
+//! The sink that writes the rows of a schedule.
 ghost use Rattle.std.specs.Prelude.{◌≡◌, true};
 ghost use Rattle.mcs_text.specs.Text.{row_text};
 ghost use Rattle.mcs_cli.specs.Flow.{TakesLine};
@@ -63,18 +63,6 @@ impl<T: Target> Sink for Lines<'_, T> {
         };
         self.text.clear();
         self.limit = self.limit.saturating_mul(2).min(ROOM);
-        Ok(())
-    }
-}
-
-/// Takes rows of which only the reports are shown.
-#[derive(Drop)]
-pub(crate) struct Dropped;
-
-impl Sink for Dropped {
-    ghost takes = { λ _ _ taken _. taken ≡ true };
-
-    fn row(&mut self, _row: &Row) -> Result<(), Refused> {
         Ok(())
     }
 }

@@ -8,12 +8,12 @@ ghost use Rattle.mcs_cli.specs.Devices.{AppendsPrefix};
 ghost use Rattle.mcs_cli.specs.Flow.{AppendsBefore, IsWriteFault};
 ghost use Rattle.mcs_cli.specs.Run.{IsRead, IsReadFault, IsRun, output_of};
 
-use crate::sink::{Dropped, Lines};
+use crate::sink::Lines;
 use crate::{Gate, Options, RunFault, Show, Source, Target};
 use mcs_load::{LoadFault, load};
 use mcs_report::Reports;
 use mcs_system::System;
-use mcs_team::{FlowFault, SimFault, simulate_to};
+use mcs_team::{FlowFault, SimFault, report, simulate_to};
 use mcs_text::put_reports;
 use mcs_ticks::Limits;
 use std::alloc::Global;
@@ -192,7 +192,7 @@ fn write_rows<H: Threads + Wait + Sync, T: Target, G: Gate + Sync>(
     }
 }
 
-/// The reports of the schedule, of which no row is kept.
+/// The reports of the schedule, of which no row is kept or merged with those of other cores.
 fn count_rows<H: Threads + Wait + Sync, G: Gate + Sync>(
     rt: &H,
     alloc: Global,
@@ -207,16 +207,9 @@ fn count_rows<H: Threads + Wait + Sync, G: Gate + Sync>(
     let Ok(shared) = Arc::try_clone(system) else {
         return Err(RunFault::Sim(SimFault::NoMemory));
     };
-    simulate_to(
-        rt,
-        alloc,
-        shared,
-        options.horizon,
-        options.workers,
-        gate,
-        &mut Dropped,
-    )
-    .map_err(|_| RunFault::Sim(SimFault::NoMemory))
+    report(rt, alloc, shared, options.horizon, options.workers, gate).map_err(|_| RunFault::Sim(
+        SimFault::NoMemory,
+    ))
 }
 
 /// Puts the reports behind the text.
