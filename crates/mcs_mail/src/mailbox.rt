@@ -82,18 +82,14 @@ impl Mailbox {
     }
 
     /// Takes the first mail if it arrives at `t` or before.
+    #[inline]
     pub fn take_due(&mut self, t: Tick) -> Option<Mail>
         ensures taken { result ≡ due t self.old.mails }
         ensures left { self.new.mails ≡ without_due t self.old.mails }
         ensures spare { self.old.spare ≤ self.new.spare }
         ensures in_order { IsOrdered self.old.mails }
     {
-        let first = self.first()?;
-        if first.arrives <= t {
-            self.take_first()
-        } else {
-            None
-        }
+        if self.next()? <= t { self.take_first() } else { None }
     }
 
     /// When the first mail arrives, or None where there is none.
@@ -126,6 +122,7 @@ impl Mailbox {
     }
 
     // Takes the first mail.
+    #[inline(never)]
     fn take_first(&mut self) -> Option<Mail>
         ensures taken { result ≡ slice_get self.old.mails 0 }
         ensures left { self.new.mails ≡ drop 1 self.old.mails }

@@ -74,6 +74,9 @@ pub fn gather(refills: &mut HeapCircularBuffer<Refill>, min_budget: u64)
     requires early { end_of refills.old.items < 2 ^ 63 }
     ensures { refills.new ≡ buffer (enough min_budget refills.old.items) refills.old.capacity }
 {
+    if first(refills).amount >= min_budget {
+        return;
+    }
     let mut head = pop_first(refills);
     'joins: while !refills.is_empty() && head.amount < min_budget {
         let next = pop_first(refills);
