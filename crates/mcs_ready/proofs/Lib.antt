@@ -1,3 +1,4 @@
+mod Greatest
 pub mod Kept
 pub mod Lines
 pub mod Marks

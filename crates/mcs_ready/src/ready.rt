@@ -93,7 +93,7 @@ impl Model for Ready {
     ghost view = { λ a.
         record { queue = queue_from 0 (all_threads a.next.items a.lines.items); room = length a.held.items } };
 
-    ghost invariant = { λ a. IsKept a.priorities.words a.lines.items a.next.items a.held.items };
+    ghost invariant = { λ a. IsKept a.priorities a.lines.items a.next.items a.held.items };
 }
 
 impl Ready {

@@ -1,7 +1,16 @@
 -- A set of priorities as words of 64 bits.
-use Rattle.std.specs.Prelude.{ℕ, ◌/◌, ◌%◌, ◌==◌, Bool, List, slice_index}
+use Rattle.std.specs.Prelude.{◌≡◌, ℕ, ◌<◌, ◌/◌, ◌%◌, ◌==◌, Bool, true, false, List, slice_index, Option, Some, None, max, MatchOption}
 use Rattle.std.specs.Int.{bit_at}
 
 -- whether the priority is in the set: its bit is 1
 abbrev pub has : List ℕ → ℕ → Bool
 has words priority = bit_at (slice_index words (priority / 64)) (priority % 64) == 1
+
+-- the greatest priority in the set, or none where the set is empty
+abbrev pub IsGreatest : List ℕ → Option ℕ → Type 0
+IsGreatest words found =
+    MatchOption found ((q : ℕ) → has words q ≡ false) (λ p. (has words p ≡ true) × ((q : ℕ) → p < q → has words q ≡ false))
+
+abbrev pub greater : Option ℕ → ℕ → ℕ
+greater None priority = priority
+greater (Some greatest) priority = max greatest priority

@@ -52,7 +52,7 @@ invariant_of-self c =
     let second : c.index-2.result.now ≡ get_or c.self.inside.next.items c.x.inside.0 0 = get_or_read _ _ _ next c.index-2.ensures 0 in
     rw (c.without_first.ensures, second, c.x.view_is, line) (
     IsKept-without_first _ _ _ _ c.self.invariant p below some _
-    (λ q. c.set.ensures q ∙ ap (λ (l : Line). if q == p then nat_lt 1 l.len else has c.self.inside.priorities.words q) line)
+    (λ q. c.set.ensures q ∙ ap (λ (l : Line). if q == p then nat_lt 1 l.len else has c.self.inside.priorities q) line)
     )
 
 pub returns-clause-first : goal.returns-clause-first

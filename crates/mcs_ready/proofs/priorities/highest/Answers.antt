@@ -1,6 +1,6 @@
 use Rattle.std.proofs.Common.{arith}
 use Rattle.mcs_ready.proofs.Marks.{has-highest, has_above}
-use Rattle.mcs_ready.proofs.priorities.Priorities.greatest.Goals as goal
+use Rattle.mcs_ready.proofs.priorities.highest.Goals as goal
 
 pub returns-then-bits-ne0 : goal.returns-then-bits-ne0
 returns-then-bits-ne0 c = (
