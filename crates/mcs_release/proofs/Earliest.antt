@@ -1,5 +1,5 @@
 -- The entry on top of the heap is the earliest.
-use Rattle.std.proofs.Common.{◌≡◌, ℕ, zero, suc, ◌+◌, ◌<◌, ◌≤◌, ◌==◌, Bool, true, false, cond, ◌&&◌, List, [], ◌∷◌, length, get_or, Option, Some, None, refl, sym, ap, ap₂, ◌∙◌, arith}
+use Rattle.std.proofs.Common.{◌≡◌, ℕ, zero, suc, ◌+◌, ◌<◌, ◌≤◌, ◌==◌, Bool, true, false, cond, ◌&&◌, List, [], ◌∷◌, length, get_or, Option, Some, None, refl, ap, subst, arith}
 use Rattle.std.specs.Prelude.{nat_lt, sum_by, filter, IfSome}
 use Rattle.std.specs.List.{AllByRecursion}
 use Rattle.std.specs.Ordering.{nat_cmp, is_lt, ordering_then}
@@ -11,18 +11,18 @@ use Rattle.std.proofs.lemmas.List.Sums.{sum_by-cons, get_or-le-sum_by}
 use Rattle.mcs_release.specs.declared.dated.Dated.{Dated}
 use Rattle.mcs_release.specs.declared.releases.Due.{Due}
 use Rattle.mcs_release.specs.stored.Heap.{entered, due_at, dues_from, due_cmp, one_if}
-use Rattle.mcs_release.specs.Release.{dated, earlier, earliest}
+use Rattle.mcs_release.specs.Release.{earlier, earliest}
 
 -- how many stand before this one in the heap's order
 abbrev pub before : Reverse Due → Reverse Due → ℕ
 before m y = one_if (lt_by_cmp due_cmp m y)
 
 -- where none does, each has a date no less, and a greater one where it entered earlier
-not_before-numbers : (a b n p u v : ℕ) → one_if (is_lt (ordering_then (nat_cmp a b) (ordering_then (nat_cmp n p) (nat_cmp u v)))) ≡ 0 → (b ≤ a) × (n < p → b < a)
-not_before-numbers a b n p u v h = (grind (arith, nat_tests), λ k. grind (arith, nat_tests))
+not_before-numbers : (a b n p : ℕ) → one_if (is_lt (ordering_then (nat_cmp a b) (nat_cmp n p))) ≡ 0 → (b ≤ a) × (n < p → b < a)
+not_before-numbers a b n p h = (grind (arith, nat_tests), λ k. grind (arith, nat_tests))
 
 not_before : (m : Reverse Due) (n : ℕ) (x : Dated) → before m (due_at n x) ≡ 0 → (m.0.date ≤ x.date) × (n < m.0.place → m.0.date < x.date)
-not_before m n x h = not_before-numbers x.date m.0.date n m.0.place x.thread m.0.thread h
+not_before m n x h = not_before-numbers x.date m.0.date n m.0.place h
 
 pub before-top : (m : Reverse Due) (xs : List (Reverse Due)) → AllByRecursion (λ y. lt_by_cmp due_cmp m y ≡ false) xs → sum_by (before m) xs ≡ 0
 before-top m [] all = refl
@@ -84,10 +84,10 @@ module _ (m : Reverse Due) (p : Dated → Bool) where
 
 -- whether it is this one
 abbrev same_due : Reverse Due → Reverse Due → Bool
-same_due m y = (y.0.place == m.0.place) && ((y.0.date == m.0.date) && (y.0.thread == m.0.thread))
+same_due m y = (y.0.place == m.0.place) && (y.0.date == m.0.date)
 
 same_due-itself : (m : Reverse Due) → same_due m m ≡ true
-same_due-itself m = rw (eq-eqb m.0.place m.0.place refl, eq-eqb m.0.date m.0.date refl, eq-eqb m.0.thread m.0.thread refl) refl
+same_due-itself m = rw (eq-eqb m.0.place m.0.place refl, eq-eqb m.0.date m.0.date refl) refl
 
 counted-top : (m : Reverse Due) (heap : List (Reverse Due)) → 0 < length heap → m ≡ get_or heap 0 m → 1 ≤ sum_by (λ y. one_if (same_due m y)) heap
 counted-top m heap some top =
@@ -98,8 +98,12 @@ counted-top m heap some top =
       ap one_if (same_due-itself m),
     )
 
+-- a thread of this date stands in this place
+abbrev pub Stands : List (Option Dated) → ℕ → ℕ → Type 0
+Stands places place date = (x : Dated) × (get_or places place None ≡ Some x) × (x.date ≡ date)
+
 counted-place : (m : Reverse Due) (places : List (Option Dated)) (n : ℕ) → 1 ≤ sum_by (λ y. one_if (same_due m y)) (dues_from n places) →
-    (k : ℕ) × (m.0.place ≡ n + k) × (get_or places k None ≡ Some (dated m.0.thread m.0.date))
+    (k : ℕ) × (m.0.place ≡ n + k) × Stands places k m.0.date
 counted-place m [] n h = absurd (omega arith)
 counted-place m (None ∷ places) n h =
     let found = counted-place m places (suc n) h in
@@ -108,24 +112,21 @@ counted-place m (Some x ∷ places) n h =
     by (same_due m (due_at n x)) refl (counted-place m places (suc n)) (rw (sum_by-cons (λ y. one_if (same_due m y)) (due_at n x) (dues_from (suc n) places)) at h)
   where
     by : (b : Bool) → same_due m (due_at n x) ≡ b →
-        (1 ≤ sum_by (λ y. one_if (same_due m y)) (dues_from (suc n) places) → (k : ℕ) × (m.0.place ≡ suc n + k) × (get_or places k None ≡ Some (dated m.0.thread m.0.date))) →
+        (1 ≤ sum_by (λ y. one_if (same_due m y)) (dues_from (suc n) places) → (k : ℕ) × (m.0.place ≡ suc n + k) × Stands places k m.0.date) →
         1 ≤ one_if b + sum_by (λ y. one_if (same_due m y)) (dues_from (suc n) places) →
-        (k : ℕ) × (m.0.place ≡ n + k) × (get_or (Some x ∷ places) k None ≡ Some (dated m.0.thread m.0.date))
+        (k : ℕ) × (m.0.place ≡ n + k) × Stands (Some x ∷ places) k m.0.date
     by true e rest h =
         let place = eqb-true n m.0.place (and_parts _ _ e).0 in
-        let others = and_parts _ _ (and_parts (n == m.0.place) _ e).1 in
-        let date = eqb-true x.date m.0.date others.0 in
-        let thread = eqb-true x.thread m.0.thread others.1 in
-        let it : x ≡ dated m.0.thread m.0.date = ap₂ dated thread date in
-        (zero, omega arith, ap (λ (y : Dated). Some y) it)
+        let date = eqb-true x.date m.0.date (and_parts (n == m.0.place) _ e).1 in
+        (zero, omega arith, (x, refl, date))
     by false e rest h =
         let found = rest (omega arith) in
         (suc found.0, omega (arith, found.1), found.2)
 
--- the one on top stands in its place
+-- of the one on top a thread stands in its place
 pub place-top : (m : Reverse Due) (heap : List (Reverse Due)) (places : List (Option Dated)) → 0 < length heap → m ≡ get_or heap 0 m →
-    ((f : Reverse Due → ℕ) → sum_by f heap ≡ sum_by f (dues_from 0 places)) → get_or places m.0.place None ≡ Some (dated m.0.thread m.0.date)
+    ((f : Reverse Due → ℕ) → sum_by f heap ≡ sum_by f (dues_from 0 places)) → Stands places m.0.place m.0.date
 place-top m heap places some top same =
     let found = counted-place m places 0 (omega (arith, counted-top m heap some top, same (λ y. one_if (same_due m y)))) in
     let at : found.0 ≡ m.0.place = omega (arith, found.1) in
-    ap (λ (k : ℕ). get_or places k None) (sym at) ∙ found.2
+    subst (λ (k : ℕ). Stands places k m.0.date) at found.2

@@ -15,7 +15,7 @@ use Rattle.mcs_release.specs.declared.releases.Due.{Due}
 use Rattle.mcs_release.specs.stored.Heap.{entered, due_at, dues_from, due_cmp, times, one_if, IsPlaced, IsKept}
 use Rattle.mcs_release.specs.Release.{ReleaseQueue, dated, is_held, earliest, next_date, first_due, without_first_due, when_left, AreBelow, AreDistinct}
 use Rattle.mcs_release.proofs.Dues.{dues-put, dues-left, dues-count, count-is-length}
-use Rattle.mcs_release.proofs.Earliest.{before-top, earliest-top, none-top, place-top}
+use Rattle.mcs_release.proofs.Earliest.{before-top, earliest-top, none-top, place-top, Stands}
 use Rattle.mcs_release.proofs.Entered.{empty_from, entered-none, entered-push, entered-left, times-left}
 use Rattle.mcs_release.proofs.Times.{times-append, times-cons_same, times-cons_other, times-free, one_if-le-one, length-le-room}
 
@@ -101,7 +101,8 @@ module _ (places : List (Option Dated)) (end room capacity : ℕ) (heap : List (
 -- the one on top of the heap
 module _ (places : List (Option Dated)) (end room capacity : ℕ) (heap : List (Reverse Due)) (kept : IsKept places end heap room capacity) (m : Reverse Due)
     (some : 0 < length heap) (top : m ≡ get_or heap 0 m) (greatest : AllByRecursion (λ y. lt_by_cmp due_cmp m y ≡ false) heap) where
-  stands : get_or places m.0.place None ≡ Some (dated m.0.thread m.0.date)
+  -- the thread that stands in its place, and its date
+  pub stands : Stands places m.0.place m.0.date
   stands = place-top m heap places some top kept.placed.same
 
   none-before : sum_by (λ y. one_if (lt_by_cmp due_cmp m y)) (dues_from 0 places) ≡ 0
@@ -110,7 +111,7 @@ module _ (places : List (Option Dated)) (end room capacity : ℕ) (heap : List (
   pub place-within : m.0.place < length places
   place-within = elim (cases_lt m.0.place (length places)) [
     | inl below ↦ below
-    | inr past ↦ absurd (no (sym (get_or_past places m.0.place None past) ∙ stands))
+    | inr past ↦ absurd (no (sym (get_or_past places m.0.place None past) ∙ stands.1))
   ]
     where
       no : {x : Dated} → None ≡ Some x → ⊥
@@ -122,7 +123,8 @@ module _ (places : List (Option Dated)) (end room capacity : ℕ) (heap : List (
   pub next-top : next_date (entered places) ≡ Some m.0.date
   next-top =
       ap next_date (sym (all_pass (entered places)))
-      ∙ ap (option_map (λ (x : Dated). x.date)) (earliest-top m (λ _. true) places 0 m.0.place _ stands zero_place refl refl none-before)
+      ∙ ap (option_map (λ (x : Dated). x.date)) (earliest-top m (λ _. true) places 0 m.0.place stands.0 stands.1 zero_place (sym stands.2) refl none-before)
+      ∙ ap (λ (date : ℕ). Some date) stands.2
     where
       all_pass : (xs : List Dated) → filter (λ (_ : Dated). true) xs ≡ xs
       all_pass [] = refl
@@ -132,14 +134,20 @@ module _ (places : List (Option Dated)) (end room capacity : ℕ) (heap : List (
   pub first-later : (t : ℕ) → t < m.0.date → first_due t (entered places) ≡ None
   first-later t later = ap earliest (none-top m (λ x. nat_le x.date t) (λ x h. lt-leb x.date t (omega arith)) places 0 none-before)
 
+  -- what is read at its place
+  pub entry-top : (entry : Option Dated) → entry ≡ get_or places m.0.place entry → entry ≡ Some stands.0
+  entry-top entry read = read ∙ get_or_default places m.0.place entry None place-within ∙ stands.1
+
   module _ (t : ℕ) (due : m.0.date ≤ t) where
-    pub first-top : first_due t (entered places) ≡ Some (dated m.0.thread m.0.date)
-    first-top = earliest-top m (λ x. nat_le x.date t) places 0 m.0.place _ stands zero_place refl (le-leb m.0.date t due) none-before
+    pub first-top : first_due t (entered places) ≡ Some stands.0
+    first-top =
+        earliest-top m (λ x. nat_le x.date t) places 0 m.0.place stands.0 stands.1 zero_place (sym stands.2)
+        (le-leb stands.0.date t (omega (arith, stands.2))) none-before
 
     pub rest-top : without_first_due t (entered places) ≡ entered (set places m.0.place None)
     rest-top =
         ap (λ (r : Option Dated). when_left r (entered places)) first-top
-        ∙ entered-left places m.0.place (dated m.0.thread m.0.date) stands (omega (arith, kept.once m.0.thread, one_if-le-one (nat_lt m.0.thread room)))
+        ∙ entered-left places m.0.place stands.0 stands.1 (omega (arith, kept.once stands.0.thread, one_if-le-one (nat_lt stands.0.thread room)))
 
   module _ (heap' : List (Reverse Due)) (capacity' : ℕ) where
     pub IsKept-left : IsPermutation heap (m ∷ heap') → IsHeap due_cmp heap' → capacity' ≡ capacity → IsKept (set places m.0.place None) end heap' room capacity'
@@ -154,8 +162,9 @@ module _ (places : List (Option Dated)) (end room capacity : ℕ) (heap : List (
           sum_by-IsPermutation f heap (m ∷ heap') moved,
           sum_by-cons f m heap',
           kept.placed.same f,
-          dues-left f places 0 m.0.place (dated m.0.thread m.0.date) stands,
-          ap (λ (n : ℕ). f (due_at n (dated m.0.thread m.0.date))) (sym zero_place),
+          dues-left f places 0 m.0.place stands.0 stands.1,
+          ap (λ (n : ℕ). f (due_at n stands.0)) (sym zero_place),
+          ap f is_top,
         );
         order = order;
       };
@@ -163,6 +172,9 @@ module _ (places : List (Option Dated)) (end room capacity : ℕ) (heap : List (
       wide = omega (arith, kept.wide, length-set places m.0.place None);
       space = omega (arith, kept.space);
     }
+      where
+        is_top : due_at m.0.place stands.0 ≡ m
+        is_top = ap (λ (date : ℕ). due_at m.0.place (dated stands.0.thread date)) stands.2
 
 -- what `pop` of the heap says, where this is the one on top
 pub popped : (heap heap' : List (Reverse Due)) (m : Reverse Due) (r : Option (Reverse Due)) → 0 < length heap → m ≡ get_or heap 0 m → is_some r ≡ true →

@@ -13,12 +13,12 @@ use std::marker::Model;
 // Twice so many places may be empty, beside as many as there are entries.
 const SPARE: usize = 16;
 
-/// A thread that is held, by its date and then by its place, which is later the later it entered.
+/// A thread that is held, by its date and then by its place, which is later the later it entered. The thread itself stands in the
+/// place.
 #[derive(Clone, Copy, Debug, PartialEq, Eq, PartialOrd, Ord)]
 struct Due {
     date: Tick,
     place: usize,
-    thread: ThreadId,
 }
 
 /// The threads of one core that wait for a date, each with its date. Contracts see them in the order in which they entered, and
@@ -79,9 +79,10 @@ impl Releases {
         if first.date > t {
             return None;
         }
+        let entry = self.places[first.place];
         self.heap.pop();
         self.places[first.place] = None;
-        Some(first.thread)
+        entry.map(|x| x.thread)
     }
 
     /// Enters `x` with the date `at`. The thread is below the number that there is room for, and is not held.
@@ -121,7 +122,6 @@ fn put(
     let due = Due {
         date: entry.date,
         place,
-        thread: entry.thread,
     };
     places[place] = Some(entry);
     let pushed = heap.push(Reverse(due)).is_ok();

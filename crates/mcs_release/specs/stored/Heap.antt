@@ -13,9 +13,9 @@ entered [] = []
 entered (None ∷ places) = entered places
 entered (Some x ∷ places) = x ∷ entered places
 
--- an entry as it stands in the heap
+-- an entry as it stands in the heap: by its date and its place
 abbrev pub due_at : ℕ → Dated → Reverse Due
-due_at place x = record { 0 = record { date = x.date; place = place; thread = x.thread } }
+due_at place x = record { 0 = record { date = x.date; place = place } }
 
 -- the entries as they stand in the heap, where the first place has this number
 abbrev pub dues_from : ℕ → List (Option Dated) → List (Reverse Due)
@@ -25,9 +25,7 @@ dues_from place (Some x ∷ places) = due_at place x ∷ dues_from (suc place) p
 
 -- the heap's order: the least date on top, then the least place
 abbrev pub due_cmp : Reverse Due → Reverse Due → Ordering
-due_cmp x y =
-    ordering_then (nat_cmp y.0.date x.0.date)
-    (ordering_then (nat_cmp y.0.place x.0.place) (nat_cmp y.0.thread x.0.thread))
+due_cmp x y = ordering_then (nat_cmp y.0.date x.0.date) (nat_cmp y.0.place x.0.place)
 
 -- the heap holds what the places hold, in some order: each count of them is the same
 abbrev pub HoldsSame : List (Reverse Due) → List (Option Dated) → Type 0

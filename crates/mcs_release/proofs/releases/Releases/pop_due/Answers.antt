@@ -1,8 +1,8 @@
-use Rattle.std.proofs.Common.{◌≡◌, ◌<◌, ◌∙◌, List, [], Option, None, ap, arith, length, refl, sym}
+use Rattle.std.proofs.Common.{◌≡◌, ◌<◌, ◌∙◌, List, [], Option, None, ap, arith, length, refl, rules, sym}
 use Rattle.std.specs.BinaryHeap.{heap_items}
 use Rattle.mcs_release.specs.declared.dated.Dated.{Dated}
 use Rattle.mcs_release.specs.Release.{ReleaseQueue, first_due, thread_of, when_left, without_first_due}
-use Rattle.mcs_release.proofs.Kept.{IsKept-left, entered-empty, first-later, first-top, kept_in_order, later-than, no_later-than, none-held, place-within, popped, rest-top, same_value}
+use Rattle.mcs_release.proofs.Kept.{IsKept-left, entered-empty, entry-top, first-later, first-top, kept_in_order, later-than, no_later-than, none-held, place-within, popped, rest-top, same_value}
 use Rattle.mcs_release.proofs.releases.Releases.pop_due.Goals as goal
 
 pub returns-in_err-first-clause-first : goal.returns-in_err-first-clause-first
@@ -33,6 +33,9 @@ returns-then-gt-clause-rest c =
     in
     same_value _ _ _ _ (ap (λ (r : Option Dated). when_left r c.args.self.now.queue) (sym stays)) refl
 
+pub index-entry-requires : goal.index-entry-requires
+index-entry-requires c = omega (arith, place-within _ _ _ _ _ c.self.invariant c.in_ok-first.field-0.now (omega (arith, c.in_ok-first.ensures.variant.0 refl)) c.in_ok-first.ensures.lookup (c.in_ok-first.ensures.greatest c.self.invariant.placed.order))
+
 pub index_mut-requires : goal.index_mut-requires
 index_mut-requires c = omega (arith, place-within _ _ _ _ _ c.self.invariant c.in_ok-first.field-0.now (omega (arith, c.in_ok-first.ensures.variant.0 refl)) c.in_ok-first.ensures.lookup (c.in_ok-first.ensures.greatest c.self.invariant.placed.order))
 
@@ -46,7 +49,11 @@ invariant_of-self c =
 
 pub returns-clause-first : goal.returns-clause-first
 returns-clause-first c =
-    sym (ap thread_of (first-top _ _ _ _ _ c.self.invariant c.in_ok-first.field-0.now (omega (arith, c.in_ok-first.ensures.variant.0 refl)) c.in_ok-first.ensures.lookup (c.in_ok-first.ensures.greatest c.self.invariant.placed.order) c.args.t (no_later-than _ _ c.if-gt.ensures)))
+    let some : 0 < length (heap_items c.self.inside.heap) = omega (arith, c.in_ok-first.ensures.variant.0 refl) in
+    let greatest = c.in_ok-first.ensures.greatest c.self.invariant.placed.order in
+    let read : c.map.result ≡ thread_of c.index-entry.result.now = search rules in
+    read ∙ ap thread_of (entry-top _ _ _ _ _ c.self.invariant c.in_ok-first.field-0.now some c.in_ok-first.ensures.lookup greatest _ c.index-entry.ensures)
+    ∙ sym (ap thread_of (first-top _ _ _ _ _ c.self.invariant c.in_ok-first.field-0.now some c.in_ok-first.ensures.lookup greatest c.args.t (no_later-than _ _ c.if-gt.ensures)))
     ∙ ap (λ (v : ReleaseQueue). thread_of (first_due c.args.t v.queue)) c.self.view_is
 
 pub returns-clause-rest : goal.returns-clause-rest
