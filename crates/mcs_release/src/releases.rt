@@ -10,7 +10,7 @@ use std::cmp::Reverse;
 use std::collections::BinaryHeap;
 use std::marker::Model;
 
-// Twice so many places may be empty, beside as many as there are entries.
+// Eight times so many places may be empty, beside seven times as many as there are entries.
 const SPARE: usize = 16;
 
 /// A thread that is held, by its date and then by its place, which is later the later it entered. The thread itself stands in the
@@ -55,7 +55,7 @@ impl Releases {
     {
         let heap = BinaryHeap::with_capacity(alloc, threads)?;
         Ok(Releases {
-            places: vec![in alloc; None; 2 * threads]?,
+            places: vec![in alloc; None; 4 * threads]?,
             end: 0,
             heap,
             room: threads,
@@ -150,9 +150,9 @@ fn close_up(places: &mut [Option<Dated>], heap: &mut BinaryHeap<Reverse<Due>>, p
     front
 }
 
-/// An empty place behind all entries: the first one where there is no entry. Where most of the places before it are empty, or
-/// the last one was taken, the entries move to the front: so few threads stay in few places. Since the last time about half
-/// as many have left as there are places to look through.
+/// An empty place behind all entries: the first one where there is no entry. Where few of the places before it are in use, or
+/// the last one was taken, the entries move to the front: so few threads stay in few places. By then, since the last time, the
+/// threads of at least three in four of the places to look through have left.
 fn place_behind(
     places: &mut [Option<Dated>],
     heap: &mut BinaryHeap<Reverse<Due>>,
@@ -168,7 +168,7 @@ fn place_behind(
 {
     if heap.is_empty() {
         0
-    } else if end < places.len() && end / 2 <= heap.len().saturating_add(SPARE) {
+    } else if end < places.len() && end / 8 <= heap.len().saturating_add(SPARE) {
         end
     } else {
         let past = end.min(places.len());
