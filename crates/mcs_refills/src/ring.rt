@@ -1,4 +1,4 @@
-ghost use Rattle.std.specs.Prelude.{◌≡◌, ◌<◌, ◌≤◌, Some, [], ◌∷◌, ◌++◌, length, slice_get};
+ghost use Rattle.std.specs.Prelude.{◌≡◌, ◌<◌, ◌≤◌, Some, [], ◌∷◌, ◌++◌, length, drop, slice_get};
 ghost use Rattle.circular_buffer.specs.Buffer.{buffer};
 
 use crate::Refill;
@@ -15,24 +15,54 @@ pub fn first(ring: &HeapCircularBuffer<Refill>) -> Refill
     }
 }
 
-/// Takes the first refill out.
+/// Takes the last refill out.
+pub fn pop_last(ring: &mut HeapCircularBuffer<Refill>) -> Refill
+    requires some { 1 ≤ length ring.old.items }
+    ensures items { ring.old.items ≡ ring.new.items ++ result ∷ [] }
+    ensures capacity { ring.new.capacity ≡ ring.old.capacity }
+{
+    match ring.pop_back() {
+        Some(refill) => refill,
+        None => unreachable!(),
+    }
+}
+
+/// Takes the first refill out. The only one leaves by the back, so that the next one comes to lie where it lay.
 pub fn pop_first(ring: &mut HeapCircularBuffer<Refill>) -> Refill
     requires some { 1 ≤ length ring.old.items }
     ensures items { ring.old.items ≡ result ∷ ring.new.items }
     ensures capacity { ring.new.capacity ≡ ring.old.capacity }
 {
+    if ring.len() == 1 {
+        return pop_last(ring);
+    }
     match ring.pop_front() {
         Some(refill) => refill,
         None => unreachable!(),
     }
 }
 
-/// Puts a refill before the others, where there is room.
+/// Writes another refill in place of the first one.
+pub fn set_first(ring: &mut HeapCircularBuffer<Refill>, refill: Refill)
+    requires some { 1 ≤ length ring.old.items }
+    ensures { ring.new ≡ buffer (refill ∷ drop 1 ring.old.items) ring.old.capacity }
+{
+    match ring.get_mut(0) {
+        Some(place) => *place = refill,
+        None => unreachable!(),
+    }
+}
+
+/// Puts a refill before the others, where there is room. Where there are no others it comes to lie where the last one lay.
 pub fn push_first(ring: &mut HeapCircularBuffer<Refill>, refill: Refill)
     requires room { length ring.old.items < ring.old.capacity }
     ensures { ring.new ≡ buffer (refill ∷ ring.old.items) ring.old.capacity }
 {
-    ring.push_front(refill);
+    if ring.is_empty() {
+        ring.push_back(refill);
+    } else {
+        ring.push_front(refill);
+    }
 }
 
 /// Puts a refill behind the others, where there is room: none is overwritten.
