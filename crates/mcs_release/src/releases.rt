@@ -13,6 +13,9 @@ use std::marker::Model;
 // Eight times so many places may be empty, beside seven times as many as there are entries.
 const SPARE: usize = 16;
 
+// So many places there are beyond two for each thread.
+const MORE: usize = 512;
+
 /// A thread that is held, by its date and then by its place, which is later the later it entered. The thread itself stands in the
 /// place.
 #[derive(Clone, Copy, Debug, PartialEq, Eq, PartialOrd, Ord)]
@@ -55,7 +58,7 @@ impl Releases {
     {
         let heap = BinaryHeap::with_capacity(alloc, threads)?;
         Ok(Releases {
-            places: vec![in alloc; None; 4 * threads]?,
+            places: vec![in alloc; None; 2 * threads + MORE]?,
             end: 0,
             heap,
             room: threads,
@@ -152,7 +155,7 @@ fn close_up(places: &mut [Option<Dated>], heap: &mut BinaryHeap<Reverse<Due>>, p
 
 /// An empty place behind all entries: the first one where there is no entry. Where few of the places before it are in use, or
 /// the last one was taken, the entries move to the front: so few threads stay in few places. By then, since the last time, the
-/// threads of at least three in four of the places to look through have left.
+/// threads of at least half of the places to look through have left.
 fn place_behind(
     places: &mut [Option<Dated>],
     heap: &mut BinaryHeap<Reverse<Due>>,
