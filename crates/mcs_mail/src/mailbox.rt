@@ -89,7 +89,11 @@ impl Mailbox {
         ensures spare { self.old.spare ≤ self.new.spare }
         ensures in_order { IsOrdered self.old.mails }
     {
-        if self.next()? <= t { self.take_first() } else { None }
+        if self.next()? <= t {
+            self.take_first()
+        } else {
+            None
+        }
     }
 
     /// When the first mail arrives, or None where there is none.

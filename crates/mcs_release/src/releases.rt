@@ -1,4 +1,8 @@
-ghost use Rattle.std.specs.Prelude.{◌≡◌, ℕ, ◌<◌, ◌≤◌, ◌++◌, ◌∷◌, false, [], None, length, slice_index_or, slice_set, IfOk, IsPermutation};
+ghost use Rattle.std.specs.Prelude.{◌≡◌, ℕ, ◌+◌, ◌*◌, ◌^◌, ◌<◌, ◌≤◌, ◌++◌, ◌∷◌, false, [], None, length, slice_index_or, slice_set, IfOk, IsPermutation};
+ghost use Rattle.std.proofs.Common.{rules};
+ghost use Rattle.std.specs.Cmp.{partial_order_from_own_ties};
+ghost use Rattle.std.specs.Cmp.Rules.{comparing};
+ghost use Rattle.std.specs.Ordering.{nat_cmp, on, then_cmp, as_partial_cmp};
 ghost use Rattle.std.specs.BinaryHeap.{heap_items, heap_len, heap_capacity, KeepsHeap};
 ghost use Rattle.mcs_release.specs.stored.Heap.{due_at, due_cmp, entered, IsPlaced};
 ghost use Rattle.mcs_release.specs.Release.{dated, is_held, next_date, first_due, without_first_due, thread_of, AreDistinct, AreBelow};
@@ -6,7 +10,7 @@ ghost use Rattle.mcs_release.specs.Release.{dated, is_held, next_date, first_due
 use crate::Dated;
 use mcs_ticks::{NoMemory, ThreadId, Tick};
 use std::alloc::Global;
-use std::cmp::Reverse;
+use std::cmp::{Ordering, Reverse};
 use std::collections::BinaryHeap;
 use std::marker::Model;
 
@@ -18,10 +22,44 @@ const MORE: usize = 512;
 
 /// A thread that is held, by its date and then by its place, which is later the later it entered. The thread itself stands in the
 /// place.
-#[derive(Clone, Copy, Debug, PartialEq, Eq, PartialOrd, Ord)]
+#[derive(Clone, Copy, Debug, PartialEq, Eq)]
 struct Due {
     date: Tick,
     place: usize,
+}
+
+impl Due {
+    // one number that is in the order of dates and then of places, so that a single comparison decides
+    fn key(&self) -> u128
+        ensures value { result ≡ self.now.date * 2 ^ 64 + self.now.place }
+        ensures small { self.now.place < 2 ^ 64 }
+    {
+        u128::from(self.date.get()) * (1 << 64) + self.place as u128
+    }
+}
+
+impl Ord for Due {
+    ghost cmp = { then_cmp (on (λ d. d.date) nat_cmp) (on (λ d. d.place) nat_cmp) };
+
+    ghost total = { Prim.search (comparing, rules) };
+
+    ghost matches_partial_cmp = { Prim.search (comparing, rules) };
+
+    ghost matches_eq = { Prim.search (comparing, rules) };
+
+    fn cmp(&self, other: &Due) -> Ordering {
+        self.key().cmp(&other.key())
+    }
+}
+
+impl PartialOrd for Due {
+    ghost partial_cmp = { as_partial_cmp (then_cmp (on (λ d. d.date) nat_cmp) (on (λ d. d.place) nat_cmp)) };
+
+    ghost laws = { partial_order_from_own_ties (Prim.search (comparing, rules)) (Prim.search (comparing, rules)) };
+
+    fn partial_cmp(&self, other: &Due) -> Option<Ordering> {
+        Some(self.cmp(other))
+    }
 }
 
 /// The threads of one core that wait for a date, each with its date. Contracts see them in the order in which they entered, and
