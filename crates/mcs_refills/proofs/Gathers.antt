@@ -1,7 +1,10 @@
 -- The head joins those after it, a step at a time: enough at the head, and unblocking.
-use Rattle.std.proofs.Common.{◌≡◌, ◌+◌, ◌≤◌, List, [], ◌∷◌, subst, arith}
+use Rattle.std.proofs.Common.{◌≡◌, ℕ, ◌+◌, ◌≤◌, false, List, [], ◌∷◌, drop, refl, sym, ap, subst, arith}
+use Rattle.std.specs.Prelude.{nat_lt, Some, slice_get}
+use Rattle.std.proofs.lemmas.Bool.Decides.{nat_tests}
+use Rattle.std.proofs.lemmas.Option.{same_Some}
 use Rattle.mcs_refills.specs.declared.refill.Refill.{Refill}
-use Rattle.mcs_refills.specs.stored.Refills.{AreApart, end_of}
+use Rattle.mcs_refills.specs.stored.Refills.{AreApart, end_of, with_reached, after_unblock}
 
 pub end_of-first : (r : Refill) (rs : List Refill) → AreApart (r ∷ rs) → r.begins + r.amount ≤ end_of (r ∷ rs)
 end_of-first r [] a = omega arith
@@ -17,3 +20,28 @@ module _ (h x : Refill) (rs rest : List Refill) (e : rs ≡ x ∷ rest) where
 
   pub next-bounds : AreApart (h ∷ rs) → (h.amount ≤ x.begins) × (x.begins + x.amount ≤ end_of (h ∷ rs))
   next-bounds a = rw e (bounds h x rest (with_next a))
+
+-- the others stand behind the head
+pub first-is : (rs : List Refill) (x : Refill) → slice_get rs 0 ≡ Some x → rs ≡ x ∷ drop 1 rs
+first-is [] x e = cc
+first-is (r ∷ rs) x e = ap (λ (y : Refill). y ∷ rs) (same_Some _ _ e)
+
+pub second-is : (rs : List Refill) (x : Refill) → Some x ≡ slice_get rs 1 → drop 1 rs ≡ x ∷ drop 2 rs
+second-is [] x e = cc
+second-is (r ∷ []) x e = cc
+second-is (r ∷ s ∷ rs) x e = ap (λ (y : Refill). y ∷ rs) (sym (same_Some _ _ e))
+
+-- a head whose moment has come
+pub begun-apart : (r : Refill) (rs : List Refill) → AreApart (r ∷ rs) → AreApart (record { begins = 0; amount = r.amount } ∷ rs)
+begun-apart r [] a = a
+begun-apart r (s ∷ rs) a = record { 0 = a.0; 1 = omega (arith, a.1); 2 = a.2 }
+
+pub begun-end : (r : Refill) (rs : List Refill) → end_of (record { begins = 0; amount = r.amount } ∷ rs) ≤ end_of (r ∷ rs)
+begun-end r [] = omega arith
+begun-end r (s ∷ rs) = omega arith
+
+pub begun-reaches : (t : ℕ) (r : Refill) (rs : List Refill) → r.begins ≤ t → with_reached t r.amount rs ≡ after_unblock t (r ∷ rs)
+begun-reaches t r rs h = let f : nat_lt t r.begins ≡ false = not_below t r.begins h in rw f refl
+  where
+    not_below : (a b : ℕ) → b ≤ a → nat_lt a b ≡ false
+    not_below a b k = grind (arith, nat_tests)

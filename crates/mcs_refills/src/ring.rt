@@ -27,14 +27,21 @@ pub fn pop_last(ring: &mut HeapCircularBuffer<Refill>) -> Refill
     }
 }
 
-/// Takes the first refill out. The only one leaves by the back, so that the next one comes to lie where it lay.
+/// Takes the first refill out. One of one or two leaves by the back, so that the list stays where it lies.
 pub fn pop_first(ring: &mut HeapCircularBuffer<Refill>) -> Refill
     requires some { 1 ≤ length ring.old.items }
     ensures items { ring.old.items ≡ result ∷ ring.new.items }
     ensures capacity { ring.new.capacity ≡ ring.old.capacity }
 {
-    if ring.len() == 1 {
+    let count = ring.len();
+    if count == 1 {
         return pop_last(ring);
+    }
+    if count == 2 {
+        let last = pop_last(ring);
+        let head = pop_last(ring);
+        push_last(ring, last);
+        return head;
     }
     match ring.pop_front() {
         Some(refill) => refill,

@@ -122,14 +122,19 @@ pub fn unblock_list(refills: &mut HeapCircularBuffer<Refill>, t: u64)
     requires now { t ≤ 2 ^ 40 }
     ensures { refills.new ≡ buffer (after_unblock t refills.old.items) refills.old.capacity }
 {
-    if t < first(refills).begins {
+    let head = first(refills);
+    if t < head.begins {
         return;
     }
-    let mut amount = pop_first(refills).amount;
-    'joins: while !refills.is_empty() && first(refills).begins <= t + amount {
-        amount += pop_first(refills).amount;
+    let mut amount = head.amount;
+    'joins: while let Some(&next) = refills.get(1) {
+        if t + amount < next.begins {
+            break 'joins;
+        }
+        amount += next.amount;
+        pop_first(refills);
     }
-    push_first(refills, Refill { begins: t, amount });
+    set_first(refills, Refill { begins: t, amount });
 }
 
 /// An order at `t`: the head begins at `t` or later and has at most the budget, and what it lacks is one refill that ends a

@@ -1,14 +1,15 @@
-use Rattle.std.proofs.Common.{◌≡◌, ◌<◌, ◌≤◌, ◌∷◌, length}
+use Rattle.std.proofs.Common.{◌≡◌, ◌≤◌, ◌∷◌, length, drop}
 use Rattle.mcs_refills.specs.stored.Refills.{AreApart, end_of, with_reached, after_unblock}
 use Rattle.mcs_refills.proofs.steps.unblock_list.Given as goal
 
 abbrev pub invariant-joins : goal.invariant-joins
 invariant-joins l = record {
-  room : length l.refills.items < l.refills.capacity;
+  some : 1 ≤ length l.refills.items;
+  room : length l.refills.items ≤ l.refills.capacity;
   capacity : l.refills.capacity ≡ l.fn.refills.capacity;
-  apart : AreApart (record { begins = 0; amount = l.amount } ∷ l.refills.items);
-  end : end_of (record { begins = 0; amount = l.amount } ∷ l.refills.items) ≤ end_of l.fn.refills.items;
-  same : with_reached l.t l.amount l.refills.items ≡ after_unblock l.t l.fn.refills.items;
+  apart : AreApart (record { begins = 0; amount = l.amount } ∷ drop 1 l.refills.items);
+  end : end_of (record { begins = 0; amount = l.amount } ∷ drop 1 l.refills.items) ≤ end_of l.fn.refills.items;
+  same : with_reached l.t l.amount (drop 1 l.refills.items) ≡ after_unblock l.t l.fn.refills.items;
 }
 
 abbrev pub decreases-joins : goal.decreases-joins
