@@ -1,13 +1,11 @@
 -- The refills of dates that ascend are apart, and have the dates among them.
-use Rattle.std.proofs.Common.{◌≡◌, ℕ, ◌+◌, ◌≤◌, Bool, true, false, cond, List, [], ◌∷◌, length, map, refl, sym, ap, ◌∙◌, arith}
-use Rattle.std.specs.Prelude.{◌==◌, sum}
+use Rattle.std.proofs.Common.{◌≡◌, ℕ, ◌+◌, ◌≤◌, Bool, true, false, cond, List, [], ◌∷◌, length, map, refl, ◌∙◌, arith}
+use Rattle.std.specs.Prelude.{◌==◌}
 use Rattle.std.proofs.lemmas.List.Sums.{sum_by-cons}
 use Rattle.mcs_refills.specs.declared.refill.Refill.{Refill}
 use Rattle.mcs_refills.specs.stored.Refills as stored
-use Rattle.mcs_refills.specs.Server.{Server, with_date, refills_of, first_moment}
-use Rattle.mcs_refills.specs.laws.Spacing.{IsWithin, AreKept}
-use Rattle.mcs_refills.specs.laws.Servers.{IsServer}
-use Rattle.mcs_refills.specs.laws.Apart.{AreApart, total_amount, last_end, HaveBudget, RefillsOfDates, ServersHaveTheirBudgets}
+use Rattle.mcs_refills.specs.Server.{with_date, refills_of, first_moment}
+use Rattle.mcs_refills.specs.laws.Apart.{AreApart, total_amount, last_end, RefillsOfDates, ServersHaveTheirBudgets}
 use Rattle.mcs_refills.proofs.Spaces.{IsLaid, laid-refills_of}
 use Rattle.mcs_refills.proofs.Servers.{apart-refills_of, laid-ends}
 

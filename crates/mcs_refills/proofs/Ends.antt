@@ -58,10 +58,10 @@ module _ (max_refills n : ℕ) (back x : Refill) (ts rs : List Refill) (e : rs �
       by : (a b m : ℕ) → a ≡ b → b ≢ m → (a == m) ≡ false
       by a b m h k = grind (arith, nat_tests)
 
-  pub appends : n ≡ length rs → x.begins + x.amount ≢ back.begins → n < max_refills → (ts ++ x ∷ []) ++ back ∷ [] ≡ given_back max_refills back rs
+  pub appends : n ≡ length rs → x.begins + x.amount ≢ back.begins → n < max_refills → rs ++ back ∷ [] ≡ given_back max_refills back rs
   appends f g l =
       let u : nat_lt (length (ts ++ x ∷ [])) max_refills ≡ true = below n (length (ts ++ x ∷ [])) max_refills (f ∙ ap length e) l in
-      sym (ap (given_back max_refills back) e ∙ by_cases max_refills back ts x ∙ rw (differs g, u) refl)
+      ap (λ xs. xs ++ back ∷ []) e ∙ sym (ap (given_back max_refills back) e ∙ by_cases max_refills back ts x ∙ rw (differs g, u) refl)
     where
       below : (a b m : ℕ) → a ≡ b → a < m → nat_lt b m ≡ true
       below a b m h k = grind (arith, nat_tests)

@@ -1,4 +1,4 @@
-ghost use Rattle.std.specs.Prelude.{◌≡◌, ◌<◌, ◌≤◌, Some, [], ◌∷◌, ◌++◌, length, drop, slice_get};
+ghost use Rattle.std.specs.Prelude.{◌≡◌, ◌<◌, ◌≤◌, Some, [], ◌∷◌, ◌++◌, ◌-◌, length, take, drop, slice_get};
 ghost use Rattle.circular_buffer.specs.Buffer.{buffer};
 
 use crate::Refill;
@@ -58,6 +58,16 @@ pub fn set_first(ring: &mut HeapCircularBuffer<Refill>, refill: Refill)
         Some(place) => *place = refill,
         None => unreachable!(),
     }
+}
+
+/// Writes another refill in place of the last one.
+pub fn set_last(ring: &mut HeapCircularBuffer<Refill>, refill: Refill)
+    requires some { 1 ≤ length ring.old.items }
+    requires room { length ring.old.items ≤ ring.old.capacity }
+    ensures { ring.new ≡ buffer (take (length ring.old.items - 1) ring.old.items ++ refill ∷ []) ring.old.capacity }
+{
+    ring.pop_back();
+    push_last(ring, refill);
 }
 
 /// Puts a refill before the others, where there is room. Where there are no others it comes to lie where the last one lay.

@@ -4,7 +4,7 @@ ghost use Rattle.mcs_refills.specs.stored.Refills.{end_of, taken, given_back, Ar
 ghost use Rattle.mcs_refills.specs.Server.{first_amount, first_moment, enough};
 
 use crate::Refill;
-use crate::ring::{first, pop_first, push_first, push_last};
+use crate::ring::{first, pop_first, push_first, push_last, set_first, set_last};
 use circular_buffer::HeapCircularBuffer;
 
 /// Takes ticks from the head, and answers the head's moment. A head that is wholly used leaves.
@@ -16,9 +16,11 @@ pub fn take(refills: &mut HeapCircularBuffer<Refill>, ticks: u64) -> u64
     ensures moment { result ≡ first_moment refills.old.items }
     ensures refills { refills.new ≡ buffer (taken ticks refills.old.items) refills.old.capacity }
 {
-    let head = pop_first(refills);
-    if ticks != head.amount {
-        push_first(
+    let head = first(refills);
+    if ticks == head.amount {
+        pop_first(refills);
+    } else {
+        set_first(
             refills,
             Refill {
                 begins: head.begins + ticks,
@@ -39,13 +41,13 @@ pub fn give_back(refills: &mut HeapCircularBuffer<Refill>, back: Refill, max_ref
     ensures { refills.new ≡ buffer (given_back max_refills back refills.old.items) refills.old.capacity }
 {
     let count = refills.len();
-    let Some(last) = refills.pop_back() else {
+    let Some(&last) = refills.back() else {
         push_last(refills, back);
         return;
     };
     let amount = last.amount + back.amount;
     if last.begins + last.amount == back.begins {
-        push_last(
+        set_last(
             refills,
             Refill {
                 begins: last.begins,
@@ -53,10 +55,9 @@ pub fn give_back(refills: &mut HeapCircularBuffer<Refill>, back: Refill, max_ref
             },
         );
     } else if count < max_refills {
-        push_last(refills, last);
         push_last(refills, back);
     } else {
-        push_last(
+        set_last(
             refills,
             Refill {
                 begins: back.begins - last.amount,
