@@ -89,7 +89,9 @@ impl Merger {
             return None;
         }
         let core = first.core();
-        let (row, head) = take_first(self.cores.as_mut_slice(), core);
+        let cores = self.cores.as_mut_slice();
+        let row = take_first(cores, core);
+        let head = head_at(cores, core);
         self.heads.set(core, head);
         row
     }
@@ -154,18 +156,23 @@ fn take_room(cores: &mut [Held], core: usize) -> Vec<Row>
     held.take_room()
 }
 
-// Takes the first row of a core, and gives the head that the core has then.
-fn take_first(cores: &mut [Held], core: usize) -> (Option<Row>, Head)
-    requires core { core < length cores.old }
-    requires few { core < 64 }
-    ensures row { result.0 ≡ slice_get (list_of core (lists_of cores.old)) 0 }
+// Takes the first row of a core.
+fn take_first(cores: &mut [Held], core: usize) -> Option<Row>
+    requires { core < length cores.old }
+    ensures row { result ≡ slice_get (list_of core (lists_of cores.old)) 0 }
     ensures left { lists_of cores.new
         ≡ slice_set (lists_of cores.old) core (drop 1 (list_of core (lists_of cores.old))) }
     ensures clocks { clocks_of cores.new ≡ clocks_of cores.old }
-    ensures head { result.1
-        ≡ head_of core (list_of core (lists_of cores.new)) (slice_index (clocks_of cores.new) core) }
 {
-    let held = &mut cores[core];
-    let row = held.take_first();
-    (row, held.head(core))
+    cores[core].take_first()
+}
+
+// What comes next of a core.
+fn head_at(cores: &[Held], core: usize) -> Head
+    requires core { core < length cores.now }
+    requires few { core < 64 }
+    ensures { result
+        ≡ head_of core (list_of core (lists_of cores.now)) (slice_index (clocks_of cores.now) core) }
+{
+    cores[core].head(core)
 }

@@ -1,5 +1,5 @@
 -- What one call of a merger does to what was taken, of all rows that were added.
-use Rattle.std.specs.Prelude.{◌≡◌, ℕ, ◌<◌, ◌≤◌, List, [], ◌++◌, length, replicate, Option, None, option_to_list}
+use Rattle.std.specs.Prelude.{◌≡◌, ℕ, ◌<◌, ◌≤◌, List, [], ◌++◌, length, replicate, None, option_to_list}
 use Rattle.mcs_ticks.specs.declared.row.Row.{Row}
 use Rattle.mcs_merge.specs.Merge.{rows_at, merged_before, merged, last_of_all}
 use Rattle.mcs_merge.specs.Merging.{Merging, starting, list_of, least_clock, passed, next_row}
