@@ -1,6 +1,6 @@
 -- The last refill of a list, behind the others.
 use Rattle.std.proofs.Common.{◌≡◌, ℕ, zero, suc, ◌+◌, ◌-◌, ◌<◌, ◌≤◌, ◌≢◌, true, false, cond, List, [], ◌∷◌, ◌++◌, length, take, refl, sym, ap, ◌∙◌, arith}
-use Rattle.std.specs.Prelude.{◌==◌, nat_lt, Some, slice_get}
+use Rattle.std.specs.Prelude.{◌==◌, nat_lt, Some, slice_get, slice_set}
 use Rattle.std.proofs.lemmas.Bool.Decides.{nat_tests}
 use Rattle.std.proofs.lemmas.Option.{same_Some}
 use Rattle.circular_buffer.specs.Buffer.{last_item}
@@ -18,6 +18,16 @@ last-at (r ∷ rs) (suc n) x l e = ap (λ xs. r ∷ xs) (last-at rs n x (omega a
 pub last-is : (rs : List Refill) (x : Refill) → Some x ≡ last_item rs → rs ≡ take (length rs - 1) rs ++ x ∷ []
 last-is [] x e = cc
 last-is (r ∷ rs) x e = last-at (r ∷ rs) (length (r ∷ rs) - 1) x (omega arith) e
+
+set-at : (rs : List Refill) (n : ℕ) (x : Refill) → suc n ≡ length rs → slice_set rs n x ≡ take n rs ++ x ∷ []
+set-at [] n x l = absurd (omega arith)
+set-at (r ∷ []) zero x l = refl
+set-at (r ∷ s ∷ rs) zero x l = absurd (omega arith)
+set-at (r ∷ rs) (suc n) x l = ap (λ xs. r ∷ xs) (set-at rs n x (omega arith))
+
+-- another refill in place of the last one
+pub set-last : (rs : List Refill) (x : Refill) → 1 ≤ length rs → slice_set rs (length rs - 1) x ≡ take (length rs - 1) rs ++ x ∷ []
+set-last rs x l = set-at rs (length rs - 1) x (omega arith)
 
 end_of-last : (ts : List Refill) (x : Refill) → end_of (ts ++ x ∷ []) ≡ x.begins + x.amount
 end_of-last [] x = refl

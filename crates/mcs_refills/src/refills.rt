@@ -3,9 +3,8 @@ ghost use Rattle.mcs_refills.specs.Server.{new_server, refills_of, is_ready, fir
 ghost use Rattle.mcs_refills.specs.laws.Servers.{IsServer};
 
 use crate::Refill;
-use crate::ring::{first, push_last};
+use crate::line::Line;
 use crate::steps::{charge_list, reconfigure_list, unblock_list};
-use circular_buffer::HeapCircularBuffer;
 use mcs_ticks::{NoMemory, Tick};
 use std::alloc::Global;
 use std::marker::Model;
@@ -13,10 +12,10 @@ use std::marker::Model;
 /// The refills of a sporadic scheduling context, after the sporadic server of Sprunt, Sha and Lehoczky (1989) and the seL4
 /// Reference Manual (MCS). Contracts see a server: its budget dates, one for each tick of the budget in ascending order, its
 /// period, at most how many refills it has, and for how many there is room. The refills are the longest runs of consecutive
-/// dates, and lie in a ring with that room. Only [`Refills::new`] takes memory.
+/// dates. The first lies in this struct, and there is a ring for the others. Only [`Refills::new`] takes memory.
 #[derive(Debug, Drop)]
 pub struct Refills {
-    ring: HeapCircularBuffer<Refill>,
+    line: Line,
     period: u64,
     max_refills: usize,
 }
@@ -28,9 +27,9 @@ impl Model for Refills {
     ghost Value = { Server };
 
     ghost view = { λ a.
-        record { dates = dates_of a.ring.items; period = a.period; max_refills = a.max_refills; room = a.ring.capacity } };
+        record { dates = dates_of a.line.items; period = a.period; max_refills = a.max_refills; room = a.line.capacity } };
 
-    ghost invariant = { λ a. IsStored a.ring.items a.period a.max_refills a.ring.capacity };
+    ghost invariant = { λ a. IsStored a.line.items a.period a.max_refills a.line.capacity };
 }
 
 impl Refills {
@@ -53,14 +52,13 @@ impl Refills {
         requires few { room ≤ 66 }
         ensures { IfOk result (λ refills. refills ≡ new_server at budget period max_refills room) }
     {
-        let mut ring = HeapCircularBuffer::with_capacity(alloc, room)?;
         let all = Refill {
             begins: at.get(),
             amount: budget,
         };
-        push_last(&mut ring, all);
+        let line = Line::new(alloc, all, room)?;
         Ok(Refills {
-            ring,
+            line,
             period,
             max_refills,
         })
@@ -73,7 +71,7 @@ impl Refills {
         ensures some { 1 ≤ result.amount }
         ensures in_range { result.begins ≤ 2 ^ 42 }
     {
-        first(&self.ring)
+        self.line.first()
     }
 
     /// How many refills there are.
@@ -81,14 +79,14 @@ impl Refills {
         ensures number { result ≡ length (refills_of self.now.dates) }
         ensures few { result ≤ self.now.max_refills }
     {
-        self.ring.len()
+        self.line.len()
     }
 
     /// The refill in place `i`, from 0, or None past the last.
     pub fn get(&self, i: usize) -> Option<Refill>
         ensures { result ≡ slice_get (refills_of self.now.dates) i }
     {
-        self.ring.get(i).copied()
+        self.line.get(i)
     }
 
     /// Whether the head may be used at `t`.
@@ -108,7 +106,7 @@ impl Refills {
         ensures { self.new ≡ server_charged ticks min_budget self.old }
     {
         charge_list(
-            &mut self.ring,
+            &mut self.line,
             self.period,
             self.max_refills,
             ticks,
@@ -121,7 +119,7 @@ impl Refills {
         requires { t ≤ 2 ^ 40 }
         ensures { self.new ≡ server_unblocked t self.old }
     {
-        unblock_list(&mut self.ring, t.get());
+        unblock_list(&mut self.line, t.get());
     }
 
     /// A SchedControl order at `t`: the budget, the period and the number of refills are these from now on. The head stays, but
@@ -135,7 +133,7 @@ impl Refills {
         requires fits { max_refills ≤ self.old.room }
         ensures { self.new ≡ server_reconfigured t budget period max_refills self.old }
     {
-        reconfigure_list(&mut self.ring, t.get(), budget, period);
+        reconfigure_list(&mut self.line, t.get(), budget, period);
         self.period = period;
         self.max_refills = max_refills;
     }
@@ -144,6 +142,6 @@ impl Refills {
     pub fn in_good_order(&self)
         ensures { IsServer (length self.now.dates) self.now }
     {
-        let _ring = &self.ring;
+        let _line = &self.line;
     }
 }

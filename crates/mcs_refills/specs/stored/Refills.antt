@@ -29,7 +29,7 @@ pub record IsKept (refills : List Refill) (period max_refills : ℕ) : Type 0 wh
   pub short : period ≤ 2 ^ 40
   pub early : first_moment refills ≤ 3 * 2 ^ 40
 
--- and the ring has room for them, reserved once
+-- and there is room for them, reserved once
 pub record IsStored (refills : List Refill) (period max_refills room : ℕ) : Type 0 where
   pub kept : IsKept refills period max_refills
   pub fits : max_refills ≤ room

@@ -1,15 +1,15 @@
-use Rattle.std.proofs.Common.{◌≡◌, ◌<◌, ◌∷◌, length}
+use Rattle.std.proofs.Common.{◌≡◌, ◌≤◌, ◌∷◌, length, drop}
 use Rattle.mcs_refills.specs.stored.Refills.{AreApart, end_of}
 use Rattle.mcs_refills.specs.Server.{enough}
 use Rattle.mcs_refills.proofs.steps.gather.Given as goal
 
 abbrev pub invariant-joins : goal.invariant-joins
 invariant-joins l = record {
-  room : length l.refills.items < l.refills.capacity;
+  some : 1 ≤ length l.refills.items;
   capacity : l.refills.capacity ≡ l.fn.refills.capacity;
-  apart : AreApart (l.head ∷ l.refills.items);
-  end : end_of (l.head ∷ l.refills.items) ≡ end_of l.fn.refills.items;
-  same : enough l.min_budget (l.head ∷ l.refills.items) ≡ enough l.min_budget l.fn.refills.items;
+  apart : AreApart (l.head ∷ drop 1 l.refills.items);
+  end : end_of (l.head ∷ drop 1 l.refills.items) ≡ end_of l.fn.refills.items;
+  same : enough l.min_budget (l.head ∷ drop 1 l.refills.items) ≡ enough l.min_budget l.fn.refills.items;
 }
 
 abbrev pub decreases-joins : goal.decreases-joins

@@ -1,4 +1,4 @@
-use Rattle.std.proofs.Common.{drop, refl, sym, ap, ◌∙◌, subst, arith}
+use Rattle.std.proofs.Common.{length, drop, refl, sym, ap, ◌∙◌, subst, arith}
 use Rattle.mcs_refills.specs.stored.Refills.{AreApart, end_of, after_unblock}
 use Rattle.mcs_refills.proofs.Gathers.{next-bounds, end_of-first, first-is, second-is, begun-apart, begun-end, begun-reaches}
 use Rattle.mcs_refills.proofs.steps.unblock_list.Goals as goal
@@ -7,8 +7,7 @@ pub joins-init : goal.joins-init
 joins-init c =
     let e = first-is c.args.refills.now.items c.first-head.result c.first-head.ensures in
     record {
-      some = c.requires.some;
-      room = c.requires.room;
+      some = omega (arith, ap length e);
       capacity = refl;
       apart = begun-apart _ _ (subst AreApart e c.requires.apart);
       end = omega (arith, begun-end c.first-head.result (drop 1 c.args.refills.now.items), ap end_of e);

@@ -5,7 +5,6 @@ use Rattle.mcs_refills.proofs.steps.unblock_list.Given as goal
 abbrev pub invariant-joins : goal.invariant-joins
 invariant-joins l = record {
   some : 1 ≤ length l.refills.items;
-  room : length l.refills.items ≤ l.refills.capacity;
   capacity : l.refills.capacity ≡ l.fn.refills.capacity;
   apart : AreApart (record { begins = 0; amount = l.amount } ∷ drop 1 l.refills.items);
   end : end_of (record { begins = 0; amount = l.amount } ∷ drop 1 l.refills.items) ≤ end_of l.fn.refills.items;

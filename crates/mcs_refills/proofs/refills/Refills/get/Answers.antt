@@ -6,5 +6,5 @@ use Rattle.mcs_refills.proofs.refills.Refills.get.Goals as goal
 
 pub returns : goal.returns
 returns c =
-    c.copied.ensures ∙ c.get.ensures
-    ∙ ap (λ rs. slice_get rs c.args.i) (refills-shown c.self.inside.ring.items c.args.self.now.dates c.self.invariant.kept.apart (ap (λ (v : Server). v.dates) c.self.view_is))
+    c.get.ensures
+    ∙ ap (λ rs. slice_get rs c.args.i) (refills-shown c.self.inside.line.items c.args.self.now.dates c.self.invariant.kept.apart (ap (λ (v : Server). v.dates) c.self.view_is))

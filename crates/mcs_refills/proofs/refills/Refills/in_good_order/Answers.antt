@@ -8,5 +8,5 @@ pub returns : goal.returns
 returns c =
     let P : Server → Type 0 = λ server. IsServer (length server.dates) server in
     subst P c.self.view_is
-    (in-good-order (record { dates = dates_of c.self.inside.ring.items; period = c.self.inside.period; max_refills = c.self.inside.max_refills; room = c.self.inside.ring.capacity })
-    c.self.inside.ring.items c.self.invariant.kept refl)
+    (in-good-order (record { dates = dates_of c.self.inside.line.items; period = c.self.inside.period; max_refills = c.self.inside.max_refills; room = c.self.inside.line.capacity })
+    c.self.inside.line.items c.self.invariant.kept refl)

@@ -5,4 +5,4 @@ use Rattle.mcs_refills.proofs.refills.Refills.len.Goals as goal
 
 pub returns-clause-number : goal.returns-clause-number
 returns-clause-number c =
-    c.len.ensures.len ∙ ap length (refills-shown c.self.inside.ring.items c.args.self.now.dates c.self.invariant.kept.apart (ap (λ (v : Server). v.dates) c.self.view_is))
+    c.len.ensures ∙ ap length (refills-shown c.self.inside.line.items c.args.self.now.dates c.self.invariant.kept.apart (ap (λ (v : Server). v.dates) c.self.view_is))

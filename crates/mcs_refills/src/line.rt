@@ -1,0 +1,143 @@
+ghost use Rattle.std.specs.Prelude.{◌≡◌, ◌<◌, ◌≤◌, Some, [], ◌∷◌, ◌++◌, ◌-◌, IfOk, length, take, drop, slice_get};
+ghost use Rattle.circular_buffer.specs.Buffer.{buffer, last_item};
+
+use crate::Refill;
+use circular_buffer::HeapCircularBuffer;
+use std::alloc::{AllocError, Global};
+use std::marker::Model;
+
+/// One refill or more. The first lies here and the others in a ring, so that a look at the first waits for no other memory.
+/// Contracts see them as one list, and for how many there is room.
+#[derive(Debug, Drop)]
+pub struct Line {
+    head: Refill,
+    others: HeapCircularBuffer<Refill>,
+}
+
+impl Model for Line {
+    ghost use Rattle.std.specs.Prelude.{◌+◌, ◌∷◌};
+    ghost use Rattle.circular_buffer.specs.Buffer.{Buffer, buffer};
+    ghost use Rattle.mcs_refills.specs.declared.refill.Refill.{Refill};
+
+    ghost Value = { Buffer Refill };
+
+    ghost view = { λ a. buffer (a.head ∷ a.others.items) (a.others.capacity + 1) };
+}
+
+impl Line {
+    /// A line of one refill, with room for `room`.
+    pub fn new(alloc: Global, refill: Refill, room: usize) -> Result<Self, AllocError>
+        requires some { 1 ≤ room }
+        ensures { IfOk result (λ line. line ≡ buffer (refill ∷ []) room) }
+    {
+        let others = HeapCircularBuffer::with_capacity(alloc, room - 1)?;
+        Ok(Line {
+            head: refill,
+            others,
+        })
+    }
+
+    /// The first refill.
+    pub fn first(&self) -> Refill
+        ensures { slice_get self.now.items 0 ≡ Some result }
+    {
+        self.head
+    }
+
+    /// The last refill.
+    pub fn last(&self) -> Refill
+        ensures { Some result ≡ last_item self.now.items }
+    {
+        match self.others.back() {
+            Some(refill) => *refill,
+            None => self.head,
+        }
+    }
+
+    /// The refill in place `i`, from 0, or None past the last.
+    pub fn get(&self, i: usize) -> Option<Refill>
+        ensures { result ≡ slice_get self.now.items i }
+    {
+        if i == 0 {
+            Some(self.head)
+        } else {
+            self.others.get(i - 1).copied()
+        }
+    }
+
+    /// How many refills there are.
+    pub fn len(&self) -> usize
+        ensures { result ≡ length self.now.items }
+    {
+        self.others.len() + 1
+    }
+
+    /// Writes another refill in place of the first one.
+    pub fn set_first(&mut self, refill: Refill)
+        ensures { self.new ≡ buffer (refill ∷ drop 1 self.old.items) self.old.capacity }
+    {
+        self.head = refill;
+    }
+
+    /// Writes another refill in place of the last one.
+    pub fn set_last(&mut self, refill: Refill)
+        ensures { self.new ≡ buffer (take (length self.old.items - 1) self.old.items ++ refill ∷ []) self.old.capacity }
+    {
+        if self.others.is_empty() {
+            self.head = refill;
+        } else {
+            replace_last(&mut self.others, refill);
+        }
+    }
+
+    /// Takes the first refill out, where there is another.
+    pub fn drop_first(&mut self)
+        requires { 2 ≤ length self.old.items }
+        ensures { self.new ≡ buffer (drop 1 self.old.items) self.old.capacity }
+    {
+        match pop_first(&mut self.others) {
+            Some(next) => self.head = next,
+            None => unreachable!(),
+        }
+    }
+
+    /// Puts a refill behind the others, where there is room: none is overwritten.
+    pub fn push_last(&mut self, refill: Refill)
+        requires room { length self.old.items < self.old.capacity }
+        ensures { self.new ≡ buffer (self.old.items ++ refill ∷ []) self.old.capacity }
+    {
+        self.others.push_back(refill);
+    }
+
+    /// Writes one refill in place of all.
+    pub fn set_only(&mut self, refill: Refill)
+        ensures { self.new ≡ buffer (refill ∷ []) self.old.capacity }
+    {
+        self.head = refill;
+        self.others.clear();
+    }
+}
+
+/// Writes another refill in place of the last one of a ring.
+fn replace_last(ring: &mut HeapCircularBuffer<Refill>, refill: Refill)
+    requires some { 1 ≤ length ring.old.items }
+    ensures { ring.new ≡ buffer (take (length ring.old.items - 1) ring.old.items ++ refill ∷ []) ring.old.capacity }
+{
+    let place = ring.len() - 1;
+    match ring.get_mut(place) {
+        Some(last) => *last = refill,
+        None => unreachable!(),
+    }
+}
+
+/// Takes the first refill of a ring out. An only one leaves by the back, so that the ring stays where it lies.
+fn pop_first(ring: &mut HeapCircularBuffer<Refill>) -> Option<Refill>
+    ensures value { result ≡ slice_get ring.old.items 0 }
+    ensures items { ring.new ≡ buffer (drop 1 ring.old.items) ring.old.capacity }
+{
+    if ring.len() == 1 {
+        ring.pop_back()
+    } else {
+        ring.pop_front()
+    }
+}
