@@ -136,6 +136,17 @@ module _ (system : System) (c : ℕ) (w : IsWellFormed system) where
       (rw e4 (first-order-of system c clock orders planned (rw planned (to_come-by_moment 0 clock (orders_of system c) (orders_of-by_moment system c))) (λ m e. early-some order l4 m (e4 ∙ e))))
       (rw e5 (first-mail clock box ordered come (λ m e. early-some mail l5 m (e5 ∙ e))))
 
+  -- the clock, where the thread that runs ends its item or uses up its head then
+  pub busy-now : (clock : ℕ) (box : List Mail) (core : Core) (ends : Option ℕ) → IsSound system c clock Between None core →
+      IsFirst clock (λ n. GoesOnAfter system n core.running core) ends → ends ≡ Some clock → IsNextBusy system c clock box core (Some clock)
+  busy-now clock box core ends h first e = by (subst (λ o. IsFirst clock (λ n. GoesOnAfter system n core.running core) o) e first)
+    where
+      by : IsFirst clock (λ n. GoesOnAfter system n core.running core) (Some clock) → IsNextBusy system c clock box core (Some clock)
+      by (n, there, early, before, not) =
+          let none : n ≡ 0 = omega arith in
+          let stops : ¬ GoesOnAfter system 0 core.running core = subst (λ m. ¬ GoesOnAfter system m core.running core) none not in
+          (0, omega arith, early, λ m l. absurd (omega arith), λ quiet. stops (quiet-only-when clock (arriving clock box) core h quiet).0)
+
   -- a state after quiet turns
   pub skipped-fits : (state : State) (to : ℕ) (core : Core) → c ≡ state.number → Fits system state → state.failed ≡ false → state.clock ≤ to → to ≤ 2 ^ 40 + 1 →
       AreQuiet system c state.clock [] state.core (to - state.clock) → core ≡ counted_times system c (to - state.clock) state.core →

@@ -1,4 +1,4 @@
-ghost use Rattle.std.specs.Prelude.{◌≡◌, ◌+◌, ◌-◌, ◌^◌, ◌<◌, ◌≤◌, min, length, None, IfSome};
+ghost use Rattle.std.specs.Prelude.{◌≡◌, ◌+◌, ◌-◌, ◌^◌, ◌<◌, ◌≤◌, min, length, Some, None, IfSome, IsTrue};
 ghost use Rattle.mcs_ticks.specs.Queue.{first_of};
 ghost use Rattle.mcs_core.specs.Busy.{IsFirst, sooner, IsBest, GoesOnAfter, counted_for};
 ghost use Rattle.mcs_core.specs.stored.Sound.{IsSound};
@@ -68,6 +68,16 @@ fn ticks_before_end(left: u64, used: u64, head: u64) -> u64
     ensures { result ≡ min (left - 1) (head - used - 1) }
 {
     left.saturating_sub(1).min(head - used - 1)
+}
+
+/// Whether there is a moment, and it is the clock.
+pub(crate) fn is_at(moment: &Option<Tick>, clock: Tick) -> bool
+    ensures { IsTrue result → moment.now ≡ Some clock }
+{
+    match moment {
+        Some(moment) => *moment == clock,
+        None => false,
+    }
 }
 
 /// The sooner of two moments.

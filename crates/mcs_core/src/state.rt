@@ -1,10 +1,11 @@
 ghost use Rattle.std.specs.Prelude.{◌≡◌, ◌⊎◌, ◌+◌, ◌-◌, ◌^◌, ◌≤◌, ◌<◌, ◌++◌, max, true, false, [], length, OnOk, OnErr, IfOk, IsErr, IsTrue, ◌↔◌, All};
+ghost use Rattle.mcs_core.specs.Busy.{GoesOnAfter, IsFirst};
 ghost use Rattle.mcs_core.specs.Quiet.{AreQuiet, IsNextBusy, counted_times};
 ghost use Rattle.mcs_core.specs.State.{Fits, IsExpected, opening_state, made_by, state_after};
 ghost use Rattle.mcs_core.specs.Views.{views_of};
 
 use crate::agenda::Agenda;
-use crate::events::sooner;
+use crate::events::{is_at, sooner};
 use crate::local::Local;
 use crate::log::{Here, Log};
 use mcs_control::ContextView;
@@ -91,12 +92,45 @@ impl CoreState {
     }
 
     /// The next busy moment, with this mail as arrivals: the first moment whose turn does more than count a tick, or
-    /// None where no turn up to 2^42 does. It looks at the thread that runs, the best ready one, the least date, the
-    /// next order and the first mail.
+    /// None where no turn up to 2^42 does. It looks at the thread that runs, and unless that stops or moves on at the clock,
+    /// at the best ready one, the least date, the next order and the first mail.
     pub fn next_busy(&self, system: &System, mail: &Mailbox) -> Option<Tick>
         requires fits { Fits system.now self.now }
         requires going { self.now.failed ≡ false }
         requires expected { All (IsExpected system.now self.now) mail.now.mails }
+        ensures { IsNextBusy system.now self.now.number self.now.clock mail.now.mails self.now.core result }
+    {
+        let _parts = system.parts();
+        let ends = self.next_end(system);
+        if is_at(&ends, self.clock) {
+            return Some(self.clock);
+        }
+        self.soonest(system, mail, ends)
+    }
+
+    /// The moment at which the thread that runs ends its item or uses up its head, if there is one.
+    fn next_end(&self, system: &System) -> Option<Tick>
+        requires fits { Fits system.now self.now }
+        requires going { self.now.failed ≡ false }
+        ensures { IsFirst self.now.clock
+            (λ n. GoesOnAfter system.now n self.now.core.running self.now.core) result }
+    {
+        let here = Here {
+            system: system.parts(),
+            core: self.number,
+            delays: &self.delays,
+            moment: self.clock,
+        };
+        self.local.next_end(&here)
+    }
+
+    /// The next busy moment, of the one at which the thread that runs ends its item or uses up its head, and what else there is.
+    fn soonest(&self, system: &System, mail: &Mailbox, ends: Option<Tick>) -> Option<Tick>
+        requires fits { Fits system.now self.now }
+        requires going { self.now.failed ≡ false }
+        requires expected { All (IsExpected system.now self.now) mail.now.mails }
+        requires ends { IsFirst self.now.clock
+            (λ n. GoesOnAfter system.now n self.now.core.running self.now.core) ends }
         ensures { IsNextBusy system.now self.now.number self.now.clock mail.now.mails self.now.core result }
     {
         let here = Here {
@@ -105,7 +139,6 @@ impl CoreState {
             delays: &self.delays,
             moment: self.clock,
         };
-        let ends = self.local.next_end(&here);
         let better = self.local.next_choice(&here);
         let date = self.local.next_date();
         let order = self.agenda.next();

@@ -1,41 +1,15 @@
-use Rattle.std.proofs.Common.{rules, ◌≡◌, ℕ, sym, subst, false, List}
-use Rattle.std.specs.Prelude.{All, Option}
-use Rattle.mcs_ticks.specs.Queue.{first_of}
-use Rattle.mcs_mail.specs.declared.mail.Mail.{Mail}
-use Rattle.mcs_core.specs.Core.{Core}
-use Rattle.mcs_system.specs.System.{System}
-use Rattle.mcs_core.specs.Busy.{IsFirst, IsBest, GoesOnAfter, sooner}
+use Rattle.std.proofs.Common.{◌≡◌, ℕ, ap, refl, sym, subst, Some}
 use Rattle.mcs_core.specs.Quiet.{IsNextBusy}
-use Rattle.mcs_core.specs.State.{State, Fits, IsExpected}
-use Rattle.mcs_core.proofs.Skips.{IsEarlyTick, next-busy-of}
+use Rattle.mcs_core.specs.State.{State}
+use Rattle.mcs_core.proofs.Skips.{busy-now}
 use Rattle.mcs_core.proofs.state.CoreState.next_busy.Goals as goal
 
-pub returns : goal.returns
-returns c =
-    let system : System = c.args.system.now in
-    let mails : List Mail = c.args.mail.now.mails in
-    let number : ℕ = c.self.inside.number in
-    let clock : ℕ = c.self.inside.clock in
-    let core : Core = c.self.inside.local in
-    let P : State → Type 0 = λ s. IsNextBusy system s.number s.clock mails s.core c.sooner-4.result in
-    let F : State → Type 0 = λ s. Fits system s in
-    let G : State → Type 0 = λ s. s.failed ≡ false in
-    let E : State → Type 0 = λ s. All (IsExpected system s) mails in
-    let fits = subst F (sym c.self.view_is) c.requires.fits in
-    let going = subst G (sym c.self.view_is) c.requires.going in
-    let expected = subst E (sym c.self.view_is) c.requires.expected in
-    let Q : System → Type 0 = λ parts. IsFirst clock (λ n. GoesOnAfter parts n core.running core) c.next_end-ends.result in
-    let R : System → Type 0 = λ parts. IsFirst clock (λ n. IsBest parts core.running (first_of core.ready)) c.next_choice-better.result in
-    let ends : IsFirst clock (λ n. GoesOnAfter system n core.running core) c.next_end-ends.result = subst Q c.parts.ensures.same c.next_end-ends.ensures in
-    let better : IsFirst clock (λ n. IsBest system core.running (first_of core.ready)) c.next_choice-better.result = subst R c.parts.ensures.same c.next_choice-better.ensures in
-    let early_date : IsEarlyTick c.next_date-date.result = search rules in
-    let early_order : IsEarlyTick c.next-order.result = search rules in
-    let early_arrival : IsEarlyTick c.next-arrival.result = search rules in
-    let result : sooner (sooner (sooner (sooner c.next_end-ends.result c.next_choice-better.result) c.next_date-date.result) c.next-order.result) c.next-arrival.result ≡ c.sooner-4.result = cc in
-    let N : Option ℕ → Type 0 = λ o. IsNextBusy system number clock mails core o in
-    subst P c.self.view_is (subst N result
-    (next-busy-of system number c.parts.ensures.well_formed clock mails core c.self.inside.agenda
-    c.next_end-ends.result c.next_choice-better.result c.next_date-date.result c.next-order.result c.next-arrival.result
-    (fits.sound going) (fits.orders going) c.next-arrival.ensures.in_order (λ k d l. (expected k d l).arrives)
-    ends better c.next_date-date.ensures early_date c.next-order.ensures early_order
-    c.next-arrival.ensures.first early_arrival))
+pub returns-then-is_at : goal.returns-then-is_at
+returns-then-is_at c =
+    let state : State = c.args.self.now in
+    let clock : c.self.inside.clock ≡ state.clock = ap (λ (s : State). s.clock) c.self.view_is in
+    let ends : c.next_end-ends.result ≡ Some state.clock = subst (λ t. c.next_end-ends.result ≡ Some t) clock (c.if-is_at.ensures refl) in
+    let P : ℕ → Type 0 = λ t. IsNextBusy c.args.system.now state.number state.clock c.args.mail.now.mails state.core (Some t) in
+    subst P (sym clock)
+    (busy-now c.args.system.now state.number c.parts-parts.ensures.well_formed state.clock c.args.mail.now.mails state.core c.next_end-ends.result
+    (c.requires.fits.sound c.requires.going) c.next_end-ends.ensures ends)

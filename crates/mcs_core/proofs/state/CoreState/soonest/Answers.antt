@@ -1,0 +1,42 @@
+use Rattle.std.proofs.Common.{rules, ◌≡◌, ◌∙◌, ℕ, ap, sym, subst, false, List}
+use Rattle.std.specs.Prelude.{All, Option}
+use Rattle.mcs_ticks.specs.Queue.{first_of}
+use Rattle.mcs_mail.specs.declared.mail.Mail.{Mail}
+use Rattle.mcs_core.specs.Core.{Core}
+use Rattle.mcs_system.specs.System.{System}
+use Rattle.mcs_core.specs.Busy.{IsFirst, IsBest, GoesOnAfter, sooner}
+use Rattle.mcs_core.specs.Quiet.{IsNextBusy}
+use Rattle.mcs_core.specs.State.{State, Fits, IsExpected}
+use Rattle.mcs_core.proofs.Skips.{IsEarlyTick, next-busy-of}
+use Rattle.mcs_core.proofs.state.CoreState.soonest.Goals as goal
+
+pub returns : goal.returns
+returns c =
+    let system : System = c.args.system.now in
+    let mails : List Mail = c.args.mail.now.mails in
+    let number : ℕ = c.self.inside.number in
+    let clock : ℕ = c.self.inside.clock in
+    let core : Core = c.self.inside.local in
+    let P : State → Type 0 = λ s. IsNextBusy system s.number s.clock mails s.core c.sooner-4.result in
+    let F : State → Type 0 = λ s. Fits system s in
+    let G : State → Type 0 = λ s. s.failed ≡ false in
+    let E : State → Type 0 = λ s. All (IsExpected system s) mails in
+    let fits = subst F (sym c.self.view_is) c.requires.fits in
+    let going = subst G (sym c.self.view_is) c.requires.going in
+    let expected = subst E (sym c.self.view_is) c.requires.expected in
+    let R : System → Type 0 = λ parts. IsFirst clock (λ n. IsBest parts core.running (first_of core.ready)) c.next_choice-better.result in
+    let Q : State → Type 0 = λ s. IsFirst s.clock (λ n. GoesOnAfter system n s.core.running s.core) c.args.ends in
+    let ends : IsFirst clock (λ n. GoesOnAfter system n core.running core) c.args.ends = subst Q (sym c.self.view_is) c.requires.ends in
+    let better : IsFirst clock (λ n. IsBest system core.running (first_of core.ready)) c.next_choice-better.result = subst R c.parts.ensures.same c.next_choice-better.ensures in
+    let early_date : IsEarlyTick c.next_date-date.result = search rules in
+    let early_order : IsEarlyTick c.next-order.result = search rules in
+    let early_arrival : IsEarlyTick c.next-arrival.result = search rules in
+    let result : sooner (sooner (sooner (sooner c.args.ends c.next_choice-better.result) c.next_date-date.result) c.next-order.result) c.next-arrival.result ≡ c.sooner-4.result =
+    sym (c.sooner-4.ensures ∙ ap (λ o. sooner o c.next-arrival.result) (c.sooner-3.ensures ∙ ap (λ o. sooner o c.next-order.result) (c.sooner-2.ensures ∙ ap (λ o. sooner o c.next_date-date.result) c.sooner.ensures))) in
+    let N : Option ℕ → Type 0 = λ o. IsNextBusy system number clock mails core o in
+    subst P c.self.view_is (subst N result
+    (next-busy-of system number c.parts.ensures.well_formed clock mails core c.self.inside.agenda
+    c.args.ends c.next_choice-better.result c.next_date-date.result c.next-order.result c.next-arrival.result
+    (fits.sound going) (fits.orders going) c.next-arrival.ensures.in_order (λ k d l. (expected k d l).arrives)
+    ends better c.next_date-date.ensures early_date c.next-order.ensures early_order
+    c.next-arrival.ensures.first early_arrival))
