@@ -18,7 +18,7 @@ use std::marker::Model;
 const SPARE: usize = 16;
 
 // So many places there are beyond two for each thread.
-const MORE: usize = 128;
+const MORE: usize = 32;
 
 /// A thread that is held, by its date and then by its place, which is later the later it entered. The thread itself stands in the
 /// place.
