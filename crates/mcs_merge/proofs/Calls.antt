@@ -7,12 +7,13 @@ use Rattle.std.proofs.lemmas.List.{length-set, length-replicate, get_or-replicat
 use Rattle.std.proofs.lemmas.List.Elements.{filter-append}
 use Rattle.mcs_ticks.specs.declared.row.Row.{Row}
 use Rattle.mcs_merge.specs.Merge.{rows_at, merged_before, merged, last_of_all, AreFrom, DoNotFall}
-use Rattle.mcs_merge.specs.Merging.{Merging, starting, list_of, least_clock, passed, next_row, without_row, with_rows, after_add, AreOf, CanAdd, IsInOrder}
+use Rattle.mcs_merge.specs.Merging.{Merging, starting, list_of, least_clock, passed, next_row, without_row, with_rows, after_add, emptied, AreOf, CanAdd, IsInOrder}
 use Rattle.mcs_merge.specs.laws.Steps.{HasTaken, BeginsMerged, AddsMerged, PopsMerged, PausesMerged, EndsMerged}
-use Rattle.mcs_merge.specs.laws.Calls.{Call, Add, Pop, after, taken, added, all_added, MayBeMade, TakesMerged, TakesPrefix}
+use Rattle.mcs_merge.specs.laws.Calls.{Call, Add, Pop, ClearLone, after, taken, added, all_added, MayBeMade, TakesMerged, TakesPrefix}
 use Rattle.mcs_merge.proofs.Joins.{rows_at-later}
 use Rattle.mcs_merge.proofs.Merges.{flat_map-same, all-past}
 use Rattle.mcs_merge.proofs.Passing.{flat_map-none, head_same, head_apart, merged-first, least-of}
+use Rattle.mcs_merge.proofs.Lone.{empties-merged, passes-alone}
 use Rattle.mcs_merge.proofs.Kept.{IsInOrder-added, IsInOrder-set, IsListOf-rest, same_merging}
 
 -- what is put together part by part, up to a number and from it on
@@ -292,6 +293,10 @@ over-calls (Pop ∷ calls) m all out o h may =
     let next = pops-merged m all out o h in
     rw (← append_assoc out (option_to_list (next_row m)) (taken calls (without_row (next_row m) m)))
     (over-calls calls (without_row (next_row m) m) all (out ++ option_to_list (next_row m)) next.0 next.1 may)
+over-calls (ClearLone ∷ calls) m all out o h may =
+    let next = empties-merged m all out o h may.0 in
+    rw (← passes-alone m o may.0, ← append_assoc out (passed m) (taken calls (emptied m)))
+    (over-calls calls (emptied m) all (out ++ passed m) next.0 next.1 may.1)
 
 pub takes-merged : TakesMerged
 takes-merged cores calls may =
@@ -305,6 +310,9 @@ taken-more (Add core rows clock ∷ calls) more m = taken-more calls more (after
 taken-more (Pop ∷ calls) more m =
     ap (λ rows. option_to_list (next_row m) ++ rows) (taken-more calls more (without_row (next_row m) m))
     ∙ sym (append_assoc (option_to_list (next_row m)) (taken calls (without_row (next_row m) m)) (taken more (after calls (without_row (next_row m) m))))
+taken-more (ClearLone ∷ calls) more m =
+    ap (λ rows. list_of 0 m.left ++ rows) (taken-more calls more (emptied m))
+    ∙ sym (append_assoc (list_of 0 m.left) (taken calls (emptied m)) (taken more (after calls (emptied m))))
 
 -- past all rows there is no more
 merged-past : (end : ℕ) (lists : List (List Row)) → last_of_all lists < end → merged_before end lists ≡ merged lists

@@ -6,5 +6,6 @@ pub mod Passing
 pub mod Kept
 pub mod Helds
 pub mod Pops
+pub mod Lone
 pub mod Calls
 mod Worked

@@ -32,7 +32,7 @@ head_none t row rows e = by (row.moment == t) refl
     by true f h = cc
     by false f h = grind (arith, nat_tests)
 
-head_other : (t : ℕ) (row : Row) (rows : List Row) → row.moment < t → rows_at t (row ∷ rows) ≡ rows_at t rows
+pub head_other : (t : ℕ) (row : Row) (rows : List Row) → row.moment < t → rows_at t (row ∷ rows) ≡ rows_at t rows
 head_other t row rows l = by (row.moment == t) refl
   where
     by : (b : Bool) → (row.moment == t) ≡ b → cond b (row ∷ rows_at t rows) (rows_at t rows) ≡ rows_at t rows
@@ -92,7 +92,7 @@ pub all-past : (t : ℕ) (lists : List (List Row)) → last_of_all lists < t →
 all-past t [] l = refl
 all-past t (rows ∷ lists) l = rw (rows_at-past t rows (omega arith)) (all-past t lists (omega arith))
 
-AreFrom-zero : (rows : List Row) → AreFrom 0 rows
+pub AreFrom-zero : (rows : List Row) → AreFrom 0 rows
 AreFrom-zero [] = tt
 AreFrom-zero (row ∷ rows) = (omega arith, AreFrom-zero rows)
 

@@ -4,7 +4,7 @@ use Rattle.mcs_ticks.specs.declared.row.Row.{Row}
 use Rattle.mcs_ticks.specs.declared.row.What.TheVariants as row
 use Rattle.mcs_merge.specs.Merge.{merged, AreFrom}
 use Rattle.mcs_merge.specs.Merging.{Merging, starting, next_row, CanAdd, IsListOf}
-use Rattle.mcs_merge.specs.laws.Calls.{Call, Add, Pop, after, taken, MayBeMade}
+use Rattle.mcs_merge.specs.laws.Calls.{Call, Add, Pop, ClearLone, after, taken, MayBeMade}
 
 -- a row of this core at this moment
 abbrev at : ℕ → ℕ → ℕ → Row
@@ -43,6 +43,10 @@ clock_alone = refl
 
 none_is_left : next_row (after (third_calls ++ Pop ∷ []) (starting 2)) ≡ None
 none_is_left = refl
+
+-- of one core alone all rows that are left are taken at once
+taken_at_once : taken (Add 0 (at 1 0 1 ∷ at 3 0 2 ∷ []) 4 ∷ Pop ∷ Add 0 (at 4 0 3 ∷ []) 5 ∷ ClearLone ∷ Pop ∷ []) (starting 1) ≡ at 1 0 1 ∷ at 3 0 2 ∷ at 4 0 3 ∷ []
+taken_at_once = refl
 
 -- all of these calls may be made
 they_may_be_made : MayBeMade third_calls (starting 2)

@@ -36,6 +36,10 @@ abbrev pub without_row : Option Row → Merging → Merging
 without_row None m = m
 without_row (Some row) m = record m { left = slice_set m.left row.core (drop 1 (list_of row.core m.left)) }
 
+-- a merger of one core, without rows
+abbrev pub emptied : Merging → Merging
+emptied m = record m { left = [] ∷ [] }
+
 -- with these rows behind those of this core
 abbrev pub with_rows : ℕ → List Row → List (List Row) → List (List Row)
 with_rows core rows lists = slice_set lists core (list_of core lists ++ rows)

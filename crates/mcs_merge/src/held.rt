@@ -34,6 +34,14 @@ impl Held {
         self.rows.pop_front()
     }
 
+    /// Takes all rows. Their room is kept.
+    pub(crate) fn clear(&mut self)
+        ensures left { self.new.rows.items ≡ [] }
+        ensures clock { self.new.clock ≡ self.old.clock }
+    {
+        self.rows.clear();
+    }
+
     /// The room of the rows where none is left, as a list without rows; else a list without room.
     pub(crate) fn take_room(&mut self) -> Vec<Row>
         ensures room { result.items ≡ [] }

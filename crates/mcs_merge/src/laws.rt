@@ -1,15 +1,17 @@
 ghost use Rattle.mcs_merge.specs.laws.Calls.{TakesMerged, TakesPrefix};
-ghost use Rattle.mcs_merge.specs.laws.Steps.{AddsMerged, BeginsMerged, EndsMerged, PausesMerged, PopsMerged};
+ghost use Rattle.mcs_merge.specs.laws.Steps.{AddsMerged, BeginsMerged, EmptiesMerged, EndsMerged, PassesAlone, PausesMerged, PopsMerged};
 
 /// A law of mergers, step by step: at first, after rows are added and after the next row is taken, the rows taken so
 /// far and then those that all clocks have passed are all rows added before the least clock, merged; and where no row
-/// is next, those taken are.
+/// is next, those taken are. One core alone has passed all its rows, and so it is after they are taken at once.
 pub fn steps_are_merged()
     ensures begins { BeginsMerged }
     ensures adds { AddsMerged }
     ensures pops { PopsMerged }
     ensures pauses { PausesMerged }
     ensures ends { EndsMerged }
+    ensures passes { PassesAlone }
+    ensures empties { EmptiesMerged }
 {}
 
 /// A law of mergers, for every list of calls: the rows taken so far and then those that all clocks have passed are all

@@ -1,6 +1,6 @@
 ghost use Rattle.std.specs.Prelude.{◌≡◌, ◌<◌, ◌≤◌, [], length, drop, slice_get, slice_index, slice_set};
-ghost use Rattle.std.specs.Prelude.{IfErr, IfOk, IsOk, OnErr, OnOk};
-ghost use Rattle.mcs_merge.specs.Merging.{after_add, list_of, next_row, starting, with_rows, without_row, CanAdd};
+ghost use Rattle.std.specs.Prelude.{◌++◌, ◌↔◌, IfErr, IfOk, IfSome, IsOk, IsSome, OnErr, OnOk};
+ghost use Rattle.mcs_merge.specs.Merging.{after_add, emptied, list_of, next_row, starting, with_rows, without_row, CanAdd};
 ghost use Rattle.mcs_merge.specs.stored.Held.{clocks_of, lists_of, merging_of};
 ghost use Rattle.mcs_merge.specs.stored.Heads.{head_of, IsKept};
 
@@ -95,6 +95,27 @@ impl Merger {
         self.heads.set(core, head);
         row
     }
+
+    /// The rows that are left of a merger of one core, whose clock has passed all of them: those of the first slice, and
+    /// then those of the second, as they lie in a ring. None of a merger of more cores.
+    pub fn lone_rows(&self) -> Option<(&[Row], &[Row])>
+        ensures rows { IfSome result (λ rows. rows.0.now ++ rows.1.now ≡ list_of 0 self.now.left) }
+        ensures lone { IsSome result ↔ (length self.now.clocks ≡ 1) }
+    {
+        match self.cores.as_slice() {
+            [lone] => Some(lone.rows.as_slices()),
+            _ => None,
+        }
+    }
+
+    /// Takes all rows that are left of a merger of one core, as that many calls of `pop` do. Their room is kept.
+    pub fn clear_lone_rows(&mut self)
+        requires { length self.old.clocks ≡ 1 }
+        ensures { self.new ≡ emptied self.old }
+    {
+        let head = clear(self.cores.as_mut_slice(), 0);
+        self.heads.set(0, head);
+    }
 }
 
 // As many cores without rows and with the clock 0.
@@ -175,4 +196,17 @@ fn head_at(cores: &[Held], core: usize) -> Head
         ≡ head_of core (list_of core (lists_of cores.now)) (slice_index (clocks_of cores.now) core) }
 {
     cores[core].head(core)
+}
+
+// Takes all rows of a core, and gives its head.
+fn clear(cores: &mut [Held], core: usize) -> Head
+    requires core { core < length cores.old }
+    requires few { core < 64 }
+    ensures left { lists_of cores.new ≡ slice_set (lists_of cores.old) core [] }
+    ensures clocks { clocks_of cores.new ≡ clocks_of cores.old }
+    ensures head { result ≡ head_of core [] (slice_index (clocks_of cores.old) core) }
+{
+    let held = &mut cores[core];
+    held.clear();
+    held.head(core)
 }

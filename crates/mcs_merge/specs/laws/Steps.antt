@@ -3,7 +3,7 @@ use Rattle.std.specs.Prelude.{◌≡◌, ℕ, ◌<◌, ◌≤◌, List, [], ◌+
 use Rattle.mcs_ticks.specs.declared.row.Row.{Row}
 use Rattle.mcs_merge.specs.Merge.{rows_at, merged_before, merged, last_of_all}
 use Rattle.mcs_merge.specs.Merging.{Merging, starting, list_of, least_clock, passed, next_row}
-use Rattle.mcs_merge.specs.Merging.{without_row, with_rows, after_add, CanAdd, IsInOrder}
+use Rattle.mcs_merge.specs.Merging.{without_row, with_rows, after_add, emptied, CanAdd, IsInOrder}
 
 -- these rows were taken, of all these lists: with those that all clocks have passed they are all rows before the least
 -- clock, merged; and the rows of each core from the least clock on are left
@@ -31,6 +31,17 @@ PopsMerged =
     IsInOrder m → HasTaken all taken m →
     IsInOrder (without_row (next_row m) m)
     × HasTaken all (taken ++ option_to_list (next_row m)) (without_row (next_row m) m)
+
+-- one core alone has passed all rows that it has left ..
+abbrev pub PassesAlone : Type 0
+PassesAlone = (m : Merging) → IsInOrder m → length m.clocks ≡ 1 → passed m ≡ list_of 0 m.left
+
+-- .. and all of them are taken behind it
+abbrev pub EmptiesMerged : Type 0
+EmptiesMerged =
+    (m : Merging) (all : List (List Row)) (taken : List Row) →
+    IsInOrder m → HasTaken all taken m → length m.clocks ≡ 1 →
+    IsInOrder (emptied m) × HasTaken all (taken ++ passed m) (emptied m)
 
 -- where there is no next row, what was taken is all rows before the least clock, merged ..
 abbrev pub PausesMerged : Type 0
