@@ -2,14 +2,13 @@ ghost use Rattle.std.specs.Prelude.{◌≡◌, ◌<◌, ◌++◌, [], drop, slic
 ghost use Rattle.mcs_merge.specs.stored.Heads.{head_of};
 
 use crate::heads::Head;
+use crate::queue::RowQueue;
 use mcs_ticks::{NoMemory, Row, Tick};
-use std::collections::VecDeque;
-use std::mem;
 
 /// The rows of a core that are left, and its clock.
 #[derive(Debug, Drop)]
 pub(crate) struct Held {
-    pub(crate) rows: VecDeque<Row>,
+    pub(crate) rows: RowQueue,
     pub(crate) clock: Tick,
 }
 
@@ -19,8 +18,8 @@ impl Held {
         requires { core < 64 }
         ensures { result ≡ head_of core self.now.rows.items self.now.clock }
     {
-        match self.rows.front() {
-            Some(row) => Head::at_row(core, row.moment),
+        match self.rows.first_moment() {
+            Some(moment) => Head::at_row(core, moment),
             None => Head::at_clock(core, self.clock),
         }
     }
@@ -48,11 +47,7 @@ impl Held {
         ensures rows { self.new.rows.items ≡ self.old.rows.items }
         ensures clock { self.new.clock ≡ self.old.clock }
     {
-        let none = VecDeque::new(*self.rows.allocator());
-        if !self.rows.is_empty() {
-            return none.into_vec();
-        }
-        mem::replace(&mut self.rows, none).into_vec()
+        self.rows.take_room()
     }
 
     /// Puts rows behind those that are left, and sets the clock. Where there is no memory the rows are handed back and
@@ -66,12 +61,7 @@ impl Held {
         ensures none { rows.items ≡ [] → IsOk result }
         ensures same_clock { OnErr result (self.new.clock ≡ self.old.clock) }
     {
-        let mut more = VecDeque::from_vec(rows);
-        if self.rows.is_empty() {
-            self.rows = more;
-        } else if self.rows.append(&mut more).is_err() {
-            return Err((more.into_vec(), NoMemory));
-        }
+        self.rows.append(rows)?;
         self.clock = clock;
         Ok(())
     }

@@ -6,9 +6,9 @@ ghost use Rattle.mcs_merge.specs.stored.Heads.{head_of, IsKept};
 
 use crate::heads::{Head, Heads};
 use crate::held::Held;
+use crate::queue::RowQueue;
 use mcs_ticks::{CoreId, NoMemory, Row, Tick};
 use std::alloc::Global;
-use std::collections::VecDeque;
 use std::marker::Model;
 
 /// A merge that gives its rows, by moment, then core, then place, while more are added: a row as soon as the clocks of
@@ -125,7 +125,7 @@ fn no_rows(alloc: Global, cores: usize) -> Result<Vec<Held>, NoMemory>
     let mut held = Vec::with_capacity(alloc, cores)?;
     for _ in 0..cores {
         held.push(Held {
-            rows: VecDeque::new(alloc),
+            rows: RowQueue::new(alloc),
             clock: Tick::ZERO,
         })?;
     }

@@ -1,0 +1,118 @@
+ghost use Rattle.std.specs.Prelude.{◌≡◌, ◌++◌, [], drop, option_map, slice_get, IfErr, IfSome, IsOk, OnErr, OnOk};
+
+use mcs_ticks::{NoMemory, Row, Tick};
+use std::alloc::Global;
+use std::collections::VecDeque;
+use std::marker::Model;
+use std::mem;
+
+/// Rows in their order. The moments of the first two stand beside them: so the second row's moment is asked for when the row before
+/// the first leaves, and has come from memory by the time that the second is first.
+#[derive(Debug, Drop)]
+pub(crate) struct RowQueue {
+    rows: VecDeque<Row>,
+    // of the first and the second row, where there are so many
+    first: Tick,
+    second: Tick,
+}
+
+impl Model for RowQueue {
+    ghost use Rattle.mcs_merge.specs.stored.Queue.{Listed, StandBeside};
+
+    ghost Value = { Listed };
+
+    ghost view = { λ a. record { items = a.rows.items } };
+
+    ghost invariant = { λ a. StandBeside a.rows.items a.first a.second };
+}
+
+impl RowQueue {
+    /// No row.
+    pub(crate) fn new(alloc: Global) -> Self
+        ensures { result.items ≡ [] }
+    {
+        RowQueue {
+            rows: VecDeque::new(alloc),
+            first: Tick::ZERO,
+            second: Tick::ZERO,
+        }
+    }
+
+    /// The moment of the first row.
+    pub(crate) fn first_moment(&self) -> Option<Tick>
+        ensures { result ≡ option_map (λ row. row.moment) (slice_get self.now.items 0) }
+    {
+        if self.rows.is_empty() {
+            None
+        } else {
+            Some(self.first)
+        }
+    }
+
+    /// Takes the first row.
+    pub(crate) fn pop_front(&mut self) -> Option<Row>
+        ensures taken { result ≡ slice_get self.old.items 0 }
+        ensures left { self.new.items ≡ drop 1 self.old.items }
+    {
+        let row = self.rows.pop_front();
+        self.first = self.second;
+        self.second = moment_at(&self.rows, 1);
+        row
+    }
+
+    /// Takes all rows. Their room is kept.
+    pub(crate) fn clear(&mut self)
+        ensures { self.new.items ≡ [] }
+    {
+        self.rows.clear();
+    }
+
+    /// The rows as they lie in a ring: those of the first slice, and then those of the second.
+    pub(crate) fn as_slices(&self) -> (&[Row], &[Row])
+        ensures { result.0.now ++ result.1.now ≡ self.now.items }
+    {
+        self.rows.as_slices()
+    }
+
+    /// The room of the rows where none is left, as a list without rows; else a list without room.
+    pub(crate) fn take_room(&mut self) -> Vec<Row>
+        ensures room { result.items ≡ [] }
+        ensures rows { self.new ≡ self.old }
+    {
+        let none = VecDeque::new(*self.rows.allocator());
+        if !self.rows.is_empty() {
+            return none.into_vec();
+        }
+        mem::replace(&mut self.rows, none).into_vec()
+    }
+
+    /// Puts these rows behind those that there are. Where there is no memory they are handed back and all is as it was. It
+    /// takes none where there is no row, or none is added.
+    pub(crate) fn append(&mut self, rows: Vec<Row>) -> Result<(), (Vec<Row>, NoMemory)>
+        ensures rows { OnOk result (self.new.items ≡ self.old.items ++ rows.items) }
+        ensures handed_back { IfErr result (λ back. back.0.items ≡ rows.items) }
+        ensures unchanged { OnErr result (self.new.items ≡ self.old.items) }
+        ensures moved { self.old.items ≡ [] → IsOk result }
+        ensures none { rows.items ≡ [] → IsOk result }
+    {
+        let mut more = VecDeque::from_vec(rows);
+        if self.rows.is_empty() {
+            self.rows = more;
+        } else if self.rows.append(&mut more).is_err() {
+            return Err((more.into_vec(), NoMemory));
+        }
+        self.first = moment_at(&self.rows, 0);
+        self.second = moment_at(&self.rows, 1);
+        Ok(())
+    }
+}
+
+// The moment of the row in this place, or 0 where there is none.
+fn moment_at(rows: &VecDeque<Row>, place: usize) -> Tick
+    ensures { IfSome (slice_get rows.now.items place) (λ row. result ≡ row.moment) }
+{
+    match rows.get(place) {
+        Some(row) => row.moment,
+        None => Tick::ZERO,
+    }
+}
