@@ -115,6 +115,41 @@ fn pour<S: Sink>(merger: &mut Merger, tally: &mut Tally, sink: &mut S) -> Result
     ensures in_order { OnOk result (IsInOrder merger.new) }
 {
     steps_are_merged();
+    // one core's rows need no merge, and are given where they lie
+    let Some((first, second)) = merger.lone_rows() else {
+        return pour_merged(merger, tally, sink);
+    };
+    give_all(first, tally, sink)?;
+    give_all(second, tally, sink)?;
+    merger.clear_lone_rows();
+    Ok(())
+}
+
+// Gives these rows, and counts them.
+fn give_all<S: Sink>(rows: &[Row], tally: &mut Tally, sink: &mut S) -> Result<(), Refused>
+    ensures given { OnOk result (Given S.takes sink.old rows.now sink.new) }
+    ensures refused { OnErr result (GivenUntil S.takes sink.old rows.now sink.new) }
+    ensures counted { OnOk result (tally.new ≡ fold added tally.old rows.now) }
+{
+    for row in rows {
+        sink.row(row)?;
+        tally.add(row);
+    }
+    Ok(())
+}
+
+// Gives the rows of many cores, each as the next of the merger.
+fn pour_merged<S: Sink>(merger: &mut Merger, tally: &mut Tally, sink: &mut S) -> Result<(), Refused>
+    requires in_order { IsInOrder merger.old }
+    ensures given { OnOk result (Given S.takes sink.old (passed merger.old) sink.new) }
+    ensures refused { OnErr result (GivenUntil S.takes sink.old (passed merger.old) sink.new) }
+    ensures counted { OnOk result (tally.new ≡ fold added tally.old (passed merger.old)) }
+    ensures taken { OnOk result (HasTaken merger.old.left (passed merger.old) merger.new) }
+    ensures none_next { OnOk result (next_row merger.new ≡ None) }
+    ensures clocks { OnOk result (merger.new.clocks ≡ merger.old.clocks) }
+    ensures in_order { OnOk result (IsInOrder merger.new) }
+{
+    steps_are_merged();
     'rows: while let Some(row) = merger.pop() {
         sink.row(&row)?;
         tally.add(&row);
