@@ -87,3 +87,20 @@ fn rows_are_given_when_all_clocks_have_passed_them(rt: HostRuntime) -> Result<()
     assert_eq!(rt; merger.pop(), None);
     Ok(())
 }
+
+#[test]
+fn rows_of_one_core_are_given_where_they_lie(rt: HostRuntime) -> Result<(), Fail> {
+    let alloc = rt.alloc();
+    let mut merger = Merger::new(alloc, 1)?;
+    add(alloc, &mut merger, 0, (0, 4), &[(1, 1), (3, 2)])?;
+    assert_eq!(rt; merger.pop(), Some(row(1, 0, 1)?));
+    add(alloc, &mut merger, 0, (4, 5), &[(4, 3)])?;
+    let (first, second) = merger.lone_rows().ok_or("the rows of one core")?;
+    let mut rows = first.iter().chain(second.iter());
+    assert_eq!(rt; rows.next(), Some(&row(3, 0, 2)?));
+    assert_eq!(rt; rows.next(), Some(&row(4, 0, 3)?));
+    assert_eq!(rt; rows.next(), None);
+    merger.clear_lone_rows();
+    assert_eq!(rt; merger.pop(), None);
+    Ok(())
+}
