@@ -14,11 +14,11 @@ use std::cmp::{Ordering, Reverse};
 use std::collections::BinaryHeap;
 use std::marker::Model;
 
-// Eight times so many places may be empty, beside seven times as many as there are entries.
-const SPARE: usize = 16;
+// Four times so many places may be empty, beside three times as many as there are entries.
+const SPARE: usize = 8;
 
-// So many places there are beyond two for each thread.
-const MORE: usize = 32;
+// So many places there are beyond five for each four threads.
+const MORE: usize = 128;
 
 /// A thread that is held, by its date and then by its place, which is later the later it entered. The thread itself stands in the
 /// place.
@@ -96,7 +96,7 @@ impl Releases {
     {
         let heap = BinaryHeap::with_capacity(alloc, threads)?;
         Ok(Releases {
-            places: vec![in alloc; None; 2 * threads + MORE]?,
+            places: vec![in alloc; None; threads + threads / 4 + MORE]?,
             end: 0,
             heap,
             room: threads,
@@ -193,7 +193,7 @@ fn close_up(places: &mut [Option<Dated>], heap: &mut BinaryHeap<Reverse<Due>>, p
 
 /// An empty place behind all entries: the first one where there is no entry. Where few of the places before it are in use, or
 /// the last one was taken, the entries move to the front: so few threads stay in few places. By then, since the last time, the
-/// threads of at least half of the places to look through have left.
+/// threads of at least a fifth of the places to look through have left.
 fn place_behind(
     places: &mut [Option<Dated>],
     heap: &mut BinaryHeap<Reverse<Due>>,
@@ -209,7 +209,7 @@ fn place_behind(
 {
     if heap.is_empty() {
         0
-    } else if end < places.len() && end / 8 <= heap.len().saturating_add(SPARE) {
+    } else if end < places.len() && end / 4 <= heap.len().saturating_add(SPARE) {
         end
     } else {
         let past = end.min(places.len());
