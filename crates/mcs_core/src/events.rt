@@ -1,4 +1,4 @@
-ghost use Rattle.std.specs.Prelude.{◌≡◌, ◌+◌, ◌-◌, ◌^◌, ◌<◌, ◌≤◌, min, length, Some, None, IfSome, IsTrue};
+ghost use Rattle.std.specs.Prelude.{◌≡◌, ◌+◌, ◌-◌, ◌^◌, ◌<◌, ◌≤◌, ◌↔◌, min, length, Some, None, IfSome, IsTrue};
 ghost use Rattle.mcs_ticks.specs.Queue.{first_of};
 ghost use Rattle.mcs_core.specs.Busy.{IsFirst, sooner, IsBest, GoesOnAfter, counted_for};
 ghost use Rattle.mcs_core.specs.stored.Sound.{IsSound};
@@ -72,7 +72,7 @@ fn ticks_before_end(left: u64, used: u64, head: u64) -> u64
 
 /// Whether there is a moment, and it is the clock.
 pub(crate) fn is_at(moment: &Option<Tick>, clock: Tick) -> bool
-    ensures { IsTrue result → moment.now ≡ Some clock }
+    ensures { IsTrue result ↔ (moment.now ≡ Some clock) }
 {
     match moment {
         Some(moment) => *moment == clock,

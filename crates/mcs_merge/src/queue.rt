@@ -1,4 +1,4 @@
-ghost use Rattle.std.specs.Prelude.{◌≡◌, ◌++◌, [], drop, option_map, slice_get, IfErr, IfSome, IsOk, OnErr, OnOk};
+ghost use Rattle.std.specs.Prelude.{◌≡◌, ◌++◌, [], drop, option_map, slice_get, IfErr, IfNone, IfSome, IsOk, OnErr, OnOk};
 
 use mcs_ticks::{NoMemory, Row, Tick};
 use std::alloc::Global;
@@ -77,7 +77,7 @@ impl RowQueue {
     /// The room of the rows where none is left, as a list without rows; else a list without room.
     pub(crate) fn take_room(&mut self) -> Vec<Row>
         ensures room { result.items ≡ [] }
-        ensures rows { self.new ≡ self.old }
+        ensures same { self.new ≡ self.old }
     {
         let none = VecDeque::new(*self.rows.allocator());
         if !self.rows.is_empty() {
@@ -109,7 +109,8 @@ impl RowQueue {
 
 // The moment of the row in this place, or 0 where there is none.
 fn moment_at(rows: &VecDeque<Row>, place: usize) -> Tick
-    ensures { IfSome (slice_get rows.now.items place) (λ row. result ≡ row.moment) }
+    ensures some { IfSome (slice_get rows.now.items place) (λ row. result ≡ row.moment) }
+    ensures none { IfNone (slice_get rows.now.items place) (result ≡ 0) }
 {
     match rows.get(place) {
         Some(row) => row.moment,

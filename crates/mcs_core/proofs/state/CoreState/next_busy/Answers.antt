@@ -8,7 +8,7 @@ pub returns-then-is_at : goal.returns-then-is_at
 returns-then-is_at c =
     let state : State = c.args.self.now in
     let clock : c.self.inside.clock ≡ state.clock = ap (λ (s : State). s.clock) c.self.view_is in
-    let ends : c.next_end-ends.result ≡ Some state.clock = subst (λ t. c.next_end-ends.result ≡ Some t) clock (c.if-is_at.ensures refl) in
+    let ends : c.next_end-ends.result ≡ Some state.clock = subst (λ t. c.next_end-ends.result ≡ Some t) clock (c.if-is_at.ensures.0 refl) in
     let P : ℕ → Type 0 = λ t. IsNextBusy c.args.system.now state.number state.clock c.args.mail.now.mails state.core (Some t) in
     subst P (sym clock)
     (busy-now c.args.system.now state.number c.parts-parts.ensures.well_formed state.clock c.args.mail.now.mails state.core c.next_end-ends.result
