@@ -1,9 +1,10 @@
 #!/usr/bin/env python3
 """early.py   tells in some seconds what the gate (rt ci) refuses before it proves anything, and of edits what cannot be applied: a layout
-that is not that of rt fmt, a file that no check reads, an operator under another name, an edit whose text does not stand once.
+that is not that of rt fmt, a file that no check reads, an operator under another name, an edit whose text does not stand once. And it
+asks the launcher mcsim for the crates that it proves: they are those on which the program stands.
 
 Each finding has a line. The last line is 'N crates, M findings', and the status is 0 where M is 0."""
-import importlib.machinery, importlib.util, os, pathlib, re, shutil, sys, tempfile
+import importlib.machinery, importlib.util, os, pathlib, re, shutil, subprocess, sys, tempfile
 
 sys.dont_write_bytecode = True
 sys.argv = ['rt', 'ci']
@@ -56,7 +57,20 @@ def findings(crate):
             yield f'{os.path.basename(edit)}: {why}'
 
 
+def launched():
+    """What the launcher takes for the crates below the program."""
+    launcher = open('mcsim').read()
+    asks = re.search(r'^libraries\(\) \{\n.*?^\}\n', launcher, re.M | re.S).group()
+    words = subprocess.run(['sh', '-c', f'top=.\n{asks}libraries'], capture_output=True, text=True).stdout.split()
+    wanted = [crate.name for crate in next(crate for crate in crates if crate.name == 'mcsim').below()]
+    if sorted(words) != sorted(wanted):
+        yield f'the launcher proves {" ".join(words) or "no crate"}, and the program stands on {" ".join(wanted)}'
+
+
 many = 0
+for finding in launched():
+    print(f'mcsim: {finding}')
+    many += 1
 for crate in crates:
     for finding in findings(crate):
         print(f'{crate.name}: {finding}')
