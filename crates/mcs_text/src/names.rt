@@ -1,12 +1,166 @@
-ghost use Rattle.std.specs.Prelude.{◌≡◌, ◌≤◌, length};
-ghost use Rattle.mcs_text.specs.Text.{context_name, note_name, thread_name};
+ghost use Rattle.std.specs.Prelude.{◌≡◌, ◌≤◌, ◌+◌, ◌++◌, ◌∷◌, take, length, IfOk};
+ghost use Rattle.mcs_text.specs.Text.{context_name as context_name_of, note_name as note_name_of, thread_name as thread_name_of};
+ghost use Rattle.mcs_text.specs.stored.Names.{name_at, AreNames};
 
+use crate::bytes::{write_name, write_word};
+use crate::name::Name;
 use mcs_system::System;
-use mcs_ticks::{ContextId, NoteId, ThreadId};
+use mcs_ticks::{ContextId, NoMemory, NoteId, ThreadId};
+use std::alloc::Global;
+use std::marker::Model;
+
+/// What has the names of a system, and writes them, each after a space.
+pub(crate) trait Naming {
+    ghost use Rattle.mcs_system.specs.System.{System};
+
+    ghost system: { Self → System };
+
+    /// Writes the name of a thread, or the empty text where the system has no such thread.
+    fn write_thread(&self, bytes: &mut [u8], at: usize, thread: ThreadId) -> usize
+        requires { at + 33 ≤ length bytes.old }
+        ensures short { result ≤ at + 33 }
+        ensures written { take result bytes.new ≡ take at bytes.old ++ 32 ∷ thread_name_of (system self.now) thread };
+
+    /// Writes the name of a notification, or the empty text where the system has no such notification.
+    fn write_note(&self, bytes: &mut [u8], at: usize, note: NoteId) -> usize
+        requires { at + 33 ≤ length bytes.old }
+        ensures short { result ≤ at + 33 }
+        ensures written { take result bytes.new ≡ take at bytes.old ++ 32 ∷ note_name_of (system self.now) note };
+
+    /// Writes the name of a scheduling context, or the empty text where the system has no such context.
+    fn write_context(&self, bytes: &mut [u8], at: usize, context: ContextId) -> usize
+        requires { at + 33 ≤ length bytes.old }
+        ensures short { result ≤ at + 33 }
+        ensures written { take result bytes.new ≡ take at bytes.old ++ 32 ∷ context_name_of (system self.now) context };
+}
+
+impl Naming for System {
+    ghost system = { λ s. s };
+
+    fn write_thread(&self, bytes: &mut [u8], at: usize, thread: ThreadId) -> usize {
+        write_word(bytes, at, thread_name(self, thread))
+    }
+
+    fn write_note(&self, bytes: &mut [u8], at: usize, note: NoteId) -> usize {
+        write_word(bytes, at, note_name(self, note))
+    }
+
+    fn write_context(&self, bytes: &mut [u8], at: usize, context: ContextId) -> usize {
+        write_word(bytes, at, context_name(self, context))
+    }
+}
+
+/// A system whose names lie side by side, each in a block that is copied at once. Contracts see the system.
+#[derive(Drop)]
+pub struct Names<'a> {
+    system: &'a System,
+    threads: Vec<Name>,
+    notes: Vec<Name>,
+    contexts: Vec<Name>,
+}
+
+impl<'a> Model for Names<'a> {
+    ghost use Rattle.mcs_system.specs.System.{System};
+    ghost use Rattle.mcs_text.specs.Text.{context_name, note_name, thread_name};
+    ghost use Rattle.mcs_text.specs.stored.Names.{AreNames};
+
+    ghost Value = { System };
+
+    ghost view = { λ a. a.system.now };
+
+    ghost invariant = { λ a. AreNames (thread_name a.system.now) a.threads.items
+        × AreNames (note_name a.system.now) a.notes.items
+        × AreNames (context_name a.system.now) a.contexts.items };
+}
+
+impl<'a> Names<'a> {
+    /// The names of this system.
+    pub fn new(alloc: Global, system: &'a System) -> Result<Names<'a>, NoMemory>
+        ensures { IfOk result (λ names. names ≡ system.now) }
+    {
+        let threads = threads_of(alloc, system)?;
+        let notes = notes_of(alloc, system)?;
+        let contexts = contexts_of(alloc, system)?;
+        Ok(Names {
+            system,
+            threads,
+            notes,
+            contexts,
+        })
+    }
+}
+
+impl Naming for Names<'_> {
+    ghost system = { λ names. names };
+
+    #[inline(always)]
+    fn write_thread(&self, bytes: &mut [u8], at: usize, thread: ThreadId) -> usize {
+        write_listed(bytes, at, self.threads.as_slice(), thread.0)
+    }
+
+    #[inline(always)]
+    fn write_note(&self, bytes: &mut [u8], at: usize, note: NoteId) -> usize {
+        write_listed(bytes, at, self.notes.as_slice(), note.0)
+    }
+
+    #[inline(always)]
+    fn write_context(&self, bytes: &mut [u8], at: usize, context: ContextId) -> usize {
+        write_listed(bytes, at, self.contexts.as_slice(), context.0)
+    }
+}
+
+// Writes a space and the name in this place, or the empty text where there is none.
+#[inline(always)]
+fn write_listed(bytes: &mut [u8], at: usize, names: &[Name], place: usize) -> usize
+    requires { at + 33 ≤ length bytes.old }
+    ensures short { result ≤ at + 33 }
+    ensures written { take result bytes.new ≡ take at bytes.old ++ 32 ∷ name_at names.now place }
+{
+    match names.get(place) {
+        Some(name) => write_name(bytes, at, name),
+        None => write_word(bytes, at, ""),
+    }
+}
+
+// The names of all threads.
+fn threads_of(alloc: Global, system: &System) -> Result<Vec<Name>, NoMemory>
+    ensures { IfOk result (λ names. AreNames (thread_name_of system.now) names.items) }
+{
+    let many = system.parts().threads.len();
+    let mut names = Vec::with_capacity(alloc, many)?;
+    for number in 0..many {
+        names.push(Name::new(thread_name(system, ThreadId(number))))?;
+    }
+    Ok(names)
+}
+
+// The names of all notifications.
+fn notes_of(alloc: Global, system: &System) -> Result<Vec<Name>, NoMemory>
+    ensures { IfOk result (λ names. AreNames (note_name_of system.now) names.items) }
+{
+    let many = system.parts().notes.len();
+    let mut names = Vec::with_capacity(alloc, many)?;
+    for number in 0..many {
+        names.push(Name::new(note_name(system, NoteId(number))))?;
+    }
+    Ok(names)
+}
+
+// The names of all scheduling contexts.
+fn contexts_of(alloc: Global, system: &System) -> Result<Vec<Name>, NoMemory>
+    ensures { IfOk result (λ names. AreNames (context_name_of system.now) names.items) }
+{
+    let many = system.parts().contexts.len();
+    let mut names = Vec::with_capacity(alloc, many)?;
+    for number in 0..many {
+        names.push(Name::new(context_name(system, ContextId(number))))?;
+    }
+    Ok(names)
+}
 
 /// The name of a thread, or the empty text where the system has no such thread.
 pub(crate) fn thread_name(system: &System, thread: ThreadId) -> &str
-    ensures name { result.now ≡ thread_name system.now thread }
+    ensures name { result.now ≡ thread_name_of system.now thread }
     ensures short { length result.now ≤ 32 }
 {
     match system.parts().threads.as_slice().get(thread.0) {
@@ -15,9 +169,9 @@ pub(crate) fn thread_name(system: &System, thread: ThreadId) -> &str
     }
 }
 
-/// The name of a notification, or the empty text where the system has no such notification.
-pub(crate) fn note_name(system: &System, note: NoteId) -> &str
-    ensures name { result.now ≡ note_name system.now note }
+// The name of a notification, or the empty text where the system has no such notification.
+fn note_name(system: &System, note: NoteId) -> &str
+    ensures name { result.now ≡ note_name_of system.now note }
     ensures short { length result.now ≤ 32 }
 {
     match system.parts().notes.as_slice().get(note.0) {
@@ -26,9 +180,9 @@ pub(crate) fn note_name(system: &System, note: NoteId) -> &str
     }
 }
 
-/// The name of a scheduling context, or the empty text where the system has no such context.
-pub(crate) fn context_name(system: &System, context: ContextId) -> &str
-    ensures name { result.now ≡ context_name system.now context }
+// The name of a scheduling context, or the empty text where the system has no such context.
+fn context_name(system: &System, context: ContextId) -> &str
+    ensures name { result.now ≡ context_name_of system.now context }
     ensures short { length result.now ≤ 32 }
 {
     match system.parts().contexts.as_slice().get(context.0) {

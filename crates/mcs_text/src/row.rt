@@ -1,9 +1,8 @@
-ghost use Rattle.std.specs.Prelude.{◌≡◌, ◌+◌, ◌≤◌, ◌++◌, ◌∷◌, [], OnOk, OnErr, drop, length, decimal};
-ghost use Rattle.mcs_text.specs.Text.{after, row_text, until_words, why_word, words_of, note_name as note_name_of, thread_name as thread_name_of};
+ghost use Rattle.std.specs.Prelude.{◌≡◌, ◌+◌, ◌≤◌, ◌++◌, ◌∷◌, [], OnOk, OnErr, take, length, decimal};
+ghost use Rattle.mcs_text.specs.Text.{after, row_text, until_words, why_word, words_of, note_name, thread_name};
 
-use crate::back::{LINE, write_number, write_word};
-use crate::names::{context_name, note_name, thread_name};
-use itoa::write_digits;
+use crate::bytes::{LINE, write_decimal, write_number, write_word};
+use crate::names::Naming;
 use mcs_system::System;
 use mcs_ticks::{NoMemory, NoteId, Row, ThreadId, Tick, What, Why};
 
@@ -13,158 +12,182 @@ pub fn put_row(text: &mut Vec<u8>, system: &System, row: &Row) -> Result<(), NoM
     ensures ok { OnOk result (text.new.items ≡ text.old.items ++ row_text system.now row.now) }
     ensures err { OnErr result (text.new.items ≡ text.old.items) }
 {
-    let mut line = [b'\n'; LINE];
-    let what = write_what(&mut line, LINE - 1, system, row.what);
-    let core = write_number(&mut line, what, row.core.0 as u64);
-    let start = write_digits(row.moment.get(), &mut line, core);
-    text.extend_from_slice(&line[start..])?;
+    let mut line = [0; LINE];
+    let end = write_row(&mut line, 0, system, row);
+    text.extend_from_slice(&line[..end])?;
     Ok(())
 }
 
-/// Writes what a row says after its moment and its core.
-fn write_what(line: &mut [u8; LINE], end: usize, system: &System, what: What) -> usize
-    requires { (97 ≤ end) × (end ≤ 144) }
-    ensures start { end ≤ result + 97 }
-    ensures within { result ≤ end }
-    ensures written { drop result line.new ≡ after (words_of system.now what) ++ drop end line.old }
+/// Writes the line of a row.
+pub(crate) fn write_row<N: Naming>(bytes: &mut [u8], at: usize, names: &N, row: &Row) -> usize
+    requires { at + 144 ≤ length bytes.old }
+    ensures short { result ≤ at + 144 }
+    ensures written { take result bytes.new ≡ take at bytes.old ++ row_text (N.system names.now) row.now }
 {
-    match what {
-        What::Release { thread } => {
-            write_named(line, end, "release", thread_name(system, thread))
-        }
-        What::Run { thread } => write_named(line, end, "run", thread_name(system, thread)),
+    let moment = write_decimal(bytes, at, row.moment.get());
+    let core = write_number(bytes, moment, row.core.0 as u64);
+    let end = write_what(bytes, core, names, &row.what);
+    bytes[end] = b'\n';
+    end + 1
+}
+
+/// Writes what a row says after its moment and its core.
+#[inline(always)]
+fn write_what<N: Naming>(bytes: &mut [u8], at: usize, names: &N, what: &What) -> usize
+    requires { at + 97 ≤ length bytes.old }
+    ensures short { result ≤ at + 97 }
+    ensures written { take result bytes.new ≡ take at bytes.old ++ after (words_of (N.system names.now) what.now) }
+{
+    match *what {
+        What::Release { thread } => write_named(bytes, at, "release", names, thread),
+        What::Run { thread } => write_named(bytes, at, "run", names, thread),
         What::Stop {
             thread,
             why,
             charged,
             until,
         } => {
-            let stop = write_stop(line, end, why, charged, until);
-            write_named(line, stop, "stop", thread_name(system, thread))
+            let name = write_named(bytes, at, "stop", names, thread);
+            write_stop(bytes, name, why, charged, until)
         }
         What::Signal {
             thread,
             note,
             badge,
-        } => write_noted(line, end, system, "signal", thread, note, badge),
+        } => write_noted(bytes, at, "signal", names, thread, note, badge),
         What::Arrive { note, badge, maker } => {
-            let number = write_number(line, end, maker.0 as u64);
-            let from = write_word(line, number, "from");
-            let bits = write_number(line, from, u64::from(badge));
-            write_named(line, bits, "arrive", note_name(system, note))
+            let name = write_held(bytes, at, "arrive", names, note, badge);
+            let from = write_word(bytes, name, "from");
+            write_number(bytes, from, maker.0 as u64)
         }
         What::Wake { thread, note, word } => {
-            write_noted(line, end, system, "wake", thread, note, word)
+            write_noted(bytes, at, "wake", names, thread, note, word)
         }
-        What::Hold { note, word } => {
-            let bits = write_number(line, end, u64::from(word));
-            write_named(line, bits, "hold", note_name(system, note))
-        }
+        What::Hold { note, word } => write_held(bytes, at, "hold", names, note, word),
         What::Got { thread, note, word } => {
-            write_noted(line, end, system, "got", thread, note, word)
+            write_noted(bytes, at, "got", names, thread, note, word)
         }
         What::Round {
             thread,
             number,
             response,
         } => {
-            let time = write_number(line, end, response);
-            let round = write_number(line, time, number);
-            write_named(line, round, "round", thread_name(system, thread))
+            let name = write_named(bytes, at, "round", names, thread);
+            let round = write_number(bytes, name, number);
+            write_number(bytes, round, response)
         }
         What::Order { context } => {
-            write_named(line, end, "order", context_name(system, context))
+            let word = write_word(bytes, at, "order");
+            names.write_context(bytes, word, context)
         }
     }
 }
 
-/// Writes a word and a name, each after a space.
+/// Writes a word and the name of a thread, each after a space.
 #[inline(always)]
-fn write_named(line: &mut [u8; LINE], end: usize, word: &str, name: &str) -> usize
-    requires short { (length word.now ≤ 7) × (length name.now ≤ 32) }
-    requires room { (41 ≤ end) × (end ≤ 144) }
-    ensures start { end ≤ result + 41 }
-    ensures within { result ≤ end }
-    ensures written { drop result line.new ≡ after (word.now ∷ name.now ∷ []) ++ drop end line.old }
+fn write_named<N: Naming>(
+    bytes: &mut [u8],
+    at: usize,
+    word: &str,
+    names: &N,
+    thread: ThreadId,
+) -> usize
+    requires word { length word.now ≤ 7 }
+    requires room { at + 41 ≤ length bytes.old }
+    ensures short { result ≤ at + 41 }
+    ensures written { take result bytes.new
+        ≡ take at bytes.old ++ after (word.now ∷ thread_name (N.system names.now) thread ∷ []) }
 {
-    let at = write_word(line, end, name);
-    write_word(line, at, word)
+    let name = write_word(bytes, at, word);
+    names.write_thread(bytes, name, thread)
+}
+
+/// Writes a word, the name of a notification, and bits, each after a space.
+#[inline(always)]
+fn write_held<N: Naming>(
+    bytes: &mut [u8],
+    at: usize,
+    word: &str,
+    names: &N,
+    note: NoteId,
+    bits: u32,
+) -> usize
+    requires word { length word.now ≤ 7 }
+    requires room { at + 62 ≤ length bytes.old }
+    ensures short { result ≤ at + 62 }
+    ensures written { take result bytes.new
+        ≡ take at bytes.old ++ after (word.now ∷ note_name (N.system names.now) note ∷ decimal bits ∷ []) }
+{
+    let name = write_word(bytes, at, word);
+    let number = names.write_note(bytes, name, note);
+    write_number(bytes, number, u64::from(bits))
 }
 
 /// Writes what a thread did at a notification, and the bits that it set or got.
 #[inline(always)]
-fn write_noted(
-    line: &mut [u8; LINE],
-    end: usize,
-    system: &System,
+fn write_noted<N: Naming>(
+    bytes: &mut [u8],
+    at: usize,
     what: &str,
+    names: &N,
     thread: ThreadId,
     note: NoteId,
     bits: u32,
 ) -> usize
-    requires short { length what.now ≤ 7 }
-    requires room { (97 ≤ end) × (end ≤ 144) }
-    ensures start { end ≤ result + 97 }
-    ensures within { result ≤ end }
-    ensures written { drop result line.new
-        ≡ after (what.now ∷ thread_name_of system.now thread ∷ note_name_of system.now note ∷ decimal bits ∷ [])
-        ++ drop end line.old }
+    requires word { length what.now ≤ 7 }
+    requires room { at + 95 ≤ length bytes.old }
+    ensures short { result ≤ at + 95 }
+    ensures written { take result bytes.new ≡ take at bytes.old
+        ++ after (what.now ∷ thread_name (N.system names.now) thread ∷ note_name (N.system names.now) note
+        ∷ decimal bits ∷ []) }
 {
-    let number = write_number(line, end, u64::from(bits));
-    let at = write_word(line, number, note_name(system, note));
-    write_named(line, at, what, thread_name(system, thread))
+    let name = write_named(bytes, at, what, names, thread);
+    let number = names.write_note(bytes, name, note);
+    write_number(bytes, number, u64::from(bits))
 }
 
 /// Writes why a thread stopped, the ticks that are charged, and the date of its release where there is one.
-fn write_stop(
-    line: &mut [u8; LINE],
-    end: usize,
-    why: Why,
-    charged: u64,
-    until: Option<Tick>,
-) -> usize
-    requires { (56 ≤ end) × (end ≤ 144) }
-    ensures start { end ≤ result + 56 }
-    ensures within { result ≤ end }
-    ensures written { drop result line.new
-        ≡ after (why_word why ∷ decimal charged ∷ until_words until) ++ drop end line.old }
+#[inline(always)]
+fn write_stop(bytes: &mut [u8], at: usize, why: Why, charged: u64, until: Option<Tick>) -> usize
+    requires { at + 56 ≤ length bytes.old }
+    ensures short { result ≤ at + 56 }
+    ensures written { take result bytes.new
+        ≡ take at bytes.old ++ after (why_word why ∷ decimal charged ∷ until_words until) }
 {
-    let date = write_until(line, end, until);
-    let number = write_number(line, date, charged);
-    write_why(line, number, why)
+    let number = write_why(bytes, at, why);
+    let date = write_number(bytes, number, charged);
+    write_until(bytes, date, until)
 }
 
 /// Writes the date of a release where there is one.
 #[inline(always)]
-fn write_until(line: &mut [u8; LINE], end: usize, until: Option<Tick>) -> usize
-    requires { (27 ≤ end) × (end ≤ 144) }
-    ensures start { end ≤ result + 27 }
-    ensures within { result ≤ end }
-    ensures written { drop result line.new ≡ after (until_words until) ++ drop end line.old }
+fn write_until(bytes: &mut [u8], at: usize, until: Option<Tick>) -> usize
+    requires { at + 27 ≤ length bytes.old }
+    ensures short { result ≤ at + 27 }
+    ensures written { take result bytes.new ≡ take at bytes.old ++ after (until_words until) }
 {
     match until {
         Some(date) => {
-            let number = write_number(line, end, date.get());
-            write_word(line, number, "until")
+            let number = write_word(bytes, at, "until");
+            write_number(bytes, number, date.get())
         }
-        None => end,
+        None => at,
     }
 }
 
 /// Writes why a thread stopped.
 #[inline(always)]
-fn write_why(line: &mut [u8; LINE], end: usize, why: Why) -> usize
-    requires { (8 ≤ end) × (end ≤ 144) }
-    ensures start { end ≤ result + 8 }
-    ensures within { result ≤ end }
-    ensures written { drop result line.new ≡ 32 ∷ why_word why ++ drop end line.old }
+fn write_why(bytes: &mut [u8], at: usize, why: Why) -> usize
+    requires { at + 8 ≤ length bytes.old }
+    ensures short { result ≤ at + 8 }
+    ensures written { take result bytes.new ≡ take at bytes.old ++ 32 ∷ why_word why }
 {
     match why {
-        Why::Spent => write_word(line, end, "spent"),
-        Why::Yield => write_word(line, end, "yield"),
-        Why::Wait => write_word(line, end, "wait"),
-        Why::Done => write_word(line, end, "done"),
-        Why::Preempt => write_word(line, end, "preempt"),
-        Why::Order => write_word(line, end, "order"),
+        Why::Spent => write_word(bytes, at, "spent"),
+        Why::Yield => write_word(bytes, at, "yield"),
+        Why::Wait => write_word(bytes, at, "wait"),
+        Why::Done => write_word(bytes, at, "done"),
+        Why::Preempt => write_word(bytes, at, "preempt"),
+        Why::Order => write_word(bytes, at, "order"),
     }
 }

@@ -1,0 +1,92 @@
+//! Words, numbers and names that are written into bytes, each behind the one before: each call is told where its text begins, and
+//! answers where it ends.
+ghost use Rattle.std.specs.Prelude.{◌≡◌, ◌+◌, ◌≤◌, ◌<◌, ◌++◌, ◌∷◌, length, take, decimal};
+
+use crate::name::Name;
+use itoa::write_digits;
+
+/// Bytes with room for the longest row: at most four numbers of 20 digits, at most two names, each in a block of 32 bytes, and its
+/// words, spaces and line feed (138 at most).
+pub(crate) const LINE: usize = 144;
+
+/// Writes a space and a word.
+#[inline(always)]
+pub(crate) fn write_word(bytes: &mut [u8], at: usize, word: &str) -> usize
+    requires { at + 1 + length word.now ≤ length bytes.old }
+    ensures end { result ≡ at + 1 + length word.now }
+    ensures written { take result bytes.new ≡ take at bytes.old ++ 32 ∷ word.now }
+{
+    let start = at + 1;
+    let end = start + word.len();
+    bytes[at] = b' ';
+    bytes[start..end].copy_from_slice(word.as_bytes());
+    end
+}
+
+/// Writes a space and a name, whose block is copied whole.
+#[inline(always)]
+pub(crate) fn write_name(bytes: &mut [u8], at: usize, name: &Name) -> usize
+    requires { at + 33 ≤ length bytes.old }
+    ensures short { result ≤ at + 33 }
+    ensures written { take result bytes.new ≡ take at bytes.old ++ 32 ∷ name.now }
+{
+    let start = at + 1;
+    let end = start + name.len();
+    bytes[at] = b' ';
+    bytes[start..start + Name::BLOCK].copy_from_slice(name.block());
+    end
+}
+
+/// Writes a space and a number.
+pub(crate) fn write_number(bytes: &mut [u8], at: usize, number: u64) -> usize
+    requires { at + 21 ≤ length bytes.old }
+    ensures short { result ≤ at + 21 }
+    ensures written { take result bytes.new ≡ take at bytes.old ++ 32 ∷ decimal number }
+{
+    bytes[at] = b' ';
+    write_decimal(bytes, at + 1, number)
+}
+
+/// Writes a number.
+#[inline(always)]
+pub(crate) fn write_decimal(bytes: &mut [u8], at: usize, number: u64) -> usize
+    requires { at + 20 ≤ length bytes.old }
+    ensures short { result ≤ at + 20 }
+    ensures written { take result bytes.new ≡ take at bytes.old ++ decimal number }
+{
+    let end = at + digits(number);
+    let _start = write_digits(number, bytes, end);
+    end
+}
+
+/// How many digits a number has.
+#[inline(always)]
+fn digits(number: u64) -> usize
+    ensures count { result ≡ length (decimal number) }
+    ensures few { result ≤ 20 }
+{
+    let mut left = number;
+    let mut count = 0;
+    'fours: while left >= 10_000 {
+        left /= 10_000;
+        count += 4;
+    }
+    count + few_digits(left)
+}
+
+/// The same of a number of at most four digits.
+#[inline(always)]
+fn few_digits(number: u64) -> usize
+    requires { number < 10_000 }
+    ensures { result ≡ length (decimal number) }
+{
+    if number < 10 {
+        1
+    } else if number < 100 {
+        2
+    } else if number < 1_000 {
+        3
+    } else {
+        4
+    }
+}

@@ -1,0 +1,75 @@
+ghost use Rattle.std.specs.Prelude.{◌≡◌, ◌≤◌, ◌++◌, ◌↔◌, [], length, IfOk, IsTrue};
+ghost use Rattle.mcs_text.specs.Text.{row_text};
+
+use crate::bytes::LINE;
+use crate::names::Names;
+use crate::row::write_row;
+use mcs_ticks::{NoMemory, Row};
+use std::alloc::Global;
+use std::marker::Model;
+
+/// Lines of rows, in room that was made at the beginning. Contracts see their bytes.
+#[derive(Debug, Drop)]
+pub struct Page {
+    bytes: Vec<u8>,
+    used: usize,
+}
+
+impl Model for Page {
+    ghost use Rattle.std.specs.Prelude.{◌≡◌, ◌≤◌, List, ℕ, length, take};
+
+    ghost Value = { List ℕ };
+
+    ghost view = { λ a. take a.used a.bytes.items };
+
+    ghost invariant = { λ a. (length a.bytes.items ≡ 65680) × (a.used ≤ 65680) };
+}
+
+impl Page {
+    /// A page of more bytes has no room for a further row.
+    pub const FULL: usize = 65_536;
+
+    /// Without lines.
+    pub fn new(alloc: Global) -> Result<Page, NoMemory>
+        ensures { IfOk result (λ page. page ≡ []) }
+    {
+        let bytes = vec![in alloc; 0u8; Self::FULL + LINE]?;
+        Ok(Page { bytes, used: 0 })
+    }
+
+    /// How many bytes its lines have.
+    pub fn len(&self) -> usize
+        ensures { result ≡ length self.now }
+    {
+        self.used
+    }
+
+    /// Whether there is room for a further row.
+    pub fn has_room(&self) -> bool
+        ensures { IsTrue result ↔ (length self.now ≤ 65536) }
+    {
+        self.used <= Self::FULL
+    }
+
+    /// The bytes of its lines.
+    pub fn as_slice(&self) -> &[u8]
+        ensures { result.now ≡ self.now }
+    {
+        &self.bytes[..self.used]
+    }
+
+    /// Appends the line of a row, as `put_row` does. It takes no memory.
+    pub fn put_row(&mut self, names: &Names, row: &Row)
+        requires { length self.old ≤ 65536 }
+        ensures { self.new ≡ self.old ++ row_text names.now row.now }
+    {
+        self.used = write_row(self.bytes.as_mut_slice(), self.used, names, row);
+    }
+
+    /// Removes all lines. Their room is kept.
+    pub fn clear(&mut self)
+        ensures { self.new ≡ [] }
+    {
+        self.used = 0;
+    }
+}
