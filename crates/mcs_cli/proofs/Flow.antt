@@ -95,6 +95,13 @@ module _ {S : Type 0} (takes : S → Row → Bool → S → Type 0) (contents : 
       in
       (given.0, given.1, subst (AppendsPrefix (contents s) (contents t)) all longer)
 
+-- what is so of a sink that has refused a row
+pub until_ends : {S : Type 0} (takes : S → Row → Bool → S → Type 0) (Ends : S → Type 0)
+    (refuses : (s t : S) (row : Row) → takes s row false t → Ends t) (s t : S) (rows : List Row) → GivenUntil takes s rows t → Ends t
+until_ends takes Ends refuses s t [] g = absurd g
+until_ends takes Ends refuses s t (row ∷ rows) (inl refused) = refuses s t row refused
+until_ends takes Ends refuses s t (row ∷ rows) (inr g) = until_ends takes Ends refuses g.0 t rows g.2
+
 -- what a fault says of the output it says of a longer one
 pub fault-longer : (a b : Option (List ℕ)) (failed : Bool) (xs ys : List ℕ) (f : RunFault) → IsWriteFault a b failed xs f → IsWriteFault a b failed (xs ++ ys) f
 fault-longer a b failed xs ys fault.Read p = absurd p

@@ -1,8 +1,9 @@
-ghost use Rattle.std.specs.Prelude.{Err, ◌≡◌, ◌≤◌, ◌^◌, ◌++◌, [], true, false, length, IfErr, IfOk, OnErr, OnOk};
+ghost use Rattle.std.specs.Prelude.{Err, ◌≡◌, ◌≤◌, ◌^◌, ◌++◌, ◌↔◌, [], true, false, length, IfErr, IfOk, IfSome, IsSome, OnErr, OnOk};
 ghost use Rattle.std.specs.Arc.{arc_value};
 ghost use Rattle.std.specs.Io.KnownBytes.{Appends, Consumes, IsAtEnd};
 ghost use Rattle.mcs_core.specs.Clock.{schedule};
 ghost use Rattle.mcs_report.specs.Reports.{reports_of};
+ghost use Rattle.mcs_team.specs.Flow.{Given, IsFlowFault};
 ghost use Rattle.mcs_text.specs.Text.{reports_text, schedule_text};
 ghost use Rattle.mcs_cli.specs.Devices.{AppendsPrefix};
 ghost use Rattle.mcs_cli.specs.Flow.{AppendsBefore, IsWriteFault};
@@ -13,8 +14,8 @@ use crate::{Gate, Options, RunFault, Show, Source, Target};
 use mcs_load::{LoadFault, load};
 use mcs_report::Reports;
 use mcs_system::System;
-use mcs_team::{FlowFault, SimFault, report, simulate_to};
-use mcs_text::put_reports;
+use mcs_team::{FlowFault, SimFault, Sink, report, simulate_to};
+use mcs_text::{Names, Page, put_reports};
 use mcs_ticks::Limits;
 use std::alloc::Global;
 use std::sync::{Arc, Wait};
@@ -131,7 +132,7 @@ fn put_output<H: Threads + Wait + Sync, T: Target, G: Gate + Sync>(
 {
     match options.show {
         Show::Schedule => {
-            write_rows(rt, alloc, target, text, system, options, gate)?;
+            let _none = write_rows(rt, alloc, target, text, system, options, gate)?;
             Ok(())
         }
         Show::Reports => {
@@ -140,12 +141,13 @@ fn put_output<H: Threads + Wait + Sync, T: Target, G: Gate + Sync>(
         }
         Show::Both => {
             let reports = write_rows(rt, alloc, target, text, system, options, gate)?;
-            put_last(text, system, &reports)
+            put_counted(text, system, reports)
         }
     }
 }
 
-/// Writes the lines of the schedule's rows as they come, but for the last ones, which stand in the text.
+/// Writes the lines of the schedule's rows as they come, but for the last ones, which stand in the text. The reports are made
+/// where they are to be shown too.
 fn write_rows<H: Threads + Wait + Sync, T: Target, G: Gate + Sync>(
     rt: &H,
     alloc: Global,
@@ -154,15 +156,16 @@ fn write_rows<H: Threads + Wait + Sync, T: Target, G: Gate + Sync>(
     system: &Arc<System>,
     options: &Options,
     gate: &G,
-) -> Result<Reports, RunFault>
+) -> Result<Option<Reports>, RunFault>
     requires working { T.has_failed target.old ≡ false }
     requires empty { text.old.items ≡ [] }
     ensures ok { OnOk result
         (AppendsBefore (T.contents target.old) (T.contents target.new)
         (schedule_text (arc_value system.now) (schedule (arc_value system.now) options.now.horizon)) text.new.items) }
     ensures working { OnOk result (T.has_failed target.new ≡ false) }
-    ensures reports { IfOk result (λ reports. reports
-        ≡ reports_of (arc_value system.now) options.now.horizon (schedule (arc_value system.now) options.now.horizon)) }
+    ensures reports { IfOk result (λ reports. IfSome reports (λ r. r
+        ≡ reports_of (arc_value system.now) options.now.horizon (schedule (arc_value system.now) options.now.horizon))) }
+    ensures counted { IfOk result (λ reports. IsSome reports ↔ (options.now.show ≡ Show.Both)) }
     ensures fault { IfErr result
         (IsWriteFault (T.contents target.old) (T.contents target.new) (T.has_failed target.new)
         (schedule_text (arc_value system.now) (schedule (arc_value system.now) options.now.horizon))) }
@@ -170,25 +173,47 @@ fn write_rows<H: Threads + Wait + Sync, T: Target, G: Gate + Sync>(
     let Ok(shared) = Arc::try_clone(system) else {
         return Err(RunFault::Sim(SimFault::NoMemory));
     };
-    let mut lines = Lines::new(target, system, text);
-    let result = simulate_to(
-        rt,
-        alloc,
-        shared,
-        options.horizon,
-        options.workers,
-        gate,
-        &mut lines,
-    );
+    let Ok(names) = Names::new(alloc, system) else {
+        return Err(RunFault::Sim(SimFault::NoMemory));
+    };
+    let Ok(mut page) = Page::new(alloc) else {
+        return Err(RunFault::Sim(SimFault::NoMemory));
+    };
+    let mut lines = Lines::new(target, &names, &mut page);
+    let result = give_rows(rt, alloc, shared, options, gate, &mut lines);
     match result {
-        Ok(reports) => Ok(reports),
-        Err(FlowFault::NoMemory) => Err(RunFault::Sim(SimFault::NoMemory)),
-        Err(FlowFault::Sink) => {
-            if target.failed() {
-                return Err(RunFault::Write);
+        Ok(reports) => {
+            if text.extend_from_slice(page.as_slice()).is_err() {
+                return Err(RunFault::Sim(SimFault::NoMemory));
             }
-            Err(RunFault::Sim(SimFault::NoMemory))
+            Ok(reports)
         }
+        Err(FlowFault::NoMemory) => Err(RunFault::Sim(SimFault::NoMemory)),
+        Err(FlowFault::Sink) => Err(RunFault::Write),
+    }
+}
+
+/// Gives the schedule's rows to a sink. They are counted only where reports are to be shown too.
+fn give_rows<H: Threads + Wait + Sync, G: Gate + Sync, S: Sink>(
+    rt: &H,
+    alloc: Global,
+    system: Arc<System>,
+    options: &Options,
+    gate: &G,
+    sink: &mut S,
+) -> Result<Option<Reports>, FlowFault>
+    ensures given { OnOk result (Given S.takes sink.old (schedule (arc_value system) options.now.horizon) sink.new) }
+    ensures fault { IfErr result (IsFlowFault S.takes (arc_value system) options.now.horizon sink.old sink.new) }
+    ensures reports { IfOk result (λ reports. IfSome reports (λ r. r
+        ≡ reports_of (arc_value system) options.now.horizon (schedule (arc_value system) options.now.horizon))) }
+    ensures counted { IfOk result (λ reports. IsSome reports ↔ (options.now.show ≡ Show.Both)) }
+{
+    let (horizon, workers) = (options.horizon, options.workers);
+    let reports = simulate_to(rt, alloc, system, horizon, workers, gate, sink)?;
+    if options.show == Show::Both {
+        Ok(Some(reports))
+    } else {
+        Ok(None)
     }
 }
 
@@ -210,6 +235,22 @@ fn count_rows<H: Threads + Wait + Sync, G: Gate + Sync>(
     report(rt, alloc, shared, options.horizon, options.workers, gate).map_err(|_| RunFault::Sim(
         SimFault::NoMemory,
     ))
+}
+
+/// Puts the reports behind the text where there are any.
+fn put_counted(
+    text: &mut Vec<u8>,
+    system: &System,
+    reports: Option<Reports>,
+) -> Result<(), RunFault>
+    ensures ok { OnOk result
+        (IfSome reports (λ r. text.new.items ≡ text.old.items ++ reports_text system.now r)) }
+    ensures fault { IfErr result (λ f. f ≡ RunFault.Sim SimFault.NoMemory) }
+{
+    match reports {
+        Some(reports) => put_last(text, system, &reports),
+        None => Ok(()),
+    }
 }
 
 /// Puts the reports behind the text.

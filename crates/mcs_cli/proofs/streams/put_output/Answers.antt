@@ -21,4 +21,4 @@ returns-in_ok-reports-in-Both-clause-fault g c =
     let horizon = c.args.options.now.horizon in
     let rows = schedule system horizon in
     rw c.in-Both.is
-    (fault-last _ _ _ (schedule_text system rows) (reports_text system (reports_of system horizon rows)) _ c.put_last-in-Both.result c.in_ok-reports-in-Both.ensures.ok c.in_ok-reports-in-Both.ensures.working c.put_last-in-Both.ensures.fault)
+    (fault-last _ _ _ (schedule_text system rows) (reports_text system (reports_of system horizon rows)) _ c.put_counted.result c.in_ok-reports-in-Both.ensures.ok c.in_ok-reports-in-Both.ensures.working c.put_counted.ensures.fault)
