@@ -1,19 +1,14 @@
 -- Rows on their way from the merger to the sink.
 use Rattle.std.proofs.Common.{◌≡◌, ℕ, ◌+◌, ◌<◌, Bool, true, false, inl, List, [], ◌∷◌, ◌++◌, length, take, drop, get_or, refl, sym, ap, ◌∙◌, subst, arith}
 use Rattle.std.proofs.Common.{Some, None}
-use Rattle.std.specs.Prelude.{fold, slice_get, option_to_list}
+use Rattle.std.specs.Prelude.{slice_get, option_to_list}
 use Rattle.std.proofs.lemmas.List.{length-append, take_more, drop_more, take-append-drop}
 use Rattle.mcs_ticks.specs.declared.row.Row.{Row}
 use Rattle.mcs_merge.specs.Merge.{merged_before}
 use Rattle.mcs_merge.specs.Merging.{Merging, least_clock, list_of, passed, next_row, without_row, emptied, IsInOrder}
 use Rattle.mcs_merge.specs.laws.Steps.{HasTaken, PopsMerged, PausesMerged, PassesAlone, EmptiesMerged}
-use Rattle.mcs_report.specs.Tally.{Tally, added}
 use Rattle.mcs_team.specs.Flow.{Given, GivenUntil}
 use Rattle.mcs_team.proofs.Giving.{given-append, given-one, until-append, until-more}
-
-fold-one : (c : Tally) (xs : List Row) (row : Row) → fold added c (xs ++ row ∷ []) ≡ added (fold added c xs) row
-fold-one c [] row = refl
-fold-one c (x ∷ xs) row = fold-one (added c x) xs row
 
 first-of : {A : Type 0} (xs : List A) (x : A) → slice_get xs 0 ≡ Some x → xs ≡ x ∷ drop 1 xs
 first-of [] x e = absurd (cc e)
@@ -25,17 +20,16 @@ first-of (y ∷ ys) x e = by e
 none-taken : (m : Merging) → HasTaken m.left [] m
 none-taken m = record { count = refl; begun = refl; later = λ t core l k. refl }
 
--- while rows are poured: these rows were given and counted, and the others are left
-module _ {S : Type 0} (takes : S → Row → Bool → S → Type 0) (s : S) (first : Merging) (start : Tally) where
-  pub record IsPouring (t : S) (m : Merging) (tally : Tally) : Type 0 where
+-- while rows are poured: these rows were given, and the others are left
+module _ {S : Type 0} (takes : S → Row → Bool → S → Type 0) (s : S) (first : Merging) where
+  pub record IsPouring (t : S) (m : Merging) : Type 0 where
     pub rows : List Row
     pub in_order : IsInOrder m
     pub clocks_are : m.clocks ≡ first.clocks
     pub taken : HasTaken first.left rows m
     pub given : Given takes s rows t
-    pub counted : tally ≡ fold added start rows
 
-  pub pours-first : IsInOrder first → IsPouring s first start
+  pub pours-first : IsInOrder first → IsPouring s first
   pours-first in_order =
       record {
         rows = [];
@@ -43,28 +37,26 @@ module _ {S : Type 0} (takes : S → Row → Bool → S → Type 0) (s : S) (fir
         clocks_are = refl;
         taken = none-taken first;
         given = refl;
-        counted = refl;
       }
 
-  module _ (t : S) (m : Merging) (tally : Tally) (is : IsPouring t m tally) where
+  module _ (t : S) (m : Merging) (is : IsPouring t m) where
     all-passed : is.rows ++ passed m ≡ passed first
     all-passed = is.taken.begun ∙ ap (λ clocks. merged_before (least_clock clocks) first.left) is.clocks_are
 
-    pub pours-more : PopsMerged → (row : Row) (u : S) (n : Merging) (next : Tally) → Some row ≡ next_row m → n ≡ without_row (next_row m) m → n.clocks ≡ m.clocks →
-        takes t row true u → next ≡ added tally row → IsPouring u n next × (length (passed n) < length (passed m))
-    pours-more pops row u n next e left clocks taken counted =
+    pub pours-more : PopsMerged → (row : Row) (u : S) (n : Merging) → Some row ≡ next_row m → n ≡ without_row (next_row m) m → n.clocks ≡ m.clocks →
+        takes t row true u → IsPouring u n × (length (passed n) < length (passed m))
+    pours-more pops row u n e left clocks taken =
         let popped = pops m first.left is.rows is.in_order is.taken in
         let out : option_to_list (next_row m) ≡ row ∷ [] = ap option_to_list (sym e) in
         let same : n.clocks ≡ first.clocks = clocks ∙ is.clocks_are in
         let has : HasTaken first.left (is.rows ++ row ∷ []) n = rw (left, ← out) popped.1 in
-        let more : IsPouring u n next =
+        let more : IsPouring u n =
         record {
           rows = is.rows ++ row ∷ [];
           in_order = rw left popped.0;
           clocks_are = same;
           taken = has;
           given = given-one takes s t u is.rows row is.given taken;
-          counted = counted ∙ ap (λ c. added c row) is.counted ∙ sym (fold-one start is.rows row);
         }
         in
         let now : (is.rows ++ row ∷ []) ++ passed n ≡ is.rows ++ passed m =
@@ -83,14 +75,10 @@ module _ {S : Type 0} (takes : S → Row → Bool → S → Type 0) (s : S) (fir
         subst (λ xs. GivenUntil takes s xs u) (ap (λ xs. is.rows ++ xs) (sym front) ∙ all-passed)
         (until-append takes s t u is.rows (row ∷ drop 1 (passed m)) is.given (inl refused))
 
--- while the rows of a slice are given and counted
+-- while the rows of a slice are given
 module _ (rows : List Row) (i : ℕ) (row : Row) (l : i < length rows) (is : row ≡ get_or rows i row) where
   one-more : take i rows ++ row ∷ [] ≡ take (i + 1) rows
   one-more = sym (take_more rows i row l ∙ ap (λ x. take i rows ++ x ∷ []) (sym is))
-
-  pub counts-more : (start before after : Tally) → before ≡ fold added start (take i rows) → after ≡ added before row → after ≡ fold added start (take (i + 1) rows)
-  counts-more start before after e f =
-      f ∙ ap (λ tally. added tally row) e ∙ sym (fold-one start (take i rows) row) ∙ ap (fold added start) one-more
 
   module _ {S : Type 0} (takes : S → Row → Bool → S → Type 0) (s t u : S) (given : Given takes s (take i rows) t) where
     pub gives-more : takes t row true u → Given takes s (take (i + 1) rows) u

@@ -1,18 +1,26 @@
 -- What is known of the whole schedule and its reports.
 use Rattle.std.proofs.Common.{◌≡◌, ℕ, List, suc, ap, ◌∙◌, sym, subst}
-use Rattle.std.specs.Prelude.{sum}
+use Rattle.std.specs.Prelude.{fold, sum}
 use Rattle.mcs_system.specs.System.{System}
 use Rattle.mcs_system.specs.WellFormed.{IsWellFormed}
 use Rattle.mcs_core.specs.Clock.{schedule}
 use Rattle.mcs_ticks.specs.declared.row.Row.{Row}
 use Rattle.mcs_report.specs.declared.reports.Reports.{Reports}
 use Rattle.mcs_report.specs.Reports.{reports_of}
+use Rattle.mcs_report.specs.Tally.{Tally, added, finished, opened_tally}
 use Rattle.mcs_report.specs.laws.Demand.{DemandIsBounded, AreWithinDemand}
+use Rattle.mcs_report.specs.laws.Schedules.{SchedulesAreReported}
 use Rattle.mcs_window.proofs.Shown.{views-shown}
 use Rattle.mcs_laws.specs.Slices.{charges_in}
 use Rattle.mcs_laws.proofs.Slices.{slices-spent}
 use Rattle.mcs_laws.proofs.Told.{schedules-tell}
 use Rattle.mcs_team.specs.Headline.{Headline}
+
+-- all rows of the schedule were counted, from the first
+pub reported : (system : System) (horizon : ℕ) (start tally : Tally) (reports : Reports) → SchedulesAreReported → IsWellFormed system → start ≡ opened_tally system horizon →
+    tally ≡ fold added start (schedule system horizon) → reports ≡ finished tally → reports ≡ reports_of system horizon (schedule system horizon)
+reported system horizon start tally reports law ok opened counted result =
+    result ∙ ap finished (counted ∙ ap (λ first. fold added first (schedule system horizon)) opened) ∙ law system ok horizon
 
 pub within : (system : System) (horizon : ℕ) (reports : Reports) → DemandIsBounded → IsWellFormed system → reports ≡ reports_of system horizon (schedule system horizon) → AreWithinDemand system horizon reports
 within system horizon reports bounded ok is = subst (AreWithinDemand system horizon) (sym is) (bounded system ok horizon).1

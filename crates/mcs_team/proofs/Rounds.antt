@@ -6,7 +6,6 @@ use Rattle.std.proofs.lemmas.Bool.Decides.{nat_tests}
 use Rattle.std.proofs.lemmas.List.{get_or-replicate, length-replicate}
 use Rattle.mcs_ticks.specs.declared.row.Row.{Row}
 use Rattle.mcs_merge.specs.Merging.{Merging}
-use Rattle.mcs_report.specs.Tally.{Tally}
 use Rattle.mcs_system.specs.System.{System}
 use Rattle.mcs_system.specs.WellFormed.{IsWellFormed}
 use Rattle.mcs_core.specs.Clock.{clock}
@@ -103,10 +102,10 @@ module _ (system : System) (horizon : ℕ) where
 
 -- the same, and the rows before a moment were given
 pub record IsRound {S : Type 0} (takes : S → Row → Bool → S → Type 0) (system : System) (horizon : ℕ) (s : S)
-    (desk : Table) (pasts : List ℕ) (merging : Merging) (tally : Tally) (reached end : ℕ) (t : S) : Type 0 where
+    (desk : Table) (pasts : List ℕ) (merging : Merging) (reached end : ℕ) (t : S) : Type 0 where
   pub clear : IsClear system horizon desk pasts end
   pub clocks_are : merging.clocks ≡ pasts
-  pub at : IsAt system horizon reached merging tally
+  pub at : IsAt system horizon reached merging
   pub given : Given takes s (clock system reached).rows t
 
 -- a desk on which nothing has happened yet

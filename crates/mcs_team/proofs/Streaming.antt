@@ -9,12 +9,7 @@ use Rattle.mcs_merge.specs.Merge.{rows_at, merged_before}
 use Rattle.mcs_merge.specs.Merging.{Merging, list_of, least_clock, passed, next_row, starting, IsInOrder}
 use Rattle.mcs_merge.specs.laws.Steps.{HasTaken, BeginsMerged}
 use Rattle.mcs_merge.proofs.Passing.{least-of}
-use Rattle.mcs_report.specs.Tally.{Tally, added, finished, opened_tally}
-use Rattle.mcs_report.specs.Reports.{reports_of}
-use Rattle.mcs_report.specs.declared.reports.Reports.{Reports}
-use Rattle.mcs_report.specs.laws.Schedules.{SchedulesAreReported}
 use Rattle.mcs_system.specs.System.{System, TakesTime}
-use Rattle.mcs_system.specs.WellFormed.{IsWellFormed}
 use Rattle.mcs_core.specs.Clock.{clock, schedule}
 use Rattle.mcs_window.specs.Stretch.{rows_between}
 use Rattle.mcs_window.specs.laws.Merging.{rows_until}
@@ -27,10 +22,6 @@ use Rattle.mcs_team.specs.declared.sink.Stop.TheVariants.{Fault, Odd}
 use Rattle.mcs_team.specs.declared.batch.Batch.{Batch}
 use Rattle.mcs_team.proofs.Batches.{past-of}
 use Rattle.mcs_team.proofs.Giving.{given-append, until-append, until-more}
-
-fold-more : (c : Tally) (xs ys : List Row) → fold added c (xs ++ ys) ≡ fold added (fold added c xs) ys
-fold-more c [] ys = refl
-fold-more c (x ∷ xs) ys = fold-more (added c x) xs ys
 
 none-left : (xs : List Row) → slice_get xs 0 ≡ None → xs ≡ []
 none-left [] e = refl
@@ -66,8 +57,8 @@ map-none f h (suc n) a = both _ _ _ _ (h a) (map-none f h n (a + 1))
     both x y xs ys e g = cc
 
 module _ (system : System) (horizon : ℕ) where
-  pub at-first : (m : Merging) (tally : Tally) → BeginsMerged → m ≡ starting system.cores → tally ≡ opened_tally system horizon → IsAt system horizon 0 m tally
-  at-first m tally begins e counted =
+  pub at-first : (m : Merging) → BeginsMerged → m ≡ starting system.cores → IsAt system horizon 0 m
+  at-first m begins e =
       let begun = begins system.cores in
       let none : rows_until system (replicate system.cores 0) ≡ replicate system.cores [] =
       map-none (λ c. rows_between system c 0 (slice_index (replicate system.cores 0) c))
@@ -79,7 +70,6 @@ module _ (system : System) (horizon : ℕ) where
         in_time = omega arith;
         in_order = rw e begun.0;
         given = rw (e, none) begun.1;
-        counted = counted;
       }
 
   module _ {S : Type 0} (takes : S → Row → Bool → S → Type 0) (takes_time : TakesTime system) where
@@ -96,17 +86,11 @@ module _ (system : System) (horizon : ℕ) where
     pub no-memory : (m : ℕ) (t : S) → m ≤ horizon + 1 → FailsFrom takes system horizon m t t fault.NoMemory
     no-memory m t l s given = some-given s t m l given
 
-    pub done : (s t : S) (m : ℕ) (merging : Merging) (tally : Tally) (reports : Reports) → IsAt system horizon m merging tally →
-        Given takes s (clock system m).rows t → m ≡ horizon + 1 → IsWellFormed system → SchedulesAreReported → reports ≡ finished tally →
-        Given takes s (schedule system horizon) t × (reports ≡ reports_of system horizon (schedule system horizon))
-    done s t m merging tally reports is given e well reported result =
-        let g : m ≡ suc horizon = omega arith in (
-          subst (λ n. Given takes s (clock system n).rows t) g given,
-          result ∙ ap finished (is.counted ∙ ap (λ n. fold added (opened_tally system horizon) (clock system n).rows) g) ∙ reported system well horizon,
-        )
+    pub done : (s t : S) (m : ℕ) → Given takes s (clock system m).rows t → m ≡ horizon + 1 → Given takes s (schedule system horizon) t
+    done s t m given e = let g : m ≡ suc horizon = omega arith in subst (λ n. Given takes s (clock system n).rows t) g given
 
     -- rows of each core were taken from the desk and added to the merger
-    module _ (m : ℕ) (start : Merging) (tally : Tally) (is : IsAt system horizon m start tally) (some : 1 ≤ system.cores)
+    module _ (m : ℕ) (start : Merging) (is : IsAt system horizon m start) (some : 1 ≤ system.cores)
         (batches : List Batch) (are : AreBatches system horizon start.clocks batches)
         (merging : Merging) (clocks : merging.clocks ≡ pasts_of batches) (goes : GoesOn system start merging) where
       abbrev reached : ℕ
@@ -149,9 +133,8 @@ module _ (system : System) (horizon : ℕ) where
           (until-more takes s u ((clock system m).rows ++ passed merging) (rows-later system reached (suc horizon)) (until-append takes s t u (clock system m).rows (passed merging) given refused))
 
       -- and poured
-      module _ (after : Merging) (count : Tally) (t : ℕ) (at : t ≡ fold min (horizon + 1) (pasts_of batches))
-          (taken : HasTaken merging.left (passed merging) after) (none : next_row after ≡ None) (kept : after.clocks ≡ merging.clocks) (in_order : IsInOrder after)
-          (counted : count ≡ fold added tally (passed merging)) where
+      module _ (after : Merging) (t : ℕ) (at : t ≡ fold min (horizon + 1) (pasts_of batches))
+          (taken : HasTaken merging.left (passed merging) after) (none : next_row after ≡ None) (kept : after.clocks ≡ merging.clocks) (in_order : IsInOrder after) where
         t-is : t ≡ reached
         t-is =
             let n = long in
@@ -171,7 +154,7 @@ module _ (system : System) (horizon : ℕ) where
                   ∙ ap (λ cs. rows_at u (list_of core (rows_until system cs))) (sym kept);
             })
 
-        pub at-next : IsAt system horizon t after count
+        pub at-next : IsAt system horizon t after
         at-next =
             record {
               many_are = ap length kept ∙ long;
@@ -179,8 +162,6 @@ module _ (system : System) (horizon : ℕ) where
               in_time = let e = t-is in let l = in_time in omega arith;
               in_order = in_order;
               given = has;
-              counted = counted ∙ ap (λ c. fold added c (passed merging)) is.counted ∙ sym (fold-more (opened_tally system horizon) (clock system m).rows (passed merging))
-                  ∙ ap (fold added (opened_tally system horizon)) (rows-now ∙ ap (λ n. (clock system n).rows) (sym t-is));
             }
 
         pub given-next : (s' u : S) → Given takes s' (passed merging) u → GivesOn takes system m t s' u

@@ -1,14 +1,11 @@
 -- Rows that go to a sink as soon as the clocks of all cores have passed them.
 use Rattle.std.specs.Prelude.{◌≡◌, ℕ, ◌+◌, ◌<◌, ◌≤◌, ◌⊎◌, nat_le, Bool, true, false}
-use Rattle.std.specs.Prelude.{List, [], ◌∷◌, ◌++◌, length, map, filter, fold}
+use Rattle.std.specs.Prelude.{List, [], ◌∷◌, ◌++◌, length, map, filter}
 use Rattle.std.specs.Prelude.{Result, Ok, Err, slice_index, slice_index_or}
 use Rattle.std.specs.List.{FoldsTo}
 use Rattle.mcs_ticks.specs.declared.row.Row.{Row}
 use Rattle.mcs_merge.specs.Merging.{Merging, IsInOrder}
 use Rattle.mcs_merge.specs.laws.Steps.{HasTaken}
-use Rattle.mcs_report.specs.Tally.{Tally, added, opened_tally}
-use Rattle.mcs_report.specs.Reports.{reports_of}
-use Rattle.mcs_report.specs.declared.reports.Reports.{Reports}
 use Rattle.mcs_system.specs.System.{System}
 use Rattle.mcs_core.specs.Clock.{clock, schedule}
 use Rattle.mcs_window.specs.Desk.{Table, clock_of, taken_of}
@@ -70,16 +67,15 @@ pub record AreTakenTo (pasts : List ℕ) (table : Table) : Type 0 where
 abbrev pub AreAtClocks : List ℕ → Table → Type 0
 AreAtClocks pasts table = (core : ℕ) → core < table.system.cores → slice_index pasts core ≡ clock_of table core
 
--- all rows of the schedule before moment t were given and counted, and the merger has those that some core made since
-pub record IsAt (system : System) (horizon t : ℕ) (merging : Merging) (tally : Tally) : Type 0 where
+-- all rows of the schedule before moment t were given, and the merger has those that some core made since
+pub record IsAt (system : System) (horizon t : ℕ) (merging : Merging) : Type 0 where
   pub many_are : length merging.clocks ≡ system.cores
   pub early : (core : ℕ) → core < system.cores → slice_index merging.clocks core ≤ horizon + 1
   pub in_time : t ≤ horizon + 1
   pub in_order : IsInOrder merging
   pub given : HasTaken (rows_until system merging.clocks) (clock system t).rows merging
-  pub counted : tally ≡ fold added (opened_tally system horizon) (clock system t).rows
 
--- what a sink was given where there are no reports
+-- what a sink was given where the schedule is not whole
 abbrev pub IsFlowFault : {S : Type 0} → (S → Row → Bool → S → Type 0) →
     System → ℕ → S → S → FlowFault → Type 0
 IsFlowFault takes system horizon s t fault.Sink = GivenUntil takes s (schedule system horizon) t
@@ -102,11 +98,10 @@ abbrev pub FailsFrom : {S : Type 0} → (S → Row → Bool → S → Type 0) �
 FailsFrom {S} takes system horizon t before after why =
     (s : S) → Given takes s (clock system t).rows before → IsFlowFault takes system horizon s after why
 
--- how the flow of a team ends: with the whole schedule and its reports; or early; or the desk is another one, and the
--- rows before a moment were given
+-- how the flow of a team ends: with the whole schedule; or early; or the desk is another one, and the rows before a moment
+-- were given
 abbrev pub Flows : {S : Type 0} → (S → Row → Bool → S → Type 0) →
-    System → ℕ → S → S → Result Reports Stop → Type 0
-Flows takes system horizon s t (Ok reports) =
-    Given takes s (schedule system horizon) t × (reports ≡ reports_of system horizon (schedule system horizon))
+    System → ℕ → S → S → Result (Unit {0}) Stop → Type 0
+Flows takes system horizon s t (Ok done) = Given takes s (schedule system horizon) t
 Flows takes system horizon s t (Err (Fault why)) = IsFlowFault takes system horizon s t why
 Flows takes system horizon s t (Err (Odd m)) = (m ≤ horizon + 1) × Given takes s (clock system m).rows t

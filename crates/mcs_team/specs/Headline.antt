@@ -24,7 +24,7 @@ module _ (system : System) where
   BudgetsStand t views = AreShownBefore system (suc t) views
 
   -- Both halves. `simulate` promises this of its rows and its reports for every number of workers, `simulate_alone` on the caller's thread, and
-  -- `simulate_to` and `report` of the schedule and its reports; `run` of `mcs_cli` writes their text and nothing else.
+  -- `simulate_to`, `schedule_to` and `report` of the schedule and its reports; `run` of `mcs_cli` writes their text and nothing else.
   pub record Headline (horizon : ℕ) (rows : List Row) (reports : Reports) : Type 0 where
     -- the first
     pub rows_are : rows ≡ schedule system horizon

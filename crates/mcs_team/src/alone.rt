@@ -6,10 +6,10 @@ ghost use Rattle.mcs_report.specs.laws.Bandwidth.{RunsWithinBandwidth};
 ghost use Rattle.mcs_report.specs.laws.Demand.{AreWithinDemand};
 ghost use Rattle.mcs_team.specs.Headline.{Headline};
 
-use crate::here::flow_here;
-use crate::whole::Kept;
+use crate::counts::count;
+use crate::here::rows_here;
 use crate::{SimFault, Whole};
-use mcs_report::{bandwidth_is_bounded, demand_is_bounded};
+use mcs_report::{Tally, bandwidth_is_bounded, demand_is_bounded, schedules_are_reported};
 use mcs_system::System;
 use mcs_ticks::{Sequence, Tick};
 use std::alloc::Global;
@@ -30,11 +30,13 @@ pub fn simulate_alone(alloc: Global, system: Arc<System>, horizon: Tick) -> Resu
 {
     demand_is_bounded();
     bandwidth_is_bounded();
+    schedules_are_reported();
     let _parts = system.parts();
-    let mut kept = Kept::new(alloc);
-    let reports = flow_here(alloc, system, horizon, &mut kept)?;
+    let mut tally = Tally::new(alloc, &system, horizon)?;
+    let rows = rows_here(alloc, system, horizon)?;
+    count(&mut tally, rows.as_slice());
     Ok(Whole {
-        rows: Sequence::new(kept.rows),
-        reports,
+        rows: Sequence::new(rows),
+        reports: tally.finish(),
     })
 }

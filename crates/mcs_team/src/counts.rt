@@ -81,8 +81,8 @@ impl Counts {
     }
 }
 
-// Counts rows, in their order.
-fn count(tally: &mut Tally, rows: &[Row])
+/// Counts rows, in their order.
+pub(crate) fn count(tally: &mut Tally, rows: &[Row])
     ensures { tally.new ≡ fold added tally.old rows.now }
 {
     for row in rows {

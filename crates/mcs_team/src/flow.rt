@@ -2,7 +2,6 @@
 ghost use Rattle.std.specs.Prelude.{◌≡◌, ◌+◌, ◌<◌, ◌≤◌, ◌++◌, ◌^◌, ◌↔◌, None, fold, length, min, replicate, slice_index, IfErr, IfOk, IsTrue, OnOk, OnErr};
 ghost use Rattle.mcs_merge.specs.Merging.{after_add, next_row, passed, CanAdd, IsInOrder};
 ghost use Rattle.mcs_merge.specs.laws.Steps.{HasTaken};
-ghost use Rattle.mcs_report.specs.Tally.{added, finished};
 ghost use Rattle.mcs_system.specs.WellFormed.{IsWellFormed};
 ghost use Rattle.mcs_team.specs.Flow.{pasts_of, AreBatches, FailsFrom, Given, GivenUntil, GivesOn, GoesOn, IsAt, IsBatch};
 
@@ -10,7 +9,6 @@ use crate::batch::{Batch, empty_batches, least_past};
 use crate::run::Run;
 use crate::{FlowFault, Refused, Sink};
 use mcs_merge::{Merger, steps_are_merged};
-use mcs_report::{Reports, Tally};
 use mcs_system::System;
 use mcs_ticks::{CoreId, NoMemory, Row, Tick};
 use mcs_window::Desk;
@@ -22,8 +20,7 @@ pub(crate) struct Flow {
     /// The rows of each core that were taken last.
     pub(crate) batches: Vec<Batch>,
     merger: Merger,
-    tally: Tally,
-    /// All rows before it were given and counted.
+    /// All rows before it were given.
     pub(crate) reached: Tick,
     // the moment after the last
     end: Tick,
@@ -33,7 +30,7 @@ impl Flow {
     /// Nothing was taken yet.
     pub(crate) fn new(alloc: Global, system: &System, horizon: Tick) -> Result<Flow, NoMemory>
         requires { horizon ≤ 2 ^ 40 }
-        ensures at { IfOk result (λ flow. IsAt system.now horizon flow.reached flow.merger flow.tally) }
+        ensures at { IfOk result (λ flow. IsAt system.now horizon flow.reached flow.merger) }
         ensures first { IfOk result (λ flow. flow.reached ≡ 0) }
         ensures end { IfOk result (λ flow. flow.end ≡ horizon + 1) }
         ensures pasts { IfOk result (λ flow. pasts_of flow.batches.items ≡ replicate system.now.cores 0) }
@@ -43,12 +40,10 @@ impl Flow {
         let cores = system.parts().cores;
         let batches = empty_batches(alloc, cores)?;
         let merger = Merger::new(alloc, cores)?;
-        let tally = Tally::new(alloc, system, horizon)?;
         let end = horizon.plus(1).unwrap();
         Ok(Flow {
             batches,
             merger,
-            tally,
             reached: Tick::ZERO,
             end,
         })
@@ -65,9 +60,9 @@ impl Flow {
     pub(crate) fn give<B: Run, S: Sink>(&mut self, sink: &mut S) -> Result<(), FlowFault>
         requires well_formed { IsWellFormed B.system }
         requires end { self.old.end ≡ B.horizon + 1 }
-        requires at { IsAt B.system B.horizon self.old.reached self.old.merger self.old.tally }
+        requires at { IsAt B.system B.horizon self.old.reached self.old.merger }
         requires taken { AreBatches B.system B.horizon self.old.merger.clocks self.old.batches.items }
-        ensures at { OnOk result (IsAt B.system B.horizon self.new.reached self.new.merger self.new.tally) }
+        ensures at { OnOk result (IsAt B.system B.horizon self.new.reached self.new.merger) }
         ensures end { OnOk result (self.new.end ≡ self.old.end) }
         ensures pasts { OnOk result (pasts_of self.new.batches.items ≡ pasts_of self.old.batches.items) }
         ensures clocks { OnOk result (self.new.merger.clocks ≡ pasts_of self.new.batches.items) }
@@ -79,7 +74,7 @@ impl Flow {
         let Ok(()) = add_all::<B>(&mut self.merger, self.batches.as_mut_slice()) else {
             return Err(FlowFault::NoMemory);
         };
-        let Ok(()) = pour(&mut self.merger, &mut self.tally, sink) else {
+        let Ok(()) = pour(&mut self.merger, sink) else {
             return Err(FlowFault::Sink);
         };
         self.reached = reached;
@@ -94,21 +89,13 @@ impl Flow {
     {
         return_rooms(&mut self.merger, desk);
     }
-
-    /// The reports of all rows that were given.
-    pub(crate) fn finish(self) -> Reports
-        ensures { result ≡ finished self.tally }
-    {
-        self.tally.finish()
-    }
 }
 
-/// Gives all rows that the clocks of all cores have passed, and counts them.
-fn pour<S: Sink>(merger: &mut Merger, tally: &mut Tally, sink: &mut S) -> Result<(), Refused>
+/// Gives all rows that the clocks of all cores have passed.
+fn pour<S: Sink>(merger: &mut Merger, sink: &mut S) -> Result<(), Refused>
     requires in_order { IsInOrder merger.old }
     ensures given { OnOk result (Given S.takes sink.old (passed merger.old) sink.new) }
     ensures refused { OnErr result (GivenUntil S.takes sink.old (passed merger.old) sink.new) }
-    ensures counted { OnOk result (tally.new ≡ fold added tally.old (passed merger.old)) }
     ensures taken { OnOk result (HasTaken merger.old.left (passed merger.old) merger.new) }
     ensures none_next { OnOk result (next_row merger.new ≡ None) }
     ensures clocks { OnOk result (merger.new.clocks ≡ merger.old.clocks) }
@@ -117,33 +104,30 @@ fn pour<S: Sink>(merger: &mut Merger, tally: &mut Tally, sink: &mut S) -> Result
     steps_are_merged();
     // one core's rows need no merge, and are given where they lie
     let Some((first, second)) = merger.lone_rows() else {
-        return pour_merged(merger, tally, sink);
+        return pour_merged(merger, sink);
     };
-    give_all(first, tally, sink)?;
-    give_all(second, tally, sink)?;
+    give_all(first, sink)?;
+    give_all(second, sink)?;
     merger.clear_lone_rows();
     Ok(())
 }
 
-// Gives these rows, and counts them.
-fn give_all<S: Sink>(rows: &[Row], tally: &mut Tally, sink: &mut S) -> Result<(), Refused>
+// Gives these rows.
+fn give_all<S: Sink>(rows: &[Row], sink: &mut S) -> Result<(), Refused>
     ensures given { OnOk result (Given S.takes sink.old rows.now sink.new) }
     ensures refused { OnErr result (GivenUntil S.takes sink.old rows.now sink.new) }
-    ensures counted { OnOk result (tally.new ≡ fold added tally.old rows.now) }
 {
     for row in rows {
         sink.row(row)?;
-        tally.add(row);
     }
     Ok(())
 }
 
 // Gives the rows of many cores, each as the next of the merger.
-fn pour_merged<S: Sink>(merger: &mut Merger, tally: &mut Tally, sink: &mut S) -> Result<(), Refused>
+fn pour_merged<S: Sink>(merger: &mut Merger, sink: &mut S) -> Result<(), Refused>
     requires in_order { IsInOrder merger.old }
     ensures given { OnOk result (Given S.takes sink.old (passed merger.old) sink.new) }
     ensures refused { OnErr result (GivenUntil S.takes sink.old (passed merger.old) sink.new) }
-    ensures counted { OnOk result (tally.new ≡ fold added tally.old (passed merger.old)) }
     ensures taken { OnOk result (HasTaken merger.old.left (passed merger.old) merger.new) }
     ensures none_next { OnOk result (next_row merger.new ≡ None) }
     ensures clocks { OnOk result (merger.new.clocks ≡ merger.old.clocks) }
@@ -152,7 +136,6 @@ fn pour_merged<S: Sink>(merger: &mut Merger, tally: &mut Tally, sink: &mut S) ->
     steps_are_merged();
     'rows: while let Some(row) = merger.pop() {
         sink.row(&row)?;
-        tally.add(&row);
     }
     Ok(())
 }

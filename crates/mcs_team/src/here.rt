@@ -1,8 +1,7 @@
-//! Runs on the caller's thread, whose rows go to a sink.
+//! Runs on the caller's thread, whose rows go to a sink or are kept.
 ghost use Rattle.std.specs.Prelude.{◌≡◌, ◌≤◌, ◌+◌, ◌^◌, false, length, IfErr, IfOk, OnOk};
 ghost use Rattle.std.specs.Arc.{arc_value};
 ghost use Rattle.mcs_core.specs.Clock.{schedule};
-ghost use Rattle.mcs_report.specs.Reports.{reports_of};
 ghost use Rattle.mcs_system.specs.WellFormed.{IsWellFormed};
 ghost use Rattle.mcs_team.specs.Flow.{pasts_of, AreTakenTo, Given, IsAt, IsFlowFault};
 ghost use Rattle.mcs_window.specs.Desk.{opening_table, AllAreHere};
@@ -10,10 +9,10 @@ ghost use Rattle.mcs_window.specs.Desk.{opening_table, AllAreHere};
 use crate::batch::gather;
 use crate::flow::Flow;
 use crate::run::Run;
+use crate::whole::Kept;
 use crate::{FlowFault, Sink};
-use mcs_report::{Reports, schedules_are_reported};
 use mcs_system::System;
-use mcs_ticks::Tick;
+use mcs_ticks::{NoMemory, Row, Tick};
 use mcs_window::Desk;
 use std::alloc::Global;
 use std::marker::Brand;
@@ -27,7 +26,7 @@ fn flow_rounds<B: Run, S: Sink>(
     mut desk: Desk,
     mut flow: Flow,
     sink: &mut S,
-) -> Result<Reports, FlowFault>
+) -> Result<(), FlowFault>
     requires well_formed { IsWellFormed B.system }
     requires run { (desk.system ≡ B.system) × (desk.horizon ≡ B.horizon) }
     requires sound { desk.lost ≡ false }
@@ -37,10 +36,9 @@ fn flow_rounds<B: Run, S: Sink>(
     requires end { flow.end ≡ B.horizon + 1 }
     requires clocks { flow.merger.clocks ≡ pasts_of flow.batches.items }
     requires first { flow.reached ≡ 0 }
-    requires at { IsAt B.system B.horizon flow.reached flow.merger flow.tally }
+    requires at { IsAt B.system B.horizon flow.reached flow.merger }
     ensures given { OnOk result (Given S.takes sink.old (schedule B.system B.horizon) sink.new) }
     ensures fault { IfErr result (IsFlowFault S.takes B.system B.horizon sink.old sink.new) }
-    ensures reports { IfOk result (λ reports. reports ≡ reports_of B.system B.horizon (schedule B.system B.horizon)) }
 {
     'rounds: while !flow.is_over() {
         let Ok(()) = desk.go(ROWS) else {
@@ -52,8 +50,7 @@ fn flow_rounds<B: Run, S: Sink>(
         }
         flow.return_rooms(&mut desk);
     }
-    schedules_are_reported();
-    Ok(flow.finish())
+    Ok(())
 }
 
 // The same for a desk on which nothing has happened yet.
@@ -63,13 +60,12 @@ fn flow_desk<B: Run, S: Sink>(
     system: &System,
     horizon: Tick,
     sink: &mut S,
-) -> Result<Reports, FlowFault>
+) -> Result<(), FlowFault>
     requires system { system.now ≡ B.system }
     requires horizon { (horizon ≡ B.horizon) × (horizon ≤ 2 ^ 40) }
     requires desk { desk ≡ opening_table B.system B.horizon }
     ensures given { OnOk result (Given S.takes sink.old (schedule B.system B.horizon) sink.new) }
     ensures fault { IfErr result (IsFlowFault S.takes B.system B.horizon sink.old sink.new) }
-    ensures reports { IfOk result (λ reports. reports ≡ reports_of B.system B.horizon (schedule B.system B.horizon)) }
 {
     let _parts = system.parts();
     let Ok(flow) = Flow::new(alloc, system, horizon) else {
@@ -84,12 +80,10 @@ pub(crate) fn flow_here<S: Sink>(
     system: Arc<System>,
     horizon: Tick,
     sink: &mut S,
-) -> Result<Reports, FlowFault>
+) -> Result<(), FlowFault>
     requires { horizon ≤ 2 ^ 40 }
     ensures given { OnOk result (Given S.takes sink.old (schedule (arc_value system) horizon) sink.new) }
     ensures fault { IfErr result (IsFlowFault S.takes (arc_value system) horizon sink.old sink.new) }
-    ensures reports { IfOk result
-        (λ reports. reports ≡ reports_of (arc_value system) horizon (schedule (arc_value system) horizon)) }
 {
     let Ok(shared) = Arc::try_clone(&system) else {
         return Err(FlowFault::NoMemory);
@@ -98,4 +92,20 @@ pub(crate) fn flow_here<S: Sink>(
         return Err(FlowFault::NoMemory);
     };
     flow_desk::<Brand, S>(alloc, desk, &system, horizon, sink)
+}
+
+/// All rows up to the horizon, of a run on this thread.
+pub(crate) fn rows_here(
+    alloc: Global,
+    system: Arc<System>,
+    horizon: Tick,
+) -> Result<Vec<Row>, NoMemory>
+    requires { horizon ≤ 2 ^ 40 }
+    ensures { IfOk result (λ rows. rows.items ≡ schedule (arc_value system) horizon) }
+{
+    let mut kept = Kept::new(alloc);
+    let Ok(()) = flow_here(alloc, system, horizon, &mut kept) else {
+        return Err(NoMemory);
+    };
+    Ok(kept.rows)
 }

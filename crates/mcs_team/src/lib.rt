@@ -3,6 +3,7 @@
 
 mod alone;
 mod batch;
+mod counted;
 mod counts;
 mod fault;
 mod flow;
@@ -26,6 +27,6 @@ pub use gate::{Gate, Open};
 pub use reporting::report;
 pub use sink::{FlowFault, Refused, Sink};
 pub use snapshot::probe;
-pub use to_sink::simulate_to;
+pub use to_sink::{schedule_to, simulate_to};
 pub use together::simulate;
 pub use whole::Whole;

@@ -8,7 +8,6 @@ use crate::room::{Room, crew, end, more};
 use crate::run::Run;
 use crate::sink::Stop;
 use crate::{FlowFault, Gate, Sink};
-use mcs_report::{Reports, schedules_are_reported};
 use mcs_system::System;
 use mcs_ticks::Tick;
 use mcs_window::Desk;
@@ -23,18 +22,17 @@ fn flow_all<B: Run, R: Wait, G: Gate, S: Sink>(
     gate: &G,
     mut flow: Flow,
     sink: &mut S,
-) -> Result<Reports, Stop>
+) -> Result<(), Stop>
     requires well_formed { IsWellFormed B.system }
     requires end { flow.end ≡ B.horizon + 1 }
     requires clocks { flow.merger.clocks ≡ pasts_of flow.batches.items }
     requires first { flow.reached ≡ 0 }
-    requires at { IsAt B.system B.horizon flow.reached flow.merger flow.tally }
+    requires at { IsAt B.system B.horizon flow.reached flow.merger }
     ensures { Flows S.takes B.system B.horizon sink.old sink.new result }
 {
     for _ in rt.forever() {
         if flow.is_over() {
-            schedules_are_reported();
-            return Ok(flow.finish());
+            return Ok(());
         }
         if let Err(stop) = more(rt, room, gate, flow.batches.as_mut_slice(), flow.reached) {
             return Err(stop);
@@ -55,7 +53,7 @@ fn stream<B: Run, R: Wait, G: Gate, S: Sink>(
     system: &System,
     horizon: Tick,
     sink: &mut S,
-) -> Result<Reports, Stop>
+) -> Result<(), Stop>
     requires system { system.now ≡ B.system }
     requires horizon { (horizon ≡ B.horizon) × (horizon ≤ 2 ^ 40) }
     ensures { Flows S.takes B.system B.horizon sink.old sink.new result }
@@ -76,7 +74,7 @@ pub(crate) fn flow<B: Run + Send + Sync, R: Threads + Wait + Sync, G: Gate + Syn
     workers: usize,
     gate: &G,
     sink: &mut S,
-) -> Result<Reports, Stop>
+) -> Result<(), Stop>
     requires system { system.now ≡ B.system }
     requires desk { (desk.system ≡ B.system) × (desk.horizon ≡ B.horizon) }
     ensures { Flows S.takes B.system B.horizon sink.old sink.new result }
@@ -87,7 +85,7 @@ pub(crate) fn flow<B: Run + Send + Sync, R: Threads + Wait + Sync, G: Gate + Syn
     let ((), ended) = join_mut(
         rt,
         &mut || crew(rt, shared, workers, gate),
-        &mut || -> Result<Reports, Stop>
+        &mut || -> Result<(), Stop>
             requires { (system.now ≡ B.system) × (horizon ≡ B.horizon) × (horizon ≤ 2 ^ 40) }
             ensures { Flows S.takes B.system B.horizon sink.entry.now sink.exit.now result }
         {

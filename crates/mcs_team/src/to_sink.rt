@@ -7,11 +7,12 @@ ghost use Rattle.mcs_report.specs.laws.Demand.{AreWithinDemand};
 ghost use Rattle.mcs_team.specs.Flow.{rows_from, Given, GivenUntil, IsFlowFault, IsRestFault};
 ghost use Rattle.mcs_team.specs.Headline.{Headline};
 
-use crate::here::flow_here;
+use crate::counted::Counted;
+use crate::here::{flow_here, rows_here};
 use crate::sink::Stop;
 use crate::stream::flow;
-use crate::{FlowFault, Gate, Refused, Sink, simulate_alone};
-use mcs_report::{Reports, bandwidth_is_bounded, demand_is_bounded};
+use crate::{FlowFault, Gate, Refused, Sink};
+use mcs_report::{Reports, Tally, bandwidth_is_bounded, demand_is_bounded, schedules_are_reported};
 use mcs_system::System;
 use mcs_ticks::{Row, Tick};
 use mcs_window::Desk;
@@ -22,12 +23,12 @@ use std::thread::Threads;
 
 /// The whole simulation up to the horizon, at most 2^40, whose rows go to a sink: the schedule's, in order, some
 /// thousand at a time, once the clocks of all cores have passed them, and at the latest about a millisecond later while
-/// threads work. It gives the reports of the schedule. Threads work at one desk, as many as the lesser of `workers` and
-/// the number of cores, beside this one, which gives the rows; where that number is less than two this one takes all
-/// turns, and after 1,024 pieces of work in a row that were each shorter than 32 ticks they end, and it takes those that
-/// are left. `Sink` is answered where the sink has refused a row, after which it's given no other; and after `NoMemory`
-/// it has taken some first rows of the schedule. The gate is told of each piece of work that is lent; where this thread
-/// takes turns none is.
+/// threads work. It gives the reports of the schedule: each row that the sink takes is counted. Threads work at one
+/// desk, as many as the lesser of `workers` and the number of cores, beside this one, which gives the rows; where that
+/// number is less than two this one takes all turns, and after 1,024 pieces of work in a row that were each shorter
+/// than 32 ticks they end, and it takes those that are left. `Sink` is answered where the sink has refused a row, after
+/// which it's given no other; and after `NoMemory` it has taken some first rows of the schedule. The gate is told of
+/// each piece of work that is lent; where this thread takes turns none is.
 pub fn simulate_to<R: Threads + Wait + Sync, G: Gate + Sync, S: Sink>(
     rt: &R,
     alloc: Global,
@@ -48,6 +49,37 @@ pub fn simulate_to<R: Threads + Wait + Sync, G: Gate + Sync, S: Sink>(
         (λ reports. Headline (arc_value system) horizon (schedule (arc_value system) horizon) reports) }
 {
     demand_is_bounded();
+    schedules_are_reported();
+    let _parts = system.parts();
+    let Ok(mut tally) = Tally::new(alloc, &system, horizon) else {
+        return Err(FlowFault::NoMemory);
+    };
+    let mut counted = Counted::new(sink, &mut tally);
+    if let Err(fault) = schedule_to(rt, alloc, system, horizon, workers, gate, &mut counted) {
+        return Err(fault);
+    }
+    Ok(tally.finish())
+}
+
+/// The whole simulation up to the horizon, at most 2^40, whose rows go to a sink as `simulate_to` says, by the same
+/// threads and with the same faults. None is counted, so it costs less, and gives no reports.
+pub fn schedule_to<R: Threads + Wait + Sync, G: Gate + Sync, S: Sink>(
+    rt: &R,
+    alloc: Global,
+    system: Arc<System>,
+    horizon: Tick,
+    workers: usize,
+    gate: &G,
+    sink: &mut S,
+) -> Result<(), FlowFault>
+    requires { horizon ≤ 2 ^ 40 }
+    ensures given { OnOk result (Given S.takes sink.old (schedule (arc_value system) horizon) sink.new) }
+    ensures fault { IfErr result (IsFlowFault S.takes (arc_value system) horizon sink.old sink.new) }
+    ensures bandwidth { OnOk result (RunsWithinBandwidth (arc_value system) horizon (schedule (arc_value system) horizon)) }
+    ensures headline { OnOk result
+        (Headline (arc_value system) horizon (schedule (arc_value system) horizon)
+        (reports_of (arc_value system) horizon (schedule (arc_value system) horizon))) }
+{
     bandwidth_is_bounded();
     let workers = workers.min(system.parts().cores);
     if workers < 2 {
@@ -66,12 +98,10 @@ fn flow_team<R: Threads + Wait + Sync, G: Gate + Sync, S: Sink>(
     workers: usize,
     gate: &G,
     sink: &mut S,
-) -> Result<Reports, FlowFault>
+) -> Result<(), FlowFault>
     requires { horizon ≤ 2 ^ 40 }
     ensures given { OnOk result (Given S.takes sink.old (schedule (arc_value system) horizon) sink.new) }
     ensures fault { IfErr result (IsFlowFault S.takes (arc_value system) horizon sink.old sink.new) }
-    ensures reports { IfOk result
-        (λ reports. reports ≡ reports_of (arc_value system) horizon (schedule (arc_value system) horizon)) }
 {
     let Ok(shared) = Arc::try_clone(&system) else {
         return Err(FlowFault::NoMemory);
@@ -80,7 +110,7 @@ fn flow_team<R: Threads + Wait + Sync, G: Gate + Sync, S: Sink>(
         return Err(FlowFault::NoMemory);
     };
     let stop = match flow::<Brand, R, G, S>(rt, alloc, &system, desk, workers, gate, sink) {
-        Ok(reports) => return Ok(reports),
+        Ok(()) => return Ok(()),
         Err(stop) => stop,
     };
     match stop {
@@ -96,21 +126,19 @@ fn rest_alone<S: Sink>(
     horizon: Tick,
     from: Tick,
     sink: &mut S,
-) -> Result<Reports, FlowFault>
+) -> Result<(), FlowFault>
     requires { horizon ≤ 2 ^ 40 }
     ensures given { OnOk result (Given S.takes sink.old (rows_from from (schedule (arc_value system) horizon)) sink.new) }
     ensures fault { IfErr result
         (IsRestFault S.takes (rows_from from (schedule (arc_value system) horizon)) sink.old sink.new) }
-    ensures reports { IfOk result
-        (λ reports. reports ≡ reports_of (arc_value system) horizon (schedule (arc_value system) horizon)) }
 {
-    let Ok(whole) = simulate_alone(alloc, system, horizon) else {
+    let Ok(rows) = rows_here(alloc, system, horizon) else {
         return Err(FlowFault::NoMemory);
     };
-    let Ok(()) = give_from(sink, whole.rows.as_slice(), from) else {
+    let Ok(()) = give_from(sink, rows.as_slice(), from) else {
         return Err(FlowFault::Sink);
     };
-    Ok(whole.reports)
+    Ok(())
 }
 
 // Gives the rows at this moment or later, in order.

@@ -1,18 +1,14 @@
 use Rattle.std.proofs.Common.{rules}
 use Rattle.mcs_team.proofs.Giving.{on_err}
-use Rattle.mcs_team.proofs.Flowing.{counts-more, gives-more, gives-until}
+use Rattle.mcs_team.proofs.Flowing.{gives-more, gives-until}
 use Rattle.mcs_team.proofs.flow.give_all.Goals as goal
 
 pub returns-in_err-row-clause-refused : goal.returns-in_err-row-clause-refused
 returns-in_err-row-clause-refused g c =
     on_err c.from_residual.result (gives-until c.args.rows.now c.loop-row.row-index c.row-item.result c.loop-row-test.true (search rules)
-    g.S.Sink.takes c.args.sink.now c.loop-row.sink c.row.new.self c.loop-row.invariant.given c.in_err-row.ensures)
+    g.S.Sink.takes c.args.sink.now c.loop-row.sink c.row.new.self c.loop-row.invariant c.in_err-row.ensures)
 
 pub loop-row-preserved : goal.loop-row-preserved
 loop-row-preserved g c =
-    record {
-      given = gives-more c.args.rows.now c.loop-row.row-index c.row-item.result c.loop-row-test.true (search rules)
-          g.S.Sink.takes c.args.sink.now c.loop-row.sink c.row.new.self c.loop-row.invariant.given c.in_ok-row.ensures;
-      counted = counts-more c.args.rows.now c.loop-row.row-index c.row-item.result c.loop-row-test.true (search rules)
-          c.args.tally.now c.loop-row.tally c.add.new.self c.loop-row.invariant.counted c.add.ensures;
-    }
+    gives-more c.args.rows.now c.loop-row.row-index c.row-item.result c.loop-row-test.true (search rules)
+    g.S.Sink.takes c.args.sink.now c.loop-row.sink c.row.new.self c.loop-row.invariant c.in_ok-row.ensures

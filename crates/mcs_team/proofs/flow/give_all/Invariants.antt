@@ -1,11 +1,6 @@
-use Rattle.std.proofs.Common.{◌≡◌, take}
-use Rattle.std.specs.Prelude.{fold}
-use Rattle.mcs_report.specs.Tally.{added}
+use Rattle.std.proofs.Common.{take}
 use Rattle.mcs_team.specs.Flow.{Given}
 use Rattle.mcs_team.proofs.flow.give_all.Given as goal
 
 abbrev pub invariant-loop-row : goal.invariant-loop-row
-invariant-loop-row g l = record {
-  given : Given g.S.Sink.takes l.initial.sink (take l.row-index l.rows) l.sink;
-  counted : l.tally ≡ fold added l.initial.tally (take l.row-index l.rows);
-}
+invariant-loop-row g l = Given g.S.Sink.takes l.initial.sink (take l.row-index l.rows) l.sink

@@ -87,12 +87,5 @@ pub returns-clause-given : goal.returns-clause-given
 returns-clause-given g c =
     let r = c.rounds in
     let over : r.flow.reached ≡ r.flow.end = search rules in
-    (done g.B.Run.system g.B.Run.horizon g.S.Sink.takes (takes_time g.B.Run.system c.requires.well_formed) c.args.sink.now r.sink r.flow.reached r.flow.merger r.flow.tally
-    c.finish.result r.invariant.at r.invariant.given (over ∙ r.invariant.clear.end_is) c.requires.well_formed c.schedules_are_reported.ensures c.finish.ensures).0
-
-pub returns-clause-reports : goal.returns-clause-reports
-returns-clause-reports g c =
-    let r = c.rounds in
-    let over : r.flow.reached ≡ r.flow.end = search rules in
-    (done g.B.Run.system g.B.Run.horizon g.S.Sink.takes (takes_time g.B.Run.system c.requires.well_formed) c.args.sink.now r.sink r.flow.reached r.flow.merger r.flow.tally
-    c.finish.result r.invariant.at r.invariant.given (over ∙ r.invariant.clear.end_is) c.requires.well_formed c.schedules_are_reported.ensures c.finish.ensures).1
+    done g.B.Run.system g.B.Run.horizon g.S.Sink.takes (takes_time g.B.Run.system c.requires.well_formed) c.args.sink.now r.sink r.flow.reached
+    r.invariant.given (over ∙ r.invariant.clear.end_is)

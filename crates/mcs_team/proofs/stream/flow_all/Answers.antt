@@ -6,8 +6,8 @@ use Rattle.mcs_team.proofs.stream.flow_all.Goals as goal
 
 pub returns-then-is_over : goal.returns-then-is_over
 returns-then-is_over g c =
-    done g.B.Run.system g.B.Run.horizon g.S.Sink.takes (takes_time g.B.Run.system c.requires.well_formed) c.args.sink.now c.loop.sink c.loop.flow.reached c.loop.flow.merger c.loop.flow.tally
-    c.finish.result c.loop.invariant.2 c.loop.invariant.3 (search rules) c.requires.well_formed c.schedules_are_reported.ensures c.finish.ensures
+    done g.B.Run.system g.B.Run.horizon g.S.Sink.takes (takes_time g.B.Run.system c.requires.well_formed) c.args.sink.now c.loop.sink c.loop.flow.reached
+    c.loop.invariant.3 (search rules)
 
 pub returns-in-Err : goal.returns-in-Err
 returns-in-Err g c =

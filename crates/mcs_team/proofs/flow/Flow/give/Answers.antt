@@ -12,7 +12,7 @@ returns-in_default-clause-fault g c =
 pub returns-in_default-pour-clause-fault : goal.returns-in_default-pour-clause-fault
 returns-in_default-pour-clause-fault g c =
     let taken : AreBatches g.B.Run.system g.B.Run.horizon c.args.self.now.merger.clocks c.as_mut_slice.result.now = search rules in
-    until-refused g.B.Run.system g.B.Run.horizon g.S.Sink.takes (takes_time g.B.Run.system c.requires.well_formed) c.args.self.now.reached c.args.self.now.merger c.args.self.now.tally
+    until-refused g.B.Run.system g.B.Run.horizon g.S.Sink.takes (takes_time g.B.Run.system c.requires.well_formed) c.args.self.now.reached c.args.self.now.merger
     c.requires.at c.requires.well_formed.limits.cores.0 c.as_mut_slice.result.now taken c.add_all.new.merger c.in-Ok.ensures.clocks c.in-Ok.ensures.goes_on
     c.args.sink.now c.pour.new.sink (search rules)
 
@@ -20,17 +20,17 @@ pub returns-clause-at : goal.returns-clause-at
 returns-clause-at g c =
     let taken : AreBatches g.B.Run.system g.B.Run.horizon c.args.self.now.merger.clocks c.as_mut_slice.result.now = search rules in
     let least : c.least_past-reached.result ≡ fold min (g.B.Run.horizon + 1) (pasts_of c.as_mut_slice.result.now) = search rules in
-    at-next g.B.Run.system g.B.Run.horizon g.S.Sink.takes (takes_time g.B.Run.system c.requires.well_formed) c.args.self.now.reached c.args.self.now.merger c.args.self.now.tally
+    at-next g.B.Run.system g.B.Run.horizon g.S.Sink.takes (takes_time g.B.Run.system c.requires.well_formed) c.args.self.now.reached c.args.self.now.merger
     c.requires.at c.requires.well_formed.limits.cores.0 c.as_mut_slice.result.now taken c.add_all.new.merger c.in-Ok.ensures.clocks c.in-Ok.ensures.goes_on
-    c.pour.new.merger c.pour.new.tally c.least_past-reached.result least
-    c.in-Ok-pour.ensures.taken c.in-Ok-pour.ensures.none_next c.in-Ok-pour.ensures.clocks c.in-Ok-pour.ensures.in_order c.in-Ok-pour.ensures.counted
+    c.pour.new.merger c.least_past-reached.result least
+    c.in-Ok-pour.ensures.taken c.in-Ok-pour.ensures.none_next c.in-Ok-pour.ensures.clocks c.in-Ok-pour.ensures.in_order
 
 pub returns-clause-given : goal.returns-clause-given
 returns-clause-given g c =
     let taken : AreBatches g.B.Run.system g.B.Run.horizon c.args.self.now.merger.clocks c.as_mut_slice.result.now = search rules in
     let least : c.least_past-reached.result ≡ fold min (g.B.Run.horizon + 1) (pasts_of c.as_mut_slice.result.now) = search rules in
-    given-next g.B.Run.system g.B.Run.horizon g.S.Sink.takes (takes_time g.B.Run.system c.requires.well_formed) c.args.self.now.reached c.args.self.now.merger c.args.self.now.tally
+    given-next g.B.Run.system g.B.Run.horizon g.S.Sink.takes (takes_time g.B.Run.system c.requires.well_formed) c.args.self.now.reached c.args.self.now.merger
     c.requires.at c.requires.well_formed.limits.cores.0 c.as_mut_slice.result.now taken c.add_all.new.merger c.in-Ok.ensures.clocks c.in-Ok.ensures.goes_on
-    c.pour.new.merger c.pour.new.tally c.least_past-reached.result least
-    c.in-Ok-pour.ensures.taken c.in-Ok-pour.ensures.none_next c.in-Ok-pour.ensures.clocks c.in-Ok-pour.ensures.in_order c.in-Ok-pour.ensures.counted
+    c.pour.new.merger c.least_past-reached.result least
+    c.in-Ok-pour.ensures.taken c.in-Ok-pour.ensures.none_next c.in-Ok-pour.ensures.clocks c.in-Ok-pour.ensures.in_order
     c.args.sink.now c.pour.new.sink c.in-Ok-pour.ensures.given

@@ -3,4 +3,4 @@ use Rattle.mcs_team.proofs.Streaming.{at-first}
 use Rattle.mcs_team.proofs.flow.Flow.new.Goals as goal
 
 pub returns-clause-at : goal.returns-clause-at
-returns-clause-at c = at-first c.args.system.now c.args.horizon c.in_ok-merger.merger c.in_ok-tally.tally c.steps_are_merged.ensures.begins (search rules) (search rules)
+returns-clause-at c = at-first c.args.system.now c.args.horizon c.in_ok-merger.merger c.steps_are_merged.ensures.begins (search rules)
