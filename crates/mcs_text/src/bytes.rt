@@ -38,7 +38,34 @@ pub(crate) fn write_name(bytes: &mut [u8], at: usize, name: &Name) -> usize
 }
 
 /// Writes a space and a number.
+#[inline(always)]
 pub(crate) fn write_number(bytes: &mut [u8], at: usize, number: u64) -> usize
+    requires { at + 21 ≤ length bytes.old }
+    ensures short { result ≤ at + 21 }
+    ensures written { take result bytes.new ≡ take at bytes.old ++ 32 ∷ decimal number }
+{
+    if number < 10 {
+        write_digit(bytes, at, number as u8)
+    } else {
+        write_digits_behind(bytes, at, number)
+    }
+}
+
+/// Writes a space and a number of one digit, as most are.
+#[inline(always)]
+fn write_digit(bytes: &mut [u8], at: usize, digit: u8) -> usize
+    requires digit { digit < 10 }
+    requires room { at + 2 ≤ length bytes.old }
+    ensures short { result ≤ at + 2 }
+    ensures written { take result bytes.new ≡ take at bytes.old ++ 32 ∷ decimal digit }
+{
+    bytes[at..at + 2].copy_from_slice(&[b' ', b'0' + digit]);
+    at + 2
+}
+
+/// Writes a space and a number of any length.
+#[inline(never)]
+fn write_digits_behind(bytes: &mut [u8], at: usize, number: u64) -> usize
     requires { at + 21 ≤ length bytes.old }
     ensures short { result ≤ at + 21 }
     ensures written { take result bytes.new ≡ take at bytes.old ++ 32 ∷ decimal number }
@@ -48,7 +75,6 @@ pub(crate) fn write_number(bytes: &mut [u8], at: usize, number: u64) -> usize
 }
 
 /// Writes a number.
-#[inline(always)]
 pub(crate) fn write_decimal(bytes: &mut [u8], at: usize, number: u64) -> usize
     requires { at + 20 ≤ length bytes.old }
     ensures short { result ≤ at + 20 }
@@ -67,17 +93,21 @@ fn digits(number: u64) -> usize
 {
     let mut left = number;
     let mut count = 0;
-    'fours: while left >= 10_000 {
-        left /= 10_000;
-        count += 4;
+    'eights: while left >= 100_000_000 {
+        left /= 100_000_000;
+        count += 8;
     }
-    count + few_digits(left)
+    if left < 10_000 {
+        count + few_digits(left)
+    } else {
+        count + more_digits(left)
+    }
 }
 
-/// The same of a number of at most four digits.
+/// The same of a number of one to four digits.
 #[inline(always)]
 fn few_digits(number: u64) -> usize
-    requires { number < 10_000 }
+    requires { number < 10000 }
     ensures { result ≡ length (decimal number) }
 {
     if number < 10 {
@@ -88,5 +118,22 @@ fn few_digits(number: u64) -> usize
         3
     } else {
         4
+    }
+}
+
+/// The same of a number of five to eight digits.
+#[inline(always)]
+fn more_digits(number: u64) -> usize
+    requires { (10000 ≤ number) × (number < 100000000) }
+    ensures { result ≡ length (decimal number) }
+{
+    if number < 100_000 {
+        5
+    } else if number < 1_000_000 {
+        6
+    } else if number < 10_000_000 {
+        7
+    } else {
+        8
     }
 }

@@ -3,6 +3,7 @@
 
 mod bytes;
 mod line;
+mod moment;
 mod name;
 mod names;
 mod page;

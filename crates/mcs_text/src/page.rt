@@ -2,8 +2,9 @@ ghost use Rattle.std.specs.Prelude.{◌≡◌, ◌≤◌, ◌++◌, ◌↔◌, [
 ghost use Rattle.mcs_text.specs.Text.{row_text};
 
 use crate::bytes::LINE;
+use crate::moment::MomentDigits;
 use crate::names::Names;
-use crate::row::write_row;
+use crate::row::write_rest;
 use mcs_ticks::{NoMemory, Row};
 use std::alloc::Global;
 use std::marker::Model;
@@ -13,6 +14,8 @@ use std::marker::Model;
 pub struct Page {
     bytes: Vec<u8>,
     used: usize,
+    // of the last row
+    moment: MomentDigits,
 }
 
 impl Model for Page {
@@ -34,7 +37,11 @@ impl Page {
         ensures { IfOk result (λ page. page ≡ []) }
     {
         let bytes = vec![in alloc; 0u8; Self::FULL + LINE]?;
-        Ok(Page { bytes, used: 0 })
+        Ok(Page {
+            bytes,
+            used: 0,
+            moment: MomentDigits::new(),
+        })
     }
 
     /// How many bytes its lines have.
@@ -63,7 +70,9 @@ impl Page {
         requires { length self.old ≤ 65536 }
         ensures { self.new ≡ self.old ++ row_text names.now row.now }
     {
-        self.used = write_row(self.bytes.as_mut_slice(), self.used, names, row);
+        let bytes = self.bytes.as_mut_slice();
+        let core = self.moment.write_moment(bytes, self.used, row.moment);
+        self.used = write_rest(bytes, core, names, row);
     }
 
     /// Removes all lines. Their room is kept.

@@ -13,20 +13,22 @@ pub fn put_row(text: &mut Vec<u8>, system: &System, row: &Row) -> Result<(), NoM
     ensures err { OnErr result (text.new.items ≡ text.old.items) }
 {
     let mut line = [0; LINE];
-    let end = write_row(&mut line, 0, system, row);
+    let core = write_decimal(&mut line, 0, row.moment.get());
+    let end = write_rest(&mut line, core, system, row);
     text.extend_from_slice(&line[..end])?;
     Ok(())
 }
 
-/// Writes the line of a row.
-pub(crate) fn write_row<N: Naming>(bytes: &mut [u8], at: usize, names: &N, row: &Row) -> usize
-    requires { at + 144 ≤ length bytes.old }
-    ensures short { result ≤ at + 144 }
-    ensures written { take result bytes.new ≡ take at bytes.old ++ row_text (N.system names.now) row.now }
+/// Writes the line of a row after its moment.
+#[inline(always)]
+pub(crate) fn write_rest<N: Naming>(bytes: &mut [u8], at: usize, names: &N, row: &Row) -> usize
+    requires { at + 119 ≤ length bytes.old }
+    ensures short { result ≤ at + 119 }
+    ensures written { take result bytes.new
+        ≡ take at bytes.old ++ after (decimal row.now.core ∷ words_of (N.system names.now) row.now.what) ++ 10 ∷ [] }
 {
-    let moment = write_decimal(bytes, at, row.moment.get());
-    let core = write_number(bytes, moment, row.core.0 as u64);
-    let end = write_what(bytes, core, names, &row.what);
+    let what = write_number(bytes, at, row.core.0 as u64);
+    let end = write_what(bytes, what, names, &row.what);
     bytes[end] = b'\n';
     end + 1
 }

@@ -1,4 +1,4 @@
-use Rattle.std.proofs.Common.{arith, sym}
+use Rattle.std.proofs.Common.{sym}
 use Rattle.itoa.proofs.Decimal.{length_one, length_two}
 use Rattle.mcs_text.proofs.Behind.{length_three, length_four}
 use Rattle.mcs_text.proofs.bytes.few_digits.Goals as goal

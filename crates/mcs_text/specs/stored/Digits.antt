@@ -1,0 +1,8 @@
+-- How the digits of a moment are kept.
+use Rattle.std.specs.Prelude.{ℕ, ◌≡◌, ◌≤◌, List, slice_range}
+use Rattle.std.specs.Fmt.{decimal}
+
+-- the digits stand in the block from `start` to before 16
+pub record AreDigits (moment : ℕ) (block : List ℕ) (start : ℕ) : Type 0 where
+  pub within : start ≤ 16
+  pub digits_are : slice_range block start 16 ≡ decimal moment
