@@ -14,7 +14,7 @@ use crate::{Gate, Options, RunFault, Show, Source, Target};
 use mcs_load::{LoadFault, load};
 use mcs_report::Reports;
 use mcs_system::System;
-use mcs_team::{FlowFault, SimFault, Sink, report, simulate_to};
+use mcs_team::{FlowFault, SimFault, Sink, report, schedule_to, simulate_to};
 use mcs_text::{Names, Page, put_reports};
 use mcs_ticks::Limits;
 use std::alloc::Global;
@@ -209,10 +209,11 @@ fn give_rows<H: Threads + Wait + Sync, G: Gate + Sync, S: Sink>(
     ensures counted { IfOk result (λ reports. IsSome reports ↔ (options.now.show ≡ Show.Both)) }
 {
     let (horizon, workers) = (options.horizon, options.workers);
-    let reports = simulate_to(rt, alloc, system, horizon, workers, gate, sink)?;
     if options.show == Show::Both {
+        let reports = simulate_to(rt, alloc, system, horizon, workers, gate, sink)?;
         Ok(Some(reports))
     } else {
+        schedule_to(rt, alloc, system, horizon, workers, gate, sink)?;
         Ok(None)
     }
 }

@@ -1,7 +1,6 @@
 use Rattle.std.proofs.Common.{◌≡◌, ◌∙◌, ◌++◌, false, refl, rules, subst, sym}
 use Rattle.std.specs.Result.{is_ok}
 use Rattle.mcs_text.specs.Text.{row_text}
-use Rattle.mcs_cli.specs.Devices.{AppendsPrefix}
 use Rattle.mcs_cli.specs.Flow.{AppendsBefore}
 use Rattle.mcs_cli.proofs.Flow.{before-longer, before-then, prefix-longer, prefix-then}
 use Rattle.mcs_cli.proofs.sink.LinesSink.row.Goals as goal
