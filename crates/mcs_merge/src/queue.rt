@@ -1,4 +1,4 @@
-ghost use Rattle.std.specs.Prelude.{◌≡◌, ◌++◌, [], drop, option_map, slice_get, IfErr, IfNone, IfSome, IsOk, OnErr, OnOk};
+ghost use Rattle.std.specs.Prelude.{◌≡◌, ◌<◌, ◌++◌, ℕ, [], drop, option_map, slice_get, slice_index, IfErr, IfNone, IfSome, IsOk, OnErr, OnOk};
 
 use mcs_ticks::{NoMemory, Row, Tick};
 use std::alloc::Global;
@@ -6,14 +6,18 @@ use std::collections::VecDeque;
 use std::marker::Model;
 use std::mem;
 
-/// Rows in their order. The moments of the first two stand beside them: so the second row's moment is asked for when the row before
-/// the first leaves, and has come from memory by the time that the second is first.
+// How many moments are read at once
+const AHEAD: usize = 8;
+
+/// Rows in their order, and the moments of the next few beside them. A row that has left the processor's cache is waited for, and
+/// what comes after waits with it. So the moments of eight rows are read side by side, in one wait in place of eight, and those of
+/// further rows only when these are used up.
 #[derive(Debug, Drop)]
 pub(crate) struct RowQueue {
     rows: VecDeque<Row>,
-    // of the first and the second row, where there are so many
-    first: Tick,
-    second: Tick,
+    // that of the first row is in the place `at`, that of the second in the next one, and so on, as far as there are rows
+    moments: [Tick; AHEAD],
+    at: usize,
 }
 
 impl Model for RowQueue {
@@ -23,7 +27,7 @@ impl Model for RowQueue {
 
     ghost view = { λ a. record { items = a.rows.items } };
 
-    ghost invariant = { λ a. StandBeside a.rows.items a.first a.second };
+    ghost invariant = { λ a. StandBeside a.rows.items a.moments a.at };
 }
 
 impl RowQueue {
@@ -33,8 +37,8 @@ impl RowQueue {
     {
         RowQueue {
             rows: VecDeque::new(alloc),
-            first: Tick::ZERO,
-            second: Tick::ZERO,
+            moments: [Tick::ZERO; AHEAD],
+            at: 0,
         }
     }
 
@@ -45,7 +49,7 @@ impl RowQueue {
         if self.rows.is_empty() {
             None
         } else {
-            Some(self.first)
+            Some(self.moments[self.at])
         }
     }
 
@@ -55,8 +59,11 @@ impl RowQueue {
         ensures left { self.new.items ≡ drop 1 self.old.items }
     {
         let row = self.rows.pop_front();
-        self.first = self.second;
-        self.second = moment_at(&self.rows, 1);
+        self.at += 1;
+        if self.at == AHEAD {
+            self.moments = moments_of(&self.rows);
+            self.at = 0;
+        }
         row
     }
 
@@ -101,10 +108,23 @@ impl RowQueue {
         } else if self.rows.append(&mut more).is_err() {
             return Err((more.into_vec(), NoMemory));
         }
-        self.first = moment_at(&self.rows, 0);
-        self.second = moment_at(&self.rows, 1);
+        self.moments = moments_of(&self.rows);
+        self.at = 0;
         Ok(())
     }
+}
+
+// The moments of the first eight rows, or 0 where there is none. No read needs what another one gave.
+#[inline(never)]
+fn moments_of(rows: &VecDeque<Row>) -> [Tick; AHEAD]
+    ensures some { (k : ℕ) → k < 8 → IfSome (slice_get rows.now.items k) (λ row. slice_index result k ≡ row.moment) }
+    ensures none { (k : ℕ) → k < 8 → IfNone (slice_get rows.now.items k) (slice_index result k ≡ 0) }
+{
+    let mut moments = [Tick::ZERO; AHEAD];
+    for place in 0..AHEAD {
+        moments[place] = moment_at(rows, place);
+    }
+    moments
 }
 
 // The moment of the row in this place, or 0 where there is none.
