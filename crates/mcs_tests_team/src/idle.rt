@@ -3,7 +3,7 @@ ghost use Rattle.std.specs.Prelude.{◌≡◌};
 
 use super::orders::step;
 use super::systems::{moment, system};
-use mcs_team::{probe, simulate_alone};
+use mcs_team::{Open, Refused, Sink, probe, schedule_to, simulate_alone};
 use mcs_ticks::{CoreId, NoteId, Row, ThreadId, What, Why};
 use mcs_window::Cores;
 use std::process::Abort;
@@ -138,6 +138,39 @@ fn idle_between_two_starts(rt: HostRuntime) -> Result<(), Fail> {
     let alloc = rt.alloc();
     let whole = simulate_alone(alloc, system(alloc, FAR_APART)?, moment(2 * START)?)?;
     are(&rt, whole.rows.as_slice(), far_apart_rows().as_slice());
+    Ok(())
+}
+
+// A sink that keeps the rows.
+#[derive(Drop)]
+struct Kept {
+    rows: Vec<Row>,
+}
+
+impl Sink for Kept {
+    ghost takes = { λ _ _ _ _. Unit {0} };
+
+    fn row(&mut self, row: &Row) -> Result<(), Refused> {
+        let Row { moment, core, what } = *row;
+        self.rows
+            .push(Row { moment, core, what })
+            .ok()
+            .ok_or(Refused)
+    }
+}
+
+#[test]
+fn a_sink_gets_rows_that_are_far_apart(rt: HostRuntime) -> Result<(), Fail> {
+    let alloc = rt.alloc();
+    for workers in [1usize, 2] {
+        let shared = system(alloc, FAR_APART)?;
+        let horizon = moment(2 * START)?;
+        let mut kept = Kept {
+            rows: Vec::new(alloc),
+        };
+        schedule_to(&rt, alloc, shared, horizon, workers, &Open, &mut kept)?;
+        are(&rt, kept.rows.as_slice(), far_apart_rows().as_slice());
+    }
     Ok(())
 }
 
