@@ -46,6 +46,8 @@ pub(crate) fn write_number(bytes: &mut [u8], at: usize, number: u64) -> usize
 {
     if number < 10 {
         write_digit(bytes, at, number as u8)
+    } else if number < 100 {
+        write_two_digits(bytes, at, number as u8)
     } else {
         write_digits_behind(bytes, at, number)
     }
@@ -61,6 +63,18 @@ fn write_digit(bytes: &mut [u8], at: usize, digit: u8) -> usize
 {
     bytes[at..at + 2].copy_from_slice(&[b' ', b'0' + digit]);
     at + 2
+}
+
+/// Writes a space and a number of two digits.
+#[inline(always)]
+fn write_two_digits(bytes: &mut [u8], at: usize, number: u8) -> usize
+    requires digits { (10 ≤ number) × (number < 100) }
+    requires room { at + 3 ≤ length bytes.old }
+    ensures short { result ≤ at + 3 }
+    ensures written { take result bytes.new ≡ take at bytes.old ++ 32 ∷ decimal number }
+{
+    bytes[at..at + 3].copy_from_slice(&[b' ', b'0' + number / 10, b'0' + number % 10]);
+    at + 3
 }
 
 /// Writes a space and a number of any length.
