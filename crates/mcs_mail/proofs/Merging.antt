@@ -1,11 +1,12 @@
 -- Late mail and a ring as one list in order of delivery.
 use Rattle.std.proofs.Common.{◌≡◌, ℕ, zero, suc, ◌+◌, ◌<◌, ◌≤◌, Bool, true, false, cond, List, [], ◌∷◌, ◌++◌, length, get_or, slice_get, drop, Option, Some, None, Bor, ◌⊎◌, inl, inr, refl, sym, ap, ◌∙◌, arith}
 use Rattle.std.specs.Option.{option_copied, option_to_list}
-use Rattle.std.specs.Prelude.{is_some, IfSome, Result, Ok, Err, is_ok, OnOk, OnErr}
+use Rattle.std.specs.Prelude.{nat_lt, is_some, IfSome, Result, Ok, Err, is_ok, OnOk, OnErr}
 use Rattle.std.proofs.lemmas.Bool.{false≢true}
+use Rattle.std.proofs.lemmas.Bool.Decides.{nat_tests}
 use Rattle.mcs_mail.specs.declared.mail.Mail.{Mail}
-use Rattle.mcs_mail.specs.Box.{is_before, put, put_all, IsIn, IsOrdered}
-use Rattle.mcs_mail.specs.stored.Late.{last_or, late_is_first, IsMerged}
+use Rattle.mcs_mail.specs.Box.{is_before, put, put_all, first_arrival, IsIn, IsOrdered}
+use Rattle.mcs_mail.specs.stored.Late.{last_or, late_is_first, sooner_of, IsMerged}
 use Rattle.mcs_mail.proofs.Boxes.{not_back, not_trans, ordered-put}
 use Rattle.mcs_mail.proofs.Orders.{from_put, not_itself, trans}
 
@@ -194,6 +195,29 @@ mails-ring_first (l ∷ late) (f ∷ ring) capacity kept e =
       before_last = λ m k. still ring m (kept.before_last l (inl refl)) (kept.before_last m k);
       room = omega (arith, kept.room);
     }
+
+-- when the first arrives
+first-arrives : (m : Mail) (xs : List Mail) → Some m ≡ slice_get xs 0 → Some m.arrives ≡ first_arrival xs
+first-arrives m [] e = cc
+first-arrives m (x ∷ xs) e = let same : m ≡ x = cc in ap (λ (z : Mail). Some z.arrives) same
+
+pub sooner-merged : (late ring : List Mail) (capacity : ℕ) → IsMerged late ring capacity → sooner_of (slice_get ring 0) (slice_get late 0) ≡ first_arrival (put_all late ring)
+sooner-merged [] [] capacity kept = refl
+sooner-merged [] (f ∷ ring) capacity kept = refl
+sooner-merged (l ∷ late) [] capacity kept = absurd (not_itself l (kept.before_last l (inl refl)))
+sooner-merged (l ∷ late) (f ∷ ring) capacity kept = by (is_before l f) refl
+  where
+    late_first : (t : Bool) → nat_lt l.arrives f.arrives ≡ t → is_before l f ≡ true → cond t l.arrives f.arrives ≡ l.arrives
+    late_first true g e = refl
+    late_first false g e = grind (arith, nat_tests)
+
+    ring_first : (t : Bool) → nat_lt l.arrives f.arrives ≡ t → is_before l f ≡ false → cond t l.arrives f.arrives ≡ f.arrives
+    ring_first true g e = grind (arith, nat_tests)
+    ring_first false g e = refl
+
+    by : (t : Bool) → is_before l f ≡ t → sooner_of (Some f) (Some l) ≡ first_arrival (put_all (l ∷ late) (f ∷ ring))
+    by true e = ap Some (late_first (nat_lt l.arrives f.arrives) refl e) ∙ first-arrives l _ (mails-late_first (l ∷ late) (f ∷ ring) capacity kept e).0
+    by false e = ap Some (ring_first (nat_lt l.arrives f.arrives) refl e) ∙ first-arrives f _ (mails-ring_first (l ∷ late) (f ∷ ring) capacity kept e).0
 
 -- the first of the late mail moves into the ring
 pub moved : (late late' ring ring' : List Mail) (r : Option Mail) (m : Mail) → r ≡ slice_get late 0 → r ≡ Some m → late' ≡ drop 1 late → ring' ≡ put m ring →

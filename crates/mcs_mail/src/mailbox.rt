@@ -1,7 +1,7 @@
 ghost use Rattle.std.specs.Prelude.{◌≡◌, ◌<◌, ◌≤◌, ◌+◌, ◌^◌, [], length, drop, slice_get, OnOk, OnErr, IfErr, IsOk, insert};
 ghost use Rattle.std.specs.VecDeque.{deque_len, deque_capacity};
 ghost use Rattle.mcs_mail.specs.Box.{Content, is_before, put, put_all, due, without_due, first_arrival, IsOrdered};
-ghost use Rattle.mcs_mail.specs.stored.Late.{last_or, late_is_first, IsMerged};
+ghost use Rattle.mcs_mail.specs.stored.Late.{last_or, late_is_first, sooner_of, IsMerged};
 
 use crate::Mail;
 use crate::late::Late;
@@ -101,8 +101,7 @@ impl Mailbox {
         ensures first { result ≡ first_arrival self.now.mails }
         ensures in_order { IsOrdered self.now.mails }
     {
-        let first = self.first()?;
-        Some(first.arrives)
+        sooner(self.ring.front().copied(), self.late.first())
     }
 
     /// How many signals are under way.
@@ -147,6 +146,17 @@ fn late_is_first(ring: &VecDeque<Mail>, late: &Late) -> bool
     match (late.first(), ring.front()) {
         (Some(first), Some(front)) => first.is_before(front),
         _ => false,
+    }
+}
+
+// When the sooner of the ring's first and the first late mail arrives. Without mail in the ring there is none that is late.
+fn sooner(front: Option<Mail>, late: Option<Mail>) -> Option<Tick>
+    ensures { result ≡ sooner_of front late }
+{
+    let front = front?.arrives;
+    match late {
+        Some(late) if late.arrives < front => Some(late.arrives),
+        _ => Some(front),
     }
 }
 

@@ -1,5 +1,5 @@
 -- Mail in a ring in order of delivery, and late mail beside it, which was put when the ring's last was delivered after it.
-use Rattle.std.specs.Prelude.{◌≡◌, ℕ, ◌+◌, ◌≤◌, Bool, true, false, List, [], ◌∷◌, length}
+use Rattle.std.specs.Prelude.{◌≡◌, ℕ, ◌+◌, ◌≤◌, Bool, true, false, nat_lt, if◌then◌else◌, List, [], ◌∷◌, length, Option, Some, None}
 use Rattle.mcs_mail.specs.declared.mail.Mail.{Mail}
 use Rattle.mcs_mail.specs.Box.{is_before, IsIn, IsOrdered}
 
@@ -20,3 +20,9 @@ abbrev pub late_is_first : List Mail → List Mail → Bool
 late_is_first [] ring = false
 late_is_first (first ∷ late) [] = false
 late_is_first (first ∷ late) (front ∷ ring) = is_before first front
+
+-- when the sooner of the ring's first and the first late mail arrives
+abbrev pub sooner_of : Option Mail → Option Mail → Option ℕ
+sooner_of None late = None
+sooner_of (Some front) None = Some front.arrives
+sooner_of (Some front) (Some late) = Some (if nat_lt late.arrives front.arrives then late.arrives else front.arrives)
