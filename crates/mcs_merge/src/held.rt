@@ -25,6 +25,7 @@ impl Held {
     }
 
     /// Takes the first row.
+    #[inline(always)]
     pub(crate) fn take_first(&mut self) -> Option<Row>
         ensures taken { result ≡ slice_get self.old.rows.items 0 }
         ensures left { self.new.rows.items ≡ drop 1 self.old.rows.items }

@@ -79,6 +79,7 @@ impl Merger {
 
     /// Takes the row that is first by moment, core and place of those that are left, if its moment is below all clocks;
     /// else, or where none is left, None. Of `c` cores it takes the order of `log c` steps.
+    #[inline(always)]
     pub fn pop(&mut self) -> Option<Row>
         ensures row { result ≡ next_row self.old }
         ensures left { self.new ≡ without_row (next_row self.old) self.old }
@@ -178,6 +179,7 @@ fn take_room(cores: &mut [Held], core: usize) -> Vec<Row>
 }
 
 // Takes the first row of a core.
+#[inline(always)]
 fn take_first(cores: &mut [Held], core: usize) -> Option<Row>
     requires { core < length cores.old }
     ensures row { result ≡ slice_get (list_of core (lists_of cores.old)) 0 }

@@ -54,6 +54,7 @@ impl RowQueue {
     }
 
     /// Takes the first row.
+    #[inline(always)]
     pub(crate) fn pop_front(&mut self) -> Option<Row>
         ensures taken { result ≡ slice_get self.old.items 0 }
         ensures left { self.new.items ≡ drop 1 self.old.items }
