@@ -30,8 +30,8 @@ impl Local {
         let used = chosen.using;
         if let Some(best) = self.best() {
             if gives_way(here.system, thread, best) {
-                self.charge(here.system, thread, used);
-                return self.stop_to_front(here, thread, Why::Preempt, used, log);
+                let until = self.charge_until(here, thread, used);
+                return self.stop_to_front(here, thread, Why::Preempt, used, until, log);
             }
         }
         Ok(())

@@ -1,7 +1,7 @@
 ghost use Rattle.std.specs.Prelude.{◌≡◌, ◌^◌, ◌<◌, ◌≤◌, true, length, get_or, set, Some, None, option_map, IfOk};
-ghost use Rattle.mcs_control.specs.Context.{head_amount, head_moment, context_charged, context_woken, context_chosen, context_ordered, context_ready, view_of};
+ghost use Rattle.mcs_control.specs.Context.{head_amount, head_moment, context_charged, context_woken, context_chosen, context_ordered, view_of};
 ghost use Rattle.mcs_control.specs.Control.{IsConfig, kind_of};
-ghost use Rattle.mcs_core.specs.Contexts.{is_own, held, seen_contexts, HaveRoom};
+ghost use Rattle.mcs_core.specs.Contexts.{is_own, held, date_from, seen_contexts, HaveRoom};
 
 use mcs_control::{Config, Context, ContextView};
 use mcs_ticks::{ContextId, NoMemory, Tick};
@@ -37,6 +37,30 @@ impl Contexts {
     {
         match &mut self.contexts[number.0] {
             Some(context) => context.charge(ticks, min_budget),
+            None => unreachable!(),
+        }
+    }
+
+    /// A context is charged so many ticks. Answers the date with which its thread has to wait, if it isn't ready at a moment then.
+    pub(crate) fn charge_until(
+        &mut self,
+        number: ContextId,
+        ticks: u64,
+        min_budget: u64,
+        moment: Tick,
+    ) -> Option<Tick>
+        requires own { is_own number self.old ≡ true }
+        requires some { 1 ≤ ticks }
+        requires in_head { ticks ≤ head_amount (held number self.old) }
+        requires early { head_moment (held number self.old) ≤ 2 ^ 40 }
+        ensures contexts { self.new ≡ set self.old number (Some (context_charged ticks min_budget (held number self.old))) }
+        ensures until { result ≡ date_from moment (context_charged ticks min_budget (held number self.old)) }
+    {
+        match &mut self.contexts[number.0] {
+            Some(context) => {
+                context.charge(ticks, min_budget);
+                date_from(context, moment)
+            }
             None => unreachable!(),
         }
     }
@@ -79,13 +103,13 @@ impl Contexts {
         }
     }
 
-    /// Whether a context is ready at a moment.
-    pub(crate) fn ready(&self, number: ContextId, moment: Tick) -> bool
+    /// The date with which the thread of a context has to wait, if the context isn't ready at a moment.
+    pub(crate) fn date(&self, number: ContextId, moment: Tick) -> Option<Tick>
         requires own { is_own number self.now ≡ true }
-        ensures { result ≡ context_ready moment (held number self.now) }
+        ensures { result ≡ date_from moment (held number self.now) }
     {
         match &self.contexts[number.0] {
-            Some(context) => context.ready(moment),
+            Some(context) => date_from(context, moment),
             None => unreachable!(),
         }
     }
@@ -97,17 +121,6 @@ impl Contexts {
     {
         match &self.contexts[number.0] {
             Some(context) => context.head_amount(),
-            None => unreachable!(),
-        }
-    }
-
-    /// The moment from which the head of a context may be used.
-    pub(crate) fn head_moment(&self, number: ContextId) -> Tick
-        requires own { is_own number self.now ≡ true }
-        ensures { result ≡ head_moment (held number self.now) }
-    {
-        match &self.contexts[number.0] {
-            Some(context) => context.head_moment(),
             None => unreachable!(),
         }
     }
@@ -135,5 +148,16 @@ impl Contexts {
             Some(context) => Ok(Some(context.view(alloc, number, in_use)?)),
             None => Ok(None),
         }
+    }
+}
+
+/// The date with which the thread of a context has to wait, if the context isn't ready at a moment.
+fn date_from(context: &Context, moment: Tick) -> Option<Tick>
+    ensures { result ≡ date_from moment context.now.context }
+{
+    if context.ready(moment) {
+        None
+    } else {
+        Some(context.head_moment())
     }
 }

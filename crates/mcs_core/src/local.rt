@@ -19,6 +19,7 @@ use mcs_control::{ContextView, Order};
 use mcs_notify::{Notes, Posted, Waited};
 use mcs_ready::Ready;
 use mcs_release::Releases;
+use mcs_script::Place;
 use mcs_system::SystemParts;
 use mcs_ticks::{ContextId, NoMemory, NoteId, ThreadId, Tick};
 use std::alloc::Global;
@@ -63,23 +64,29 @@ impl Local {
         self.threads[thread.0].standing = standing;
     }
 
-    /// The thread has this state.
-    pub(crate) fn set_thread(&mut self, thread: ThreadId, state: Thread)
+    /// The thread is at this place of its script, and its round began at this moment.
+    pub(crate) fn set_place(&mut self, thread: ThreadId, place: Place, since: Tick)
         requires { thread < length self.old.threads }
-        ensures { self.new ≡ with_thread thread state self.old }
-    {
-        self.threads[thread.0] = state;
-    }
-
-    /// So many ticks less are left of the thread's item, and no less than none.
-    pub(crate) fn use_up(&mut self, thread: ThreadId, ticks: u64)
-        requires { thread < length self.old.threads }
-        ensures { let state = thread_of self.old thread in
-            self.new
-            ≡ with_thread thread (record state { place = record (state.place) { left = state.place.left - ticks } }) self.old }
+        ensures { self.new
+            ≡ with_thread thread (record (thread_of self.old thread) { place = place; since = since }) self.old }
     {
         let state = &mut self.threads[thread.0];
-        state.place.left = state.place.left.saturating_sub(ticks);
+        state.place = place;
+        state.since = since;
+    }
+
+    /// So many ticks less are left of the thread's item, and no less than none. Answers how many are.
+    pub(crate) fn use_up(&mut self, thread: ThreadId, ticks: u64) -> u64
+        requires { thread < length self.old.threads }
+        ensures core { let state = thread_of self.old thread in
+            self.new
+            ≡ with_thread thread (record state { place = record (state.place) { left = state.place.left - ticks } }) self.old }
+        ensures left { result ≡ (thread_of self.old thread).place.left - ticks }
+    {
+        let state = &mut self.threads[thread.0];
+        let left = state.place.left.saturating_sub(ticks);
+        state.place.left = left;
+        left
     }
 
     /// The thread is in the release queue with this date.
@@ -155,18 +162,35 @@ impl Local {
             .charge(system.thread(thread).context, ticks, system.min_budget);
     }
 
+    /// The context of the thread is charged so many ticks. Answers the date with which the thread has to wait for it, if it isn't
+    /// ready then.
+    pub(crate) fn charge_until(
+        &mut self,
+        here: &Here<'_>,
+        thread: ThreadId,
+        ticks: u64,
+    ) -> Option<Tick>
+        requires part { thread < length here.now.system.now.threads }
+        requires has { has_context (thread_part here.now.system.now thread).context self.old ≡ true }
+        requires some { 1 ≤ ticks }
+        requires in_head { ticks ≤ head_amount (its_context here.now.system.now thread self.old) }
+        requires early { head_moment (its_context here.now.system.now thread self.old) ≤ 2 ^ 40 }
+        ensures core { self.new ≡ charged here.now.system.now thread ticks self.old }
+        ensures until { result ≡ date_of here.now.system.now here.now.moment thread self.new }
+    {
+        let context = here.system.thread(thread).context;
+        self.contexts
+            .charge_until(context, ticks, here.system.min_budget, here.moment)
+    }
+
     /// The date with which the thread has to wait for its context, if the context isn't ready.
     pub(crate) fn date_of(&self, here: &Here<'_>, thread: ThreadId) -> Option<Tick>
         requires part { thread < length here.now.system.now.threads }
         requires has { has_context (thread_part here.now.system.now thread).context self.now ≡ true }
         ensures { result ≡ date_of here.now.system.now here.now.moment thread self.now }
     {
-        let context = here.system.thread(thread).context;
-        if self.contexts.ready(context, here.moment) {
-            None
-        } else {
-            Some(self.contexts.head_moment(context))
-        }
+        self.contexts
+            .date(here.system.thread(thread).context, here.moment)
     }
 
     /// The head of the thread's context, in ticks.

@@ -3,7 +3,6 @@ ghost use Rattle.mcs_core.specs.Turn.{item_of, move_of, moves_on, given};
 ghost use Rattle.mcs_core.specs.stored.Parts.{Makes};
 ghost use Rattle.mcs_core.specs.stored.Sound.{IsPlaced};
 
-use crate::Thread;
 use crate::local::Local;
 use crate::log::{Here, Log};
 use mcs_script::{Item, Moved};
@@ -35,6 +34,7 @@ impl Local {
     }
 
     /// The thread's item is finished, and the thread moves on in its script.
+    #[inline(always)]
     pub(crate) fn move_on(
         &mut self,
         here: &Here<'_>,
@@ -63,15 +63,7 @@ impl Local {
             here.moment
         };
         if moved != Moved::AllDone {
-            let standing = state.standing;
-            self.set_thread(
-                thread,
-                Thread {
-                    standing,
-                    place,
-                    since,
-                },
-            );
+            self.set_place(thread, place, since);
         }
         Ok(moved)
     }
@@ -87,15 +79,7 @@ impl Local {
         } else {
             state.since
         };
-        let standing = state.standing;
         let place = state.place;
-        self.set_thread(
-            thread,
-            Thread {
-                standing,
-                place,
-                since,
-            },
-        );
+        self.set_place(thread, place, since);
     }
 }

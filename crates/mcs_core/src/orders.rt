@@ -54,7 +54,8 @@ impl Local {
         let thread = chosen.thread;
         let used = chosen.using;
         self.charge_and_apply(here, order, chosen);
-        self.stop_to_front(here, thread, Why::Order, used, log)
+        let until = self.date_of(here, thread);
+        self.stop_to_front(here, thread, Why::Order, used, until, log)
     }
 
     /// An order for a context of the core.

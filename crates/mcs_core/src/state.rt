@@ -94,6 +94,7 @@ impl CoreState {
     /// The next busy moment, with this mail as arrivals: the first moment whose turn does more than count a tick, or
     /// None where no turn up to 2^42 does. It looks at the thread that runs, and unless that stops or moves on at the clock,
     /// at the best ready one, the least date, the next order and the first mail.
+    #[inline(always)]
     pub fn next_busy(&self, system: &System, mail: &Mailbox) -> Option<Tick>
         requires fits { Fits system.now self.now }
         requires going { self.now.failed ≡ false }
@@ -109,6 +110,7 @@ impl CoreState {
     }
 
     /// The moment at which the thread that runs ends its item or uses up its head, if there is one.
+    #[inline(always)]
     fn next_end(&self, system: &System) -> Option<Tick>
         requires fits { Fits system.now self.now }
         requires going { self.now.failed ≡ false }
@@ -125,6 +127,7 @@ impl CoreState {
     }
 
     /// The next busy moment, of the one at which the thread that runs ends its item or uses up its head, and what else there is.
+    #[inline(always)]
     fn soonest(&self, system: &System, mail: &Mailbox, ends: Option<Tick>) -> Option<Tick>
         requires fits { Fits system.now self.now }
         requires going { self.now.failed ≡ false }
@@ -167,6 +170,7 @@ impl CoreState {
     }
 
     /// The next busy moment, or `to` where it isn't before that.
+    #[inline(always)]
     fn quiet_until(&self, system: &System, mail: &Mailbox, to: Tick) -> Tick
         requires fits { Fits system.now self.now }
         requires going { self.now.failed ≡ false }
@@ -230,6 +234,7 @@ impl CoreState {
 
     /// The quiet turns up to the next busy one, and that one, of those before moment `to`. Where memory is refused the
     /// state is spent.
+    #[inline(always)]
     fn advance(
         &mut self,
         system: &System,

@@ -12,32 +12,22 @@ use crate::{AfterItem, Standing};
 use mcs_ticks::{NoMemory, ThreadId, Tick, What, Why};
 
 impl Local {
-    /// The running thread leaves the core for the back of the ready queue, or for the release queue with the date that
-    /// is answered.
-    fn leave_to_back(&mut self, here: &Here<'_>, thread: ThreadId) -> Option<Tick>
+    /// The running thread leaves the core for the back of the ready queue, or for the release queue with this date.
+    fn leave_to_back(&mut self, here: &Here<'_>, thread: ThreadId, until: Option<Tick>)
         requires { IsFree here.now.system.now thread self.old }
-        ensures until { result ≡ date_of here.now.system.now here.now.moment thread self.old }
-        ensures core { self.new ≡ enters_back by_priority here.now.system.now thread result (off self.old) }
+        ensures { self.new ≡ enters_back by_priority here.now.system.now thread until (off self.old) }
     {
-        let until = self.date_of(here, thread);
-        let date = until;
         self.leave();
-        self.enter_back(here.system, thread, date);
-        until
+        self.enter_back(here.system, thread, until);
     }
 
-    /// The running thread leaves the core for the front of the ready queue, or for the release queue with the date that
-    /// is answered.
-    fn leave_to_front(&mut self, here: &Here<'_>, thread: ThreadId) -> Option<Tick>
+    /// The running thread leaves the core for the front of the ready queue, or for the release queue with this date.
+    fn leave_to_front(&mut self, here: &Here<'_>, thread: ThreadId, until: Option<Tick>)
         requires { IsFree here.now.system.now thread self.old }
-        ensures until { result ≡ date_of here.now.system.now here.now.moment thread self.old }
-        ensures core { self.new ≡ enters_front by_priority here.now.system.now thread result (off self.old) }
+        ensures { self.new ≡ enters_front by_priority here.now.system.now thread until (off self.old) }
     {
-        let until = self.date_of(here, thread);
-        let date = until;
         self.leave();
-        self.enter_front(here.system, thread, date);
-        until
+        self.enter_front(here.system, thread, until);
     }
 
     /// The running thread stops for good, or until a signal.
@@ -61,6 +51,7 @@ impl Local {
     }
 
     /// The running thread stops, and goes to the back of the ready queue, or into the release queue.
+    #[inline(always)]
     pub(crate) fn stop_to_back(
         &mut self,
         here: &Here<'_>,
@@ -74,27 +65,31 @@ impl Local {
             (Makes here.now (stops_to_back by_priority here.now.system.now here.now.moment thread why ticks self.old)
             self.new log.old log.new) }
     {
-        self.charge(here.system, thread, ticks);
-        let until = self.leave_to_back(here, thread);
+        let until = self.charge_until(here, thread, ticks);
+        let date = until;
+        self.leave_to_back(here, thread, date);
         log.tell(here, stopped(thread, why, ticks, until))
     }
 
     /// The running thread, whose context has been charged, stops, and goes to the front of the ready queue, or into the
-    /// release queue.
+    /// release queue with the date with which it has to wait.
     pub(crate) fn stop_to_front(
         &mut self,
         here: &Here<'_>,
         thread: ThreadId,
         why: Why,
         ticks: u64,
+        until: Option<Tick>,
         log: &mut Log<'_>,
     ) -> Result<(), NoMemory>
-        requires { IsFree here.now.system.now thread self.old }
+        requires free { IsFree here.now.system.now thread self.old }
+        requires until { until ≡ date_of here.now.system.now here.now.moment thread self.old }
         ensures { OnOk result
             (Makes here.now (stops_to_front by_priority here.now.system.now here.now.moment thread why ticks self.old)
             self.new log.old log.new) }
     {
-        let until = self.leave_to_front(here, thread);
+        let date = until;
+        self.leave_to_front(here, thread, date);
         log.tell(here, stopped(thread, why, ticks, until))
     }
 

@@ -1,7 +1,7 @@
 ghost use Rattle.std.specs.Prelude.{◌≡◌, ◌^◌, ◌≤◌, ◌<◌, OnOk, IfOk, Some, None, length};
 ghost use Rattle.mcs_ticks.specs.Queue.{by_priority};
 ghost use Rattle.mcs_notify.specs.Note.{waited};
-ghost use Rattle.mcs_core.specs.Core.{note_of};
+ghost use Rattle.mcs_core.specs.Core.{note_of, thread_of};
 ghost use Rattle.mcs_core.specs.State.{delays_from};
 ghost use Rattle.mcs_core.specs.Turn.{counts, mail_to, signals, waits_as, takes_effect, item_of, after_item, after_move, after_waited, finishes, tick};
 ghost use Rattle.mcs_core.specs.stored.Items.{CanTakeEffect};
@@ -20,18 +20,19 @@ use mcs_script::{Item, Moved};
 use mcs_ticks::{NoMemory, NoteId, ThreadId, What};
 
 impl Local {
-    /// The running thread counts a tick.
-    fn count(&mut self, chosen: Chosen)
+    /// The running thread counts a tick. Answers what is left of its item.
+    fn count(&mut self, chosen: Chosen) -> u64
         requires known { chosen.thread < length self.old.threads }
         requires fits { chosen.using < 2 ^ 63 }
-        ensures { self.new ≡ counts chosen self.old }
+        ensures core { self.new ≡ counts chosen self.old }
+        ensures left { result ≡ (thread_of self.new chosen.thread).place.left }
     {
         let thread = chosen.thread;
         self.set_running(Chosen {
             using: chosen.using + 1,
             thread,
         });
-        self.use_up(thread, 1);
+        self.use_up(thread, 1)
     }
 
     /// What follows a wait: the thread blocks where the word is 0.
@@ -187,8 +188,8 @@ impl Local {
         };
         let thread = before.thread;
         let used = before.using + 1;
-        self.count(before);
-        if self.thread(thread).place.left == 0 {
+        let left = self.count(before);
+        if left == 0 {
             self.finish(here, thread, used, log)
         } else {
             self.may_stop(here, thread, used, AfterItem::GoesOn, log)

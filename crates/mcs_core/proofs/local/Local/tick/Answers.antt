@@ -9,12 +9,12 @@ overflow_add-used c =
     let small = runner_small c.args.here.now.system.now c.args.here.now.core c.args.here.now.moment (one-each c.args.here.now.system.now c.requires.well_formed) c.in-Some.before c.args.self.now c.requires.sound (sym c.running.ensures ∙ c.in-Some.is) in
     omega (arith, small)
 
-pub count-requires-clause-fits : goal.count-requires-clause-fits
-count-requires-clause-fits c =
+pub count-left-requires-clause-fits : goal.count-left-requires-clause-fits
+count-left-requires-clause-fits c =
     let small = runner_small c.args.here.now.system.now c.args.here.now.core c.args.here.now.moment (one-each c.args.here.now.system.now c.requires.well_formed) c.in-Some.before c.args.self.now c.requires.sound (sym c.running.ensures ∙ c.in-Some.is) in
     omega (arith, small)
 
 pub finish-requires-clause-sound : goal.finish-requires-clause-sound
 finish-requires-clause-sound c =
-    rw c.count.ensures
+    rw c.count-left.ensures.core
     (counts-sound c.args.here.now.system.now c.args.here.now.core c.args.here.now.moment (one-each c.args.here.now.system.now c.requires.well_formed) c.in-Some.before c.args.self.now c.requires.sound (sym c.running.ensures ∙ c.in-Some.is))
