@@ -1,4 +1,4 @@
-ghost use Rattle.std.specs.Prelude.{◌≡◌, ◌≤◌, ◌+◌, [], length, map, fold, vec_capacity, IfOk};
+ghost use Rattle.std.specs.Prelude.{◌≡◌, ℕ, ◌≤◌, ◌+◌, [], length, map, fold, vec_capacity, IfOk};
 ghost use Rattle.std.specs.List.{range_with_len};
 ghost use Rattle.mcs_system.specs.System.{core_of};
 ghost use Rattle.mcs_report.specs.Reports.{capped, core_report_of};
@@ -84,6 +84,20 @@ fn tell(accounts: &mut [Account], horizon: Tick, moment: Tick, what: What)
     }
 }
 
+// Tells rows one after another. Answers the moment of the last one, or `last` where there is none.
+fn tell_all(accounts: &mut [Account], horizon: Tick, last: Tick, rows: &[Row]) -> Tick
+    ensures { (cores : ℕ) →
+        fold added (record { horizon = horizon; cores = cores; last = last; accounts = accounts.old }) rows.now
+        ≡ record { horizon = horizon; cores = cores; last = result; accounts = accounts.new } }
+{
+    let mut moment = last;
+    for row in rows {
+        moment = row.moment;
+        tell(accounts, horizon, moment, row.what);
+    }
+    moment
+}
+
 fn all_thread_reports(
     mut reports: Vec<ThreadReport>,
     accounts: &[Account],
@@ -166,6 +180,14 @@ impl Tally {
             row.moment,
             row.what,
         );
+    }
+
+    /// Counts rows in their order, each as `add` does.
+    pub fn add_all(&mut self, rows: &[Row])
+        ensures { self.new ≡ fold added self.old rows.now }
+    {
+        let accounts = self.accounts.as_mut_slice();
+        self.last = tell_all(accounts, self.horizon, self.last, rows);
     }
 
     /// The reports of the rows that were added, without taking memory: runs that were not stopped end at the horizon.
