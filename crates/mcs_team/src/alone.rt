@@ -6,7 +6,6 @@ ghost use Rattle.mcs_report.specs.laws.Bandwidth.{RunsWithinBandwidth};
 ghost use Rattle.mcs_report.specs.laws.Demand.{AreWithinDemand};
 ghost use Rattle.mcs_team.specs.Headline.{Headline};
 
-use crate::counts::count;
 use crate::here::rows_here;
 use crate::{SimFault, Whole};
 use mcs_report::{Tally, bandwidth_is_bounded, demand_is_bounded, schedules_are_reported};
@@ -34,7 +33,7 @@ pub fn simulate_alone(alloc: Global, system: Arc<System>, horizon: Tick) -> Resu
     let _parts = system.parts();
     let mut tally = Tally::new(alloc, &system, horizon)?;
     let rows = rows_here(alloc, system, horizon)?;
-    count(&mut tally, rows.as_slice());
+    tally.add_all(rows.as_slice());
     Ok(Whole {
         rows: Sequence::new(rows),
         reports: tally.finish(),

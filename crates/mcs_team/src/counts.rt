@@ -1,13 +1,13 @@
 //! Rows that are counted core by core as they are taken from a desk, and are not kept.
 ghost use Rattle.std.specs.Prelude.{◌≡◌, ◌+◌, ◌≤◌, ◌^◌, ◌↔◌, fold, length, min, replicate, IfOk, IsTrue};
-ghost use Rattle.mcs_report.specs.Tally.{added, finished};
+ghost use Rattle.mcs_report.specs.Tally.{finished};
 ghost use Rattle.mcs_team.specs.Counts.{counted_all, AreCounted};
 ghost use Rattle.mcs_team.specs.Flow.{pasts_of};
 
 use crate::batch::{Batch, empty_batches, least_past};
 use mcs_report::{Reports, Tally, cores_are_counted};
 use mcs_system::System;
-use mcs_ticks::{CoreId, NoMemory, Row, Tick};
+use mcs_ticks::{CoreId, NoMemory, Tick};
 use mcs_window::Desk;
 use std::alloc::Global;
 
@@ -81,21 +81,12 @@ impl Counts {
     }
 }
 
-/// Counts rows, in their order.
-pub(crate) fn count(tally: &mut Tally, rows: &[Row])
-    ensures { tally.new ≡ fold added tally.old rows.now }
-{
-    for row in rows {
-        tally.add(row);
-    }
-}
-
 // Counts the rows of one core after another.
 fn count_all(tally: &mut Tally, batches: &[Batch])
     ensures { tally.new ≡ counted_all tally.old batches.now }
 {
     for batch in batches {
-        count(tally, batch.rows.as_slice());
+        tally.add_all(batch.rows.as_slice());
     }
 }
 

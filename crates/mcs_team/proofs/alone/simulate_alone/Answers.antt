@@ -14,8 +14,8 @@ returns-clause-rows c = c.new-2.ensures ∙ c.in_ok-rows.ensures
 pub returns-clause-reports : goal.returns-clause-reports
 returns-clause-reports c =
     let well : IsWellFormed (arc_value c.args.system) = search rules in
-    let counted : c.count.new.tally ≡ fold added c.in_ok-tally.tally (schedule (arc_value c.args.system) c.args.horizon) = search rules in
-    reported (arc_value c.args.system) c.args.horizon c.in_ok-tally.tally c.count.new.tally c.finish.result c.schedules_are_reported.ensures well
+    let counted : c.add_all.new.self ≡ fold added c.in_ok-tally.tally (schedule (arc_value c.args.system) c.args.horizon) = search rules in
+    reported (arc_value c.args.system) c.args.horizon c.in_ok-tally.tally c.add_all.new.self c.finish.result c.schedules_are_reported.ensures well
     (search rules) counted c.finish.ensures
 
 pub returns-clause-demand : goal.returns-clause-demand
