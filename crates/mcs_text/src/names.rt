@@ -78,9 +78,19 @@ impl<'a> Names<'a> {
     pub fn new(alloc: Global, system: &'a System) -> Result<Names<'a>, NoMemory>
         ensures { IfOk result (λ names. names ≡ system.now) }
     {
-        let threads = threads_of(alloc, system)?;
-        let notes = notes_of(alloc, system)?;
-        let contexts = contexts_of(alloc, system)?;
+        let parts = system.parts();
+        let threads = parts.threads.as_slice().iter();
+        let threads = threads
+            .map(|part| Name::new(part.name.as_str()))
+            .collect(alloc)?;
+        let notes = parts.notes.as_slice().iter();
+        let notes = notes
+            .map(|part| Name::new(part.name.as_str()))
+            .collect(alloc)?;
+        let contexts = parts.contexts.as_slice().iter();
+        let contexts = contexts
+            .map(|part| Name::new(part.name.as_str()))
+            .collect(alloc)?;
         Ok(Names {
             system,
             threads,
@@ -120,42 +130,6 @@ fn write_listed(bytes: &mut [u8], at: usize, names: &[Name], place: usize) -> us
         Some(name) => write_name(bytes, at, name),
         None => write_word(bytes, at, ""),
     }
-}
-
-// The names of all threads.
-fn threads_of(alloc: Global, system: &System) -> Result<Vec<Name>, NoMemory>
-    ensures { IfOk result (λ names. AreNames (thread_name_of system.now) names.items) }
-{
-    let many = system.parts().threads.len();
-    let mut names = Vec::with_capacity(alloc, many)?;
-    for number in 0..many {
-        names.push(Name::new(thread_name(system, ThreadId(number))))?;
-    }
-    Ok(names)
-}
-
-// The names of all notifications.
-fn notes_of(alloc: Global, system: &System) -> Result<Vec<Name>, NoMemory>
-    ensures { IfOk result (λ names. AreNames (note_name_of system.now) names.items) }
-{
-    let many = system.parts().notes.len();
-    let mut names = Vec::with_capacity(alloc, many)?;
-    for number in 0..many {
-        names.push(Name::new(note_name(system, NoteId(number))))?;
-    }
-    Ok(names)
-}
-
-// The names of all scheduling contexts.
-fn contexts_of(alloc: Global, system: &System) -> Result<Vec<Name>, NoMemory>
-    ensures { IfOk result (λ names. AreNames (context_name_of system.now) names.items) }
-{
-    let many = system.parts().contexts.len();
-    let mut names = Vec::with_capacity(alloc, many)?;
-    for number in 0..many {
-        names.push(Name::new(context_name(system, ContextId(number))))?;
-    }
-    Ok(names)
 }
 
 /// The name of a thread, or the empty text where the system has no such thread.

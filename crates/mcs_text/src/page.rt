@@ -48,7 +48,7 @@ impl Page {
     pub fn len(&self) -> usize
         ensures { result ≡ length self.now }
     {
-        self.used
+        self.as_slice().len()
     }
 
     /// Whether there is room for a further row.
