@@ -1,4 +1,4 @@
-ghost use Rattle.std.specs.Prelude.{Err, ◌≡◌, ◌≤◌, ◌^◌, ◌++◌, ◌↔◌, [], true, false, length, IfErr, IfOk, IfSome, IsSome, OnErr, OnOk};
+ghost use Rattle.std.specs.Prelude.{Err, ◌≡◌, ◌≤◌, ◌^◌, ◌++◌, ◌↔◌, [], true, false, length, IfErr, IfNone, IfOk, IfSome, IsOk, IsSome, OnErr, OnOk};
 ghost use Rattle.std.specs.Arc.{arc_value};
 ghost use Rattle.std.specs.Io.KnownBytes.{Appends, Consumes, IsAtEnd};
 ghost use Rattle.mcs_core.specs.Clock.{schedule};
@@ -238,14 +238,15 @@ fn count_rows<H: Threads + Wait + Sync, G: Gate + Sync>(
     ))
 }
 
-/// Puts the reports behind the text where there are any.
+/// Puts the reports behind the text where there are any. Where there are none the text stays as it is.
 fn put_counted(
     text: &mut Vec<u8>,
     system: &System,
     reports: Option<Reports>,
 ) -> Result<(), RunFault>
-    ensures ok { OnOk result
+    ensures some { OnOk result
         (IfSome reports (λ r. text.new.items ≡ text.old.items ++ reports_text system.now r)) }
+    ensures none { IfNone reports (IsOk result × (text.new.items ≡ text.old.items)) }
     ensures fault { IfErr result (λ f. f ≡ RunFault.Sim SimFault.NoMemory) }
 {
     match reports {
