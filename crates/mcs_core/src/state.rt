@@ -234,7 +234,6 @@ impl CoreState {
 
     /// The quiet turns up to the next busy one, and that one, of those before moment `to`. Where memory is refused the
     /// state is spent.
-    #[inline(always)]
     fn advance(
         &mut self,
         system: &System,

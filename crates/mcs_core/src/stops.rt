@@ -94,6 +94,7 @@ impl Local {
     }
 
     /// At most one stop of the running thread, which has used so many ticks, by what follows its item.
+    #[inline(always)]
     pub(crate) fn may_stop(
         &mut self,
         here: &Here<'_>,
@@ -107,21 +108,23 @@ impl Local {
             (Makes here.now (may_stop by_priority here.now.system.now here.now.moment thread used after self.old)
             self.new log.old log.new) }
     {
-        match after {
-            AfterItem::Ends => self.stop(here, thread, Why::Done, used, Standing::Done, log),
-            AfterItem::Blocks => self.stop(here, thread, Why::Wait, used, Standing::Blocked, log),
-            AfterItem::Yields => {
-                let head = self.head_amount(here.system, thread);
-                self.stop_to_back(here, thread, Why::Yield, head, log)
+        let head = self.head_amount(here.system, thread);
+        let why = match after {
+            AfterItem::Ends => {
+                return self.stop(here, thread, Why::Done, used, Standing::Done, log);
             }
+            AfterItem::Blocks => {
+                return self.stop(here, thread, Why::Wait, used, Standing::Blocked, log);
+            }
+            AfterItem::Yields => Why::Yield,
             AfterItem::GoesOn => {
-                if used == self.head_amount(here.system, thread) {
-                    self.stop_to_back(here, thread, Why::Spent, used, log)
-                } else {
-                    Ok(())
+                if used != head {
+                    return Ok(());
                 }
+                Why::Spent
             }
-        }
+        };
+        self.stop_to_back(here, thread, why, head, log)
     }
 }
 
