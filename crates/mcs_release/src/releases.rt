@@ -127,6 +127,7 @@ impl Releases {
     }
 
     /// Enters `x` with the date `at`. The thread is below the number that there is room for, and is not held.
+    #[inline(always)]
     pub fn enter(&mut self, x: ThreadId, at: Tick)
         requires below { x < self.old.room }
         requires free { is_held x self.old.queue ≡ false }
@@ -170,6 +171,7 @@ fn put(
 }
 
 /// Moves all entries, which stand before the place `past`, to the front in their order, and answers how many there are.
+#[inline(never)]
 fn close_up(places: &mut [Option<Dated>], heap: &mut BinaryHeap<Reverse<Due>>, past: usize) -> usize
     requires room { length (entered places.old) ≤ heap_capacity heap.old }
     requires within { past ≤ length places.old }
