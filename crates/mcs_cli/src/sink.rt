@@ -49,6 +49,7 @@ impl<T: Target> Sink for Lines<'_, T> {
         × TakesLine (T.contents before.target.now) (T.contents after.target.now)
         before.page.now after.page.now (row_text before.names.now row) taken };
 
+    #[inline(always)]
     fn row(&mut self, row: &Row) -> Result<(), Refused> {
         make_room(self.target, self.page)?;
         self.page.put_row(self.names, row);
