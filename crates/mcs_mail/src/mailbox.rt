@@ -112,18 +112,6 @@ impl Mailbox {
         self.ring.len() + self.late.len()
     }
 
-    // The first mail.
-    fn first(&self) -> Option<Mail>
-        ensures first { result ≡ slice_get self.now.mails 0 }
-        ensures in_order { IsOrdered self.now.mails }
-    {
-        if late_is_first(&self.ring, &self.late) {
-            self.late.first()
-        } else {
-            self.ring.front().copied()
-        }
-    }
-
     // Takes the first mail.
     #[inline(never)]
     fn take_first(&mut self) -> Option<Mail>
