@@ -9,6 +9,12 @@ use std::alloc::Global;
 use std::marker::Model;
 use std::sync::Arc;
 
+// For so many rows a piece makes room before it is run: a list that grows from nothing is copied at each doubling.
+const ROWS: usize = 512;
+
+// For so many signals it does.
+const SIGNALS: usize = 64;
+
 /// The clocks of all cores at the beginning of a stretch: entry `b` is that of core `b`, 0 past the last core.
 pub type Front = [Tick; 64];
 
@@ -129,8 +135,12 @@ impl Piece {
             alloc,
         } = self;
         let _parts = system.parts();
-        let mut rows = Vec::new(alloc);
-        let mut out = Vec::new(alloc);
+        let Ok(mut rows) = Vec::with_capacity(alloc, ROWS) else {
+            return Err(Lost { core, first, past });
+        };
+        let Ok(mut out) = Vec::with_capacity(alloc, SIGNALS) else {
+            return Err(Lost { core, first, past });
+        };
         let Ok(()) = state.run(&system, &mut mail, past, &mut rows, &mut out) else {
             return Err(Lost { core, first, past });
         };

@@ -23,9 +23,9 @@ invariant_of-result c =
     ran_here s well p.core p.first p.past p.front p.state p.mail.mails work.state_is work.mail_is stretch.known stretch.in_order stretch.reached in
     record {
       stretch = stretch;
-      state_is = state_here s well p.core p.first p.past p.front p.state c.run.new.self (made_by s p.state p.past p.mail.mails) work.state_is stretch.in_order (rw c.deref-2.ensures at c.in-Ok.ensures.fits)
-          (rw c.deref-2.ensures at c.in-Ok.ensures.state) after;
-      rows_are = (rw (c.deref-2.ensures, c.new-rows.ensures.items) at c.in-Ok.ensures.rows) ∙ after.rows_are;
-      out_is = (rw (c.deref-2.ensures, c.new-out.ensures.items) at c.in-Ok.ensures.signals) ∙ after.out_is;
-      mail_is = (rw c.deref-2.ensures at c.in-Ok.ensures.mail) ∙ after.mail_is;
+      state_is = state_here s well p.core p.first p.past p.front p.state c.run.new.self (made_by s p.state p.past p.mail.mails) work.state_is stretch.in_order (rw c.deref-2.ensures at c.in-Ok-run.ensures.fits)
+          (rw c.deref-2.ensures at c.in-Ok-run.ensures.state) after;
+      rows_are = (rw (c.deref-2.ensures, c.in-Ok.ensures.items) at c.in-Ok-run.ensures.rows) ∙ after.rows_are;
+      out_is = (rw (c.deref-2.ensures, c.in-Ok-with_capacity.ensures.items) at c.in-Ok-run.ensures.signals) ∙ after.out_is;
+      mail_is = (rw c.deref-2.ensures at c.in-Ok-run.ensures.mail) ∙ after.mail_is;
     }
