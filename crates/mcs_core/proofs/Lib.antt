@@ -1,3 +1,4 @@
+pub mod Alike
 pub mod Budgets
 pub mod Busy
 pub mod Clock

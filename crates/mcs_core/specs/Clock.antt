@@ -1,7 +1,8 @@
--- One clock over all cores: at each moment, each core in rising order takes its turn.
+-- One clock over all cores: at each moment, each core in rising order takes its turn. Each core has its ready threads in one list in
+-- order of entering, of which the first of greatest priority is chosen.
 use Rattle.std.specs.Prelude.{ℕ, zero, suc, Bool, ◌==◌, ◌&&◌, not, List, [], ◌++◌, map, filter, get_or, set, fold}
 use Rattle.std.specs.List.{range_with_len}
-use Rattle.mcs_ticks.specs.Queue.{Discipline, by_priority}
+use Rattle.mcs_ticks.specs.Queue.{Discipline, in_one_list, sorted}
 use Rattle.mcs_ticks.specs.declared.row.Row.{Row}
 use Rattle.mcs_mail.specs.declared.mail.Mail.{Mail}
 use Rattle.mcs_system.specs.System.{System, note_part}
@@ -22,6 +23,7 @@ module _ (system : System) where
   abbrev pub opening_world : World
   opening_world = record { cores = map (opening_core system) (range_with_len 0 system.cores); mails = [] }
 
+  -- core c of a world
   abbrev pub core_at : World → ℕ → Core
   core_at world c = get_or world.cores c (opening_core system c)
 
@@ -59,19 +61,10 @@ module _ (queue : Discipline) (system : System) where
   abbrev pub schedule_with : ℕ → List Row
   schedule_with horizon = (clock_with (suc horizon)).rows
 
--- the same with the ready threads by priority
+-- the clock
 module _ (system : System) where
-  abbrev pub turn_at : ℕ → ℕ → World → Turn
-  turn_at t c world = turn_at_with by_priority system t c world
-
-  abbrev pub takes_turn : ℕ → Clock → ℕ → Clock
-  takes_turn t clock c = takes_turn_with by_priority system t clock c
-
-  abbrev pub takes_moment : ℕ → Clock → Clock
-  takes_moment t clock = takes_moment_with by_priority system t clock
-
   abbrev pub clock : ℕ → Clock
-  clock t = clock_with by_priority system t
+  clock t = clock_with in_one_list system t
 
   -- the world before moment t
   abbrev pub world : ℕ → World
@@ -79,10 +72,17 @@ module _ (system : System) where
 
   -- the turn of core c at moment t, and its rows
   abbrev pub turn_of : ℕ → ℕ → Turn
-  turn_of c t = turn_at t c (world t)
+  turn_of c t = turn_at_with in_one_list system t c (world t)
 
   abbrev pub rows_of : ℕ → ℕ → List Row
   rows_of c t = stamped c t (turn_of c t).rows
 
   abbrev pub schedule : ℕ → List Row
-  schedule horizon = schedule_with by_priority system horizon
+  schedule horizon = schedule_with in_one_list system horizon
+
+-- a core as its state shows it: with the ready threads by priority, first in first out within one
+abbrev pub shown : Core → Core
+shown core = record core { ready = sorted core.ready }
+
+abbrev pub core_shown : System → World → ℕ → Core
+core_shown system world c = shown (core_at system world c)

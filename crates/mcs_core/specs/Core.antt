@@ -14,8 +14,8 @@ use Rattle.mcs_system.specs.declared.part.ThreadPart.{ThreadPart}
 use Rattle.mcs_core.specs.Contexts.{held}
 use Rattle.mcs_system.specs.System.{System, core_of, start_of}
 
--- The ready queue is by priority, the greatest first, and first in first out within one. Threads, contexts and
--- notifications of other cores keep their places in the lists.
+-- The ready threads stand as a discipline keeps them: in one list in order of entering, as the clock has them, or by priority, as
+-- the state of a core shows them. Threads, contexts and notifications of other cores keep their places in the lists.
 pub record Core : Type 0 where
   pub running : Option Chosen
   pub threads : List Thread

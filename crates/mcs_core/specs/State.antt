@@ -1,12 +1,14 @@
 -- The state of one core as a caller holds it.
 use Rattle.std.specs.Prelude.{◌≡◌, ℕ, ◌<◌, ◌≤◌, ◌-◌, ◌+◌, ◌^◌, max, Bool, false, List, length, map, None}
 use Rattle.std.specs.List.{range_with_len}
+use Rattle.mcs_ticks.specs.Queue.{in_one_list}
 use Rattle.mcs_control.specs.declared.config.Order.{Order}
 use Rattle.mcs_mail.specs.declared.mail.Mail.{Mail}
 use Rattle.mcs_system.specs.System.{System, note_part, delay_between}
 use Rattle.mcs_core.specs.Core.{Core, opening_core}
 use Rattle.mcs_core.specs.Orders.{orders_of, to_come}
-use Rattle.mcs_core.specs.Run.{Ran, ran}
+use Rattle.mcs_core.specs.Run.{Ran, ran, ran_with}
+use Rattle.mcs_core.specs.Clock.{shown}
 use Rattle.mcs_core.specs.stored.Sound.{IsSound}
 use Rattle.mcs_core.specs.stored.Sound.Phase.{Between}
 
@@ -59,3 +61,15 @@ made_by system state to box = ran system state.number (to - state.clock) state.c
 abbrev pub state_after : State → ℕ → Ran → State
 state_after state to made =
     record state { clock = max state.clock to; core = made.core; orders = to_come to state.orders }
+
+-- what turns make, as the state of a core shows it
+abbrev pub ran_shown : Ran → Ran
+ran_shown made = record made { core = shown made.core }
+
+-- these turns are those of each core that keeps its ready threads in one list and that the state shows: the same rows, the same signals, the
+-- same box, and after them that core is shown
+abbrev pub AreOfOneList : System → State → ℕ → List Mail → Type 0
+AreOfOneList system state to box =
+    (core : Core) → state.core ≡ shown core →
+    made_by system state to box
+    ≡ ran_shown (ran_with in_one_list system state.number (to - state.clock) state.clock core box)

@@ -1,7 +1,7 @@
 ghost use Rattle.std.specs.Prelude.{◌≡◌, ◌⊎◌, ◌+◌, ◌-◌, ◌^◌, ◌≤◌, ◌<◌, ◌++◌, max, true, false, [], length, OnOk, OnErr, IfOk, IsErr, IsTrue, ◌↔◌, All};
 ghost use Rattle.mcs_core.specs.Busy.{GoesOnAfter, IsFirst};
 ghost use Rattle.mcs_core.specs.Quiet.{AreQuiet, IsNextBusy, counted_times};
-ghost use Rattle.mcs_core.specs.State.{Fits, IsExpected, opening_state, made_by, state_after};
+ghost use Rattle.mcs_core.specs.State.{Fits, IsExpected, opening_state, made_by, state_after, AreOfOneList};
 ghost use Rattle.mcs_core.specs.Views.{views_of};
 
 use crate::agenda::Agenda;
@@ -283,7 +283,8 @@ impl CoreState {
     /// Takes the turns from the clock up to, not including, moment `to`, with the mail of the box as arrivals. Rows are
     /// appended, and so are the signals for other cores; mail that does not arrive stays in the box. Where memory is
     /// refused the state is spent, with its number kept and its clock at a moment on the way to `to`, and nothing is
-    /// said of the box, the rows and the signals; a state that is spent refuses at once and changes nothing.
+    /// said of the box, the rows and the signals; a state that is spent refuses at once and changes nothing. Each core that keeps its ready
+    /// threads in one list, and that the state shows, makes the same.
     pub fn run(
         &mut self,
         system: &System,
@@ -302,6 +303,7 @@ impl CoreState {
         ensures signals { OnOk result
             (signals.new.items ≡ signals.old.items ++ (made_by system.now self.old to mail.old.mails).mails) }
         ensures mail { OnOk result (mail.new.mails ≡ (made_by system.now self.old to mail.old.mails).box) }
+        ensures one_list { OnOk result (AreOfOneList system.now self.old to mail.old.mails) }
         ensures fits { Fits system.now self.new }
         ensures failed { OnErr result (self.new.failed ≡ true) }
         ensures refused { OnErr result
@@ -346,6 +348,7 @@ impl CoreState {
             ≡ signals.old.items ++ (made_by system.now self.old self.new.clock mail.old.mails).mails) }
         ensures mail { OnOk result
             (mail.new.mails ≡ (made_by system.now self.old self.new.clock mail.old.mails).box) }
+        ensures one_list { OnOk result (AreOfOneList system.now self.old self.new.clock mail.old.mails) }
         ensures reaches { OnOk result
             ((self.new.clock ≤ max self.old.clock to)
             × (self.old.clock < to → self.old.clock < self.new.clock)

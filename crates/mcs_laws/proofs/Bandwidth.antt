@@ -19,7 +19,9 @@ use Rattle.mcs_control.specs.laws.Contexts.{IsWhole}
 use Rattle.mcs_core.specs.declared.standing.Chosen.{Chosen}
 use Rattle.mcs_system.specs.System.{System, thread_part, context_part, no_context}
 use Rattle.mcs_system.specs.WellFormed.{IsWellFormed}
+use Rattle.mcs_core.specs.Turn.{Turn}
 use Rattle.mcs_core.specs.Clock as clocks
+use Rattle.mcs_core.proofs.Clock.{turn_of-kept}
 use Rattle.mcs_core.specs.Core.{Core}
 use Rattle.mcs_laws.specs.Changes.{Change, charges_of, orders_of, dates_in, changed, changed_by, AreSound, taken_by, KeepsItsBudget}
 use Rattle.mcs_laws.specs.Changes.Change.{Charged, Woken, Picked, Ordered}
@@ -204,7 +206,8 @@ module _ (system : System) (well : IsWellFormed system) (x : ℕ) (has : HasBand
       omega (
         arith,
         paid-next t,
-        turn-spends system home t x (filter (clocks.arrives_at system t home) (clocks.world system t).mails) (told.home_before system context t) (demand.less system well x has.known t),
+        ap (λ (made : Turn). charged_by system home t x made.rows) (turn_of-kept system home t),
+        turn-spends system home t x (filter (clocks.arrives_at system t home) (clocks.world system t).mails) (clocks.core_shown system (clocks.world system t) home) (demand.less system well x has.known t),
         ap (λ (k : Core). in_use k.running) (before-next system well x has.known t),
       )
 

@@ -12,7 +12,9 @@ use Rattle.mcs_control.specs.Context.{Context, head_amount, head_moment}
 use Rattle.mcs_core.specs.declared.standing.Chosen.{Chosen}
 use Rattle.mcs_system.specs.System.{System, thread_part, context_part, no_context}
 use Rattle.mcs_core.specs.Core.{Core}
+use Rattle.mcs_core.specs.Turn.{Turn}
 use Rattle.mcs_core.specs.Clock as clocks
+use Rattle.mcs_core.proofs.Clock.{turn_of-kept}
 use Rattle.mcs_system.specs.WellFormed.{IsWellFormed}
 use Rattle.mcs_laws.specs.Changes.{Change, charges_of, AreSound, changed_by, taken_by, IsBudget}
 use Rattle.mcs_laws.specs.Changes.Change.{Charged}
@@ -36,7 +38,7 @@ module _ (system : System) (well : IsWellFormed system) (x : ℕ) (known : x < l
   home = told.home_of system context
 
   abbrev before : ℕ → Core
-  before t = told.home_before system context t
+  before t = clocks.core_shown system (clocks.world system t) home
 
   abbrev running : ℕ → Option Chosen
   running t = (before t).running
@@ -98,6 +100,7 @@ module _ (system : System) (well : IsWellFormed system) (x : ℕ) (known : x < l
         arith,
         counted t,
         charged-next t,
+        ap (λ (made : Turn). charged_by system home t x made.rows) (turn_of-kept system home t),
         turn-spends system home t x (filter (clocks.arrives_at system t home) (clocks.world system t).mails) (before t) (less t),
         ap (λ (k : Core). used system home t x k.running) (before-next system well x known t),
       )

@@ -2,7 +2,6 @@
 use Rattle.std.proofs.Common.{◌≡◌, ℕ, zero, suc, ◌+◌, ◌<◌, ◌≤◌, Bool, true, false, cond, List, [], ◌∷◌, length, get_or, Option, Some, None, refl, sym, ap, subst, ◌∙◌, arith}
 use Rattle.std.specs.Prelude.{filter, ◌==◌, unwrap_or}
 use Rattle.std.proofs.lemmas.Bool.Decides.{nat_tests}
-use Rattle.std.proofs.lemmas.List.FromFn.{get_or-map-range_with_len}
 use Rattle.mcs_ticks.specs.Queue.{by_priority}
 use Rattle.mcs_control.specs.declared.config.Order.{Order}
 use Rattle.mcs_control.specs.declared.config.Mode.TheVariants.{Bandwidth}
@@ -12,8 +11,9 @@ use Rattle.mcs_core.specs.Core.{Core, context_of, opening_core, opening_contexts
 use Rattle.mcs_core.specs.Contexts.{no_server}
 use Rattle.mcs_system.specs.declared.part.ContextPart.{ContextPart}
 use Rattle.mcs_core.specs.declared.standing.Chosen.{Chosen}
+use Rattle.mcs_core.specs.Turn.{Turn}
 use Rattle.mcs_core.specs.Clock as clocks
-use Rattle.mcs_core.proofs.Clock.{core_at-world}
+use Rattle.mcs_core.proofs.Clock.{turn_kept, turn_of-kept, core_shown-first, core_shown-kept}
 use Rattle.mcs_laws.specs.Changes.{IsBudget, KeepsItsBudget, changed_by}
 use Rattle.mcs_laws.specs.Histories as told
 use Rattle.mcs_laws.proofs.Ranges.{by_recursion}
@@ -59,7 +59,7 @@ module _ (system : System) (well : IsWellFormed system) (x : ℕ) (known : x < l
   home = told.home_of system x
 
   abbrev before : ℕ → Core
-  before t = told.home_before system x t
+  before t = clocks.core_shown system (clocks.world system t) home
 
   abbrev least : ℕ
   least = system.min_budget
@@ -71,10 +71,10 @@ module _ (system : System) (well : IsWellFormed system) (x : ℕ) (known : x < l
   home-known = (well.contexts x no_context known).core
 
   before-first : before 0 ≡ opening_core system home
-  before-first = get_or-map-range_with_len (opening_core system) 0 system.cores home home (opening_core system home) home-known (omega arith)
+  before-first = core_shown-first system home home-known
 
-  before-next : (t : ℕ) → before (suc t) ≡ (clocks.turn_of system home t).core
-  before-next t = core_at-world system (takes-time system well) t home home-known
+  before-next : (t : ℕ) → before (suc t) ≡ (turn_kept system home t).core
+  before-next t = core_shown-kept system (takes-time system well) t home home-known
 
   abbrev Uses : ℕ → Option Chosen → Context → Type 0
   Uses t = traces.Uses by_priority system home t x 0 1 1
@@ -88,7 +88,7 @@ module _ (system : System) (well : IsWellFormed system) (x : ℕ) (known : x < l
   uses-next t (Some chosen) k p = λ own. ((p own).0, (p own).1, λ m d. omega (arith, (p own).2 m d))
 
   -- what the turn at t does to the context
-  turn-at : (t : ℕ) → traces.Traced by_priority system home t x (Uses t) (After t) (told.orders_at system x t) (before t) (clocks.turn_of system home t)
+  turn-at : (t : ℕ) → traces.Traced by_priority system home t x (Uses t) (After t) (told.orders_at system x t) (before t) (turn_kept system home t)
   turn-at t =
       traces.turn-traced by_priority system home t x (by_recursion (λ (order : Order). IsBudget order.config) system.orders (gives-budgets system well).orders)
       (filter (clocks.arrives_at system t home) (clocks.world system t).mails) (before t)
@@ -130,8 +130,8 @@ module _ (system : System) (well : IsWellFormed system) (x : ℕ) (known : x < l
             keeps = carry KeepsItsBudget (changed_by least s.changes (context_of (before t) x)) (context_of (before (suc t)) x)
                 (sym (ap (λ (k : Core). context_of k x) (before-next t) ∙ s.after (inside t l)))
                 (keeps-changes least s.changes (context_of (before t) x) l.keeps (s.sound (inside t l) l.keeps l.uses));
-            uses = moved (before (suc t)) (clocks.turn_of system home t).core (before-next t)
-                (uses-next t (clocks.turn_of system home t).core.running (context_of (clocks.turn_of system home t).core x) (s.runs (inside t l) l.keeps l.uses));
+            uses = moved (before (suc t)) (turn_kept system home t).core (before-next t)
+                (uses-next t (turn_kept system home t).core.running (context_of (turn_kept system home t).core x) (s.runs (inside t l) l.keeps l.uses));
           }
 
   history : told.History system x
@@ -141,9 +141,9 @@ module _ (system : System) (well : IsWellFormed system) (x : ℕ) (known : x < l
         opening = before-opening;
         after = λ t. ap (λ (k : Core). context_of k x) (before-next t) ∙ (turn-at t).after (inside t (life t));
         sound = λ t. (turn-at t).sound (inside t (life t)) (life t).keeps (life t).uses;
-        charges = λ t. traces.told-charges by_priority system home t x (Uses t) (After t) (told.orders_at system x t) (before t) (clocks.turn_of system home t) (turn-at t);
-        wakes = λ t. traces.told-wakes by_priority system home t x (Uses t) (After t) (told.orders_at system x t) (before t) (clocks.turn_of system home t) (turn-at t);
-        choices = λ t. traces.told-choices by_priority system home t x (Uses t) (After t) (told.orders_at system x t) (before t) (clocks.turn_of system home t) (turn-at t);
+        charges = λ t. ap (λ (made : Turn). told.charges_told system x made.rows) (turn_of-kept system home t) ∙ traces.told-charges by_priority system home t x (Uses t) (After t) (told.orders_at system x t) (before t) (turn_kept system home t) (turn-at t);
+        wakes = λ t. ap (λ (made : Turn). told.wakes_told system x t made.rows) (turn_of-kept system home t) ∙ traces.told-wakes by_priority system home t x (Uses t) (After t) (told.orders_at system x t) (before t) (turn_kept system home t) (turn-at t);
+        choices = λ t. ap (λ (made : Turn). told.choices_told system x t made.rows) (turn_of-kept system home t) ∙ traces.told-choices by_priority system home t x (Uses t) (After t) (told.orders_at system x t) (before t) (turn_kept system home t) (turn-at t);
         orders = λ t. (turn-at t).ordered;
       }
 

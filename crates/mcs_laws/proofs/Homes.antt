@@ -3,7 +3,6 @@ use Rattle.std.proofs.Common.{◌≡◌, ◌≢◌, ℕ, zero, suc, ◌+◌, ◌
 use Rattle.std.proofs.lemmas.Bool.{cases_lt}
 use Rattle.std.proofs.lemmas.Bool.Decides.{nat_tests}
 use Rattle.std.proofs.lemmas.List.{get_or_past}
-use Rattle.std.proofs.lemmas.List.FromFn.{get_or-map-range_with_len}
 use Rattle.std.specs.Prelude.{filter}
 use Rattle.mcs_release.specs.declared.dated.Dated.{Dated}
 use Rattle.mcs_system.specs.declared.part.ThreadPart.{ThreadPart}
@@ -12,7 +11,7 @@ use Rattle.mcs_system.specs.WellFormed.{IsWellFormed}
 use Rattle.mcs_core.specs.Core.{opening_core, opening_releases}
 use Rattle.mcs_core.specs.Clock as clocks
 use Rattle.mcs_core.specs.Places.{times_dated}
-use Rattle.mcs_core.proofs.Clock.{core_at-world}
+use Rattle.mcs_core.proofs.Clock.{core_shown-first, core_shown-kept}
 use Rattle.mcs_laws.specs.Places.{places}
 use Rattle.mcs_laws.proofs.Places.{turn-held, quiet-waiting}
 
@@ -57,12 +56,11 @@ no_place system c x away =
 
 -- and so at each moment
 module _ (system : System) (takes_time : TakesTime system) (x : ℕ) where
-  pub away : (t c : ℕ) → c < system.cores → c ≢ own_core system x → places x (clocks.core_at system (clocks.world system t) c) ≡ 0
-  away zero c known other =
-      rw (get_or-map-range_with_len (opening_core system) 0 system.cores c c (opening_core system c) known (omega arith)) (no_place system c x other)
+  pub away : (t c : ℕ) → c < system.cores → c ≢ own_core system x → places x (clocks.core_shown system (clocks.world system t) c) ≡ 0
+  away zero c known other = ap (places x) (core_shown-first system c known) ∙ no_place system c x other
   away (suc t) c known other =
-      rw (core_at-world system takes_time t c known)
-      (still_none _ _ (turn-held system c t x (filter (clocks.arrives_at system t c) (clocks.world system t).mails) (clocks.core_at system (clocks.world system t) c)) (away t c known other))
+      ap (places x) (core_shown-kept system takes_time t c known)
+      ∙ still_none _ _ (turn-held system c t x (filter (clocks.arrives_at system t c) (clocks.world system t).mails) (clocks.core_shown system (clocks.world system t) c)) (away t c known other)
     where
       still_none : (a b : ℕ) → a ≤ b → b ≡ 0 → a ≡ 0
       still_none a b p q = omega arith

@@ -25,6 +25,7 @@ use Rattle.mcs_core.specs.declared.standing.Chosen.{Chosen}
 use Rattle.mcs_core.specs.Turn as turns
 use Rattle.mcs_core.specs.Turn.{Turn}
 use Rattle.mcs_core.specs.Clock as clocks
+use Rattle.mcs_core.proofs.Clock.{turn_of-kept}
 use Rattle.mcs_core.proofs.Mails.{mails-turn, may_stop-none}
 use Rattle.mcs_laws.specs.Places.{times_running, places}
 use Rattle.mcs_laws.specs.Links.{Signals, SignalsAreSaid}
@@ -111,7 +112,7 @@ one-runs k chosen e none =
 
 module _ (system : System) (well : IsWellFormed system) where
   -- a thread that runs on core b is one of its own
-  pub runs-at-home : (b t : ℕ) → b < system.cores → (chosen : Chosen) → (clocks.core_at system (clocks.world system t) b).running ≡ Some chosen →
+  pub runs-at-home : (b t : ℕ) → b < system.cores → (chosen : Chosen) → (clocks.core_shown system (clocks.world system t) b).running ≡ Some chosen →
       core_of system (thread_part system chosen.thread) ≡ b
   unfolding own_core
   runs-at-home b t known chosen e = by (b == own_core system chosen.thread) refl
@@ -126,7 +127,7 @@ module _ (system : System) (well : IsWellFormed system) where
       by true f = same b (own_core system chosen.thread) f
       by false f =
           absurd
-          (one-runs (clocks.core_at system (clocks.world system t) b) chosen e
+          (one-runs (clocks.core_shown system (clocks.world system t) b) chosen e
           (away system (takes-time system well) chosen.thread t b known (differ b (own_core system chosen.thread) f)))
 
 -- a thread with an item is one that there is
@@ -141,10 +142,10 @@ with-item system x i item e = by (cases_lt x (length system.threads))
         cc
 
 pub signals-said : SignalsAreSaid
-signals-said system well b t mail known k = by core.running refl (subst (IsIn mail) (mails-turn by_priority system b t _ core) k)
+signals-said system well b t mail known k = by core.running refl (subst (IsIn mail) (ap (λ (made : Turn). made.mails) (turn_of-kept system b t) ∙ mails-turn by_priority system b t _ core) k)
   where
     core : Core
-    core = clocks.core_at system (clocks.world system t) b
+    core = clocks.core_shown system (clocks.world system t) b
 
     by : (o : Option Chosen) → core.running ≡ o → IsIn mail (turns.tick_of by_priority system b t o core).mails → Signals system b (note_part system mail.note).core
     by None e k = absurd k

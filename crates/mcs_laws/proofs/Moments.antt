@@ -4,7 +4,6 @@ use Rattle.std.specs.Prelude.{filter, ◌==◌}
 use Rattle.std.specs.List.{AllByRecursion}
 use Rattle.std.proofs.lemmas.Bool.{cases_lt}
 use Rattle.std.proofs.lemmas.Bool.Decides.{nat_tests}
-use Rattle.std.proofs.lemmas.List.FromFn.{get_or-map-range_with_len}
 use Rattle.mcs_refills.specs.Server as server
 use Rattle.mcs_control.specs.declared.config.Config.{Config}
 use Rattle.mcs_control.specs.declared.config.Kind.{Kind}
@@ -19,7 +18,7 @@ use Rattle.mcs_system.specs.System.{System, thread_part, context_part, no_thread
 use Rattle.mcs_core.specs.Core.{Core, context_of, opening_core, opening_releases}
 use Rattle.mcs_core.specs.Clock as clocks
 use Rattle.mcs_system.specs.WellFormed.{IsWellFormed}
-use Rattle.mcs_core.proofs.Clock.{core_at-world}
+use Rattle.mcs_core.proofs.Clock.{turn_kept, core_shown-first, core_shown-kept}
 use Rattle.mcs_laws.specs.Histories as told
 use Rattle.mcs_laws.specs.Places.{places}
 use Rattle.mcs_core.specs.Places.{times_dated}
@@ -95,7 +94,7 @@ module _ (system : System) (well : IsWellFormed system) (x : ℕ) (known : x < l
   home = told.home_of system context
 
   abbrev before : ℕ → Core
-  before t = told.home_before system context t
+  before t = clocks.core_shown system (clocks.world system t) home
 
   pub bound : context < length system.contexts
   bound = (well.threads x no_thread known).bound
@@ -104,10 +103,10 @@ module _ (system : System) (well : IsWellFormed system) (x : ℕ) (known : x < l
   home-known = (well.contexts context no_context bound).core
 
   before-first : before 0 ≡ opening_core system home
-  before-first = get_or-map-range_with_len (opening_core system) 0 system.cores home home (opening_core system home) home-known (omega arith)
+  before-first = core_shown-first system home home-known
 
-  pub before-next : (t : ℕ) → before (suc t) ≡ (clocks.turn_of system home t).core
-  before-next t = core_at-world system (takes-time system well) t home home-known
+  pub before-next : (t : ℕ) → before (suc t) ≡ (turn_kept system home t).core
+  before-next t = core_shown-kept system (takes-time system well) t home home-known
 
   -- no other thread has its context
   sole : (y : ℕ) → y < length system.threads → (thread_part system y).context ≡ context → y ≡ x
@@ -133,7 +132,7 @@ module _ (system : System) (well : IsWellFormed system) (x : ℕ) (known : x < l
   alone t y own = by (cases_lt y (length system.threads))
     where
       by : (y < length system.threads) ⊎ (length system.threads ≤ y) → places y (before t) ≤ held.one x y
-      by (inl l) = omega (arith, held.one-place system (takes-time system well) home t y home-known, one-same y x (sole y l own))
+      by (inl l) = omega (arith, held.one-shown system (takes-time system well) home t y home-known, one-same y x (sole y l own))
       by (inr l) = omega (arith, past-none y t l)
 
   start : start_of system.threads context ≡ (thread_part system x).start
@@ -167,4 +166,10 @@ module _ (system : System) (well : IsWellFormed system) (x : ℕ) (known : x < l
       (filter (clocks.arrives_at system t home) (clocks.world system t).mails) (before t) (alone t) (on-time unordered t))
 
 pub threads-on-time : (system : System) → IsWellFormed system → ThreadsAreOnTime system
-threads-on-time system well x t known unordered = on-time system well x known unordered t
+threads-on-time system well x t known unordered =
+    let h = on-time system well x known unordered t in
+    record {
+      runs = h.runs;
+      ready = λ l. h.ready (omega (arith, l, held.sorted-queued x (told.home_before system (context system well x known) t).ready));
+      pends = h.pends;
+    }

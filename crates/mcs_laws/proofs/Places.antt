@@ -2,8 +2,7 @@
 use Rattle.std.proofs.Common.{◌≡◌, ℕ, zero, suc, ◌+◌, ◌<◌, ◌≤◌, Bool, true, false, not, cond, List, [], ◌∷◌, ◌++◌, length, map, set, get_or, Option, Some, None, refl, ap, ◌∙◌, arith}
 use Rattle.std.specs.Prelude.{filter, ◌==◌, nat_lt}
 use Rattle.std.proofs.lemmas.Bool.Decides.{nat_tests}
-use Rattle.std.proofs.lemmas.List.FromFn.{get_or-map-range_with_len}
-use Rattle.mcs_ticks.specs.Queue.{by_priority, first_among, without, entered_back, entered_front, first_of}
+use Rattle.mcs_ticks.specs.Queue.{by_priority, first_among, without, entered_back, entered_front, first_of, sorted}
 use Rattle.mcs_ticks.specs.declared.queue.Queued.{Queued}
 use Rattle.mcs_notify.specs.Note.{Note, quiet_note, posted, after_post, waited, after_wait}
 use Rattle.mcs_notify.specs.declared.posted.Posted.{Posted}
@@ -32,7 +31,7 @@ use Rattle.mcs_release.specs.Release.{is_due}
 use Rattle.mcs_core.specs.Turn as turns
 use Rattle.mcs_core.specs.Turn.{Turn, each, silent, says, ◌followed_by◌, is_for_now}
 use Rattle.mcs_core.specs.Clock as clocks
-use Rattle.mcs_core.proofs.Clock.{core_at-world}
+use Rattle.mcs_core.proofs.Clock.{core_shown-first, core_shown-kept}
 use Rattle.mcs_laws.specs.Places.{times_running, places, ThreadsHaveOnePlace}
 use Rattle.mcs_core.specs.Places.{times_queued, times_dated, times_waiting}
 use Rattle.mcs_core.proofs.Counts.{times_queued-append, times_dated-append, times_waiting-set}
@@ -424,12 +423,21 @@ opening-held system c y = omega (arith, opening-dated system c y 0 system.thread
     at_most : (y : ℕ) → cond (nat_lt y 0) 0 1 ≤ 1
     at_most y = grind (arith, nat_tests)
 
-pub one-place : (system : System) → TakesTime system → ThreadsHaveOnePlace system
-one-place system takes_time c zero y known =
-    rw (get_or-map-range_with_len (opening_core system) 0 system.cores c c (opening_core system c) known (omega arith)) (opening-held system c y)
-one-place system takes_time c (suc t) y known =
-    rw (core_at-world system takes_time t c known)
-    (not_more _ _ (turn-held system c t y (filter (clocks.arrives_at system t c) (clocks.world system t).mails) (clocks.core_at system (clocks.world system t) c)) (one-place system takes_time c t y known))
+-- a queue by priority has the threads of the list
+pub sorted-queued : (y : ℕ) (xs : List Queued) → times_queued y (sorted xs) ≡ times_queued y xs
+sorted-queued y [] = refl
+sorted-queued y (x ∷ xs) = omega (arith, front-queued y x (sorted xs), sorted-queued y xs, queued-cons y x xs)
+
+pub one-shown : (system : System) → TakesTime system → (c t y : ℕ) → c < system.cores → places y (clocks.core_shown system (clocks.world system t) c) ≤ 1
+one-shown system takes_time c zero y known =
+    omega (arith, ap (places y) (core_shown-first system c known), opening-held system c y)
+one-shown system takes_time c (suc t) y known =
+    not_more _ _ _ (ap (places y) (core_shown-kept system takes_time t c known))
+    (turn-held system c t y (filter (clocks.arrives_at system t c) (clocks.world system t).mails) (clocks.core_shown system (clocks.world system t) c)) (one-shown system takes_time c t y known)
   where
-    not_more : (a b : ℕ) → a ≤ b → b ≤ 1 → a ≤ 1
-    not_more a b p q = omega arith
+    not_more : (a b d : ℕ) → a ≡ b → b ≤ d → d ≤ 1 → a ≤ 1
+    not_more a b d e p q = omega arith
+
+pub one-place : (system : System) → TakesTime system → ThreadsHaveOnePlace system
+one-place system takes_time c t y known =
+    omega (arith, one-shown system takes_time c t y known, sorted-queued y (clocks.core_at system (clocks.world system t) c).ready)

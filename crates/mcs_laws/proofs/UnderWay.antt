@@ -5,11 +5,11 @@ use Rattle.std.specs.List.{range_with_len}
 use Rattle.std.proofs.lemmas.Bool.Decides.{nat_tests}
 use Rattle.std.proofs.lemmas.List.{get_or-set_other}
 use Rattle.std.proofs.lemmas.List.Elements.{filter-append}
-use Rattle.mcs_ticks.specs.Queue.{by_priority}
+use Rattle.mcs_ticks.specs.Queue.{in_one_list}
 use Rattle.mcs_mail.specs.declared.mail.Mail.{Mail}
 use Rattle.mcs_system.specs.System.{System, note_part, delay_between, TakesTime}
 use Rattle.mcs_core.specs.Core.{Core, opening_core}
-use Rattle.mcs_core.specs.Turn.{turn}
+use Rattle.mcs_core.specs.Turn.{turn_with}
 use Rattle.mcs_core.specs.Clock as clocks
 use Rattle.mcs_core.specs.Clock.{World, Clock}
 use Rattle.mcs_core.proofs.Mails.{IsMadeNow, IsOutgoing, turn-out}
@@ -82,12 +82,12 @@ module _ (system : System) (takes_time : TakesTime system) where
   IsSent c t mail = IsMadeNow system c t mail
 
   -- what a turn makes passes each test that its signals pass
-  outgoing-pass : (p : Mail → Bool) (c t : ℕ) → ((m : Mail) → IsSent c t m → p m ≡ true) → (ms : List Mail) → IsOutgoing by_priority system c t ms → filter p ms ≡ ms
+  outgoing-pass : (p : Mail → Bool) (c t : ℕ) → ((m : Mail) → IsSent c t m → p m ≡ true) → (ms : List Mail) → IsOutgoing in_one_list system c t ms → filter p ms ≡ ms
   outgoing-pass p c t h [] o = refl
   outgoing-pass p c t h (m ∷ []) o = ap (λ b. cond b (m ∷ []) []) (h m o)
   outgoing-pass p c t h (m ∷ n ∷ ms) o = absurd o
 
-  outgoing-fail : (p : Mail → Bool) (c t : ℕ) → ((m : Mail) → IsSent c t m → p m ≡ false) → (ms : List Mail) → IsOutgoing by_priority system c t ms → filter p ms ≡ []
+  outgoing-fail : (p : Mail → Bool) (c t : ℕ) → ((m : Mail) → IsSent c t m → p m ≡ false) → (ms : List Mail) → IsOutgoing in_one_list system c t ms → filter p ms ≡ []
   outgoing-fail p c t h [] o = refl
   outgoing-fail p c t h (m ∷ []) o = ap (λ b. cond b (m ∷ []) []) (h m o)
   outgoing-fail p c t h (m ∷ n ∷ ms) o = absurd o
@@ -96,13 +96,13 @@ module _ (system : System) (takes_time : TakesTime system) where
   delay_of c m = takes_time c (home_of m)
 
   abbrev made_at : ℕ → World → ℕ → List Mail
-  made_at t world c = (clocks.turn_at system t c world).mails
+  made_at t world c = (clocks.turn_at_with in_one_list system t c world).mails
 
-  made-out : (t c : ℕ) (world : World) → IsOutgoing by_priority system c t (made_at t world c)
-  made-out t c world = turn-out by_priority system c t (filter (clocks.arrives_at system t c) world.mails) (clocks.core_at system world c)
+  made-out : (t c : ℕ) (world : World) → IsOutgoing in_one_list system c t (made_at t world c)
+  made-out t c world = turn-out in_one_list system c t (filter (clocks.arrives_at system t c) world.mails) (clocks.core_at system world c)
 
   -- another core's turn changes neither what arrives on core c now nor the core
-  made-other : (t b c : ℕ) (k : Clock) → c ≢ b → made_at t (clocks.takes_turn system t k b).world c ≡ made_at t k.world c
+  made-other : (t b c : ℕ) (k : Clock) → c ≢ b → made_at t (clocks.takes_turn_with in_one_list system t k b).world c ≡ made_at t k.world c
   made-other t b c k e =
       same _ _ _ _
       (
@@ -113,12 +113,12 @@ module _ (system : System) (takes_time : TakesTime system) where
         append-nil,
       ) refl
       )
-      (get_or-set_other k.world.cores b c (clocks.turn_at system t b k.world).core (opening_core system c) e)
+      (get_or-set_other k.world.cores b c (clocks.turn_at_with in_one_list system t b k.world).core (opening_core system c) e)
     where
-      same : (ms ns : List Mail) (x y : Core) → ms ≡ ns → x ≡ y → (turn system c t ms x).mails ≡ (turn system c t ns y).mails
+      same : (ms ns : List Mail) (x y : Core) → ms ≡ ns → x ≡ y → (turn_with in_one_list system c t ms x).mails ≡ (turn_with in_one_list system c t ns y).mails
       same ms ns x y p q = cc
 
-  made-others : (n t b a : ℕ) (k : Clock) → b < a → flat_map (made_at t (clocks.takes_turn system t k b).world) (range_with_len a n) ≡ flat_map (made_at t k.world) (range_with_len a n)
+  made-others : (n t b a : ℕ) (k : Clock) → b < a → flat_map (made_at t (clocks.takes_turn_with in_one_list system t k b).world) (range_with_len a n) ≡ flat_map (made_at t k.world) (range_with_len a n)
   made-others zero t b a k l = refl
   made-others (suc n) t b a k l =
       let other : a ≢ b = omega arith in
@@ -129,11 +129,11 @@ module _ (system : System) (takes_time : TakesTime system) where
 
   -- the turns of some cores at t take what arrives now on them and send what each makes of the world before the moment
   mails-among : (n t a : ℕ) (k : Clock) →
-      (fold (clocks.takes_turn system t) k (range_with_len a n)).world.mails
+      (fold (clocks.takes_turn_with in_one_list system t) k (range_with_len a n)).world.mails
       ≡ filter (λ m. not (is_due_among a n t m)) k.world.mails ++ flat_map (made_at t k.world) (range_with_len a n)
   mails-among zero t a k = sym (append-nil _ ∙ filter_all (λ m. not (is_due_among a zero t m)) (λ m. among_none a t m.arrives (home_of m)) k.world.mails)
   mails-among (suc n) t a k =
-      mails-among n t (a + 1) (clocks.takes_turn system t k a)
+      mails-among n t (a + 1) (clocks.takes_turn_with in_one_list system t k a)
       ∙ both _ _ _ _ (
       filter-append stays (filter (λ m. not (clocks.arrives_at system t a m)) k.world.mails) (made_at t k.world a)
       ∙ both _ _ _ _

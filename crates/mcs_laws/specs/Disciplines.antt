@@ -1,13 +1,14 @@
 -- The two ways to keep the ready threads, over whole schedules.
-use Rattle.std.specs.Prelude.{◌≡◌, ℕ, map}
-use Rattle.mcs_ticks.specs.Queue.{by_priority, in_one_list, sorted}
+use Rattle.std.specs.Prelude.{◌≡◌, ◌↔◌, ℕ, List, map}
+use Rattle.mcs_ticks.specs.Queue.{by_priority, in_one_list}
 use Rattle.mcs_system.specs.System.{System}
+use Rattle.mcs_mail.specs.declared.mail.Mail.{Mail}
 use Rattle.mcs_core.specs.Core.{Core}
-use Rattle.mcs_core.specs.Clock.{clock_with, schedule_with}
-
--- a core that keeps its ready threads in one list in order of entering, as it is with these threads by priority
-abbrev pub with_queue_sorted : Core → Core
-with_queue_sorted core = record core { ready = sorted core.ready }
+use Rattle.mcs_core.specs.Turn.{silent, turn_with}
+use Rattle.mcs_core.specs.Run.{ran, ran_with}
+use Rattle.mcs_core.specs.State.{ran_shown}
+use Rattle.mcs_core.specs.Quiet.{IsQuiet, counted}
+use Rattle.mcs_core.specs.Clock.{clock_with, schedule_with, shown}
 
 module _ (system : System) where
   -- whether the ready threads stand in one list, in order of entering, from which the first of greatest priority is taken, or by
@@ -16,5 +17,18 @@ module _ (system : System) where
     pub rows : (horizon : ℕ) → schedule_with in_one_list system horizon ≡ schedule_with by_priority system horizon
     pub signals : (t : ℕ) → (clock_with in_one_list system t).world.mails
         ≡ (clock_with by_priority system t).world.mails
-    pub cores : (t : ℕ) → map with_queue_sorted (clock_with in_one_list system t).world.cores
+    pub cores : (t : ℕ) → map shown (clock_with in_one_list system t).world.cores
         ≡ (clock_with by_priority system t).world.cores
+
+-- the turns that a state takes are those of each core that keeps one list and that it shows: the same rows, the same signals, the same box, and
+-- after them it shows that core again
+abbrev pub RunsAgree : Type 0
+RunsAgree =
+    (system : System) (c n t : ℕ) (core : Core) (box : List Mail) →
+    ran system c n t (shown core) box ≡ ran_shown (ran_with in_one_list system c n t core box)
+
+-- and a turn of such a core is quiet exactly where that of the core that is shown is
+abbrev pub QuietTurnsAgree : Type 0
+QuietTurnsAgree =
+    (system : System) (c t : ℕ) (mails : List Mail) (core : Core) →
+    (turn_with in_one_list system c t mails core ≡ silent (counted system c core)) ↔ IsQuiet system c t mails (shown core)

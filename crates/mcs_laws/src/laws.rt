@@ -3,7 +3,7 @@ ghost use Rattle.mcs_system.specs.WellFormed.{IsWellFormed};
 ghost use Rattle.mcs_core.specs.Quiet.{OnlyCount};
 ghost use Rattle.mcs_laws.specs.Turns.{CoresAreOfTurns, RowsAreOfTurns, SignalsAreOfTurns, ArrivalsAreOfTurns};
 ghost use Rattle.mcs_laws.specs.Links.{SignalsAreSaid};
-ghost use Rattle.mcs_laws.specs.Disciplines.{DisciplinesAgree};
+ghost use Rattle.mcs_laws.specs.Disciplines.{DisciplinesAgree, RunsAgree, QuietTurnsAgree};
 ghost use Rattle.mcs_laws.specs.Places.{ThreadsHaveOnePlace};
 ghost use Rattle.mcs_laws.specs.OnTime.{ThreadsAreOnTime};
 ghost use Rattle.mcs_laws.specs.Demand.{ThreadsRunWithinDemand};
@@ -50,9 +50,12 @@ pub fn quiet_turns_only_count()
 {}
 
 /// A law of ready queues: one list in order of entering, from which the first of greatest priority is taken, and the queue by
-/// priority give the same rows and the same signals over whole schedules.
+/// priority give the same rows and the same signals over whole schedules. So it is of one core alone: the turns that a state takes, which
+/// shows the queue by priority, are those of each core that keeps one list and that it shows, and they are quiet where those are.
 pub fn disciplines_agree()
-    ensures { (system : System) → DisciplinesAgree system }
+    ensures clocks { (system : System) → DisciplinesAgree system }
+    ensures runs { RunsAgree }
+    ensures quiet { QuietTurnsAgree }
 {}
 
 /// A law of the clock: a thread has at most one place on a core. One that runs is in no queue and waits on nothing, and one that is

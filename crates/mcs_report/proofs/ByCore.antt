@@ -1,5 +1,5 @@
 -- The rows of each core may be counted by themselves.
-use Rattle.std.proofs.Common.{◌≡◌, ◌≢◌, ℕ, zero, suc, ◌+◌, ◌-◌, ◌<◌, ◌≤◌, Bool, true, false, ◌==◌, ◌⊎◌, inl, inr, List, [], ◌∷◌, ◌++◌, length, get_or, refl, sym, ap, ◌∙◌, append_assoc, arith}
+use Rattle.std.proofs.Common.{◌≡◌, ◌≢◌, ℕ, zero, suc, ◌+◌, ◌-◌, ◌<◌, ◌≤◌, Bool, true, false, ◌==◌, ◌⊎◌, inl, inr, List, [], ◌∷◌, ◌++◌, length, get_or, refl, sym, ap, subst, ◌∙◌, append_assoc, arith}
 use Rattle.std.specs.Prelude.{filter, fold, flat_map, slice_index}
 use Rattle.std.specs.List.{range_with_len}
 use Rattle.std.proofs.lemmas.Bool.{cases_lt}
@@ -13,8 +13,8 @@ use Rattle.mcs_system.proofs.Linked.{takes_time}
 use Rattle.mcs_system.specs.System.{System, TakesTime}
 use Rattle.mcs_system.specs.WellFormed.{IsWellFormed}
 use Rattle.mcs_core.specs.Clock as clocks
-use Rattle.mcs_core.specs.Turn.{stamped}
-use Rattle.mcs_core.proofs.Clock.{rows-clock}
+use Rattle.mcs_core.specs.Turn.{Turn, stamped}
+use Rattle.mcs_core.proofs.Clock.{turn_of-kept, rows-clock}
 use Rattle.mcs_laws.proofs.Ranges.{flat_map-moments-more}
 use Rattle.mcs_report.specs.declared.account.Account.{Account}
 use Rattle.mcs_report.specs.Reports.{runs, stops}
@@ -127,9 +127,11 @@ account-rows system h x rows known = account-fold rows (opened_tally system h) x
 module _ (system : System) (takes_time : TakesTime system) (h x : ℕ) where
   turn-silent : (t c : ℕ) → c < system.cores → c ≢ own_core system x → (a : Account) → fold (told_alone h x) a (clocks.rows_of system c t) ≡ a
   turn-silent t c known other a =
+      let P : Turn → Type 0 = λ made. AreRoundless x made.rows in
       rows-silent h x c t (clocks.turn_of system c t).rows
       (turn-plain system takes_time x t c known other)
-      (turn-roundless system c t x (filter (clocks.arrives_at system t c) (clocks.world system t).mails) (clocks.core_at system (clocks.world system t) c) (away system takes_time x t c known other))
+      (subst P (sym (turn_of-kept system c t))
+      (turn-roundless system c t x (filter (clocks.arrives_at system t c) (clocks.world system t).mails) (clocks.core_shown system (clocks.world system t) c) (away system takes_time x t c known other)))
       a
 
   -- the rows of another core

@@ -11,8 +11,9 @@ use Rattle.mcs_core.specs.declared.standing.Chosen.{Chosen}
 use Rattle.mcs_system.proofs.Linked.{takes_time}
 use Rattle.mcs_system.specs.System.{System, TakesTime}
 use Rattle.mcs_core.specs.Core.{Core, opening_core}
+use Rattle.mcs_core.specs.Turn.{Turn}
 use Rattle.mcs_core.specs.Clock as clocks
-use Rattle.mcs_core.proofs.Clock.{core_at-world, rows-clock}
+use Rattle.mcs_core.proofs.Clock.{turn_of-kept, core_shown-world, core_shown-kept, rows-clock}
 use Rattle.mcs_laws.specs.Places.{times_running, places}
 use Rattle.mcs_laws.proofs.Homes.{one_if, own_core, own_core_known, away}
 use Rattle.mcs_report.specs.Reports.{runs, stops}
@@ -56,25 +57,31 @@ absent x k e = shut x k.running (omega arith)
 
 module _ (system : System) (takes_time : TakesTime system) (x : ℕ) where
   core : ℕ → ℕ → Core
-  core t c = clocks.core_at system (clocks.world system t) c
+  core t c = clocks.core_shown system (clocks.world system t) c
 
   unfoldable pub going : ℕ → ℕ → Bool
-  going t c = is_open x (clocks.core_at system (clocks.world system t) c).running
+  going t c = is_open x (clocks.core_shown system (clocks.world system t) c).running
 
   -- the turn of core c at t
   turn-walks : (t c : ℕ) → c < system.cores → Walks x (going t c) (clocks.turn_of system c t).rows (going (suc t) c)
   unfolding going
   turn-walks t c known =
-      rw (core_at-world system takes_time t c known)
-      (turn-turns system c t x (filter (clocks.arrives_at system t c) (clocks.world system t).mails) (clocks.core_at system (clocks.world system t) c)).walks
+      let P : Turn → Type 0 = λ made. Walks x (going t c) made.rows (is_open x made.core.running) in
+      let Q : Core → Type 0 = λ k. Walks x (going t c) (clocks.turn_of system c t).rows (is_open x k.running) in
+      subst Q (sym (core_shown-world system takes_time t c known))
+      (subst P (sym (turn_of-kept system c t))
+      (turn-turns system c t x (filter (clocks.arrives_at system t c) (clocks.world system t).mails) (clocks.core_shown system (clocks.world system t) c)).walks)
 
   pub turn-plain : (t c : ℕ) → c < system.cores → c ≢ own_core system x → ArePlain x (clocks.turn_of system c t).rows
   turn-plain t c known other =
-      let turn = turn-turns system c t x (filter (clocks.arrives_at system t c) (clocks.world system t).mails) (clocks.core_at system (clocks.world system t) c) in
-      let after = absent x (clocks.core_at system (clocks.world system (suc t)) c) (away system takes_time x (suc t) c known other) in
-      turn.plain
-      (absent x (clocks.core_at system (clocks.world system t) c) (away system takes_time x t c known other))
-      (rw (core_at-world system takes_time t c known) at after)
+      let turn = turn-turns system c t x (filter (clocks.arrives_at system t c) (clocks.world system t).mails) (clocks.core_shown system (clocks.world system t) c) in
+      let after = absent x (clocks.core_shown system (clocks.world system (suc t)) c) (away system takes_time x (suc t) c known other) in
+      let P : Turn → Type 0 = λ made. ArePlain x made.rows in
+      let Q : Core → Type 0 = λ k. is_open x k.running ≡ false in
+      subst P (sym (turn_of-kept system c t))
+      (turn.plain
+      (absent x (clocks.core_shown system (clocks.world system t) c) (away system takes_time x t c known other))
+      (subst Q (core_shown-kept system takes_time t c known) after))
 
   same_whats : (t c : ℕ) (ws : List What) → whats (map (λ what. record { moment = t; core = c; what = what }) ws) ≡ ws
   same_whats t c [] = refl

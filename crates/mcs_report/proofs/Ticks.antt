@@ -253,7 +253,7 @@ module _ (system : System) (takes_time : TakesTime system) (x : ℕ) (known : ow
         ran-now t,
         tick-more x t (since (suc t)) before,
         ap one_if (is-open (suc t)),
-        runs-if (clocks.core_at system (clocks.world system (suc t)) (own_core system x)).running,
+        runs-if (clocks.core_shown system (clocks.world system (suc t)) (own_core system x)).running,
       )
     where
       before : IsBegun x t (since (suc t))

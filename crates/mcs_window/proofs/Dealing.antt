@@ -16,7 +16,7 @@ use Rattle.mcs_system.specs.declared.part.SystemParts.{SystemParts}
 use Rattle.mcs_system.specs.System.{System, context_part, no_context}
 use Rattle.mcs_system.specs.WellFormed.{IsWellFormed}
 use Rattle.mcs_core.specs.Core.{Core, context_of}
-use Rattle.mcs_core.specs.Clock.{world, core_at}
+use Rattle.mcs_core.specs.Clock.{world, core_shown}
 use Rattle.mcs_core.specs.Contexts.{is_some, no_server}
 use Rattle.mcs_core.specs.stored.Sound.{has_context}
 use Rattle.mcs_core.specs.State.{State}
@@ -182,7 +182,7 @@ map-same f g (suc n) a h = both _ _ _ _ (h a (omega arith) (omega arith)) (map-s
 pub views-here : (system : System) → IsWellFormed system → (clocks : List ℕ) (states : List State) (boxes : List Content) → AreHere system clocks states boxes → (d : State) →
     views_in system (λ c. (get_or states c d).core) ≡ views_at system clocks
 views-here system well clocks states boxes here d =
-    map-same (view_in system (λ c. (get_or states c d).core)) (view_in system (λ c. core_at system (world system (slice_index clocks c)) c)) (length system.contexts) 0
+    map-same (view_in system (λ c. (get_or states c d).core)) (view_in system (λ c. core_shown system (world system (slice_index clocks c)) c)) (length system.contexts) 0
     (λ x _ l.
     let k = core-known system well x (omega arith) in
     ap (λ (core : Core). view_of x (using_of system x core.running) (context_of core x)) (here (context_part system x).core d (record { mails = []; spare = 0 }) k).state_is.core_is)
@@ -190,7 +190,7 @@ views-here system well clocks states boxes here d =
 -- where all clocks are at one moment, the views are those before it
 pub views-at_one : (system : System) → IsWellFormed system → (clocks : List ℕ) (t : ℕ) → ((c : ℕ) → c < system.cores → slice_index clocks c ≡ t) → views_at system clocks ≡ views_before system t
 views-at_one system well clocks t at =
-    map-same (view_in system (λ c. core_at system (world system (slice_index clocks c)) c)) (view_in system (λ c. core_at system (world system t) c)) (length system.contexts) 0
+    map-same (view_in system (λ c. core_shown system (world system (slice_index clocks c)) c)) (view_in system (λ c. core_shown system (world system t) c)) (length system.contexts) 0
     (λ x _ l.
     let k = core-known system well x (omega arith) in
-    ap (λ m. let core = core_at system (world system m) (context_part system x).core in view_of x (using_of system x core.running) (context_of core x)) (at (context_part system x).core k))
+    ap (λ m. let core = core_shown system (world system m) (context_part system x).core in view_of x (using_of system x core.running) (context_of core x)) (at (context_part system x).core k))

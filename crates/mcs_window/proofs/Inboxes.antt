@@ -2,7 +2,7 @@
 use Rattle.std.proofs.Common.{◌≡◌, ℕ, ◌+◌, ◌-◌, ◌<◌, ◌≤◌, Bool, true, false, ◌&&◌, ◌||◌, cond, List, [], ◌∷◌, inl, inr, refl, sym, ap, ◌∙◌, arith}
 use Rattle.std.specs.Prelude.{filter, ◌==◌, nat_lt, slice_index}
 use Rattle.std.proofs.lemmas.Bool.Decides.{nat_tests}
-use Rattle.mcs_ticks.specs.Queue.{by_priority}
+use Rattle.mcs_ticks.specs.Queue.{in_one_list}
 use Rattle.mcs_mail.specs.declared.mail.Mail.{Mail}
 use Rattle.mcs_mail.specs.Box.{is_before, IsIn, ArePairwise, IsInOrder}
 use Rattle.mcs_mail.proofs.Members.{in_filter, from_filter, in_flat_map, from_flat_map, pairwise-filter, pairwise-flat_map}
@@ -15,7 +15,7 @@ use Rattle.mcs_window.specs.Inbox.{known_of, known_at, known_until, inbox, IsMad
 use Rattle.mcs_window.proofs.Boxes.{out_of_turn, known_until-each}
 
 module _ (system : System) where
-  made_now : (b m : ℕ) (x : Mail) (ms : List Mail) → mails.IsOutgoing by_priority system b m ms → IsIn x ms → IsMadeNow system b m x
+  made_now : (b m : ℕ) (x : Mail) (ms : List Mail) → mails.IsOutgoing in_one_list system b m ms → IsIn x ms → IsMadeNow system b m x
   made_now b m x [] h k = absurd k
   made_now b m x (y ∷ []) h (inl e) = rw e h
   made_now b m x (y ∷ []) h (inr k) = absurd k
@@ -24,7 +24,7 @@ module _ (system : System) where
   pub of_turn : (b m : ℕ) (x : Mail) → IsIn x (clocks.turn_of system b m).mails → IsMadeNow system b m x
   of_turn b m x k = made_now b m x (clocks.turn_of system b m).mails (out_of_turn system 0 [] b m) k
 
-  pub alone : (R : Mail → Mail → Type 0) (b m : ℕ) (ms : List Mail) → mails.IsOutgoing by_priority system b m ms → ArePairwise R ms
+  pub alone : (R : Mail → Mail → Type 0) (b m : ℕ) (ms : List Mail) → mails.IsOutgoing in_one_list system b m ms → ArePairwise R ms
   alone R b m [] h = tt
   alone R b m (y ∷ []) h = (λ x k. absurd k, tt)
   alone R b m (y ∷ z ∷ ms) h = absurd h

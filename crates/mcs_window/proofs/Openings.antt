@@ -1,7 +1,6 @@
 -- At the beginning each core stands as the clock has it.
-use Rattle.std.proofs.Common.{◌≡◌, ℕ, zero, suc, ◌+◌, ◌<◌, ◌≤◌, ◌^◌, Bool, true, false, List, [], ◌∷◌, ◌++◌, length, map, replicate, get_or, inl, refl, sym, ap, ◌∙◌, subst, arith}
+use Rattle.std.proofs.Common.{◌≡◌, ℕ, zero, suc, ◌+◌, ◌<◌, ◌≤◌, ◌^◌, Bool, true, false, List, [], ◌∷◌, ◌++◌, length, replicate, get_or, inl, refl, sym, ap, ◌∙◌, subst, arith}
 use Rattle.std.specs.Prelude.{nat_lt, slice_index}
-use Rattle.std.specs.List.{range_with_len}
 use Rattle.std.specs.Arc.{arc_value}
 use Rattle.std.proofs.lemmas.Bool.Decides.{nat_tests}
 use Rattle.std.proofs.lemmas.List.{get_or_append_left, get_or_push, length_push, length-replicate}
@@ -9,8 +8,8 @@ use Rattle.mcs_mail.specs.declared.mail.Mail.{Mail}
 use Rattle.mcs_mail.specs.Box.{Content, IsIn}
 use Rattle.mcs_system.specs.System.{System, delay_between}
 use Rattle.mcs_system.specs.WellFormed.{IsWellFormed}
-use Rattle.mcs_core.specs.Core.{Core, opening_core}
 use Rattle.mcs_core.specs.State.{State, Fits, opening_state}
+use Rattle.mcs_core.proofs.Clock.{core_shown-first}
 use Rattle.mcs_window.specs.Inbox.{inbox}
 use Rattle.mcs_window.specs.stored.Cores.{IsKept}
 use Rattle.mcs_window.specs.stored.Opening.{AreOpening, AreEmptyBoxes, AreEmptyRows, AreDelays}
@@ -82,18 +81,13 @@ none_in : (mails : List Mail) → ((mail : Mail) → IsIn mail mails → ⊥) �
 none_in [] h = refl
 none_in (mail ∷ mails) h = absurd (h mail (inl refl))
 
-core_opening : (f : ℕ → Core) (n a c : ℕ) (d : Core) → c < n → get_or (map f (range_with_len a n)) c d ≡ f (a + c)
-core_opening f zero a c d l = absurd (omega arith)
-core_opening f (suc n) a zero d l = ap f (omega arith)
-core_opening f (suc n) a (suc c) d l = core_opening f n (a + 1) c d (omega arith) ∙ ap f (omega arith)
-
 module _ (system : System) where
   pub opening_stands : (c : ℕ) (state : State) → c < system.cores → state ≡ opening_state system c → Fits system state → StandsAt system c 0 state
   opening_stands c state l e fits =
       record {
         number_is = ap (λ (s : State). s.number) e;
         clock_is = ap (λ (s : State). s.clock) e;
-        core_is = ap (λ (s : State). s.core) e ∙ sym (core_opening (opening_core system) system.cores 0 c (opening_core system c) l ∙ ap (opening_core system) (omega arith));
+        core_is = ap (λ (s : State). s.core) e ∙ sym (core_shown-first system c l);
         whole = ap (λ (s : State). s.failed) e;
         fits = fits;
       }

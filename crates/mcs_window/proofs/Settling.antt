@@ -8,7 +8,7 @@ use Rattle.std.specs.declared.sync.Arc.{Arc}
 use Rattle.std.proofs.lemmas.Bool.Decides.{eqb_tells, nat_tests}
 use Rattle.std.proofs.lemmas.List.{map-set, get_or-map, get_or-set_same, get_or-set_other, get_or_default, length-set, drop_more, with_items_is}
 use Rattle.std.proofs.lemmas.List.Filters.{length-filter_more}
-use Rattle.mcs_ticks.specs.Queue.{by_priority}
+use Rattle.mcs_ticks.specs.Queue.{in_one_list}
 use Rattle.mcs_ticks.specs.declared.row.Row.{Row}
 use Rattle.mcs_mail.specs.declared.mail.Mail.{Mail}
 use Rattle.mcs_mail.specs.Box.{Content, put_all}
@@ -124,7 +124,7 @@ room-less system signals i h mail boxes held new l is home known at less room c 
         other f (sym same_test ∙ e)
 
 -- a core's signals are for other cores
-away-none : (system : System) (c m : ℕ) (ms : List Mail) → mails.IsOutgoing by_priority system c m ms → filter (is_home system c) ms ≡ []
+away-none : (system : System) (c m : ℕ) (ms : List Mail) → mails.IsOutgoing in_one_list system c m ms → filter (is_home system c) ms ≡ []
 away-none system c m [] k = refl
 away-none system c m (mail ∷ []) k =
     let f = k.away in

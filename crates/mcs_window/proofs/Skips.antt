@@ -8,7 +8,7 @@ use Rattle.std.proofs.lemmas.List.{ext_get_or, get_or-map, get_or-set_same, get_
 use Rattle.mcs_mail.specs.declared.mail.Mail.{Mail}
 use Rattle.mcs_mail.specs.Box.{arriving}
 use Rattle.mcs_system.specs.System.{System, TakesTime}
-use Rattle.mcs_core.specs.Clock.{world, core_at}
+use Rattle.mcs_core.specs.Clock.{world, core_shown}
 use Rattle.mcs_core.specs.Core.{Core}
 use Rattle.mcs_core.specs.Quiet.{AreQuiet, IsQuiet, IsNextBusy, counted_times}
 use Rattle.mcs_core.specs.State.{State, Fits, opening_state}
@@ -34,7 +34,7 @@ never-before next until e m f = cc
 module _ (system : System) (clocks : List ℕ) where
   -- a core's next busy moment, said of the state that is kept, is that of the clock's core
   pub next-here : (c t : ℕ) (state : State) (box : List Mail) (next : Option ℕ) → StandsAt system c t state → box ≡ inbox system c t clocks →
-      IsNextBusy system state.number state.clock box state.core next → IsNextBusy system c t (inbox system c t clocks) (core_at system (world system t) c) next
+      IsNextBusy system state.number state.clock box state.core next → IsNextBusy system c t (inbox system c t clocks) (core_shown system (world system t) c) next
   next-here c t state box next stands box_is h = same _ _ _ _ _ _ _ _ stands.number_is stands.clock_is box_is stands.core_is h
     where
       same : (c c' t t' : ℕ) (box box' : List Mail) (core core' : Core) → c ≡ c' → t ≡ t' → box ≡ box' → core ≡ core' → IsNextBusy system c t box core next → IsNextBusy system c' t' box' core' next
@@ -53,7 +53,7 @@ module _ (system : System) (clocks : List ℕ) where
 
     -- a core that is not busy before
     pub below-same : (next : Option ℕ) → until ≤ 2 ^ 42 → ((moment : ℕ) → next ≡ Some moment → until ≤ moment) →
-        IsNextBusy system many (slice_index clocks many) (inbox system many (slice_index clocks many) clocks) (core_at system (world system (slice_index clocks many)) many) next →
+        IsNextBusy system many (slice_index clocks many) (inbox system many (slice_index clocks many) clocks) (core_shown system (world system (slice_index clocks many)) many) next →
         AreIdleBelow system clocks past (many + 1) until
     below-same next l late h =
         record {
@@ -64,7 +64,7 @@ module _ (system : System) (clocks : List ℕ) where
 
     -- a core that is busy before
     pub below-sooner : (busy : ℕ) → busy < until →
-        IsNextBusy system many (slice_index clocks many) (inbox system many (slice_index clocks many) clocks) (core_at system (world system (slice_index clocks many)) many) (Some busy) →
+        IsNextBusy system many (slice_index clocks many) (inbox system many (slice_index clocks many) clocks) (core_shown system (world system (slice_index clocks many)) many) (Some busy) →
         AreIdleBelow system clocks past (many + 1) busy
     below-sooner busy l h =
         record {
@@ -73,7 +73,7 @@ module _ (system : System) (clocks : List ℕ) where
           busy = λ p all.
               (let e : slice_index clocks many + h.0 ≡ busy = sym h.1 in
               let quiet = all many (omega arith) h.0 (omega arith) in
-              let P : ℕ → Type 0 = λ t. IsQuiet system many t (arriving t (inbox system many (slice_index clocks many) clocks)) (counted_times system many h.0 (core_at system (world system (slice_index clocks many)) many)) in
+              let P : ℕ → Type 0 = λ t. IsQuiet system many t (arriving t (inbox system many (slice_index clocks many) clocks)) (counted_times system many h.0 (core_shown system (world system (slice_index clocks many)) many)) in
               h.4 (subst P e quiet));
         }
 
@@ -139,8 +139,8 @@ module _ (system : System) (takes_time : TakesTime system) (clocks : List ℕ) (
         number_is = ap (λ (s : State). s.number) e ∙ stands.number_is;
         clock_is = ap (λ (s : State). s.clock) e;
         core_is = ap (λ (s : State). s.core) e ∙ same _ _ _ _ _ _ stands.number_is stands.clock_is stands.core_is
-            ∙ ap (λ t. counted_times system c (t - slice_index clocks c) (core_at system (world system (slice_index clocks c)) c)) (sym there)
-            ∙ sym later.core_is ∙ ap (λ t. core_at system (world system t) c) there;
+            ∙ ap (λ t. counted_times system c (t - slice_index clocks c) (core_shown system (world system (slice_index clocks c)) c)) (sym there)
+            ∙ sym later.core_is ∙ ap (λ t. core_shown system (world system t) c) there;
         whole = ap (λ (s : State). s.failed) e ∙ stands.whole;
         fits = fits;
       }

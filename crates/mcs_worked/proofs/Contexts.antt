@@ -5,7 +5,7 @@ use Rattle.mcs_refills.specs.declared.refill.Refill.{Refill}
 use Rattle.mcs_control.specs.declared.view.ContextView.{ContextView}
 use Rattle.mcs_control.specs.Context.Budget.{Dates}
 use Rattle.mcs_system.specs.System.{System}
-use Rattle.mcs_core.specs.Clock.{world, core_at}
+use Rattle.mcs_core.specs.Clock.{world, core_shown}
 use Rattle.mcs_core.specs.Views.{views_of}
 use Rattle.mcs_laws.specs.Changes.{Change, changed_by, taken_by}
 use Rattle.mcs_laws.specs.Changes.Change.{Charged, Woken, Ordered}
@@ -16,7 +16,7 @@ use Rattle.mcs_worked.proofs.Schedules as worked
 
 -- the views of the contexts of core 0 after all turns of moment t
 abbrev shown_after : System → ℕ → List ContextView
-shown_after system t = views_of system (core_at system (world system (t + 1)) 0)
+shown_after system t = views_of system (core_shown system (world system (t + 1)) 0)
 
 abbrev refill : ℕ → ℕ → Refill
 refill begins amount = record { begins = begins; amount = amount }

@@ -2,6 +2,7 @@ use Rattle.std.proofs.Common.{◌≡◌, ◌-◌, ◌≤◌, [], sym, ap, ◌∙
 use Rattle.std.specs.Prelude.{max}
 use Rattle.mcs_core.specs.Orders.{orders_of, to_come}
 use Rattle.mcs_core.specs.State.{State, made_by, delays_from}
+use Rattle.mcs_core.proofs.Alike.{runs-of-one-list}
 use Rattle.mcs_core.proofs.Runs.{RunsOn, runs-on, runs-end, told-all, made-all, not_before, same_state, to_come-twice, expected-after}
 use Rattle.mcs_core.proofs.state.CoreState.run.Goals as goal
 
@@ -63,3 +64,6 @@ returns-clause-signals c = made-all c.args.rows.now.items c.turns.rows.items c.a
 
 pub returns-clause-mail : goal.returns-clause-mail
 returns-clause-mail c = (ends c).box
+
+pub returns-clause-one_list : goal.returns-clause-one_list
+returns-clause-one_list c = runs-of-one-list c.args.system.now c.args.self.now c.args.to c.args.mail.now.mails

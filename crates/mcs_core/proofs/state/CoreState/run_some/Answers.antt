@@ -2,6 +2,7 @@ use Rattle.std.proofs.Common.{◌≡◌, ◌≤◌, sym, ap, ◌∙◌, append-n
 use Rattle.mcs_ticks.specs.declared.row.Row.{Row}
 use Rattle.mcs_core.specs.Run.{Ran}
 use Rattle.mcs_core.specs.State.{State, made_by}
+use Rattle.mcs_core.proofs.Alike.{runs-of-one-list}
 use Rattle.mcs_core.proofs.Runs.{none-made, state-at-first, state-through, rows-through, rows-rest, rows-grow, signals-through, box-through, expected-after}
 use Rattle.mcs_core.proofs.state.CoreState.run_some.Goals as goal
 
@@ -88,3 +89,9 @@ turns-preserved c =
           c.args.signals.now.items c.turns.signals.items c.advance.new.signals.items i.signals step.signals;
       mail = step.mail ∙ box-through c.args.system.now c.turns.self.clock c.advance.new.self.clock c.args.self.now c.turns.self c.args.mail.now.mails c.turns.mail.mails i.from from i.state i.mail;
     }
+
+pub returns-then-len-most-clause-one_list : goal.returns-then-len-most-clause-one_list
+returns-then-len-most-clause-one_list c = runs-of-one-list c.args.system.now c.args.self.now c.advance.new.self.clock c.args.mail.now.mails
+
+pub returns-clause-one_list : goal.returns-clause-one_list
+returns-clause-one_list c = runs-of-one-list c.args.system.now c.args.self.now c.turns.self.clock c.args.mail.now.mails
