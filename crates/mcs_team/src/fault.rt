@@ -1,4 +1,3 @@
-use crate::FlowFault;
 use mcs_ticks::NoMemory;
 use thiserror::Error;
 
@@ -12,13 +11,6 @@ pub enum SimFault {
 
 impl From<NoMemory> for SimFault {
     fn from(_refusal: NoMemory) -> Self {
-        SimFault::NoMemory
-    }
-}
-
-// Where the rows are kept, a row is refused only for want of memory.
-impl From<FlowFault> for SimFault {
-    fn from(_fault: FlowFault) -> Self {
         SimFault::NoMemory
     }
 }

@@ -7,7 +7,7 @@ ghost use Rattle.mcs_report.specs.laws.Demand.{AreWithinDemand};
 ghost use Rattle.mcs_team.specs.Headline.{Headline};
 
 use crate::whole::Kept;
-use crate::{Gate, SimFault, Whole, simulate_to};
+use crate::{FlowFault, Gate, SimFault, Whole, simulate_to};
 use mcs_system::System;
 use mcs_ticks::{Sequence, Tick};
 use std::alloc::Global;
@@ -36,9 +36,12 @@ pub fn simulate<R: Threads + Wait + Sync, G: Gate + Sync>(
     ensures headline { IfOk result (λ whole. Headline (arc_value system) horizon whole.rows whole.reports) }
 {
     let mut kept = Kept::new(alloc);
-    let reports = simulate_to(rt, alloc, system, horizon, workers, gate, &mut kept)?;
-    Ok(Whole {
-        rows: Sequence::new(kept.rows),
-        reports,
-    })
+    match simulate_to(rt, alloc, system, horizon, workers, gate, &mut kept) {
+        Ok(reports) => Ok(Whole {
+            rows: Sequence::new(kept.rows),
+            reports,
+        }),
+        // The rows are kept, and `Kept` refuses one only where a growth of its vector is refused.
+        Err(FlowFault::NoMemory | FlowFault::Sink) => Err(SimFault::NoMemory),
+    }
 }

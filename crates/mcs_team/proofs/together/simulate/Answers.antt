@@ -6,16 +6,16 @@ use Rattle.mcs_team.specs.Headline.{Headline}
 use Rattle.mcs_team.proofs.Sinks.{keeps}
 use Rattle.mcs_team.proofs.together.simulate.Goals as goal
 
-pub returns-clause-rows : goal.returns-clause-rows
-returns-clause-rows g c =
+pub returns-in-Ok-clause-rows : goal.returns-in-Ok-clause-rows
+returns-in-Ok-clause-rows g c =
     let all = schedule (arc_value c.args.system) c.args.horizon in
-    c.new.ensures ∙ keeps c.new-kept.result c.simulate_to.new.sink all c.in_ok-reports.ensures.given
+    c.new.ensures ∙ keeps c.new-kept.result c.simulate_to.new.sink all c.in-Ok.ensures.given
     ∙ ap (λ xs. xs ++ all) c.new-kept.ensures
 
-pub returns-clause-bandwidth : goal.returns-clause-bandwidth
-returns-clause-bandwidth g c =
-    subst (RunsWithinBandwidth (arc_value c.args.system) c.args.horizon) (sym (returns-clause-rows g c)) c.in_ok-reports.ensures.bandwidth
+pub returns-in-Ok-clause-bandwidth : goal.returns-in-Ok-clause-bandwidth
+returns-in-Ok-clause-bandwidth g c =
+    subst (RunsWithinBandwidth (arc_value c.args.system) c.args.horizon) (sym (returns-in-Ok-clause-rows g c)) c.in-Ok.ensures.bandwidth
 
-pub returns-clause-headline : goal.returns-clause-headline
-returns-clause-headline g c =
-    subst (λ rows. Headline (arc_value c.args.system) c.args.horizon rows c.in_ok-reports.reports) (sym (returns-clause-rows g c)) c.in_ok-reports.ensures.headline
+pub returns-in-Ok-clause-headline : goal.returns-in-Ok-clause-headline
+returns-in-Ok-clause-headline g c =
+    subst (λ rows. Headline (arc_value c.args.system) c.args.horizon rows c.in-Ok.reports) (sym (returns-in-Ok-clause-rows g c)) c.in-Ok.ensures.headline
