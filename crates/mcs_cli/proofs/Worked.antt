@@ -1,5 +1,5 @@
 -- The whole output of a small system, lines that are taken and refused, and lines of faults, evaluated.
-use Rattle.std.proofs.Common.{◌≡◌, refl, codes, [], ◌∷◌, Some, true, false}
+use Rattle.std.proofs.Common.{◌≡◌, ◌≤◌, ◌<◌, ◌-◌, ◌^◌, ℕ, length, refl, codes, [], ◌∷◌, None, Some, true, false, arith}
 use Rattle.mcs_script.specs.declared.item.Item.TheVariants.{Compute}
 use Rattle.mcs_script.specs.declared.fault.ItemFault.TheVariants as bad
 use Rattle.mcs_control.specs.declared.config.Mode.TheVariants as mode
@@ -11,7 +11,8 @@ use Rattle.mcs_system.specs.System.{System}
 use Rattle.std.specs.Fmt.{digits}
 use Rattle.mcs_cli.specs.Flow.{TakesLine}
 use Rattle.mcs_cli.specs.Fault.{run_fault_text}
-use Rattle.mcs_cli.specs.Run.{output_of}
+use Rattle.mcs_cli.specs.Devices.{IsCounted}
+use Rattle.mcs_cli.specs.Run.{output_of, IsTooLong}
 use Rattle.mcs_cli.specs.declared.asked.Show.TheVariants.{Both}
 use Rattle.mcs_cli.specs.declared.fault.RunFault.TheVariants as fault
 
@@ -38,6 +39,17 @@ both_to_two = refl
 -- a text of one byte waits, and a line of two comes: two bytes are written, and one waits
 line_taken : TakesLine (Some (codes "x")) (Some (codes "xab")) (codes "a") (codes "c") (codes "bc") true
 line_taken = (codes "ab", refl, refl)
+
+-- a source that does not tell its bytes and has counted 2^26 of them or less is not blamed for a text that is too long ..
+short_is_no_fault : (given : ℕ) → given ≤ 2 ^ 26 → IsTooLong None None 0 given → ⊥
+short_is_no_fault given few h = no (length h.0) h.1.1 h.2
+  where
+    no : (n : ℕ) → IsCounted 0 given n → 2 ^ 26 < n → ⊥
+    no n c l = omega (arith, few, c.least, l)
+
+-- .. and what it counted is as much as was read
+counts_what_was_read : (given n : ℕ) → given < 2 ^ 64 - 1 → IsCounted 0 given n → given ≡ n
+counts_what_was_read given n l c = omega (arith, l, c.most, c.least)
 
 -- the target fails after one byte
 line_refused : TakesLine (Some (codes "x")) (Some (codes "xa")) (codes "a") (codes "abc") (codes "bc") false

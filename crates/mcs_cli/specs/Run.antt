@@ -11,7 +11,7 @@ use Rattle.mcs_load.specs.Walk.{file}
 use Rattle.mcs_load.specs.Memory.{no_memory}
 use Rattle.mcs_load.specs.declared.fault.LoadFault.{LoadFault}
 use Rattle.mcs_text.specs.Text.{schedule_text, reports_text}
-use Rattle.mcs_cli.specs.Devices.{AppendsPrefix}
+use Rattle.mcs_cli.specs.Devices.{AppendsPrefix, IsCounted}
 use Rattle.mcs_cli.specs.declared.asked.Options.{Options}
 use Rattle.mcs_cli.specs.declared.asked.Show.{Show}
 use Rattle.mcs_cli.specs.declared.asked.Show.TheVariants.{Schedule, Reports, Both}
@@ -34,11 +34,15 @@ output_of show system horizon =
 abbrev pub loaded : List ℕ → Result System LoadFault
 loaded bytes = answer (file bytes)
 
--- the bytes that a source knows before and after the run
-module _ (read_old read_new : Option (List ℕ)) where
+-- the bytes that a source knows before and after the run, and how many it has given by then
+module _ (read_old read_new : Option (List ℕ)) (given_old given_new : ℕ) where
+  -- the source gave these bytes: as many as it counted, and those that it knows where it tells its bytes
+  abbrev pub IsGiven : List ℕ → Type 0
+  IsGiven bytes = Consumes read_old read_new bytes × IsCounted given_old given_new (length bytes)
+
   -- the bytes that were read, which are all there were where the source tells its bytes
   abbrev pub IsInput : List ℕ → Type 0
-  IsInput bytes = Consumes read_old read_new bytes × IsAtEnd read_new × (length bytes ≤ 2 ^ 26)
+  IsInput bytes = IsGiven bytes × IsAtEnd read_new × (length bytes ≤ 2 ^ 26)
 
   -- the bytes that were read describe this system
   abbrev pub IsRead : System → Type 0
@@ -48,9 +52,9 @@ module _ (read_old read_new : Option (List ℕ)) where
   abbrev pub IsFaultOfInput : LoadFault → Type 0
   IsFaultOfInput f = (bytes : List ℕ) × IsInput bytes × (loaded bytes ≡ Err f)
 
-  -- more was read than a text may have
+  -- the source gave more than a text may have
   abbrev pub IsTooLong : Type 0
-  IsTooLong = (bytes : List ℕ) × Consumes read_old read_new bytes × (2 ^ 26 < length bytes)
+  IsTooLong = (bytes : List ℕ) × IsGiven bytes × (2 ^ 26 < length bytes)
 
   -- whether the source has failed
   module _ (read_failed : Bool) where

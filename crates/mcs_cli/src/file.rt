@@ -21,11 +21,11 @@ pub fn run_with<H: Files + Threads + Wait + Sync, S: Source, T: Target, G: Gate 
     requires reads { S.has_failed input.old ≡ false }
     requires writes { T.has_failed output.old ≡ false }
     ensures input { options.now.file ≡ None
-        → IsRun (S.remaining input.old) (S.remaining input.new) (S.has_failed input.new)
-        (T.contents output.old) (T.contents output.new) (T.has_failed output.new) options.now result }
+        → IsRun (S.remaining input.old) (S.remaining input.new) (S.given input.old) (S.given input.new)
+        (S.has_failed input.new) (T.contents output.old) (T.contents output.new) (T.has_failed output.new) options.now result }
     ensures file { IfSome options.now.file
-        (λ _. (old new : Option (List ℕ)) × (failed : Bool)
-        × IsRun old new failed (T.contents output.old) (T.contents output.new) (T.has_failed output.new)
+        (λ _. (old new : Option (List ℕ)) × (given : ℕ) × (failed : Bool)
+        × IsRun old new 0 given failed (T.contents output.old) (T.contents output.new) (T.has_failed output.new)
         options.now result) }
     ensures source_blamed { S.has_failed input.new ≡ true → result ≡ Err RunFault.Read }
     ensures target_blamed { T.has_failed output.new ≡ true → result ≡ Err RunFault.Write }

@@ -2,14 +2,17 @@ ghost use Rattle.std.specs.Prelude.{◌≡◌, ◌≢◌, ◌||◌, ℕ, Bool, f
 ghost use Rattle.std.specs.Io.{ReadsAtMost};
 ghost use Rattle.std.specs.Io.KnownBytes.{ReadConsumes};
 ghost use Rattle.std.specs.IoError.{error_kind};
+ghost use Rattle.mcs_cli.specs.Devices.{CountsBytes};
 
 use std::io;
 use std::io::{ErrorKind, Read};
 
-/// Where bytes are read from. Contracts see the bytes that are left, where they are known, and whether a read has
-/// failed so far.
+/// Where bytes are read from. Contracts see the bytes that are left, where they are known, how many were given so far
+/// (2^64 - 1 where there were more), and whether a read has failed so far.
 pub trait Source {
     ghost remaining: { Self → Option (List ℕ) };
+
+    ghost given: { Self → ℕ };
 
     ghost has_failed: { Self → Bool };
 
@@ -18,6 +21,7 @@ pub trait Source {
     fn read(&mut self, buffer: &mut [u8]) -> io::Result<usize>
         ensures bound { ReadsAtMost result buffer.new }
         ensures bytes { ReadConsumes (remaining self.old) (remaining self.new) result buffer.new }
+        ensures counted { CountsBytes (given self.old) (given self.new) result }
         ensures failed { has_failed self.new ≡ (has_failed self.old || is_err result) };
 
     /// Whether a read has failed so far.
@@ -29,17 +33,20 @@ pub trait Source {
 #[derive(Drop)]
 pub struct FromRead<R: Read> {
     inner: R,
+    given: u64,
     failed: bool,
 }
 
 impl<R: Read> FromRead<R> {
-    /// The reader as it is, which has not failed yet.
+    /// The reader as it is, which has given nothing and has not failed yet.
     pub fn new(inner: R) -> FromRead<R>
         ensures bytes { ⟦<FromRead<R> as Source>⟧.remaining result ≡ R.remaining inner }
+        ensures given { ⟦<FromRead<R> as Source>⟧.given result ≡ 0 }
         ensures failed { ⟦<FromRead<R> as Source>⟧.has_failed result ≡ false }
     {
         FromRead {
             inner,
+            given: 0,
             failed: false,
         }
     }
@@ -48,11 +55,16 @@ impl<R: Read> FromRead<R> {
 impl<R: Read> Source for FromRead<R> {
     ghost remaining = { λ s. R.remaining s.inner };
 
+    ghost given = { λ s. s.given };
+
     ghost has_failed = { λ s. s.failed };
 
     fn read(&mut self, buffer: &mut [u8]) -> io::Result<usize> {
         let result = read_again(&mut self.inner, buffer);
-        self.failed = self.failed || result.is_err();
+        match result {
+            Ok(count) => self.given = self.given.saturating_add(count as u64),
+            Err(_) => self.failed = true,
+        }
         result
     }
 

@@ -5,7 +5,7 @@ ghost use Rattle.mcs_core.specs.Clock.{schedule};
 ghost use Rattle.mcs_report.specs.Reports.{reports_of};
 ghost use Rattle.mcs_team.specs.Flow.{Given, IsFlowFault};
 ghost use Rattle.mcs_text.specs.Text.{reports_text, schedule_text};
-ghost use Rattle.mcs_cli.specs.Devices.{AppendsPrefix};
+ghost use Rattle.mcs_cli.specs.Devices.{AppendsPrefix, IsCounted};
 ghost use Rattle.mcs_cli.specs.Flow.{AppendsBefore, IsWriteFault};
 ghost use Rattle.mcs_cli.specs.Run.{IsRead, IsReadFault, IsRun, output_of};
 
@@ -35,8 +35,8 @@ pub fn run<H: Threads + Wait + Sync, S: Source, T: Target, G: Gate + Sync>(
 ) -> Result<(), RunFault>
     requires reads { S.has_failed source.old ≡ false }
     requires writes { T.has_failed target.old ≡ false }
-    ensures run { IsRun (S.remaining source.old) (S.remaining source.new) (S.has_failed source.new)
-        (T.contents target.old) (T.contents target.new) (T.has_failed target.new) options.now result }
+    ensures run { IsRun (S.remaining source.old) (S.remaining source.new) (S.given source.old) (S.given source.new)
+        (S.has_failed source.new) (T.contents target.old) (T.contents target.new) (T.has_failed target.new) options.now result }
     ensures source_blamed { S.has_failed source.new ≡ true → result ≡ Err RunFault.Read }
     ensures target_blamed { T.has_failed target.new ≡ true → result ≡ Err RunFault.Write }
 {
@@ -47,10 +47,12 @@ pub fn run<H: Threads + Wait + Sync, S: Source, T: Target, G: Gate + Sync>(
 /// Reads a file to its end, and loads the system that it describes.
 fn read_system<S: Source>(alloc: Global, source: &mut S) -> Result<System, RunFault>
     requires { S.has_failed source.old ≡ false }
-    ensures ok { IfOk result (IsRead (S.remaining source.old) (S.remaining source.new)) }
+    ensures ok { IfOk result
+        (IsRead (S.remaining source.old) (S.remaining source.new) (S.given source.old) (S.given source.new)) }
     ensures working { OnOk result (S.has_failed source.new ≡ false) }
     ensures fault { IfErr result
-        (IsReadFault (S.remaining source.old) (S.remaining source.new) (S.has_failed source.new)) }
+        (IsReadFault (S.remaining source.old) (S.remaining source.new) (S.given source.old) (S.given source.new)
+        (S.has_failed source.new)) }
 {
     let bytes = read_text(alloc, source)?;
     load(alloc, bytes.as_slice()).map_err(RunFault::Load)
@@ -60,11 +62,13 @@ fn read_system<S: Source>(alloc: Global, source: &mut S) -> Result<System, RunFa
 fn read_text<S: Source>(alloc: Global, source: &mut S) -> Result<Vec<u8>, RunFault>
     requires { S.has_failed source.old ≡ false }
     ensures bytes { IfOk result (λ text. Consumes (S.remaining source.old) (S.remaining source.new) text.items) }
+    ensures counted { IfOk result (λ text. IsCounted (S.given source.old) (S.given source.new) (length text.items)) }
     ensures end { OnOk result (IsAtEnd (S.remaining source.new)) }
     ensures short { IfOk result (λ text. length text.items ≤ 2 ^ 26) }
     ensures working { OnOk result (S.has_failed source.new ≡ false) }
     ensures fault { IfErr result
-        (IsReadFault (S.remaining source.old) (S.remaining source.new) (S.has_failed source.new)) }
+        (IsReadFault (S.remaining source.old) (S.remaining source.new) (S.given source.old) (S.given source.new)
+        (S.has_failed source.new)) }
 {
     let mut text = Vec::new(alloc);
     let mut buffer = [0u8; 4096];

@@ -14,6 +14,7 @@ pub struct FailingSlice<'a> {
     rest: &'a [u8],
     most: usize,
     calls: usize,
+    given: u64,
     failed: bool,
 }
 
@@ -25,6 +26,7 @@ impl<'a> FailingSlice<'a> {
             rest,
             most,
             calls,
+            given: 0,
             failed: false,
         }
     }
@@ -32,6 +34,8 @@ impl<'a> FailingSlice<'a> {
 
 impl<'a> Source for FailingSlice<'a> {
     ghost remaining = { λ s. Some s.rest.now };
+
+    ghost given = { λ s. s.given };
 
     ghost has_failed = { λ s. s.failed };
 
@@ -43,7 +47,10 @@ impl<'a> Source for FailingSlice<'a> {
         self.calls -= 1;
         let end = buffer.len().min(self.most.max(1));
         let result = self.rest.read(&mut buffer[..end]);
-        self.failed = self.failed || result.is_err();
+        match result {
+            Ok(count) => self.given = self.given.saturating_add(count as u64),
+            Err(_) => self.failed = true,
+        }
         result
     }
 
