@@ -75,11 +75,11 @@ module _ (system : System) (x t : ℕ) where
   abbrev is_before : ℕ → Order → Bool
   is_before past order = told.is_order_for x order && nat_lt order.moment past
 
-  abbrev is_now : Order → Bool
+  abbrev pub is_now : Order → Bool
   is_now order = told.is_order_for x order && (order.moment == t)
 
   -- those that the turn at t obeys are those of t
-  obeyed-now : (os : List Order) → filter (told.is_order_for x) (filter (is_for_now system (told.home_of system x) t) os) ≡ filter is_now os
+  pub obeyed-now : (os : List Order) → filter (told.is_order_for x) (filter (is_for_now system (told.home_of system x) t) os) ≡ filter is_now os
   obeyed-now [] = refl
   obeyed-now (o ∷ os) = by (o.context == x) refl (o.moment == t) (obeyed-now os)
     where
@@ -297,7 +297,7 @@ module _ (system : System) (well : IsWellFormed system) (x : ℕ) (known : x < l
       subst (IsGood kind) (sym (history.after t))
       (good-changes system.min_budget kind (history.changes t) (told.context_before system x t) (good t) (history.sound t) (rights-at t))
 
-  in-force : (t : ℕ) → (told.context_before system x t).config ≡ config_in_force system x t
+  pub in-force : (t : ℕ) → (told.context_before system x t).config ≡ config_in_force system x t
   in-force zero =
       ap (λ (k : Context). k.config) history.opening
       ∙ ap (λ (os : List Order). last_config (context_part system x).config (fold with_order [] os)) (sym (none-first x system.orders))

@@ -8,6 +8,8 @@ pub mod Traces
 pub mod Histories
 pub mod InForce
 pub mod Shown
+pub mod Stretches
+pub mod Stops
 pub mod Slices
 pub mod Told
 pub mod Spaced

@@ -1,5 +1,5 @@
 -- The dates that a context's charges take are those of a server's steps, so they are spaced.
-use Rattle.std.proofs.Common.{◌≡◌, ◌≢◌, ℕ, zero, suc, ◌<◌, ◌≤◌, Bool, true, false, cond, List, [], ◌∷◌, ◌++◌, length, take, refl, sym, ap, ◌∙◌, arith}
+use Rattle.std.proofs.Common.{◌≡◌, ◌≢◌, ℕ, zero, suc, ◌<◌, ◌≤◌, Bool, true, false, cond, List, [], ◌∷◌, ◌++◌, length, take, refl, sym, ap, subst, ◌∙◌, arith}
 use Rattle.std.specs.Prelude.{filter, ◌==◌}
 use Rattle.std.specs.List.{AllByRecursion}
 use Rattle.std.proofs.lemmas.Bool.Decides.{nat_tests}
@@ -11,20 +11,25 @@ use Rattle.mcs_control.specs.declared.config.Config.{Config}
 use Rattle.mcs_control.specs.declared.config.Mode.{Mode}
 use Rattle.mcs_control.specs.declared.config.Mode.TheVariants as modes
 use Rattle.mcs_control.specs.declared.config.Order.{Order}
-use Rattle.mcs_control.specs.declared.config.Kind.TheVariants.{Sporadic}
+use Rattle.mcs_control.specs.declared.config.Kind.TheVariants.{Sporadic, RoundRobin}
 use Rattle.mcs_control.specs.Control.{kind_of}
-use Rattle.mcs_control.specs.Context.{max_refills_of}
-use Rattle.mcs_control.specs.Context.Budget.{Dates}
+use Rattle.mcs_control.specs.Context.{Context, Budget, max_refills_of}
+use Rattle.mcs_control.specs.Context.Budget.{Dates, Slice}
+use Rattle.mcs_control.specs.laws.Contexts.{IsContext, IsBudget}
+use Rattle.mcs_control.proofs.Contexts.{equal-round_robin}
 use Rattle.mcs_system.specs.System.{System, context_part, no_context, start_of}
 use Rattle.mcs_system.specs.WellFormed.{IsWellFormed}
 use Rattle.mcs_core.specs.Turn.{is_for_now}
 use Rattle.mcs_laws.specs.Changes.{Change, orders_of, changed_by, AreSound, taken_by}
 use Rattle.mcs_laws.specs.Changes.Change.{Charged, Woken, Picked, Ordered}
 use Rattle.mcs_laws.specs.Histories as told
+use Rattle.mcs_laws.specs.Spaced.{ContextsAreSpaced}
 use Rattle.mcs_laws.proofs.Ranges.{by_recursion, flat_map-moments-more}
 use Rattle.mcs_laws.proofs.Histories.{gives-budgets}
 use Rattle.mcs_laws.proofs.Kept.{changed_by-append, sound-append}
 use Rattle.mcs_laws.proofs.Traces.{carry, orders_of-append}
+use Rattle.mcs_laws.proofs.InForce.{has-the-budget, in-force, kind-kept}
+use Rattle.mcs_laws.proofs.Stretches.{sound-all, orders-of-all}
 
 -- charges and unblocking as steps of a server
 pub steps_of : ℕ → Mode → List Change → List Step
@@ -143,6 +148,25 @@ no-orders system x history unordered t =
     all-orders system x history
     (λ m. no_orders_at x (is_for_now system (told.home_of system x) m) system.orders (by_recursion (λ (order : Order). order.context ≢ x) system.orders unordered)) t
 
-pub contexts-spaced : (system : System) → IsWellFormed system → told.ContextsAreSpaced system
-contexts-spaced system well x history known kind unordered t =
-    changes-spaced system well x known kind (told.changes_before system x history t) (no-orders system x history unordered t) (all-sound system x history t)
+-- the dates that changes without an order take from any sporadic context in good order
+stretch-spaced : (least : ℕ) (changes : List Change) (k : Context) → IsContext k → kind_of k.config ≡ Sporadic → orders_of changes ≡ [] → AreSound least changes k →
+    IsSpaced k.config.budget k.config.period (taken_by least changes k)
+stretch-spaced least changes k whole kind none sound = by k.budget whole.budget sound
+  where
+    by : (budget : Budget) → IsBudget k.config budget → AreSound least changes (record { config = k.config; mode = k.mode; budget = budget }) →
+        IsSpaced k.config.budget k.config.period (taken_by least changes (record { config = k.config; mode = k.mode; budget = budget }))
+    by (Dates dates) h s =
+        let steps = are_steps least changes k.config k.mode dates none s in
+        rw steps.same
+        (consumed-spaced k.config.budget k.config.period (max_refills_of k.config) (steps_of least k.mode changes) dates h.1 steps.proper)
+    by (Slice left) h s =
+        let bad : RoundRobin ≡ Sporadic = sym (equal-round_robin k.config h.0) ∙ kind in
+        absurd (cc)
+
+pub contexts-spaced : (system : System) → IsWellFormed system → ContextsAreSpaced system
+contexts-spaced system well x history known kind from moments unordered =
+    subst (λ (c : Config). IsSpaced c.budget c.period (taken_by system.min_budget (told.changes_from system x history from moments) (told.context_before system x from)))
+    (in-force system well x known from)
+    (stretch-spaced system.min_budget (told.changes_from system x history from moments) (told.context_before system x from)
+    (has-the-budget system well x known from).whole (kind-kept system well x known from ∙ kind)
+    (orders-of-all system x history from moments unordered) (sound-all system x history from moments))

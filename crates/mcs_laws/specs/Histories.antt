@@ -1,12 +1,9 @@
 -- The history of a context: all that turns do to it, from the opening on.
-use Rattle.std.specs.Prelude.{◌≡◌, ◌≢◌, ℕ, suc, ◌<◌, Bool, ◌==◌, if◌then◌else◌, List, [], ◌∷◌, filter, flat_map, length, All, Option, Some, None}
+use Rattle.std.specs.Prelude.{◌≡◌, ◌≢◌, ℕ, suc, ◌<◌, ◌+◌, Bool, ◌==◌, ◌&&◌, nat_le, nat_lt, if◌then◌else◌, List, [], ◌∷◌, filter, flat_map, length, All, Option, Some, None}
 use Rattle.std.specs.List.{range_with_len}
 use Rattle.mcs_ticks.specs.declared.row.What.{What}
 use Rattle.mcs_ticks.specs.declared.row.What.TheVariants as row
-use Rattle.mcs_refills.specs.laws.Spacing.{IsSpaced}
 use Rattle.mcs_control.specs.declared.config.Order.{Order}
-use Rattle.mcs_control.specs.declared.config.Kind.TheVariants.{Sporadic}
-use Rattle.mcs_control.specs.Control.{kind_of}
 use Rattle.mcs_control.specs.Context.{Context, head_amount, new_context}
 use Rattle.mcs_system.specs.System.{System, context_part, thread_part, start_of}
 use Rattle.mcs_core.specs.Core.{Core, context_of}
@@ -14,7 +11,7 @@ use Rattle.mcs_system.specs.declared.part.ContextPart.{ContextPart}
 use Rattle.mcs_core.specs.declared.standing.Chosen.{Chosen}
 use Rattle.mcs_core.specs.Turn.{is_for_now}
 use Rattle.mcs_core.specs.Clock.{world, core_at, turn_of}
-use Rattle.mcs_laws.specs.Changes.{Change, charges_of, wakes_of, choices_of, orders_of, IsBudget, KeepsItsBudget, changed_by, AreSound, taken_by}
+use Rattle.mcs_laws.specs.Changes.{Change, charges_of, wakes_of, choices_of, orders_of, IsBudget, KeepsItsBudget, changed_by, AreSound}
 
 -- whether the order is for this context
 abbrev pub is_order_for : ℕ → Order → Bool
@@ -96,6 +93,17 @@ module _ (system : System) where
   abbrev pub orders_at : ℕ → ℕ → List Order
   orders_at context t = filter (is_order_for context) (filter (is_for_now system (home_of context) t) system.orders)
 
+  -- the orders of the file for the context at the moments from `from` on, over so many
+  abbrev pub orders_within : ℕ → ℕ → ℕ → List Order
+  orders_within context from moments =
+      filter
+      (λ (order : Order). is_order_for context order && (nat_le from order.moment && nat_lt order.moment (from + moments)))
+      system.orders
+
+  -- no order for the context comes at these moments; one at another moment takes nothing away
+  abbrev pub IsUnordered : ℕ → ℕ → ℕ → Type 0
+  IsUnordered context from moments = orders_within context from moments ≡ []
+
   -- the context as it is at first
   abbrev pub opening_context : ℕ → Context
   opening_context context =
@@ -118,6 +126,10 @@ module _ (system : System) where
   -- the changes of all turns before a moment
   abbrev pub changes_before : (context : ℕ) → History context → ℕ → List Change
   changes_before context history past = flat_map history.changes (range_with_len 0 past)
+
+  -- the changes of the turns from a moment on, over so many
+  abbrev pub changes_from : (context : ℕ) → History context → ℕ → ℕ → List Change
+  changes_from context history from moments = flat_map history.changes (range_with_len from moments)
 
   -- the running thread, where it is bound to the context, has used less than the head
   abbrev pub UsesLess : ℕ → Option Chosen → Context → Type 0
@@ -144,16 +156,3 @@ module _ (system : System) where
   -- no order names the context
   abbrev pub IsNeverReconfigured : ℕ → Type 0
   IsNeverReconfigured context = All (λ (order : Order). order.context ≢ context) system.orders
-
-  -- of the dates that a sporadic context's charges take, where no order names it, the one a whole budget later is at least a period
-  -- later
-  abbrev pub IsSpacedBefore : (context : ℕ) → History context → ℕ → Type 0
-  IsSpacedBefore context history t =
-      IsSpaced (context_part system context).config.budget (context_part system context).config.period
-      (taken_by system.min_budget (changes_before context history t) (opening_context context))
-
-  abbrev pub ContextsAreSpaced : Type 0
-  ContextsAreSpaced =
-      (context : ℕ) (history : History context) → context < length system.contexts
-      → kind_of (context_part system context).config ≡ Sporadic →
-      IsNeverReconfigured context → (t : ℕ) → IsSpacedBefore context history t

@@ -5,6 +5,7 @@ pub mod Histories
 pub mod InForce
 pub mod Shown
 pub mod Slices
+pub mod Spaced
 pub mod Places
 pub mod Links
 pub mod OnTime

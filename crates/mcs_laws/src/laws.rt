@@ -11,7 +11,8 @@ ghost use Rattle.mcs_laws.specs.Bandwidth.{BandwidthIsBounded};
 ghost use Rattle.mcs_laws.specs.InForce.{ContextsHaveTheBudgetInForce};
 ghost use Rattle.mcs_laws.specs.Shown.{ContextsAreShown};
 ghost use Rattle.mcs_laws.specs.Slices.{SchedulesTellCharges, SlicesAreCharged, SlicesAreSpent};
-ghost use Rattle.mcs_laws.specs.Histories.{GivesBudgets, ContextsHaveHistories, ContextsHaveTheirBudgets, ContextsAreSpaced};
+ghost use Rattle.mcs_laws.specs.Histories.{GivesBudgets, ContextsHaveHistories, ContextsHaveTheirBudgets};
+ghost use Rattle.mcs_laws.specs.Spaced.{ContextsAreSpaced};
 
 /// A law of well-formed systems: each signal takes time, and each configuration that SchedControl accepts gives a budget of at least a
 /// tick and at most its period.
@@ -91,16 +92,18 @@ pub fn contexts_are_shown()
     ensures { (system : System) → IsWellFormed system → ContextsAreShown system }
 {}
 
-/// A law of the clock: where no order names a round robin context, the charges that the rows tell of it and what is left of its slice sum to
-/// its budget for each slice. So from one full slice to the next these charges sum to the budget.
+/// A law of the clock: over moments before the last of which no order for a round robin context comes, the charges that the rows tell of it and
+/// what is left of its slice after them sum to the budget in force before them for each slice. So from one full slice to the next, where no order
+/// came in between, these charges sum to that budget. An order at another moment takes nothing away, nor does one at the last, which comes after
+/// the charge.
 pub fn slices_are_spent_over_time()
     ensures told { (system : System) → IsWellFormed system → SchedulesTellCharges system }
     ensures charges { (system : System) → IsWellFormed system → SlicesAreCharged system }
     ensures full_slices { (system : System) → IsWellFormed system → SlicesAreSpent system }
 {}
 
-/// A law of the clock: of the dates that the charges of a sporadic context take, where no order names it, the one a whole budget later
-/// is at least a period later.
+/// A law of the clock: of the dates that the charges of a sporadic context take over moments in which no order for it comes, the one a whole
+/// budget later is at least a period later, by the budget and the period in force before them.
 pub fn contexts_are_spaced()
     ensures { (system : System) → IsWellFormed system → ContextsAreSpaced system }
 {}

@@ -31,7 +31,8 @@ module _ (system : System) where
     pub reports_are : reports ≡ reports_of system horizon rows
     -- the second, at each moment of the run
     pub budgets : (t : ℕ) → t ≤ horizon → BudgetsStand t (views_before system (suc t))
-    -- and of round robin contexts that no order names: from one full slice to the next the charges that the rows tell sum to the budget
+    -- and of round robin contexts: from one full slice to the next, where no order for the context came in between, the charges that the
+    -- rows tell sum to the budget in force
     pub slices : (context from moments : ℕ) → HasSlices system context → from + moments ≤ suc horizon
         → IsOneSlice system context from moments →
-        sum (charges_in system context from moments rows) ≡ budget system context
+        sum (charges_in system context from moments rows) ≡ budget system context from

@@ -1,5 +1,5 @@
 -- What the contexts of worked systems show at some moments, with the ticks in use.
-use Rattle.std.specs.Prelude.{◌≡◌, ℕ, ◌+◌, List, [], ◌∷◌, Some, None, refl, flat_map}
+use Rattle.std.specs.Prelude.{◌≡◌, ℕ, ◌+◌, List, [], ◌∷◌, Some, None, refl, flat_map, sum}
 use Rattle.std.specs.List.{range_with_len}
 use Rattle.mcs_refills.specs.declared.refill.Refill.{Refill}
 use Rattle.mcs_control.specs.declared.view.ContextView.{ContextView}
@@ -9,9 +9,10 @@ use Rattle.mcs_core.specs.Clock.{world, core_shown}
 use Rattle.mcs_core.specs.Views.{views_of}
 use Rattle.mcs_laws.specs.Changes.{Change, changed_by, taken_by}
 use Rattle.mcs_laws.specs.Changes.Change.{Charged, Woken, Ordered}
-use Rattle.mcs_laws.specs.Histories.{charges_at, wakes_at, context_before, opening_context}
-use Rattle.mcs_laws.specs.Slices.{charges_from, charges_in, HasLeft, IsOneSlice}
-use Rattle.mcs_worked.specs.Parts.{order}
+use Rattle.mcs_laws.specs.Histories.{charges_at, wakes_at, context_before, opening_context, orders_within}
+use Rattle.mcs_laws.specs.Slices.{budget, charges_from, charges_in, HasLeft, IsOneSlice}
+use Rattle.mcs_script.specs.declared.item.Item.TheVariants.{Compute}
+use Rattle.mcs_worked.specs.Parts.{context, thread, order, one_core}
 use Rattle.mcs_worked.proofs.Schedules as worked
 
 -- the views of the contexts of core 0 after all turns of moment t
@@ -81,11 +82,69 @@ told_by_the_schedule : charges_in worked.round_robin_takes_turns_system 0 0 5 wo
 told_by_the_schedule = refl
 
 one_slice : IsOneSlice worked.round_robin_takes_turns_system 0 0 5
-one_slice = record { full = refl; next = refl; once = refl }
+one_slice = record { full = refl; unordered = refl; next = refl; once = refl }
 
 -- before moment 4 one tick of it is charged, and two are left
 slice_in_part : HasLeft worked.round_robin_takes_turns_system 0 4 2
 slice_in_part = refl
+
+-- a round robin context of 3 whose thread always runs. At moment 7, when it has run a tick of its third slice, an order leaves it 1 of 1; a
+-- second order comes at moment 1000000. Neither takes anything from the whole slices that lie elsewhere
+abbrev ordered_system : System
+ordered_system =
+    one_core (context [] 0 3 3 0 ∷ []) [] (thread [] 0 5 0 1 0 (Compute 40 ∷ []) ∷ []) (order 7 0 1 1 0 ∷ order 1000000 0 5 5 0 ∷ [])
+
+charges_about_an_order : charges_from ordered_system 0 0 12 ≡ 3 ∷ 3 ∷ 1 ∷ 1 ∷ 1 ∷ 1 ∷ 1 ∷ []
+charges_about_an_order = refl
+
+-- two whole slices of 3 before the order ..
+first_slice_before : IsOneSlice ordered_system 0 0 4
+first_slice_before = record { full = refl; unordered = refl; next = refl; once = refl }
+
+second_slice_before : IsOneSlice ordered_system 0 4 3
+second_slice_before = record { full = refl; unordered = refl; next = refl; once = refl }
+
+spent_before : sum (charges_from ordered_system 0 4 3) ≡ budget ordered_system 0 4
+spent_before = refl
+
+budget_before : budget ordered_system 0 4 ≡ 3
+budget_before = refl
+
+-- .. and whole slices of 1 after it
+slice_after : IsOneSlice ordered_system 0 8 1
+slice_after = record { full = refl; unordered = refl; next = refl; once = refl }
+
+spent_after : sum (charges_from ordered_system 0 8 1) ≡ budget ordered_system 0 8
+spent_after = refl
+
+budget_after : budget ordered_system 0 8 ≡ 1
+budget_after = refl
+
+-- an order at the very moment at which the slice is used up comes after the charge, and takes nothing from it either
+abbrev ordered_at_the_end_system : System
+ordered_at_the_end_system = one_core (context [] 0 3 3 0 ∷ []) [] (thread [] 0 5 0 1 0 (Compute 40 ∷ []) ∷ []) (order 3 0 2 2 0 ∷ [])
+
+slice_before_an_order : IsOneSlice ordered_at_the_end_system 0 0 4
+slice_before_an_order = record { full = refl; unordered = refl; next = refl; once = refl }
+
+spent_before_an_order : charges_from ordered_at_the_end_system 0 0 4 ≡ 3 ∷ []
+spent_before_an_order = refl
+
+left_by_the_order : HasLeft ordered_at_the_end_system 0 4 2
+left_by_the_order = refl
+
+-- where the order came in between, the charges from a full slice to a full one sum to neither budget
+order_between : orders_within ordered_system 0 7 2 ≡ order 7 0 1 1 0 ∷ []
+order_between = refl
+
+full_before_the_order : HasLeft ordered_system 0 7 3
+full_before_the_order = refl
+
+full_after_the_order : HasLeft ordered_system 0 9 1
+full_after_the_order = refl
+
+spent_about_the_order : charges_from ordered_system 0 7 2 ≡ 1 ∷ 1 ∷ []
+spent_about_the_order = refl
 
 -- one whose thread waits after a tick, and is woken at moment 4
 told_of_the_wake : flat_map (wakes_at worked.arrival_before_order_before_release_system 0) (range_with_len 0 5) ≡ 4 ∷ []
