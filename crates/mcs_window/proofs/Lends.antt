@@ -64,6 +64,7 @@ module _ (a : Inside) (kept : IsKept a) where
         ahead = may.ahead;
         in_time = past_by-in_time (table_of a) k system.cores;
         reached = by-delays system k (past_of (table_of a) k) a.clocks (past_by-reached (table_of a) k system.cores);
+        far = λ b l other _. past_by-reached (table_of a) k system.cores b l other;
       }
 
   -- the piece that is lent

@@ -1,6 +1,6 @@
 -- A desk that takes turns by itself: the core that goes on, and idle time that is skipped.
 use Rattle.std.proofs.Common.{◌≡◌, ℕ, zero, suc, ◌+◌, ◌-◌, ◌≤◌, false, Option, None, List, [], ◌∷◌, get_or, set, refl, subst, sym, arith}
-use Rattle.mcs_window.specs.Desk.{Table, AllAreHere, IsLater, clock_of, settled_at, turns_left}
+use Rattle.mcs_window.specs.Desk.{Table, AllAreHere, WentByScripts, IsLater, clock_of, settled_at, turns_left}
 use Rattle.mcs_window.specs.Idle.{AreSet}
 use Rattle.mcs_window.specs.declared.slot.Loan.{Loan}
 use Rattle.mcs_window.proofs.Lending.{sum-le}
@@ -12,10 +12,10 @@ none-set (first ∷ loans) zero (suc b) e = e
 none-set (first ∷ loans) (suc c) zero e = e
 none-set (first ∷ loans) (suc c) (suc b) e = none-set loans c b e
 
-pub settled-later : (table after : Table) (c to : ℕ) → table.lost ≡ false → AllAreHere table → after ≡ settled_at table c to → IsLater table after
-settled-later table after c to sound here e =
-    subst (IsLater table) (sym e)
-    (record { system_is = refl; horizon_is = refl; taken_are = refl; sound = sound; here = λ b l. none-set table.loans c b (here b l) })
+pub settled-later : (table after : Table) (c to : ℕ) → table.lost ≡ false → AllAreHere table → after ≡ settled_at table c to → WentByScripts table after → IsLater table after
+settled-later table after c to sound here e went =
+    subst (λ t. WentByScripts table t → IsLater table t) (sym e)
+    (λ w. record { system_is = refl; horizon_is = refl; taken_are = refl; sound = sound; here = λ b l. none-set table.loans c b (here b l); went = w }) went
 
 pub skipped-turns : (before after : Table) (moment : ℕ) → AreSet before.system before.clocks moment after.clocks → after ≡ record before { clocks = after.clocks } → turns_left after ≤ turns_left before
 skipped-turns before after moment set same =

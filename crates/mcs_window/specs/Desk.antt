@@ -2,6 +2,7 @@
 use Rattle.std.specs.Prelude.{◌≡◌, ◌≢◌, ◌⊎◌, ℕ, ◌+◌, ◌-◌, ◌<◌, ◌≤◌, ◌==◌, min, if◌then◌else◌, Bool, true, false, Option, Some, None, List, fold, sum_by, length, get_or, replicate, slice_index, slice_set}
 use Rattle.std.specs.List.{range_with_len}
 use Rattle.mcs_system.specs.System.{System, delay_between}
+use Rattle.mcs_window.specs.ByScripts.{IsSafeByScripts, IsFarByScripts, clocks_after}
 use Rattle.mcs_window.specs.Idle.{AreSet, IsIdleUntil}
 use Rattle.mcs_window.specs.Pieces.{Outcome}
 use Rattle.mcs_window.specs.Stretch.{rows_between, NothingArrivesBefore}
@@ -59,6 +60,7 @@ pub record MayGoOn (table : Table) (c past : ℕ) : Type 0 where
   pub ahead : clock_of table c < past
   pub in_time : past ≤ table.horizon + 1
   pub reached : NothingArrivesBefore table.system c past table.clocks
+  pub far : IsFarByScripts table.system table.clocks c past
 
 -- of the cores that may be lent it has the least clock, and of those with that clock the least number
 pub record IsChosen (table : Table) (c : ℕ) : Type 0 where
@@ -104,6 +106,7 @@ pub record IsSkipped (before after : Table) : Type 0 where
   pub moment : ℕ
   pub until : IsIdleUntil before.system before.clocks (before.horizon + 1) moment
   pub clocks : AreSet before.system before.clocks moment after.clocks
+  pub many : length after.clocks ≡ length before.clocks
   pub rest : after ≡ record before { clocks = after.clocks }
 
 -- what is there before a core is lent: where no core is lent and no piece was lost idle time was skipped, and else nothing changed
@@ -158,6 +161,12 @@ pub record IsWhole (table : Table) : Type 0 where
   pub here : AllAreHere table
   pub untaken : IsUntaken table
 
+-- turns were taken on the desk, in an order that is safe by the scripts, and nothing else changed
+pub record WentByScripts (before after : Table) : Type 0 where
+  pub turns : List ℕ
+  pub safe : IsSafeByScripts before.system before.horizon before.clocks turns
+  pub rest : after ≡ record before { clocks = clocks_after before.clocks turns }
+
 -- later, with nothing lent or lost at either moment, and no rows taken between them
 pub record IsLater (before after : Table) : Type 0 where
   pub system_is : after.system ≡ before.system
@@ -165,6 +174,7 @@ pub record IsLater (before after : Table) : Type 0 where
   pub taken_are : after.taken ≡ before.taken
   pub sound : after.lost ≡ false
   pub here : AllAreHere after
+  pub went : WentByScripts before after
 
 -- where memory was refused: the cores went on, and then core `core`, which was to go on up to before `past`, stays lent for good, and its
 -- rows that were not taken are gone

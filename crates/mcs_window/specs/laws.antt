@@ -1,1 +1,4 @@
 pub mod Merging
+pub mod Steps
+pub mod Orders
+pub mod Calls

@@ -3,13 +3,14 @@ ghost use Rattle.std.specs.Arc.{arc_value};
 ghost use Rattle.mcs_core.specs.Clock.{world, core_shown};
 ghost use Rattle.mcs_core.specs.Quiet.{IsNextBusy};
 ghost use Rattle.mcs_system.specs.System.{delay_between};
+ghost use Rattle.mcs_window.specs.ByScripts.{IsFarByScripts};
 ghost use Rattle.mcs_window.specs.Idle.{IsIdle, AreIdle, AreSet, IsIdleUntil, OnlyCounts};
 ghost use Rattle.mcs_window.specs.Inbox.{inbox, signals_between};
 ghost use Rattle.mcs_laws.specs.Links.{Signals};
 ghost use Rattle.mcs_window.specs.Stretch.{rows_between, NothingArrivesBefore};
 ghost use Rattle.mcs_window.specs.stored.Reaches.{IsReach};
 ghost use Rattle.mcs_window.specs.stored.Slots.{IsEarliest, HoldsAt};
-ghost use Rattle.mcs_window.specs.Desk.{opening_table, clock_of, taken_of, past_of, loan_of, MayGoOn, MayLend, IsChosen, IsBest, lent_at, lent_to, settled_at, taken_at, IsSkipped, IsAwake, IsLent, IsSameRun, with_lost, IsLoan, IsSettleFault, AllAreHere, IsFinished, IsUntaken, IsWhole, IsLater, IsSpent, rows_kept, turns_left};
+ghost use Rattle.mcs_window.specs.Desk.{opening_table, clock_of, taken_of, past_of, loan_of, MayGoOn, MayLend, IsChosen, IsBest, lent_at, lent_to, settled_at, taken_at, IsSkipped, IsAwake, IsLent, IsSameRun, with_lost, IsLoan, IsSettleFault, AllAreHere, IsFinished, IsUntaken, IsWhole, WentByScripts, IsLater, IsSpent, rows_kept, turns_left};
 
 use crate::calendar::Calendar;
 use crate::delivery::{deliver, deliver_reserved, make_room};
@@ -236,6 +237,7 @@ impl Desk {
     fn farthest(&self, core: CoreId) -> Tick
         requires { core < self.now.system.cores }
         ensures reached { NothingArrivesBefore self.now.system core result self.now.clocks }
+        ensures far { IsFarByScripts self.now.system self.now.clocks core result }
         ensures in_time { result ≤ self.now.horizon + 1 }
         ensures no_less { past_of self.now core ≤ result }
     {
@@ -394,6 +396,8 @@ impl Desk {
         requires in_time { moment ≤ self.old.horizon + 1 }
         requires idle { AreIdle self.old.system self.old.clocks moment }
         ensures clocks { AreSet self.old.system self.old.clocks moment self.new.clocks }
+        ensures many { length self.new.clocks ≡ length self.old.clocks }
+        ensures went { WentByScripts self.old self.new }
         ensures rest { self.new ≡ record self.old { clocks = self.new.clocks } }
         ensures count { (c : ℕ) → c < self.old.system.cores → OnlyCounts self.old.system self.old.clocks self.new.clocks c }
     {
@@ -633,6 +637,7 @@ impl Desk {
         requires may { MayGoOn self.old core past }
         ensures ok { OnOk result (self.new ≡ settled_at self.old core (clock_of self.new core)) }
         ensures moved { OnOk result ((clock_of self.old core < clock_of self.new core) × (clock_of self.new core ≤ past)) }
+        ensures went { OnOk result (WentByScripts self.old self.new) }
         ensures fewer { OnOk result (turns_left self.new < turns_left self.old) }
         ensures err { OnErr result (self.new ≡ taken_at (lent_to self.old core past) core) }
         ensures silent { IfOk result (λ signals. IsFalse signals →
@@ -685,6 +690,7 @@ impl Desk {
         requires here { AllAreHere self.old }
         requires holds { HoldsAt self.old calendar.old }
         ensures ok { OnOk result (self.new ≡ settled_at self.old core (clock_of self.new core)) }
+        ensures went { OnOk result (WentByScripts self.old self.new) }
         ensures fewer { OnOk result (turns_left self.new < turns_left self.old) }
         ensures holds { OnOk result (HoldsAt self.new calendar.new) }
         ensures err { OnErr result (self.new ≡ taken_at (lent_to self.old core past) core) }

@@ -33,3 +33,10 @@ returns-clause-reached c =
     let is : c.unwrap.result ≡ c.loop-other.past = search rules in
     far_by-reached table c.args.core c.unwrap.result well
     (subst (λ n. IsFarBy table c.args.core n c.unwrap.result) all (subst (IsFarBy table c.args.core c.loop-other.other) (sym is) c.loop-other.invariant))
+
+pub returns-clause-far : goal.returns-clause-far
+returns-clause-far c =
+    let table = c.args.self.now in
+    let all : c.loop-other.other ≡ table.system.cores = omega arith in
+    let is : c.unwrap.result ≡ c.loop-other.past = search rules in
+    (subst (λ n. IsFarBy table c.args.core n c.unwrap.result) all (subst (IsFarBy table c.args.core c.loop-other.other) (sym is) c.loop-other.invariant)).said

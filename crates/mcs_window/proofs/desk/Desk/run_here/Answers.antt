@@ -1,10 +1,11 @@
-use Rattle.std.proofs.Common.{◌≡◌, ◌<◌, ◌∙◌, get_or, set, refl, ap, sym, subst}
+use Rattle.std.proofs.Common.{◌≡◌, ◌<◌, ◌∙◌, get_or, set, refl, ap, sym, subst, arith}
 use Rattle.std.specs.Prelude.{slice_index}
 use Rattle.std.specs.Arc.{arc_value}
 use Rattle.std.proofs.lemmas.List.{set-set, get_or_default}
 use Rattle.mcs_window.specs.Desk.{lent_to, settled_at, taken_at, turns_left}
 use Rattle.mcs_window.specs.stored.Delivery.{AreDelivered, AreSameMail}
 use Rattle.mcs_window.specs.stored.Slots.{table_of, HasGone}
+use Rattle.mcs_window.proofs.Going.{settled-went, went-seen}
 use Rattle.mcs_window.proofs.Running.{at_core, may_go, in_clocks, in_boxes, gone_kept, gone_shows, gone_clock, gone_fewer, spent_kept, spent_shows, same-mail, same-respent, respent_are}
 use Rattle.mcs_window.proofs.desk.Desk.run_here.Goals as goal
 
@@ -98,3 +99,16 @@ returns-clause-fewer c =
     let fewer = gone_fewer a c.self.invariant k c.args.past at to run.slot run.mail c.deliver.new.boxes c.index_mut-rows.result.now run.rows run.signals gone delivered c.index_mut-rows.ensures.value in
     let shows = gone_shows a c.self.invariant k c.args.past at to run.slot run.mail c.deliver.new.boxes c.index_mut-rows.result.now run.rows run.signals gone delivered c.index_mut-rows.ensures.value in
     subst (λ t. turns_left t < turns_left c.args.self.now) (sym shows) (subst (λ t. turns_left (settled_at (table_of a) k to) < turns_left t) c.self.view_is fewer)
+
+pub returns-clause-went : goal.returns-clause-went
+returns-clause-went c =
+    let a = c.self.inside in
+    let k = c.core.inside.0 in
+    let run = c.run_slot-ran.new in
+    let to = c.in-Ok.to in
+    let at = at_core (table_of a) c.args.self.now k c.args.core c.args.past c.self.view_is c.core.view_is c.requires.may in
+    let gone : HasGone (arc_value a.system) k c.args.past a.clocks c.index_mut-rows.result.now.items run.slot run.mail.mails run.rows.items run.signals.items to = rw (c.deref.ensures, ← c.core.view_is) at c.in-Ok.ensures in
+    let delivered : AreDelivered (arc_value a.system) run.signals.items (set a.boxes.items k run.mail) c.deliver.new.boxes = rw (c.deref-2.ensures, c.deref-3.ensures.value, c.deref_mut.ensures.value) at c.in-Ok-deliver.ensures.delivered in
+    went-seen (table_of a) c.args.self.now _ c.self.view_is
+    (settled-went (table_of a) _ k c.args.past to at (let few = c.self.invariant.few in let all = c.self.invariant.clocks_of in omega arith) gone.later gone.in_time
+    (gone_shows a c.self.invariant k c.args.past at to run.slot run.mail c.deliver.new.boxes c.index_mut-rows.result.now run.rows run.signals gone delivered c.index_mut-rows.ensures.value))

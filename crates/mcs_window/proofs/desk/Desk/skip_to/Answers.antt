@@ -1,8 +1,11 @@
-use Rattle.std.proofs.Common.{◌∙◌, ◌≤◌, ◌<◌, ◌+◌, ℕ, ap, sym, subst}
+use Rattle.std.proofs.Common.{arith, ◌∙◌, ◌≤◌, ◌<◌, ◌+◌, ℕ, ap, sym, subst}
 use Rattle.std.specs.Arc.{arc_value}
-use Rattle.mcs_window.specs.Desk.{Table, AllAreHere}
+use Rattle.mcs_window.specs.Desk.{Table, AllAreHere, WentByScripts}
 use Rattle.mcs_window.specs.Idle.{AreIdle, AreReached, OnlyCounts}
 use Rattle.mcs_window.specs.stored.Slots.{HaveSkipped}
+use Rattle.mcs_window.proofs.Advances.{takes_time}
+use Rattle.mcs_window.proofs.Going.{skipped-went}
+use Rattle.mcs_window.specs.stored.Slots.{table_of}
 use Rattle.mcs_window.proofs.Skipping.{all-stand, all-reached, counts, skipped_desk, skipped_shows}
 use Rattle.mcs_window.proofs.desk.Desk.skip_to.Goals as goal
 
@@ -47,3 +50,18 @@ returns-clause-count c =
     subst R c.self.view_is
     (counts c.self.inside c.self.invariant (subst AllAreHere (sym c.self.view_is) c.requires.here) c.args.moment c.skip_slots.new.clocks c.skip_slots.new.slots
     (subst Q (sym c.self.view_is) c.requires.in_time) (subst P (sym c.self.view_is) c.requires.idle) skipped)
+
+pub returns-clause-went : goal.returns-clause-went
+returns-clause-went c =
+    let a = c.self.inside in
+    let P : Table → Type 0 = λ t. AreIdle t.system t.clocks c.args.moment in
+    let Q : Table → Type 0 = λ t. c.args.moment ≤ t.horizon + 1 in
+    let skipped : HaveSkipped (arc_value a.system) a.clocks c.args.moment (arc_value a.system).cores c.skip_slots.new.clocks c.skip_slots.new.slots =
+    rw c.deref.ensures at c.skip_slots.ensures in
+    let went : WentByScripts (table_of a) (record (table_of a) { clocks = c.skip_slots.new.clocks }) =
+    skipped-went (table_of a) c.args.moment c.skip_slots.new.clocks (takes_time (arc_value a.system) c.self.invariant.well_formed)
+    (let few = c.self.invariant.few in let all = c.self.invariant.clocks_of in omega arith) (subst Q (sym c.self.view_is) c.requires.in_time) skipped.clocks_are in
+    subst (λ (t : Table). WentByScripts c.args.self.now t)
+    (sym (skipped_shows a c.self.invariant (subst AllAreHere (sym c.self.view_is) c.requires.here) c.args.moment c.skip_slots.new.clocks c.skip_slots.new.slots
+    (subst Q (sym c.self.view_is) c.requires.in_time) (subst P (sym c.self.view_is) c.requires.idle) skipped))
+    (subst (λ (t : Table). WentByScripts t (record (table_of a) { clocks = c.skip_slots.new.clocks })) c.self.view_is went)
