@@ -1,7 +1,7 @@
 -- What a sink that was given rows in order has found.
 use Rattle.std.proofs.Common.{◌≡◌, max, Bool, true, List, [], ◌∷◌, map, fold, refl, subst}
 use Rattle.mcs_ticks.specs.declared.row.Row.{Row}
-use Rattle.mcs_team.specs.Flow.{Given}
+use Rattle.mcs_ticks.specs.Given.{Given}
 use Rattle.example_longest_wait.specs.Waits.{wait_after}
 use Rattle.example_longest_wait.specs.declared.sink.LongestWait.{LongestWait}
 

@@ -3,7 +3,7 @@ use Rattle.std.proofs.Common.{◌≡◌, ◌∙◌, ◌++◌, ℕ, Bool, true, f
 use Rattle.std.specs.Io.KnownBytes.{Appends}
 use Rattle.std.proofs.KnownBytes.{Appends-nil, Appends-trans}
 use Rattle.mcs_ticks.specs.declared.row.Row.{Row}
-use Rattle.mcs_team.specs.Flow.{Given, GivenUntil, GivenSome}
+use Rattle.mcs_ticks.specs.Given.{Given, GivenUntil, GivenSome}
 use Rattle.mcs_cli.specs.Devices.{AppendsPrefix}
 use Rattle.mcs_cli.specs.Flow.{AppendsBefore, IsWriteFault, TakesLine}
 use Rattle.mcs_cli.specs.declared.fault.RunFault.{RunFault}

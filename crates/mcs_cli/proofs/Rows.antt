@@ -4,7 +4,7 @@ use Rattle.mcs_ticks.specs.declared.row.Row.{Row}
 use Rattle.mcs_system.specs.System.{System}
 use Rattle.mcs_core.specs.Clock.{schedule}
 use Rattle.mcs_text.specs.Text.{row_text, schedule_text}
-use Rattle.mcs_team.specs.Flow.{Given, GivenUntil, GivenSome}
+use Rattle.mcs_ticks.specs.Given.{Given, GivenUntil, GivenSome}
 use Rattle.mcs_cli.specs.Devices.{AppendsPrefix}
 use Rattle.mcs_cli.specs.Flow.{AppendsBefore, TakesLine}
 use Rattle.mcs_cli.specs.declared.sink.Lines.{Lines}

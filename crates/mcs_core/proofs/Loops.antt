@@ -5,6 +5,8 @@ use Rattle.std.specs.List.{AllByRecursion}
 use Rattle.std.proofs.lemmas.Bool.Decides.{nat_tests}
 use Rattle.mcs_ticks.specs.declared.row.Row.{Row}
 use Rattle.mcs_ticks.specs.declared.row.What.{What}
+use Rattle.mcs_ticks.specs.Given.{Given}
+use Rattle.mcs_ticks.proofs.Givens.{given-append}
 use Rattle.mcs_control.specs.declared.config.Order.{Order}
 use Rattle.mcs_mail.specs.declared.mail.Mail.{Mail}
 use Rattle.mcs_mail.specs.Box.{due, without_due, arriving}
@@ -13,55 +15,57 @@ use Rattle.mcs_core.specs.Core.{Core}
 use Rattle.mcs_core.specs.Turn.{stamped, Turn, silent, ◌followed_by◌}
 use Rattle.mcs_core.specs.declared.log.Here.{Here}
 use Rattle.mcs_core.specs.declared.log.Log.{Log}
-use Rattle.mcs_core.specs.stored.Parts.{Makes}
+use Rattle.mcs_core.specs.stored.Parts.{Adds, Makes}
 use Rattle.mcs_core.specs.Orders.{first_due, without_first, due_now, to_come, AreByMoment, IsPlanned, ArePlanned}
 
 pub stamped-append : (c t : ℕ) (xs ys : List What) → stamped c t (xs ++ ys) ≡ stamped c t xs ++ stamped c t ys
 stamped-append c t [] ys = refl
 stamped-append c t (x ∷ xs) ys = ap (λ rs. record { moment = t; core = c; what = x } ∷ rs) (stamped-append c t xs ys)
 
--- one part, and then another
-pub then-makes : (here : Here) (first : Turn) (part : Core → Turn) (core core' : Core) (before between after : Log) →
-    Makes here first core before between → Makes here (part core) core' between after → Makes here (first followed_by part) core' before after
-then-makes here first part core core' before between after h k = rest core h.core k
-  where
-    rest : (core : Core) → core ≡ first.core → Makes here (part core) core' between after → Makes here (first followed_by part) core' before after
-    rest core e k = by (let P : Core → Type 0 = λ x. Makes here (part x) core' between after in subst P e k)
-      where
-        by : Makes here (part first.core) core' between after → Makes here (first followed_by part) core' before after
-        by k = record {
-          core = k.core;
-          adds = record {
-            rows = k.adds.rows ∙ ap (λ (rs : List Row). rs ++ stamped here.core here.moment (part first.core).rows) h.adds.rows
-                ∙ append_assoc before.rows.now.items (stamped here.core here.moment first.rows) (stamped here.core here.moment (part first.core).rows)
-                ∙ ap (λ (rs : List Row). before.rows.now.items ++ rs) (sym (stamped-append here.core here.moment first.rows (part first.core).rows));
-            signals = k.adds.signals ∙ ap (λ (ms : List Mail). ms ++ (part first.core).mails) h.adds.signals
-                ∙ append_assoc before.signals.now.items first.mails (part first.core).mails;
-            same_rows = k.adds.same_rows ∙ h.adds.same_rows;
-            same_signals = k.adds.same_signals ∙ h.adds.same_signals;
-          };
-        }
+-- what the turns tell a sink: lemmas for each kind of sink
+module _ {S : Type 0} {takes : S → Row → Bool → S → Type 0} where
+  -- one part, and then another
+  pub then-adds : (here : Here) (told more : List What) (mails others : List Mail) (before between after : Log S) →
+      Adds takes here told mails before between → Adds takes here more others between after → Adds takes here (told ++ more) (mails ++ others) before after
+  then-adds here told more mails others before between after h k = record {
+    rows = subst (λ (rs : List Row). Given takes before.sink.now rs after.sink.now) (sym (stamped-append here.core here.moment told more))
+        (given-append takes before.sink.now between.sink.now after.sink.now (stamped here.core here.moment told) (stamped here.core here.moment more) h.rows k.rows);
+    signals = k.signals ∙ ap (λ (ms : List Mail). ms ++ others) h.signals ∙ append_assoc before.signals.now.items mails others;
+    same_sink = k.same_sink ∙ h.same_sink;
+    same_signals = k.same_signals ∙ h.same_signals;
+  }
+
+  pub then-makes : (here : Here) (first : Turn) (part : Core → Turn) (core core' : Core) (before between after : Log S) →
+      Makes takes here first core before between → Makes takes here (part core) core' between after → Makes takes here (first followed_by part) core' before after
+  then-makes here first part core core' before between after h k = rest core h.core k
+    where
+      rest : (core : Core) → core ≡ first.core → Makes takes here (part core) core' between after → Makes takes here (first followed_by part) core' before after
+      rest core e k = by (let P : Core → Type 0 = λ x. Makes takes here (part x) core' between after in subst P e k)
+        where
+          by : Makes takes here (part first.core) core' between after → Makes takes here (first followed_by part) core' before after
+          by k = record { core = k.core; adds = then-adds here first.rows (part first.core).rows first.mails (part first.core).mails before between after h.adds k.adds }
+
+  -- nothing is told and nothing is sent
+  pub no-adds : (here : Here) (log : Log S) → Adds takes here [] [] log log
+  no-adds here log = record { rows = refl; signals = sym (append-nil log.signals.now.items); same_sink = refl; same_signals = refl }
 
 -- what was made so far, and what is left to do from this core on: together they make the whole
-pub record GoesOn (here : Here) (whole rest : Turn) (before now : Log) : Type 0 where
-  pub goes : (core : Core) (after : Log) → Makes here rest core now after → Makes here whole core before after
+pub record GoesOn {S : Type 0} (takes : S → Row → Bool → S → Type 0) (here : Here) (whole rest : Turn) (before now : Log S) : Type 0 where
+  pub goes : (core : Core) (after : Log S) → Makes takes here rest core now after → Makes takes here whole core before after
 
-pub goes-start : (here : Here) (whole : Turn) (before : Log) → GoesOn here whole whole before before
-goes-start here whole before = record { goes = λ core after h. h }
+module _ {S : Type 0} {takes : S → Row → Bool → S → Type 0} where
+  pub goes-start : (here : Here) (whole : Turn) (before : Log S) → GoesOn takes here whole whole before before
+  goes-start here whole before = record { goes = λ core after h. h }
 
-pub goes-step : (here : Here) (whole rest : Turn) (before now now' : Log) (first : Turn) (part : Core → Turn) (core : Core) →
-    GoesOn here whole rest before now → rest ≡ (first followed_by part) → Makes here first core now now' → GoesOn here whole (part core) before now'
-goes-step here whole rest before now now' first part core g e h = record {
-  goes = λ core' after k. g.goes core' after (rw e (then-makes here first part core core' now now' after h k));
-}
+  pub goes-step : (here : Here) (whole rest : Turn) (before now now' : Log S) (first : Turn) (part : Core → Turn) (core : Core) →
+      GoesOn takes here whole rest before now → rest ≡ (first followed_by part) → Makes takes here first core now now' → GoesOn takes here whole (part core) before now'
+  goes-step here whole rest before now now' first part core g e h = record {
+    goes = λ core' after k. g.goes core' after (rw e (then-makes here first part core core' now now' after h k));
+  }
 
-pub goes-end : (here : Here) (whole rest : Turn) (before now : Log) (core : Core) →
-    GoesOn here whole rest before now → rest ≡ silent core → Makes here whole core before now
-goes-end here whole rest before now core g e =
-    g.goes core now (rw e (record {
-      core = refl;
-      adds = record { rows = sym (append-nil now.rows.now.items); signals = sym (append-nil now.signals.now.items); same_rows = refl; same_signals = refl };
-    }))
+  pub goes-end : (here : Here) (whole rest : Turn) (before now : Log S) (core : Core) →
+      GoesOn takes here whole rest before now → rest ≡ silent core → Makes takes here whole core before now
+  goes-end here whole rest before now core g e = g.goes core now (rw e (record { core = refl; adds = no-adds here now }))
 
 -- the first order that is due, and the others
 pub record IsFirstDue (system : System) (c t : ℕ) (order : Order) (orders : List Order) : Type 0 where

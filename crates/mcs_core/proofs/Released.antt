@@ -4,6 +4,7 @@ use Rattle.std.specs.Prelude.{◌==◌, Option, Some, None}
 use Rattle.std.proofs.lemmas.Bool.Decides.{nat_tests}
 use Rattle.mcs_ticks.specs.Queue.{by_priority, first_of, rest_of}
 use Rattle.mcs_ticks.specs.declared.queue.Queued.{Queued}
+use Rattle.mcs_ticks.specs.declared.row.Row.{Row}
 use Rattle.mcs_ticks.specs.declared.row.What.TheVariants as row
 use Rattle.mcs_ready.specs.Ready.{thread_of as thread_of_queued}
 use Rattle.mcs_release.specs.declared.dated.Dated.{Dated}
@@ -110,11 +111,11 @@ module _ (system : System) (c : ℕ) (one_each : IsOneEach system) (t : ℕ) (so
       by (Some d) f g = cc
 
 -- what the code makes of the thread that it takes is what is made of one whose date has come
-pub made-released : (here : Here) (due : Dated) (x : ℕ) (core core' left : Core) (before after : Log) → due.thread ≡ x → core' ≡ core →
-    Makes here (says (row.Release x) (enters_back by_priority here.system.now x None core')) left before after → Makes here (released by_priority here.system.now due core) left before after
-made-released here due x core core' left before after e f h =
-    let P : Core → Type 0 = λ (y : Core). Makes here (says (row.Release x) (enters_back by_priority here.system.now x None y)) left before after in
-    let Q : ℕ → Type 0 = λ y. Makes here (says (row.Release y) (enters_back by_priority here.system.now y None core)) left before after in
+pub made-released : {S : Type 0} {takes : S → Row → Bool → S → Type 0} (here : Here) (due : Dated) (x : ℕ) (core core' left : Core) (before after : Log S) → due.thread ≡ x → core' ≡ core →
+    Makes takes here (says (row.Release x) (enters_back by_priority here.system.now x None core')) left before after → Makes takes here (released by_priority here.system.now due core) left before after
+made-released {S} {takes} here due x core core' left before after e f h =
+    let P : Core → Type 0 = λ (y : Core). Makes takes here (says (row.Release x) (enters_back by_priority here.system.now x None y)) left before after in
+    let Q : ℕ → Type 0 = λ y. Makes takes here (says (row.Release y) (enters_back by_priority here.system.now y None core)) left before after in
     subst Q (sym e) (subst P f h)
 
 -- the best ready thread is one of the core

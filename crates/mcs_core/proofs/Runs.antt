@@ -1,7 +1,8 @@
 -- Turns one after another.
 use Rattle.std.proofs.Common.{◌≡◌, ℕ, zero, suc, ◌+◌, ◌-◌, length, ◌<◌, ◌≤◌, Bool, true, false, cond, List, [], ◌∷◌, ◌++◌, refl, sym, ap, subst, ◌∙◌, append_assoc, append-nil, length-append, arith}
 use Rattle.std.specs.Prelude.{◌==◌, nat_le, not, max, All, Result, Ok, Err, OnOk, is_err, IsTrue, ◌↔◌}
-use Rattle.mcs_ticks.specs.declared.memory.NoMemory.{NoMemory}
+use Rattle.mcs_ticks.specs.Given.{Given}
+use Rattle.mcs_ticks.proofs.Givens.{given-append}
 use Rattle.mcs_control.specs.declared.config.Order.{Order}
 use Rattle.std.proofs.lemmas.Bool.Decides.{nat_tests}
 use Rattle.std.proofs.lemmas.List.Elements.{All-cons}
@@ -31,9 +32,9 @@ later-staying t (x ∷ xs) h = by (x.arrives == t) refl (later-staying t xs (λ 
         both = All-cons (λ (mail : Mail). t + 1 ≤ mail.arrives) x (staying t xs) (first x.arrives (h 0 x (omega arith)) e) i
 
 -- what the turns from here on make, with what was made so far, is what the whole makes
-pub record RunsOn (before : List Row) (sent : List Mail) (whole rest : Ran) (rows : List Row) (signals : List Mail) : Type 0 where
+pub record RunsOn {S : Type 0} (takes : S → Row → Bool → S → Type 0) (before : S) (sent : List Mail) (whole rest : Ran) (now : S) (signals : List Mail) : Type 0 where
   pub core : rest.core ≡ whole.core
-  pub told : rows ++ rest.rows ≡ before ++ whole.rows
+  pub told : (after : S) → Given takes now rest.rows after → Given takes before whole.rows after
   pub made : signals ++ rest.mails ≡ sent ++ whole.mails
   pub box : rest.box ≡ whole.box
 
@@ -101,24 +102,24 @@ module _ (system : System) where
       ∙ ap (λ t. joined made (ran system state.number (to - u) t made.core made.box)) there ∙ ap (joined made) (sym rest)
 
   -- what turns from the state after some of them make with what was made so far is what the whole makes
-  pub runs-on : (to u : ℕ) (state state' : State) (box box' : List Mail) (before rows rows' : List Row) (sent signals signals' : List Mail) (whole : Ran) → state.clock ≤ u → u ≤ to →
-      RunsOn before sent whole (made_by system state to box) rows signals → state' ≡ state_after state u (made_by system state u box) →
-      box' ≡ (made_by system state u box).box → rows' ≡ rows ++ (made_by system state u box).rows →
-      signals' ≡ signals ++ (made_by system state u box).mails → RunsOn before sent whole (made_by system state' to box') rows' signals'
-  runs-on to u state state' box box' before rows rows' sent signals signals' whole l k h e f g i =
-      let P : Ran → Type 0 = λ rest. RunsOn before sent whole rest rows signals in
+  pub runs-on : {S : Type 0} (takes : S → Row → Bool → S → Type 0) (to u : ℕ) (state state' : State) (box box' : List Mail) (before now now' : S) (sent signals signals' : List Mail) (whole : Ran) → state.clock ≤ u → u ≤ to →
+      RunsOn takes before sent whole (made_by system state to box) now signals → state' ≡ state_after state u (made_by system state u box) →
+      box' ≡ (made_by system state u box).box → Given takes now (made_by system state u box).rows now' →
+      signals' ≡ signals ++ (made_by system state u box).mails → RunsOn takes before sent whole (made_by system state' to box') now' signals'
+  runs-on takes to u state state' box box' before now now' sent signals signals' whole l k h e f g i =
+      let P : Ran → Type 0 = λ rest. RunsOn takes before sent whole rest now signals in
       after (made_by system state u box) (made_by system state' to box') (subst P (made-through u to state state' box box' l k e f) h) g i
     where
-      after : (first rest : Ran) → RunsOn before sent whole (joined first rest) rows signals → rows' ≡ rows ++ first.rows → signals' ≡ signals ++ first.mails → RunsOn before sent whole rest rows' signals'
+      after : (first rest : Ran) → RunsOn takes before sent whole (joined first rest) now signals → Given takes now first.rows now' → signals' ≡ signals ++ first.mails → RunsOn takes before sent whole rest now' signals'
       after first rest h i j = record {
         core = h.core;
-        told = rw i (append_assoc rows first.rows rest.rows ∙ h.told);
+        told = λ t k. h.told t (given-append takes now now' t first.rows rest.rows i k);
         made = rw j (append_assoc signals first.mails rest.mails ∙ h.made);
         box = h.box;
       }
 
 -- a call that was no refusal
-pub if_ok : (r : Result (Unit {0}) NoMemory) (P : Type 0) → is_err r ≡ false → OnOk r P → P
+pub if_ok : {E : Type 0} (r : Result (Unit {0}) E) (P : Type 0) → is_err r ≡ false → OnOk r P → P
 if_ok (Ok x) P e p = p
 if_ok (Err x) P e p = cc
 
@@ -168,6 +169,10 @@ module _ (system : System) where
   pub none-made : (state : State) (box : List Mail) → made_by system state state.clock box ≡ record { core = state.core; rows = []; mails = []; box = box }
   none-made state box = let none : state.clock - state.clock ≡ 0 = omega arith in ap (λ n. ran system state.number n state.clock state.core box) none
 
+  -- and none before it
+  pub none-yet : (state : State) (box : List Mail) → made_by system state (state.clock - 1) box ≡ record { core = state.core; rows = []; mails = []; box = box }
+  none-yet state box = let none : state.clock - 1 - state.clock ≡ 0 = omega arith in ap (λ n. ran system state.number n state.clock state.core box) none
+
   pub state-at-first : (state : State) (box : List Mail) → Fits system state → state.failed ≡ false → state ≡ state_after state state.clock (made_by system state state.clock box)
   state-at-first state box fits going =
       let time : state.clock ≡ max state.clock state.clock = omega arith in
@@ -192,6 +197,17 @@ module _ (system : System) where
         h ∙ ap (λ (xs : List Row). xs ++ (made_by system mid to left).rows) g
         ∙ append_assoc before (made_by system state u box).rows (made_by system mid to left).rows ∙ ap (λ (made : Ran). before ++ made.rows) (sym all)
 
+    pub given-through : {S : Type 0} (takes : S → Row → Bool → S → Type 0) (before now after : S) → Given takes before (made_by system state u box).rows now →
+        Given takes now (made_by system mid to left).rows after → Given takes before (made_by system state to box).rows after
+    given-through {S} takes before now after g h =
+        subst (λ (made : Ran). Given takes before made.rows after) (sym (made-through system u to state mid box left l k e f))
+        (given-append takes before now after (made_by system state u box).rows (made_by system mid to left).rows g h)
+
+    -- where no row is made after some turns, nothing more is given
+    pub given-rest : {S : Type 0} (takes : S → Row → Bool → S → Type 0) (before now : S) → Given takes before (made_by system state u box).rows now →
+        (made_by system mid to left).rows ≡ [] → Given takes before (made_by system state to box).rows now
+    given-rest {S} takes before now g none = given-through takes before now now g (subst (λ (rows : List Row). Given takes now rows now) (sym none) refl)
+
     -- where no row is made after some turns, there are as many after more of them
     pub rows-rest : (before rows : List Row) → rows ≡ before ++ (made_by system state u box).rows → (made_by system mid to left).rows ≡ [] → length before + length (made_by system state to box).rows ≡ length rows
     rows-rest before rows g none =
@@ -208,19 +224,20 @@ module _ (system : System) where
     box-through = ap (λ (made : Ran). made.box) (sym (made-through system u to state mid box left l k e f))
 
 -- no turn is left
-pub runs-end : (system : System) (c t n : ℕ) (core : Core) (box : List Mail) (before rows : List Row) (sent signals : List Mail) (whole : Ran) →
-    n ≡ 0 → RunsOn before sent whole (ran system c n t core box) rows signals →
-    RunsOn before sent whole (record { core = core; rows = []; mails = []; box = box }) rows signals
-runs-end system c t n core box before rows sent signals whole e h =
-    let P : ℕ → Type 0 = λ x. RunsOn before sent whole (ran system c x t core box) rows signals in subst P e h
+module _ {S : Type 0} (takes : S → Row → Bool → S → Type 0) where
+  pub runs-end : (system : System) (c t n : ℕ) (core : Core) (box : List Mail) (before now : S) (sent signals : List Mail) (whole : Ran) →
+      n ≡ 0 → RunsOn takes before sent whole (ran system c n t core box) now signals →
+      RunsOn takes before sent whole (record { core = core; rows = []; mails = []; box = box }) now signals
+  runs-end system c t n core box before now sent signals whole e h =
+      let P : ℕ → Type 0 = λ x. RunsOn takes before sent whole (ran system c x t core box) now signals in subst P e h
 
-pub told-all : (before rows : List Row) (sent signals : List Mail) (whole : Ran) (core : Core) (box : List Mail) →
-    RunsOn before sent whole (record { core = core; rows = []; mails = []; box = box }) rows signals → rows ≡ before ++ whole.rows
-told-all before rows sent signals whole core box h = sym (append-nil rows) ∙ h.told
+  pub told-all : (before now : S) (sent signals : List Mail) (whole : Ran) (core : Core) (box : List Mail) →
+      RunsOn takes before sent whole (record { core = core; rows = []; mails = []; box = box }) now signals → Given takes before whole.rows now
+  told-all before now sent signals whole core box h = h.told now refl
 
-pub made-all : (before rows : List Row) (sent signals : List Mail) (whole : Ran) (core : Core) (box : List Mail) →
-    RunsOn before sent whole (record { core = core; rows = []; mails = []; box = box }) rows signals → signals ≡ sent ++ whole.mails
-made-all before rows sent signals whole core box h = sym (append-nil signals) ∙ h.made
+  pub made-all : (before now : S) (sent signals : List Mail) (whole : Ran) (core : Core) (box : List Mail) →
+      RunsOn takes before sent whole (record { core = core; rows = []; mails = []; box = box }) now signals → signals ≡ sent ++ whole.mails
+  made-all before now sent signals whole core box h = sym (append-nil signals) ∙ h.made
 
 pub not_before : (b : Bool) (n m : ℕ) → (IsTrue b ↔ (n < m)) → b ≡ false → m ≤ n
 not_before true n m h e = absurd (cc)

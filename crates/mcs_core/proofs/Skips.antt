@@ -3,7 +3,9 @@ use Rattle.std.proofs.Common.{◌≡◌, ℕ, zero, suc, ◌+◌, ◌-◌, ◌<�
 use Rattle.std.specs.Prelude.{◌==◌, nat_le, max, filter, All, Option, Some, None, IfSome, Result, Ok, Err, OnOk}
 use Rattle.std.proofs.lemmas.Bool.Decides.{nat_tests}
 use Rattle.mcs_ticks.specs.Queue.{first_of}
-use Rattle.mcs_ticks.specs.declared.memory.NoMemory.{NoMemory}
+use Rattle.mcs_ticks.specs.declared.row.Row.{Row}
+use Rattle.mcs_ticks.specs.declared.sink.FlowFault.{FlowFault}
+use Rattle.mcs_ticks.specs.Given.{Given}
 use Rattle.mcs_control.specs.declared.config.Order.{Order}
 use Rattle.mcs_mail.specs.declared.mail.Mail.{Mail}
 use Rattle.mcs_mail.specs.Box.{arriving, first_arrival, IsOrdered}
@@ -227,7 +229,7 @@ module _ (system : System) (state : State) (box : List Mail) (until : ℕ) (late
       λ k d l. record { known = (kept k d l).known; home = (kept k d l).home; arrives = (let a = (kept k d l).arrives in omega arith) }
 
   -- a turn that is taken after them: with them it is one stretch, up to the clock
-  module _ (skipped new : State) (same : skipped ≡ quiet_state) (r : Result (Unit {0}) NoMemory) (took : OnOk r (new ≡ state_after skipped (skipped.clock + 1) (made_by system skipped (skipped.clock + 1) box))) where
+  module _ (skipped new : State) (same : skipped ≡ quiet_state) (r : Result (Unit {0}) FlowFault) (took : OnOk r (new ≡ state_after skipped (skipped.clock + 1) (made_by system skipped (skipped.clock + 1) box))) where
     whole-stretch : new ≡ state_after skipped (skipped.clock + 1) (made_by system skipped (skipped.clock + 1) box) →
         made_by system skipped (skipped.clock + 1) box ≡ made_by system state new.clock box
     whole-stretch e =
@@ -240,7 +242,7 @@ module _ (system : System) (state : State) (box : List Mail) (until : ℕ) (late
     pub stretch-state : OnOk r (new ≡ state_after state new.clock (made_by system state new.clock box))
     stretch-state = by r took
       where
-        by : (r : Result (Unit {0}) NoMemory) → OnOk r (new ≡ state_after skipped (skipped.clock + 1) (made_by system skipped (skipped.clock + 1) box)) →
+        by : (r : Result (Unit {0}) FlowFault) → OnOk r (new ≡ state_after skipped (skipped.clock + 1) (made_by system skipped (skipped.clock + 1) box)) →
             OnOk r (new ≡ state_after state new.clock (made_by system state new.clock box))
         by (Err x) e = tt
         by (Ok x) e =
@@ -254,7 +256,7 @@ module _ (system : System) (state : State) (box : List Mail) (until : ℕ) (late
     pub stretch-last : OnOk r ((made_by system state (new.clock - 1) box).rows ≡ [])
     stretch-last = by r took
       where
-        by : (r : Result (Unit {0}) NoMemory) → OnOk r (new ≡ state_after skipped (skipped.clock + 1) (made_by system skipped (skipped.clock + 1) box)) →
+        by : (r : Result (Unit {0}) FlowFault) → OnOk r (new ≡ state_after skipped (skipped.clock + 1) (made_by system skipped (skipped.clock + 1) box)) →
             OnOk r ((made_by system state (new.clock - 1) box).rows ≡ [])
         by (Err x) e = tt
         by (Ok x) e =
@@ -267,10 +269,19 @@ module _ (system : System) (state : State) (box : List Mail) (until : ℕ) (late
         OnOk r (after ≡ before ++ part (made_by system skipped (skipped.clock + 1) box)) → OnOk r (after ≡ before ++ part (made_by system state new.clock box))
     stretch-told {A} part before after told = by r took told
       where
-        by : (r : Result (Unit {0}) NoMemory) → OnOk r (new ≡ state_after skipped (skipped.clock + 1) (made_by system skipped (skipped.clock + 1) box)) →
+        by : (r : Result (Unit {0}) FlowFault) → OnOk r (new ≡ state_after skipped (skipped.clock + 1) (made_by system skipped (skipped.clock + 1) box)) →
             OnOk r (after ≡ before ++ part (made_by system skipped (skipped.clock + 1) box)) → OnOk r (after ≡ before ++ part (made_by system state new.clock box))
         by (Err x) e f = tt
         by (Ok x) e f = f ∙ ap (λ (made : Ran). before ++ part made) (whole-stretch e)
+
+    pub stretch-given : {S : Type 0} (takes : S → Row → Bool → S → Type 0) (before after : S) →
+        OnOk r (Given takes before (made_by system skipped (skipped.clock + 1) box).rows after) → OnOk r (Given takes before (made_by system state new.clock box).rows after)
+    stretch-given {S} takes before after told = by r took told
+      where
+        by : (r : Result (Unit {0}) FlowFault) → OnOk r (new ≡ state_after skipped (skipped.clock + 1) (made_by system skipped (skipped.clock + 1) box)) →
+            OnOk r (Given takes before (made_by system skipped (skipped.clock + 1) box).rows after) → OnOk r (Given takes before (made_by system state new.clock box).rows after)
+        by (Err x) e f = tt
+        by (Ok x) e f = subst (λ (made : Ran). Given takes before made.rows after) (whole-stretch e) f
 
   -- where no turn is taken after them
   module _ (skipped : State) (same : skipped ≡ quiet_state) where

@@ -1,8 +1,8 @@
 -- A whole turn from its parts, as the code takes them.
-use Rattle.std.proofs.Common.{◌≡◌, ℕ, ◌+◌, ◌^◌, ◌<◌, ◌≤◌, List, length, refl, subst, None, arith}
+use Rattle.std.proofs.Common.{◌≡◌, ℕ, Bool, ◌+◌, ◌^◌, ◌<◌, ◌≤◌, List, length, refl, subst, None, arith}
 use Rattle.std.specs.Prelude.{filter, All, Result, Ok, Err, OnOk}
 use Rattle.mcs_ticks.specs.Queue.{by_priority}
-use Rattle.mcs_ticks.specs.declared.memory.NoMemory.{NoMemory}
+use Rattle.mcs_ticks.specs.declared.row.Row.{Row}
 use Rattle.mcs_mail.specs.declared.mail.Mail.{Mail}
 use Rattle.mcs_control.specs.declared.config.Order.{Order}
 use Rattle.mcs_core.specs.Core.{Core}
@@ -21,20 +21,20 @@ use Rattle.mcs_core.proofs.Systems.{one-each, orders-proper, all-noted}
 use Rattle.mcs_core.proofs.Ticks.{tick-sound}
 use Rattle.mcs_core.proofs.Turning.{arrivals-sound, orders-sound, releases-sound, preempts-sound}
 
-pub on_ok-map : (P Q : Type 0) (r : Result (Unit {0}) NoMemory) → (P → Q) → OnOk r P → OnOk r Q
+pub on_ok-map : {E : Type 0} (P Q : Type 0) (r : Result (Unit {0}) E) → (P → Q) → OnOk r P → OnOk r Q
 on_ok-map P Q (Ok x) f p = f p
 on_ok-map P Q (Err x) f p = tt
 
 -- the whole turn, from its parts one after another; the orders are those of the agenda
-pub whole-turn : (here : Here) (mails : List Mail) (orders : List Order) (c0 c1 c2 c3 c4 c5 c6 : Core) (l0 l1 l2 l3 l4 l5 l6 : Log) →
+pub whole-turn : {S : Type 0} {takes : S → Row → Bool → S → Type 0} (here : Here) (mails : List Mail) (orders : List Order) (c0 c1 c2 c3 c4 c5 c6 : Core) (l0 l1 l2 l3 l4 l5 l6 : Log S) →
     let system = here.system.now in
     let t = here.moment in
     orders ≡ filter (is_for_now system here.core t) system.orders →
-    Makes here (tick by_priority system here.core t c0) c1 l0 l1 → Makes here (each (arrives by_priority system t) mails c1) c2 l1 l2 →
-    Makes here (each (obeys by_priority system t) orders c2) c3 l2 l3 → Makes here (releases by_priority system t c3) c4 l3 l4 →
-    Makes here (preempts by_priority system t c4) c5 l4 l5 → Makes here (chooses by_priority system t c5) c6 l5 l6 →
-    Makes here (turn system here.core t mails c0) c6 l0 l6
-whole-turn here mails orders c0 c1 c2 c3 c4 c5 c6 l0 l1 l2 l3 l4 l5 l6 e ticked arrived obeyed released preempted chosen =
+    Makes takes here (tick by_priority system here.core t c0) c1 l0 l1 → Makes takes here (each (arrives by_priority system t) mails c1) c2 l1 l2 →
+    Makes takes here (each (obeys by_priority system t) orders c2) c3 l2 l3 → Makes takes here (releases by_priority system t c3) c4 l3 l4 →
+    Makes takes here (preempts by_priority system t c4) c5 l4 l5 → Makes takes here (chooses by_priority system t c5) c6 l5 l6 →
+    Makes takes here (turn system here.core t mails c0) c6 l0 l6
+whole-turn {S} {takes} here mails orders c0 c1 c2 c3 c4 c5 c6 l0 l1 l2 l3 l4 l5 l6 e ticked arrived obeyed released preempted chosen =
     let system = here.system.now in
     let t = here.moment in
     then-makes here _ (chooses by_priority system t) c5 c6 l0 l5 l6
@@ -42,7 +42,7 @@ whole-turn here mails orders c0 c1 c2 c3 c4 c5 c6 l0 l1 l2 l3 l4 l5 l6 e ticked 
     (then-makes here _ (releases by_priority system t) c3 c4 l0 l3 l4
     (then-makes here _ (each (obeys by_priority system t) (filter (is_for_now system here.core t) system.orders)) c2 c3 l0 l2 l3
     (then-makes here _ (each (arrives by_priority system t) mails) c1 c2 l0 l1 l2 ticked arrived)
-    (let P : List Order → Type 0 = λ (os : List Order). Makes here (each (obeys by_priority system t) os c2) c3 l2 l3 in subst P e obeyed))
+    (let P : List Order → Type 0 = λ (os : List Order). Makes takes here (each (obeys by_priority system t) os c2) c3 l2 l3 in subst P e obeyed))
     released) preempted) chosen
 
 -- what each part leaves is sound

@@ -10,17 +10,22 @@ ghost use Rattle.mcs_system.specs.WellFormed.{IsWellFormed};
 use crate::local::Local;
 use crate::log::{Here, Log};
 use mcs_mail::{Mail, Mailbox};
-use mcs_ticks::{NoMemory, What};
+use mcs_ticks::{FlowFault, Sink, What};
 
 impl Local {
     /// A signal of another core arrives.
-    fn arrive(&mut self, here: &Here<'_>, mail: Mail, log: &mut Log<'_>) -> Result<(), NoMemory>
+    fn arrive<S: Sink>(
+        &mut self,
+        here: &Here<'_>,
+        mail: Mail,
+        log: &mut Log<'_, S>,
+    ) -> Result<(), FlowFault>
         requires well_formed { IsWellFormed here.now.system.now }
         requires sound { IsSound here.now.system.now here.now.core here.now.moment PastTick None self.old }
         requires known { mail.note < length here.now.system.now.notes }
         requires soon { here.now.moment ≤ 2 ^ 40 }
         ensures { OnOk result
-            (Makes here.now (arrives by_priority here.now.system.now here.now.moment mail self.old)
+            (Makes S.takes here.now (arrives by_priority here.now.system.now here.now.moment mail self.old)
             self.new log.old log.new) }
     {
         let note = mail.note;
@@ -31,19 +36,19 @@ impl Local {
     }
 
     /// The signals that arrive now, in the order of their delivery.
-    pub(crate) fn arrivals(
+    pub(crate) fn arrivals<S: Sink>(
         &mut self,
         here: &Here<'_>,
         mail: &mut Mailbox,
-        log: &mut Log<'_>,
-    ) -> Result<(), NoMemory>
+        log: &mut Log<'_, S>,
+    ) -> Result<(), FlowFault>
         requires well_formed { IsWellFormed here.now.system.now }
         requires sound { IsSound here.now.system.now here.now.core here.now.moment PastTick None self.old }
         requires known { All (λ mail. mail.note < length here.now.system.now.notes) mail.old.mails }
         requires come { All (λ mail. here.now.moment ≤ mail.arrives) mail.old.mails }
         requires soon { here.now.moment ≤ 2 ^ 40 }
         ensures makes { OnOk result
-            (Makes here.now
+            (Makes S.takes here.now
             (each (arrives by_priority here.now.system.now here.now.moment) (arriving here.now.moment mail.old.mails)
             self.old)
             self.new log.old log.new) }

@@ -11,16 +11,20 @@ use crate::local::Local;
 use crate::log::{Here, Log};
 use crate::{Chosen, Standing};
 use mcs_system::SystemParts;
-use mcs_ticks::{NoMemory, ThreadId, What, Why};
+use mcs_ticks::{FlowFault, Sink, ThreadId, What, Why};
 
 impl Local {
     /// A running thread gives way to a ready one of greater priority.
-    pub(crate) fn preempt(&mut self, here: &Here<'_>, log: &mut Log<'_>) -> Result<(), NoMemory>
+    pub(crate) fn preempt<S: Sink>(
+        &mut self,
+        here: &Here<'_>,
+        log: &mut Log<'_, S>,
+    ) -> Result<(), FlowFault>
         requires well_formed { IsWellFormed here.now.system.now }
         requires sound { IsSound here.now.system.now here.now.core (here.now.moment + 1) PastTick None self.old }
         requires soon { here.now.moment ≤ 2 ^ 40 }
         ensures { OnOk result
-            (Makes here.now (preempts by_priority here.now.system.now here.now.moment self.old)
+            (Makes S.takes here.now (preempts by_priority here.now.system.now here.now.moment self.old)
             self.new log.old log.new) }
     {
         let Some(chosen) = self.running() else {
@@ -38,12 +42,16 @@ impl Local {
     }
 
     /// Where no thread runs, the best ready one is chosen; in bandwidth mode its context is unblocked.
-    pub(crate) fn choose(&mut self, here: &Here<'_>, log: &mut Log<'_>) -> Result<(), NoMemory>
+    pub(crate) fn choose<S: Sink>(
+        &mut self,
+        here: &Here<'_>,
+        log: &mut Log<'_, S>,
+    ) -> Result<(), FlowFault>
         requires well_formed { IsWellFormed here.now.system.now }
         requires sound { IsSound here.now.system.now here.now.core (here.now.moment + 1) PastTick None self.old }
         requires soon { here.now.moment ≤ 2 ^ 40 }
         ensures { OnOk result
-            (Makes here.now (chooses by_priority here.now.system.now here.now.moment self.old) self.new log.old
+            (Makes S.takes here.now (chooses by_priority here.now.system.now here.now.moment self.old) self.new log.old
             log.new) }
     {
         if self.running().is_some() {

@@ -3,7 +3,7 @@ ghost use Rattle.mcs_core.specs.stored.Parts.{Adds};
 
 use mcs_mail::Mail;
 use mcs_system::SystemParts;
-use mcs_ticks::{CoreId, Limits, NoMemory, Row, Tick, What};
+use mcs_ticks::{CoreId, FlowFault, Limits, Row, Sink, Tick, What};
 
 /// Where and when a part of a turn is taken: on a core of a system, from which a signal has a delay to each core, at a
 /// moment.
@@ -15,19 +15,19 @@ pub(crate) struct Here<'a> {
     pub(crate) moment: Tick,
 }
 
-/// What turns tell, and the signals that they make for other cores.
+/// What takes the rows of turns, and the signals that they make for other cores.
 #[derive(Drop)]
-pub(crate) struct Log<'a> {
-    pub(crate) rows: &'a mut Vec<Row>,
+pub(crate) struct Log<'a, S: Sink> {
+    pub(crate) sink: &'a mut S,
     pub(crate) signals: &'a mut Vec<Mail>,
 }
 
-impl Log<'_> {
+impl<S: Sink> Log<'_, S> {
     /// Tells what happens here.
-    pub(crate) fn tell(&mut self, here: &Here<'_>, what: What) -> Result<(), NoMemory>
-        ensures { OnOk result (Adds here.now (what ∷ []) [] self.old self.new) }
+    pub(crate) fn tell(&mut self, here: &Here<'_>, what: What) -> Result<(), FlowFault>
+        ensures { OnOk result (Adds S.takes here.now (what ∷ []) [] self.old self.new) }
     {
-        self.rows.push(Row {
+        self.sink.row(&Row {
             moment: here.moment,
             core: here.core,
             what,
@@ -36,10 +36,12 @@ impl Log<'_> {
     }
 
     /// Sends a signal to another core.
-    pub(crate) fn send(&mut self, here: &Here<'_>, mail: Mail) -> Result<(), NoMemory>
-        ensures { OnOk result (Adds here.now [] (mail ∷ []) self.old self.new) }
+    pub(crate) fn send(&mut self, here: &Here<'_>, mail: Mail) -> Result<(), FlowFault>
+        ensures { OnOk result (Adds S.takes here.now [] (mail ∷ []) self.old self.new) }
     {
-        self.signals.push(mail)?;
+        if self.signals.push(mail).is_err() {
+            return Err(FlowFault::NoMemory);
+        }
         Ok(())
     }
 }

@@ -7,7 +7,7 @@ use crate::local::Local;
 use crate::log::{Here, Log};
 use mcs_script::{Item, Moved};
 use mcs_system::SystemParts;
-use mcs_ticks::{NoMemory, ThreadId, Tick, What};
+use mcs_ticks::{FlowFault, Sink, ThreadId, Tick, What};
 
 impl Local {
     /// The item at which the thread is.
@@ -35,16 +35,16 @@ impl Local {
 
     /// The thread's item is finished, and the thread moves on in its script.
     #[inline(always)]
-    pub(crate) fn move_on(
+    pub(crate) fn move_on<S: Sink>(
         &mut self,
         here: &Here<'_>,
         thread: ThreadId,
-        log: &mut Log<'_>,
-    ) -> Result<Moved, NoMemory>
+        log: &mut Log<'_, S>,
+    ) -> Result<Moved, FlowFault>
         requires known { thread < length self.old.threads }
         requires placed { IsPlaced here.now.system.now thread self.old }
         ensures makes { OnOk result
-            (Makes here.now (moves_on here.now.system.now here.now.moment thread self.old) self.new log.old log.new) }
+            (Makes S.takes here.now (moves_on here.now.system.now here.now.moment thread self.old) self.new log.old log.new) }
         ensures moved { IfOk result (λ moved. moved ≡ move_of here.now.system.now thread self.old) }
     {
         let part = here.system.thread(thread);

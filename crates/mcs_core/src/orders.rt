@@ -13,7 +13,7 @@ use crate::agenda::Agenda;
 use crate::local::Local;
 use crate::log::{Here, Log};
 use mcs_control::Order;
-use mcs_ticks::{NoMemory, What, Why};
+use mcs_ticks::{FlowFault, Sink, What, Why};
 
 impl Local {
     /// The thread that runs is charged, and then its context takes the order's configuration.
@@ -33,13 +33,13 @@ impl Local {
     }
 
     /// An order for the context of the thread that runs: the thread is charged, and stops.
-    fn obey_running(
+    fn obey_running<S: Sink>(
         &mut self,
         here: &Here<'_>,
         order: Order,
         chosen: Chosen,
-        log: &mut Log<'_>,
-    ) -> Result<(), NoMemory>
+        log: &mut Log<'_, S>,
+    ) -> Result<(), FlowFault>
         requires well_formed { IsWellFormed here.now.system.now }
         requires sound { IsSound here.now.system.now here.now.core here.now.moment PastTick None self.old }
         requires running { self.old.running ≡ Some chosen }
@@ -47,7 +47,7 @@ impl Local {
         requires planned { IsPlanned here.now.system.now here.now.core order }
         requires soon { here.now.moment ≤ 2 ^ 40 }
         ensures { OnOk result
-            (Makes here.now
+            (Makes S.takes here.now
             (orders_running by_priority here.now.system.now here.now.moment order (Some chosen) self.old)
             self.new log.old log.new) }
     {
@@ -59,13 +59,18 @@ impl Local {
     }
 
     /// An order for a context of the core.
-    fn obey(&mut self, here: &Here<'_>, order: Order, log: &mut Log<'_>) -> Result<(), NoMemory>
+    fn obey<S: Sink>(
+        &mut self,
+        here: &Here<'_>,
+        order: Order,
+        log: &mut Log<'_, S>,
+    ) -> Result<(), FlowFault>
         requires well_formed { IsWellFormed here.now.system.now }
         requires sound { IsSound here.now.system.now here.now.core here.now.moment PastTick None self.old }
         requires planned { IsPlanned here.now.system.now here.now.core order }
         requires soon { here.now.moment ≤ 2 ^ 40 }
         ensures { OnOk result
-            (Makes here.now (obeys by_priority here.now.system.now here.now.moment order self.old)
+            (Makes S.takes here.now (obeys by_priority here.now.system.now here.now.moment order self.old)
             self.new log.old log.new) }
     {
         let context = order.context;
@@ -80,19 +85,19 @@ impl Local {
     }
 
     /// The orders of this moment.
-    pub(crate) fn orders(
+    pub(crate) fn orders<S: Sink>(
         &mut self,
         here: &Here<'_>,
         agenda: &mut Agenda,
-        log: &mut Log<'_>,
-    ) -> Result<(), NoMemory>
+        log: &mut Log<'_, S>,
+    ) -> Result<(), FlowFault>
         requires well_formed { IsWellFormed here.now.system.now }
         requires sound { IsSound here.now.system.now here.now.core here.now.moment PastTick None self.old }
         requires planned { ArePlanned here.now.system.now here.now.core agenda.old }
         requires by_moment { AreByMoment here.now.moment agenda.old }
         requires soon { here.now.moment ≤ 2 ^ 40 }
         ensures makes { OnOk result
-            (Makes here.now
+            (Makes S.takes here.now
             (each (obeys by_priority here.now.system.now here.now.moment) (due_now here.now.moment agenda.old) self.old)
             self.new log.old log.new) }
         ensures agenda { OnOk result (agenda.new ≡ to_come (here.now.moment + 1) agenda.old) }

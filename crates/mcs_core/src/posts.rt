@@ -7,7 +7,7 @@ ghost use Rattle.mcs_core.specs.stored.Sound.{IsFree, WakesFree};
 use crate::local::Local;
 use crate::log::{Here, Log};
 use mcs_notify::Posted;
-use mcs_ticks::{NoMemory, NoteId, ThreadId, What};
+use mcs_ticks::{FlowFault, NoteId, Sink, ThreadId, What};
 
 impl Local {
     /// The thread is woken: its context is unblocked, unless it is in bandwidth mode.
@@ -21,16 +21,16 @@ impl Local {
     }
 
     /// A thread that has left the waiters is woken: it moves on behind its wait, and enters a queue.
-    pub(crate) fn wake(
+    pub(crate) fn wake<S: Sink>(
         &mut self,
         here: &Here<'_>,
         thread: ThreadId,
-        log: &mut Log<'_>,
-    ) -> Result<(), NoMemory>
+        log: &mut Log<'_, S>,
+    ) -> Result<(), FlowFault>
         requires free { IsFree here.now.system.now thread self.old }
         requires soon { here.now.moment ≤ 2 ^ 40 }
         ensures { OnOk result
-            (Makes here.now (wakes by_priority here.now.system.now here.now.moment thread self.old)
+            (Makes S.takes here.now (wakes by_priority here.now.system.now here.now.moment thread self.old)
             self.new log.old log.new) }
     {
         self.wake_its_context(here, thread);
@@ -42,18 +42,18 @@ impl Local {
     }
 
     /// A post on a notification of the core.
-    pub(crate) fn post(
+    pub(crate) fn post<S: Sink>(
         &mut self,
         here: &Here<'_>,
         note: NoteId,
         badge: u32,
-        log: &mut Log<'_>,
-    ) -> Result<(), NoMemory>
+        log: &mut Log<'_, S>,
+    ) -> Result<(), FlowFault>
         requires known { note < length self.old.notes }
         requires free { WakesFree here.now.system.now note badge self.old }
         requires soon { here.now.moment ≤ 2 ^ 40 }
         ensures { OnOk result
-            (Makes here.now (posts by_priority here.now.system.now here.now.moment note badge self.old)
+            (Makes S.takes here.now (posts by_priority here.now.system.now here.now.moment note badge self.old)
             self.new log.old log.new) }
     {
         match self.post_note(note, badge) {

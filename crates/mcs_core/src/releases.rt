@@ -9,19 +9,19 @@ ghost use Rattle.mcs_system.specs.WellFormed.{IsWellFormed};
 
 use crate::local::Local;
 use crate::log::{Here, Log};
-use mcs_ticks::{NoMemory, ThreadId, What};
+use mcs_ticks::{FlowFault, Sink, ThreadId, What};
 
 impl Local {
     /// A thread that has left the release queue goes to the back of its ready queue.
-    fn release(
+    fn release<S: Sink>(
         &mut self,
         here: &Here<'_>,
         thread: ThreadId,
-        log: &mut Log<'_>,
-    ) -> Result<(), NoMemory>
+        log: &mut Log<'_, S>,
+    ) -> Result<(), FlowFault>
         requires { IsFree here.now.system.now thread self.old }
         ensures { OnOk result
-            (Makes here.now (says (Release thread) (enters_back by_priority here.now.system.now thread None self.old))
+            (Makes S.takes here.now (says (Release thread) (enters_back by_priority here.now.system.now thread None self.old))
             self.new log.old log.new) }
     {
         log.tell(here, What::Release { thread })?;
@@ -30,12 +30,16 @@ impl Local {
     }
 
     /// The threads whose date has come, in the order in which they entered the release queue.
-    pub(crate) fn releases(&mut self, here: &Here<'_>, log: &mut Log<'_>) -> Result<(), NoMemory>
+    pub(crate) fn releases<S: Sink>(
+        &mut self,
+        here: &Here<'_>,
+        log: &mut Log<'_, S>,
+    ) -> Result<(), FlowFault>
         requires well_formed { IsWellFormed here.now.system.now }
         requires sound { IsSound here.now.system.now here.now.core here.now.moment PastTick None self.old }
         requires soon { here.now.moment ≤ 2 ^ 40 }
         ensures { OnOk result
-            (Makes here.now (releases by_priority here.now.system.now here.now.moment self.old)
+            (Makes S.takes here.now (releases by_priority here.now.system.now here.now.moment self.old)
             self.new log.old log.new) }
     {
         'due: while let Some(thread) = self.take_due(here.moment) {

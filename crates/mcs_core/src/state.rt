@@ -1,4 +1,5 @@
 ghost use Rattle.std.specs.Prelude.{◌≡◌, ◌⊎◌, ◌+◌, ◌-◌, ◌^◌, ◌≤◌, ◌<◌, ◌++◌, max, true, false, [], length, OnOk, OnErr, IfOk, IsErr, IsTrue, ◌↔◌, All};
+ghost use Rattle.mcs_ticks.specs.Given.{Given, IsShortAfter};
 ghost use Rattle.mcs_core.specs.Busy.{GoesOnAfter, IsFirst};
 ghost use Rattle.mcs_core.specs.Quiet.{AreQuiet, IsNextBusy, counted_times};
 ghost use Rattle.mcs_core.specs.State.{Fits, IsExpected, opening_state, made_by, state_after, AreOfOneList};
@@ -11,7 +12,7 @@ use crate::log::{Here, Log};
 use mcs_control::ContextView;
 use mcs_mail::{Mail, Mailbox};
 use mcs_system::System;
-use mcs_ticks::{CoreId, Limits, NoMemory, Row, Tick};
+use mcs_ticks::{CoreId, FlowFault, Limits, Measured, NoMemory, Row, Sink, Tick};
 use std::alloc::Global;
 use std::marker::Model;
 
@@ -84,7 +85,7 @@ impl CoreState {
         self.clock
     }
 
-    /// Whether a call was refused memory: then the state is spent.
+    /// Whether a call was refused memory, or a row by a sink: then the state is spent.
     pub fn failed(&self) -> bool
         ensures { result ≡ self.now.failed }
     {
@@ -195,13 +196,13 @@ impl CoreState {
     }
 
     /// One turn.
-    fn step(
+    fn step<S: Sink>(
         &mut self,
         system: &System,
         mail: &mut Mailbox,
-        rows: &mut Vec<Row>,
+        sink: &mut S,
         signals: &mut Vec<Mail>,
-    ) -> Result<(), NoMemory>
+    ) -> Result<(), FlowFault>
         requires going { self.old.failed ≡ false }
         requires fits { Fits system.now self.old }
         requires in_time { self.old.clock ≤ 2 ^ 40 }
@@ -210,8 +211,7 @@ impl CoreState {
             (self.new ≡ state_after self.old (self.old.clock + 1)
             (made_by system.now self.old (self.old.clock + 1) mail.old.mails)) }
         ensures rows { OnOk result
-            (rows.new.items
-            ≡ rows.old.items ++ (made_by system.now self.old (self.old.clock + 1) mail.old.mails).rows) }
+            (Given S.takes sink.old (made_by system.now self.old (self.old.clock + 1) mail.old.mails).rows sink.new) }
         ensures signals { OnOk result
             (signals.new.items
             ≡ signals.old.items ++ (made_by system.now self.old (self.old.clock + 1) mail.old.mails).mails) }
@@ -226,22 +226,22 @@ impl CoreState {
             delays: &self.delays,
             moment: self.clock,
         };
-        let mut log = Log { rows, signals };
+        let mut log = Log { sink, signals };
         self.local.turn(&here, &mut self.agenda, mail, &mut log)?;
         self.clock = self.clock.plus(1).unwrap();
         Ok(())
     }
 
-    /// The quiet turns up to the next busy one, and that one, of those before moment `to`. Where memory is refused the
-    /// state is spent.
-    fn advance(
+    /// The quiet turns up to the next busy one, and that one, of those before moment `to`. Where memory or a row is
+    /// refused the state is spent.
+    fn advance<S: Sink>(
         &mut self,
         system: &System,
         mail: &mut Mailbox,
         to: Tick,
-        rows: &mut Vec<Row>,
+        sink: &mut S,
         signals: &mut Vec<Mail>,
-    ) -> Result<(), NoMemory>
+    ) -> Result<(), FlowFault>
         requires going { self.old.failed ≡ false }
         requires fits { Fits system.now self.old }
         requires before { self.old.clock < to }
@@ -251,8 +251,7 @@ impl CoreState {
             (self.new
             ≡ state_after self.old self.new.clock (made_by system.now self.old self.new.clock mail.old.mails)) }
         ensures rows { OnOk result
-            (rows.new.items
-            ≡ rows.old.items ++ (made_by system.now self.old self.new.clock mail.old.mails).rows) }
+            (Given S.takes sink.old (made_by system.now self.old self.new.clock mail.old.mails).rows sink.new) }
         ensures signals { OnOk result
             (signals.new.items
             ≡ signals.old.items ++ (made_by system.now self.old self.new.clock mail.old.mails).mails) }
@@ -273,9 +272,47 @@ impl CoreState {
         if until == to {
             return Ok(());
         }
-        if self.step(system, mail, rows, signals).is_err() {
+        if let Err(fault) = self.step(system, mail, sink, signals) {
             self.failed = true;
-            return Err(NoMemory);
+            return Err(fault);
+        }
+        Ok(())
+    }
+
+    /// As `run`, but each row goes to the sink as soon as it is made. Where memory or a row is refused the state is spent.
+    pub fn run_to<S: Sink>(
+        &mut self,
+        system: &System,
+        mail: &mut Mailbox,
+        to: Tick,
+        sink: &mut S,
+        signals: &mut Vec<Mail>,
+    ) -> Result<(), FlowFault>
+        requires fits { Fits system.now self.old }
+        requires in_time { to ≤ 2 ^ 40 + 1 }
+        requires expected { All (IsExpected system.now self.old) mail.old.mails }
+        ensures state { OnOk result
+            (self.new ≡ state_after self.old to (made_by system.now self.old to mail.old.mails)) }
+        ensures rows { OnOk result
+            (Given S.takes sink.old (made_by system.now self.old to mail.old.mails).rows sink.new) }
+        ensures signals { OnOk result
+            (signals.new.items ≡ signals.old.items ++ (made_by system.now self.old to mail.old.mails).mails) }
+        ensures mail { OnOk result (mail.new.mails ≡ (made_by system.now self.old to mail.old.mails).box) }
+        ensures fits { Fits system.now self.new }
+        ensures failed { OnErr result (self.new.failed ≡ true) }
+        ensures refused { OnErr result
+            ((self.new.number ≡ self.old.number)
+            × (self.old.clock ≤ self.new.clock)
+            × (self.new.clock ≤ max self.old.clock to)) }
+        ensures going { OnOk result (self.old.failed ≡ false) }
+        ensures spent { self.old.failed ≡ true →
+            (self.new ≡ self.old) × (sink.new ≡ sink.old) × (signals.new ≡ signals.old) × (mail.new ≡ mail.old) }
+    {
+        if self.failed {
+            return Err(FlowFault::NoMemory);
+        }
+        'turns: while self.is_before(to) {
+            self.advance(system, mail, to, sink, signals)?;
         }
         Ok(())
     }
@@ -314,11 +351,61 @@ impl CoreState {
         ensures spent { self.old.failed ≡ true →
             (self.new ≡ self.old) × (rows.new ≡ rows.old) × (signals.new ≡ signals.old) × (mail.new ≡ mail.old) }
     {
-        if self.failed {
+        if self.run_to(system, mail, to, rows, signals).is_err() {
             return Err(NoMemory);
         }
+        Ok(())
+    }
+
+    /// As `run_to`, but it ends after the turn with which the sink's size is at least `most`: so it takes a turn where the
+    /// clock is before moment `to`, and the caller can go on from the new clock.
+    pub fn run_some_to<S: Measured>(
+        &mut self,
+        system: &System,
+        mail: &mut Mailbox,
+        to: Tick,
+        most: usize,
+        sink: &mut S,
+        signals: &mut Vec<Mail>,
+    ) -> Result<(), FlowFault>
+        requires fits { Fits system.now self.old }
+        requires in_time { to ≤ 2 ^ 40 + 1 }
+        requires expected { All (IsExpected system.now self.old) mail.old.mails }
+        ensures state { OnOk result
+            (self.new
+            ≡ state_after self.old self.new.clock (made_by system.now self.old self.new.clock mail.old.mails)) }
+        ensures rows { OnOk result
+            (Given S.takes sink.old (made_by system.now self.old self.new.clock mail.old.mails).rows sink.new) }
+        ensures signals { OnOk result
+            (signals.new.items
+            ≡ signals.old.items ++ (made_by system.now self.old self.new.clock mail.old.mails).mails) }
+        ensures mail { OnOk result
+            (mail.new.mails ≡ (made_by system.now self.old self.new.clock mail.old.mails).box) }
+        ensures reaches { OnOk result
+            ((self.new.clock ≤ max self.old.clock to)
+            × (self.old.clock < to → self.old.clock < self.new.clock)
+            × ((self.new.clock ≡ max self.old.clock to) ⊎ (most ≤ S.size sink.new))) }
+        ensures no_further { OnOk result
+            (IsShortAfter S.takes S.size most sink.old
+            (made_by system.now self.old (self.new.clock - 1) mail.old.mails).rows) }
+        ensures fits { Fits system.now self.new }
+        ensures failed { OnErr result (self.new.failed ≡ true) }
+        ensures refused { OnErr result
+            ((self.new.number ≡ self.old.number)
+            × (self.old.clock ≤ self.new.clock)
+            × (self.new.clock ≤ max self.old.clock to)) }
+        ensures going { OnOk result (self.old.failed ≡ false) }
+        ensures spent { self.old.failed ≡ true →
+            (self.new ≡ self.old) × (sink.new ≡ sink.old) × (signals.new ≡ signals.old) × (mail.new ≡ mail.old) }
+    {
+        if self.failed {
+            return Err(FlowFault::NoMemory);
+        }
         'turns: while self.is_before(to) {
-            self.advance(system, mail, to, rows, signals)?;
+            self.advance(system, mail, to, sink, signals)?;
+            if sink.size() >= most {
+                return Ok(());
+            }
         }
         Ok(())
     }
@@ -366,14 +453,11 @@ impl CoreState {
         ensures spent { self.old.failed ≡ true →
             (self.new ≡ self.old) × (rows.new ≡ rows.old) × (signals.new ≡ signals.old) × (mail.new ≡ mail.old) }
     {
-        if self.failed {
+        if self
+            .run_some_to(system, mail, to, most, rows, signals)
+            .is_err()
+        {
             return Err(NoMemory);
-        }
-        'turns: while self.is_before(to) {
-            self.advance(system, mail, to, rows, signals)?;
-            if rows.len() >= most {
-                return Ok(());
-            }
         }
         Ok(())
     }

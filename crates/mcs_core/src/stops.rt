@@ -9,7 +9,7 @@ ghost use Rattle.mcs_core.specs.stored.Sound.{CanStop, IsFree};
 use crate::local::Local;
 use crate::log::{Here, Log};
 use crate::{AfterItem, Standing};
-use mcs_ticks::{NoMemory, ThreadId, Tick, What, Why};
+use mcs_ticks::{FlowFault, Sink, ThreadId, Tick, What, Why};
 
 impl Local {
     /// The running thread leaves the core for the back of the ready queue, or for the release queue with this date.
@@ -31,18 +31,18 @@ impl Local {
     }
 
     /// The running thread stops for good, or until a signal.
-    pub(crate) fn stop(
+    pub(crate) fn stop<S: Sink>(
         &mut self,
         here: &Here<'_>,
         thread: ThreadId,
         why: Why,
         ticks: u64,
         standing: Standing,
-        log: &mut Log<'_>,
-    ) -> Result<(), NoMemory>
+        log: &mut Log<'_, S>,
+    ) -> Result<(), FlowFault>
         requires { CanStop here.now.system.now thread ticks self.old }
         ensures { OnOk result
-            (Makes here.now (stops here.now.system.now thread why ticks standing self.old) self.new log.old log.new) }
+            (Makes S.takes here.now (stops here.now.system.now thread why ticks standing self.old) self.new log.old log.new) }
     {
         self.charge(here.system, thread, ticks);
         self.leave();
@@ -52,17 +52,17 @@ impl Local {
 
     /// The running thread stops, and goes to the back of the ready queue, or into the release queue.
     #[inline(always)]
-    pub(crate) fn stop_to_back(
+    pub(crate) fn stop_to_back<S: Sink>(
         &mut self,
         here: &Here<'_>,
         thread: ThreadId,
         why: Why,
         ticks: u64,
-        log: &mut Log<'_>,
-    ) -> Result<(), NoMemory>
+        log: &mut Log<'_, S>,
+    ) -> Result<(), FlowFault>
         requires { CanStop here.now.system.now thread ticks self.old }
         ensures { OnOk result
-            (Makes here.now (stops_to_back by_priority here.now.system.now here.now.moment thread why ticks self.old)
+            (Makes S.takes here.now (stops_to_back by_priority here.now.system.now here.now.moment thread why ticks self.old)
             self.new log.old log.new) }
     {
         let until = self.charge_until(here, thread, ticks);
@@ -73,19 +73,19 @@ impl Local {
 
     /// The running thread, whose context has been charged, stops, and goes to the front of the ready queue, or into the
     /// release queue with the date with which it has to wait.
-    pub(crate) fn stop_to_front(
+    pub(crate) fn stop_to_front<S: Sink>(
         &mut self,
         here: &Here<'_>,
         thread: ThreadId,
         why: Why,
         ticks: u64,
         until: Option<Tick>,
-        log: &mut Log<'_>,
-    ) -> Result<(), NoMemory>
+        log: &mut Log<'_, S>,
+    ) -> Result<(), FlowFault>
         requires free { IsFree here.now.system.now thread self.old }
         requires until { until ≡ date_of here.now.system.now here.now.moment thread self.old }
         ensures { OnOk result
-            (Makes here.now (stops_to_front by_priority here.now.system.now here.now.moment thread why ticks self.old)
+            (Makes S.takes here.now (stops_to_front by_priority here.now.system.now here.now.moment thread why ticks self.old)
             self.new log.old log.new) }
     {
         let date = until;
@@ -95,17 +95,17 @@ impl Local {
 
     /// At most one stop of the running thread, which has used so many ticks, by what follows its item.
     #[inline(always)]
-    pub(crate) fn may_stop(
+    pub(crate) fn may_stop<S: Sink>(
         &mut self,
         here: &Here<'_>,
         thread: ThreadId,
         used: u64,
         after: AfterItem,
-        log: &mut Log<'_>,
-    ) -> Result<(), NoMemory>
+        log: &mut Log<'_, S>,
+    ) -> Result<(), FlowFault>
         requires { CanStop here.now.system.now thread used self.old }
         ensures { OnOk result
-            (Makes here.now (may_stop by_priority here.now.system.now here.now.moment thread used after self.old)
+            (Makes S.takes here.now (may_stop by_priority here.now.system.now here.now.moment thread used after self.old)
             self.new log.old log.new) }
     {
         let head = self.head_amount(here.system, thread);

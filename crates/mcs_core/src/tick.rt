@@ -17,7 +17,7 @@ use crate::{AfterItem, Chosen};
 use mcs_mail::Mail;
 use mcs_notify::Waited;
 use mcs_script::{Item, Moved};
-use mcs_ticks::{NoMemory, NoteId, ThreadId, What};
+use mcs_ticks::{FlowFault, NoteId, Sink, ThreadId, What};
 
 impl Local {
     /// The running thread counts a tick. Answers what is left of its item.
@@ -48,21 +48,21 @@ impl Local {
     }
 
     /// A signal: a post at home, and mail for another core.
-    fn signal(
+    fn signal<S: Sink>(
         &mut self,
         here: &Here<'_>,
         thread: ThreadId,
         note: NoteId,
         badge: u32,
-        log: &mut Log<'_>,
-    ) -> Result<(), NoMemory>
+        log: &mut Log<'_, S>,
+    ) -> Result<(), FlowFault>
         requires known { note < length self.old.notes }
         requires part { note < length here.now.system.now.notes }
         requires free { WakesFree here.now.system.now note badge self.old }
         requires soon { here.now.moment ≤ 2 ^ 40 }
         requires delays { HasDelays here.now }
         ensures { OnOk result
-            (Makes here.now
+            (Makes S.takes here.now
             (signals by_priority here.now.system.now here.now.core here.now.moment thread note badge self.old)
             self.new log.old log.new) }
     {
@@ -82,18 +82,18 @@ impl Local {
     }
 
     /// A wait: a word that is not 0 is taken, and at word 0 the thread joins the waiters.
-    fn wait_on(
+    fn wait_on<S: Sink>(
         &mut self,
         here: &Here<'_>,
         thread: ThreadId,
         note: NoteId,
-        log: &mut Log<'_>,
-    ) -> Result<(), NoMemory>
+        log: &mut Log<'_, S>,
+    ) -> Result<(), FlowFault>
         requires known { note < length self.old.notes }
         requires free { IsFree here.now.system.now thread self.old }
         requires not_waiting { times_waiting thread self.old.notes ≡ 0 }
         ensures { OnOk result
-            (Makes here.now
+            (Makes S.takes here.now
             (waits_as here.now.system.now here.now.moment thread note (waited (note_of self.old note)) self.old)
             self.new log.old log.new) }
     {
@@ -109,18 +109,18 @@ impl Local {
     }
 
     /// The thread's item takes effect, and the thread moves on unless it blocks. It answers what follows the item.
-    fn take_effect(
+    fn take_effect<S: Sink>(
         &mut self,
         here: &Here<'_>,
         thread: ThreadId,
         item: &Option<Item>,
-        log: &mut Log<'_>,
-    ) -> Result<AfterItem, NoMemory>
+        log: &mut Log<'_, S>,
+    ) -> Result<AfterItem, FlowFault>
         requires can { CanTakeEffect here.now.system.now here.now.core here.now.moment thread item.now self.old }
         requires soon { here.now.moment ≤ 2 ^ 40 }
         requires delays { HasDelays here.now }
         ensures makes { OnOk result
-            (Makes here.now
+            (Makes S.takes here.now
             (takes_effect by_priority here.now.system.now here.now.core here.now.moment thread item.now self.old)
             self.new log.old log.new) }
         ensures after { IfOk result (λ after. after ≡ after_item here.now.system.now thread item.now self.old) }
@@ -150,20 +150,20 @@ impl Local {
     }
 
     /// The running thread's item is finished: it takes effect, and at most one stop follows.
-    fn finish(
+    fn finish<S: Sink>(
         &mut self,
         here: &Here<'_>,
         thread: ThreadId,
         used: u64,
-        log: &mut Log<'_>,
-    ) -> Result<(), NoMemory>
+        log: &mut Log<'_, S>,
+    ) -> Result<(), FlowFault>
         requires well_formed { IsWellFormed here.now.system.now }
         requires sound { IsSound here.now.system.now here.now.core here.now.moment InTick None self.old }
         requires running { self.old.running ≡ Some (record { thread = thread; using = used }) }
         requires delays { here.now.delays.now ≡ delays_from here.now.system.now here.now.core }
         requires soon { here.now.moment ≤ 2 ^ 40 }
         ensures { OnOk result
-            (Makes here.now
+            (Makes S.takes here.now
             (finishes by_priority here.now.system.now here.now.core here.now.moment thread used
             (item_of here.now.system.now thread self.old) self.old)
             self.new log.old log.new) }
@@ -174,13 +174,17 @@ impl Local {
     }
 
     /// The end of the tick.
-    pub(crate) fn tick(&mut self, here: &Here<'_>, log: &mut Log<'_>) -> Result<(), NoMemory>
+    pub(crate) fn tick<S: Sink>(
+        &mut self,
+        here: &Here<'_>,
+        log: &mut Log<'_, S>,
+    ) -> Result<(), FlowFault>
         requires well_formed { IsWellFormed here.now.system.now }
         requires sound { IsSound here.now.system.now here.now.core here.now.moment Between None self.old }
         requires delays { here.now.delays.now ≡ delays_from here.now.system.now here.now.core }
         requires soon { here.now.moment ≤ 2 ^ 40 }
         ensures { OnOk result
-            (Makes here.now (tick by_priority here.now.system.now here.now.core here.now.moment self.old)
+            (Makes S.takes here.now (tick by_priority here.now.system.now here.now.core here.now.moment self.old)
             self.new log.old log.new) }
     {
         let Some(before) = self.running() else {

@@ -12,18 +12,18 @@ use crate::agenda::Agenda;
 use crate::local::Local;
 use crate::log::{Here, Log};
 use mcs_mail::Mailbox;
-use mcs_ticks::NoMemory;
+use mcs_ticks::{FlowFault, Sink};
 
 impl Local {
     /// The whole turn of a core at a moment: it costs what happens in it, however many threads, contexts and orders
     /// there are.
-    pub(crate) fn turn(
+    pub(crate) fn turn<S: Sink>(
         &mut self,
         here: &Here<'_>,
         agenda: &mut Agenda,
         mail: &mut Mailbox,
-        log: &mut Log<'_>,
-    ) -> Result<(), NoMemory>
+        log: &mut Log<'_, S>,
+    ) -> Result<(), FlowFault>
         requires well_formed { IsWellFormed here.now.system.now }
         requires sound { IsSound here.now.system.now here.now.core here.now.moment Between None self.old }
         requires planned { agenda.old ≡ to_come here.now.moment (orders_of here.now.system.now here.now.core) }
@@ -32,7 +32,7 @@ impl Local {
         requires delays { here.now.delays.now ≡ delays_from here.now.system.now here.now.core }
         requires soon { here.now.moment ≤ 2 ^ 40 }
         ensures makes { OnOk result
-            (Makes here.now
+            (Makes S.takes here.now
             (turn here.now.system.now here.now.core here.now.moment (arriving here.now.moment mail.old.mails) self.old)
             self.new log.old log.new) }
         ensures mail { OnOk result (mail.new.mails ≡ staying here.now.moment mail.old.mails) }

@@ -7,7 +7,7 @@ use Rattle.mcs_ticks.specs.declared.row.Row.{Row}
 use Rattle.mcs_merge.specs.Merge.{merged_before}
 use Rattle.mcs_merge.specs.Merging.{Merging, least_clock, list_of, passed, next_row, without_row, emptied, IsInOrder}
 use Rattle.mcs_merge.specs.laws.Steps.{HasTaken, PopsMerged, PausesMerged, PassesAlone, EmptiesMerged}
-use Rattle.mcs_team.specs.Flow.{Given, GivenUntil}
+use Rattle.mcs_ticks.specs.Given.{Given, GivenUntil}
 use Rattle.mcs_team.proofs.Giving.{given-append, given-one, until-append, until-more}
 
 first-of : {A : Type 0} (xs : List A) (x : A) → slice_get xs 0 ≡ Some x → xs ≡ x ∷ drop 1 xs

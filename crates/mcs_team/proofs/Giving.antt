@@ -2,7 +2,7 @@
 use Rattle.std.proofs.Common.{refl, inl, inr, Bool, true, List, [], ◌∷◌, ◌++◌, sym, subst}
 use Rattle.std.proofs.Common.{Result, Ok, Err, OnOk, OnErr, IfOk, IfErr}
 use Rattle.mcs_ticks.specs.declared.row.Row.{Row}
-use Rattle.mcs_team.specs.Flow.{Given, GivenUntil}
+use Rattle.mcs_ticks.specs.Given.{Given, GivenUntil}
 
 pub known_on_ok : {T E P : Type 0} (r : Result T E) → P → OnOk r P
 known_on_ok (Ok x) p = p

@@ -10,9 +10,10 @@ use Rattle.mcs_merge.specs.Merging.{AreBefore}
 use Rattle.mcs_system.specs.System.{System, TakesTime}
 use Rattle.mcs_core.specs.Clock.{clock, schedule}
 use Rattle.mcs_window.proofs.Merging.{clock-later, clock-before, later-from, rows-later}
-use Rattle.mcs_team.specs.Flow.{Given, GivenUntil, rows_from, IsFlowFault, IsRestFault}
-use Rattle.mcs_team.specs.declared.sink.FlowFault.{FlowFault}
-use Rattle.mcs_team.specs.declared.sink.FlowFault.TheVariants as fault
+use Rattle.mcs_ticks.specs.Given.{Given, GivenUntil}
+use Rattle.mcs_team.specs.Flow.{rows_from, IsFlowFault, IsRestFault}
+use Rattle.mcs_ticks.specs.declared.sink.FlowFault.{FlowFault}
+use Rattle.mcs_ticks.specs.declared.sink.FlowFault.TheVariants as fault
 use Rattle.mcs_team.proofs.Giving.{given-append, until-append, given-one}
 
 from-apart : (t : ℕ) (xs ys : List Row) → rows_from t (xs ++ ys) ≡ rows_from t xs ++ rows_from t ys

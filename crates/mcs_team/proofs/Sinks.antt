@@ -5,10 +5,11 @@ use Rattle.std.proofs.lemmas.List.{append_assoc}
 use Rattle.mcs_ticks.specs.declared.row.Row.{Row}
 use Rattle.mcs_report.specs.Tally.{added}
 use Rattle.mcs_system.specs.System.{System}
-use Rattle.mcs_team.specs.Flow.{Given, GivenUntil, GivenSome, IsFlowFault}
+use Rattle.mcs_ticks.specs.Given.{Given, GivenUntil, GivenSome}
+use Rattle.mcs_team.specs.Flow.{IsFlowFault}
 use Rattle.mcs_team.specs.declared.counted.Counted.{Counted}
-use Rattle.mcs_team.specs.declared.sink.FlowFault.{FlowFault}
-use Rattle.mcs_team.specs.declared.sink.FlowFault.TheVariants as fault
+use Rattle.mcs_ticks.specs.declared.sink.FlowFault.{FlowFault}
+use Rattle.mcs_ticks.specs.declared.sink.FlowFault.TheVariants as fault
 use Rattle.mcs_team.specs.declared.whole.Kept.{Kept}
 
 -- each row stands behind those that it had

@@ -15,8 +15,9 @@ use Rattle.mcs_window.specs.Stretch.{rows_between}
 use Rattle.mcs_window.specs.laws.Merging.{rows_until}
 use Rattle.mcs_window.proofs.Merging.{rows-so_far, clock-later, rows-later}
 use Rattle.mcs_window.proofs.Ranges.{rows-none}
-use Rattle.mcs_team.specs.Flow.{Given, GivenUntil, GivenSome, GivesOn, FailsFrom, Flows, pasts_of, AreBatches, GoesOn, IsAt}
-use Rattle.mcs_team.specs.declared.sink.FlowFault.TheVariants as fault
+use Rattle.mcs_ticks.specs.Given.{Given, GivenUntil, GivenSome}
+use Rattle.mcs_team.specs.Flow.{GivesOn, FailsFrom, Flows, pasts_of, AreBatches, GoesOn, IsAt}
+use Rattle.mcs_ticks.specs.declared.sink.FlowFault.TheVariants as fault
 use Rattle.mcs_team.specs.declared.sink.Stop.{Stop}
 use Rattle.mcs_team.specs.declared.sink.Stop.TheVariants.{Fault, Odd}
 use Rattle.mcs_team.specs.declared.batch.Batch.{Batch}

@@ -2,8 +2,8 @@
 use Rattle.std.specs.Prelude.{◌≡◌, ℕ, ◌+◌, ◌<◌, ◌≤◌, ◌⊎◌, nat_le, Bool, true, false}
 use Rattle.std.specs.Prelude.{List, [], ◌∷◌, ◌++◌, length, map, filter}
 use Rattle.std.specs.Prelude.{Result, Ok, Err, slice_index, slice_index_or}
-use Rattle.std.specs.List.{FoldsTo}
 use Rattle.mcs_ticks.specs.declared.row.Row.{Row}
+use Rattle.mcs_ticks.specs.Given.{Given, GivenUntil, GivenSome}
 use Rattle.mcs_merge.specs.Merging.{Merging, IsInOrder}
 use Rattle.mcs_merge.specs.laws.Steps.{HasTaken}
 use Rattle.mcs_system.specs.System.{System}
@@ -14,23 +14,8 @@ use Rattle.mcs_window.specs.laws.Merging.{rows_until}
 use Rattle.mcs_team.specs.declared.batch.Batch.{Batch}
 use Rattle.mcs_team.specs.declared.sink.Stop.{Stop}
 use Rattle.mcs_team.specs.declared.sink.Stop.TheVariants.{Fault, Odd}
-use Rattle.mcs_team.specs.declared.sink.FlowFault.{FlowFault}
-use Rattle.mcs_team.specs.declared.sink.FlowFault.TheVariants as fault
-
--- what a sink tells of itself: the sink before, the row, whether it took it, and the sink after
-module _ {S : Type 0} (takes : S → Row → Bool → S → Type 0) where
-  -- it took these rows, in order
-  abbrev pub Given : S → List Row → S → Type 0
-  Given s rows t = FoldsTo (λ a row b. takes a row true b) s rows t
-
-  -- it took some first ones of these rows, and then refused the next
-  abbrev pub GivenUntil : S → List Row → S → Type 0
-  GivenUntil s [] t = ⊥
-  GivenUntil s (row ∷ rows) t = takes s row false t ⊎ ((m : S) × takes s row true m × GivenUntil m rows t)
-
-  -- it took some first ones of these rows, none or all of them too
-  abbrev pub GivenSome : S → List Row → S → Type 0
-  GivenSome s rows t = (first : List Row) × (rest : List Row) × (rows ≡ first ++ rest) × Given s first t
+use Rattle.mcs_ticks.specs.declared.sink.FlowFault.{FlowFault}
+use Rattle.mcs_ticks.specs.declared.sink.FlowFault.TheVariants as fault
 
 -- the rows at this moment or later
 abbrev pub rows_from : ℕ → List Row → List Row

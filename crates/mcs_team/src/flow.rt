@@ -3,7 +3,8 @@ ghost use Rattle.std.specs.Prelude.{◌≡◌, ◌+◌, ◌<◌, ◌≤◌, ◌+
 ghost use Rattle.mcs_merge.specs.Merging.{after_add, next_row, passed, CanAdd, IsInOrder};
 ghost use Rattle.mcs_merge.specs.laws.Steps.{HasTaken};
 ghost use Rattle.mcs_system.specs.WellFormed.{IsWellFormed};
-ghost use Rattle.mcs_team.specs.Flow.{pasts_of, AreBatches, FailsFrom, Given, GivenUntil, GivesOn, GoesOn, IsAt, IsBatch};
+ghost use Rattle.mcs_ticks.specs.Given.{Given, GivenUntil};
+ghost use Rattle.mcs_team.specs.Flow.{pasts_of, AreBatches, FailsFrom, GivesOn, GoesOn, IsAt, IsBatch};
 
 use crate::batch::{Batch, empty_batches, least_past};
 use crate::run::Run;

@@ -3,7 +3,8 @@ ghost use Rattle.std.specs.Prelude.{◌≡◌, ◌≤◌, ◌+◌, ◌^◌, fals
 ghost use Rattle.std.specs.Arc.{arc_value};
 ghost use Rattle.mcs_core.specs.Clock.{schedule};
 ghost use Rattle.mcs_system.specs.WellFormed.{IsWellFormed};
-ghost use Rattle.mcs_team.specs.Flow.{pasts_of, AreTakenTo, Given, IsAt, IsFlowFault};
+ghost use Rattle.mcs_ticks.specs.Given.{Given};
+ghost use Rattle.mcs_team.specs.Flow.{pasts_of, AreTakenTo, IsAt, IsFlowFault};
 ghost use Rattle.mcs_window.specs.Desk.{opening_table, AllAreHere};
 
 use crate::batch::gather;

@@ -4,7 +4,8 @@ ghost use Rattle.mcs_core.specs.Clock.{schedule};
 ghost use Rattle.mcs_report.specs.Reports.{reports_of};
 ghost use Rattle.mcs_report.specs.laws.Bandwidth.{RunsWithinBandwidth};
 ghost use Rattle.mcs_report.specs.laws.Demand.{AreWithinDemand};
-ghost use Rattle.mcs_team.specs.Flow.{rows_from, Given, GivenUntil, IsFlowFault, IsRestFault};
+ghost use Rattle.mcs_ticks.specs.Given.{Given, GivenUntil};
+ghost use Rattle.mcs_team.specs.Flow.{rows_from, IsFlowFault, IsRestFault};
 ghost use Rattle.mcs_team.specs.Headline.{Headline};
 
 use crate::counted::Counted;

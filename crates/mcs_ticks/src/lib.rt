@@ -9,6 +9,7 @@ mod memory;
 mod queue;
 mod row;
 mod sequence;
+mod sink;
 mod tick;
 
 pub use ids::{ContextId, CoreId, NoteId, ThreadId};
@@ -18,4 +19,5 @@ pub use memory::NoMemory;
 pub use queue::Queued;
 pub use row::{Row, What, Why};
 pub use sequence::Sequence;
+pub use sink::{FlowFault, Measured, Refused, Sink};
 pub use tick::Tick;

@@ -1,7 +1,9 @@
 -- One part of a turn in the hands of the code: where and when it is taken, and what it adds to the lists that it was
 -- lent.
-use Rattle.std.specs.Prelude.{◌≡◌, ℕ, ◌<◌, ◌≤◌, ◌^◌, List, ◌++◌, length, slice_index}
+use Rattle.std.specs.Prelude.{◌≡◌, ℕ, Bool, ◌<◌, ◌≤◌, ◌^◌, List, ◌++◌, length, slice_index}
+use Rattle.mcs_ticks.specs.declared.row.Row.{Row}
 use Rattle.mcs_ticks.specs.declared.row.What.{What}
+use Rattle.mcs_ticks.specs.Given.{Given}
 use Rattle.mcs_mail.specs.declared.mail.Mail.{Mail}
 use Rattle.mcs_system.specs.System.{note_part, delay_between}
 use Rattle.mcs_core.specs.Core.{Core}
@@ -20,15 +22,16 @@ abbrev pub HasDelays : Here → Type 0
 HasDelays here =
     (note : ℕ) → note < length here.system.now.notes → HasDelayTo here (note_part here.system.now note).core
 
--- these rows, with the core and the moment, and these signals are added to the lists, which are still those that were
--- lent
-pub record Adds (here : Here) (told : List What) (mails : List Mail) (before after : Log) : Type 0 where
-  pub rows : after.rows.now.items ≡ before.rows.now.items ++ stamped here.core here.moment told
-  pub signals : after.signals.now.items ≡ before.signals.now.items ++ mails
-  pub same_rows : after.rows.ghost_name ≡ before.rows.ghost_name
-  pub same_signals : after.signals.ghost_name ≡ before.signals.ghost_name
+module _ {S : Type 0} (takes : S → Row → Bool → S → Type 0) where
+  -- the sink was given these rows, with the core and the moment, and these signals were added to the list; both are still
+  -- those that were lent
+  pub record Adds (here : Here) (told : List What) (mails : List Mail) (before after : Log S) : Type 0 where
+    pub rows : Given takes before.sink.now (stamped here.core here.moment told) after.sink.now
+    pub signals : after.signals.now.items ≡ before.signals.now.items ++ mails
+    pub same_sink : after.sink.ghost_name ≡ before.sink.ghost_name
+    pub same_signals : after.signals.ghost_name ≡ before.signals.ghost_name
 
--- a part that is taken here makes this turn: the core becomes the turn's, and its rows and signals are added
-pub record Makes (here : Here) (made : Turn) (left : Core) (before after : Log) : Type 0 where
-  pub core : left ≡ made.core
-  pub adds : Adds here made.rows made.mails before after
+  -- a part that is taken here makes this turn: the core becomes the turn's, and its rows and signals are added
+  pub record Makes (here : Here) (made : Turn) (left : Core) (before after : Log S) : Type 0 where
+    pub core : left ≡ made.core
+    pub adds : Adds here made.rows made.mails before after

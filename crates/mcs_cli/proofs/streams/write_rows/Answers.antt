@@ -3,7 +3,7 @@ use Rattle.std.specs.Arc.{arc_value}
 use Rattle.mcs_system.specs.System.{System}
 use Rattle.mcs_core.specs.Clock.{schedule}
 use Rattle.mcs_text.specs.Text.{schedule_text}
-use Rattle.mcs_team.specs.declared.sink.FlowFault.TheVariants as fault
+use Rattle.mcs_ticks.specs.declared.sink.FlowFault.TheVariants as fault
 use Rattle.mcs_cli.specs.Devices.{AppendsPrefix}
 use Rattle.mcs_cli.specs.Flow.{AppendsBefore}
 use Rattle.mcs_cli.proofs.Flow.{prefix-before}

@@ -1,5 +1,5 @@
 use Rattle.std.proofs.Common.{take}
-use Rattle.mcs_team.specs.Flow.{Given}
+use Rattle.mcs_ticks.specs.Given.{Given}
 use Rattle.mcs_team.proofs.flow.give_all.Given as goal
 
 abbrev pub invariant-loop-row : goal.invariant-loop-row

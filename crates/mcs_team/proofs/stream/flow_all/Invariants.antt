@@ -1,6 +1,7 @@
 use Rattle.std.proofs.Common.{◌≡◌, ◌+◌}
 use Rattle.mcs_core.specs.Clock.{clock}
-use Rattle.mcs_team.specs.Flow.{pasts_of, Given, IsAt}
+use Rattle.mcs_ticks.specs.Given.{Given}
+use Rattle.mcs_team.specs.Flow.{pasts_of, IsAt}
 use Rattle.mcs_team.proofs.stream.flow_all.Given as goal
 
 abbrev pub invariant-loop : goal.invariant-loop

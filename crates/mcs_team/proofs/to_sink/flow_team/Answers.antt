@@ -3,7 +3,7 @@ use Rattle.std.specs.Arc.{arc_value}
 use Rattle.mcs_system.specs.WellFormed.{IsWellFormed}
 use Rattle.mcs_system.proofs.Linked.{takes_time}
 use Rattle.mcs_core.specs.Clock.{clock}
-use Rattle.mcs_team.specs.Flow.{Given}
+use Rattle.mcs_ticks.specs.Given.{Given}
 use Rattle.mcs_team.proofs.Giving.{if_err, on_ok}
 use Rattle.mcs_team.proofs.Resting.{rest-given, rest-fault}
 use Rattle.mcs_team.proofs.to_sink.flow_team.Goals as goal

@@ -1,5 +1,6 @@
 use Rattle.std.proofs.Common.{take}
-use Rattle.mcs_team.specs.Flow.{Given, rows_from}
+use Rattle.mcs_ticks.specs.Given.{Given}
+use Rattle.mcs_team.specs.Flow.{rows_from}
 use Rattle.mcs_team.proofs.to_sink.give_from.Given as goal
 
 abbrev pub invariant-loop-row : goal.invariant-loop-row

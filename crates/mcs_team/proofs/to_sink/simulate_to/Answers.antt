@@ -3,7 +3,8 @@ use Rattle.std.specs.Arc.{arc_value}
 use Rattle.mcs_system.specs.System.{System}
 use Rattle.mcs_system.specs.WellFormed.{IsWellFormed}
 use Rattle.mcs_core.specs.Clock.{schedule}
-use Rattle.mcs_team.specs.Flow.{Given, IsFlowFault}
+use Rattle.mcs_ticks.specs.Given.{Given}
+use Rattle.mcs_team.specs.Flow.{IsFlowFault}
 use Rattle.mcs_team.proofs.Headlines.{reported, within, whole-headline}
 use Rattle.mcs_team.proofs.Sinks.{at-sink, counted-fault, counted-given}
 use Rattle.mcs_team.proofs.to_sink.simulate_to.Goals as goal

@@ -11,7 +11,7 @@ use Rattle.mcs_core.proofs.Wakes.{posts-sound}
 use Rattle.mcs_core.proofs.local.Local.arrivals.Goals as goal
 
 pub mails-preserved : goal.mails-preserved
-mails-preserved c =
+mails-preserved g c =
     let due = sym c.take_due.ensures.taken ∙ c.in-Some.is in
     let taken = due-some c.args.here.now.moment c.in-Some.next c.mails.mail.mails c.mails.invariant.come due in
     let known : c.in-Some.next.note < length c.args.here.now.system.now.notes =
@@ -32,13 +32,13 @@ mails-preserved c =
     }
 
 pub returns-clause-makes : goal.returns-clause-makes
-returns-clause-makes c =
+returns-clause-makes g c =
     let none = due-none c.args.here.now.moment c.mails.mail.mails c.take_due.ensures.in_order (sym c.take_due.ensures.taken ∙ c.in_default.is) in
     goes-end c.args.here.now _ _ c.args.log.now c.mails.log c.mails.self c.mails.invariant.goes
     (ap (λ (ms : List Mail). each (arrives by_priority c.args.here.now.system.now c.args.here.now.moment) ms c.mails.self) none.0)
 
 pub returns-clause-mail : goal.returns-clause-mail
-returns-clause-mail c =
+returns-clause-mail g c =
     let due = sym c.take_due.ensures.taken ∙ c.in_default.is in
     let none = due-none c.args.here.now.moment c.mails.mail.mails c.take_due.ensures.in_order due in
     c.take_due.ensures.left ∙ none-taken c.args.here.now.moment c.mails.mail.mails due ∙ sym none.1 ∙ c.mails.invariant.stay

@@ -9,14 +9,14 @@ use Rattle.mcs_core.proofs.Loops.{GoesOn}
 use Rattle.mcs_core.proofs.local.Local.arrivals.Given as goal
 
 abbrev pub invariant-mails : goal.invariant-mails
-invariant-mails l = record {
+invariant-mails g l = record {
   sound : IsSound l.here.system.now l.here.core l.here.moment PastTick None l.self;
   known : All (λ (mail : Mail). mail.note < length l.here.system.now.notes) l.mail.mails;
   come : All (λ (mail : Mail). l.here.moment ≤ mail.arrives) l.mail.mails;
   stay : staying l.here.moment l.mail.mails ≡ staying l.here.moment l.initial.mail.mails;
-  goes : GoesOn l.here (each (arrives by_priority l.here.system.now l.here.moment) (arriving l.here.moment l.initial.mail.mails) l.initial.self)
+  goes : GoesOn g.S.Sink.takes l.here (each (arrives by_priority l.here.system.now l.here.moment) (arriving l.here.moment l.initial.mail.mails) l.initial.self)
       (each (arrives by_priority l.here.system.now l.here.moment) (arriving l.here.moment l.mail.mails) l.self) l.initial.log l.log;
 }
 
 abbrev pub decreases-mails : goal.decreases-mails
-decreases-mails l = length l.mail.mails
+decreases-mails g l = length l.mail.mails

@@ -4,6 +4,6 @@ use Rattle.mcs_core.proofs.Systems.{one-each}
 use Rattle.mcs_core.proofs.local.Local.arrive.Goals as goal
 
 pub post-requires-clause-free : goal.post-requires-clause-free
-post-requires-clause-free c =
+post-requires-clause-free g c =
     wakes_free c.args.here.now.system.now c.args.here.now.core c.args.here.now.moment (one-each c.args.here.now.system.now c.requires.well_formed) PastTick c.args.mail.note c.args.mail.badge c.args.self.now
     (rw c.requires.sound.notes c.requires.known) c.requires.sound

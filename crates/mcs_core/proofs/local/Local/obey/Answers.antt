@@ -9,10 +9,10 @@ use Rattle.mcs_core.proofs.Whole.{on_ok-map}
 use Rattle.mcs_core.proofs.local.Local.obey.Goals as goal
 
 pub returns-then-eq : goal.returns-then-eq
-returns-then-eq c =
+returns-then-eq g c =
     let obeys = orders_running by_priority c.args.here.now.system.now c.args.here.now.moment c.args.order in
     let running : Some c.in-Some.chosen ≡ c.args.self.now.running = sym c.in-Some.is ∙ c.running.ensures in
-    let Follows : Option Chosen → Type 0 = λ chosen. Makes c.args.here.now (obeys chosen c.args.self.now) c.obey_running.new.self c.tell.new.self c.obey_running.new.log in
+    let Follows : Option Chosen → Type 0 = λ chosen. Makes g.S.Sink.takes c.args.here.now (obeys chosen c.args.self.now) c.obey_running.new.self c.tell.new.self c.obey_running.new.log in
     on_ok-map _ _ c.obey_running.result
     (λ (h : Follows (Some c.in-Some.chosen)).
     then-makes c.args.here.now (says (Order c.args.order.context) c.args.self.now) (obeys c.args.self.now.running)

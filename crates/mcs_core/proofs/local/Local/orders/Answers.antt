@@ -9,7 +9,7 @@ use Rattle.mcs_core.proofs.Turning.{obeys-sound}
 use Rattle.mcs_core.proofs.local.Local.orders.Goals as goal
 
 pub agenda-preserved : goal.agenda-preserved
-agenda-preserved c =
+agenda-preserved g c =
     let due = sym c.take_due.ensures.taken ∙ c.in-Some.is in
     let first = first-due-is c.args.here.now.system.now c.args.here.now.core c.args.here.now.moment c.in-Some.order c.agenda.agenda c.agenda.invariant.by_moment c.agenda.invariant.planned due in
     let plan = first-planned c.args.here.now.system.now c.args.here.now.core c.args.here.now.moment c.in-Some.order c.agenda.agenda c.agenda.invariant.planned due in
@@ -29,12 +29,12 @@ agenda-preserved c =
     }
 
 pub returns-clause-makes : goal.returns-clause-makes
-returns-clause-makes c =
+returns-clause-makes g c =
     let none = none-due-now c.args.here.now.moment c.agenda.agenda c.agenda.invariant.by_moment (sym c.take_due.ensures.taken ∙ c.in_default.is) in
     goes-end c.args.here.now _ _ c.args.log.now c.agenda.log c.agenda.self c.agenda.invariant.goes
     (ap (λ (os : List Order). each (obeys by_priority c.args.here.now.system.now c.args.here.now.moment) os c.agenda.self) none)
 
 pub returns-clause-agenda : goal.returns-clause-agenda
-returns-clause-agenda c =
+returns-clause-agenda g c =
     let due = sym c.take_due.ensures.taken ∙ c.in_default.is in
     c.take_due.ensures.left ∙ no-order-taken c.args.here.now.moment c.agenda.agenda due ∙ sym (none-due-later c.args.here.now.moment c.agenda.agenda c.agenda.invariant.by_moment due) ∙ c.agenda.invariant.left

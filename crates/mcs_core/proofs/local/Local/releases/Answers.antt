@@ -9,17 +9,17 @@ use Rattle.mcs_core.proofs.Systems.{one-each}
 use Rattle.mcs_core.proofs.local.Local.releases.Goals as goal
 
 pub release-requires : goal.release-requires
-release-requires c =
+release-requires g c =
     let i = released-is c.args.here.now.system.now c.args.here.now.core (one-each c.args.here.now.system.now c.requires.well_formed) c.args.here.now.moment c.requires.soon c.in-Some.thread c.due.self c.due.invariant.sound (sym c.take_due.ensures.taken ∙ c.in-Some.is) in
     rw (c.take_due.ensures.left, i.left) i.free
 
 pub due-smaller : goal.due-smaller
-due-smaller c =
+due-smaller g c =
     let i = released-is c.args.here.now.system.now c.args.here.now.core (one-each c.args.here.now.system.now c.requires.well_formed) c.args.here.now.moment c.requires.soon c.in-Some.thread c.due.self c.due.invariant.sound (sym c.take_due.ensures.taken ∙ c.in-Some.is) in
     rw (c.in_ok-release.ensures.core, c.take_due.ensures.left, i.left) i.fewer
 
 pub due-preserved : goal.due-preserved
-due-preserved c =
+due-preserved g c =
     let i = released-is c.args.here.now.system.now c.args.here.now.core (one-each c.args.here.now.system.now c.requires.well_formed) c.args.here.now.moment c.requires.soon c.in-Some.thread c.due.self c.due.invariant.sound (sym c.take_due.ensures.taken ∙ c.in-Some.is) in
     record {
       sound = rw (c.in_ok-release.ensures.core, c.take_due.ensures.left, i.left) i.sound;
@@ -33,7 +33,7 @@ due-preserved c =
     }
 
 pub returns : goal.returns
-returns c =
+returns g c =
     rw (
       c.take_due.ensures.left,
       none-left c.args.here.now.system.now c.args.here.now.core (one-each c.args.here.now.system.now c.requires.well_formed) c.args.here.now.moment c.requires.soon c.due.self (sym c.take_due.ensures.taken ∙ c.in_default.is),

@@ -7,10 +7,10 @@ use Rattle.mcs_core.proofs.Loops.{GoesOn}
 use Rattle.mcs_core.proofs.local.Local.releases.Given as goal
 
 abbrev pub invariant-due : goal.invariant-due
-invariant-due l = record {
+invariant-due g l = record {
   sound : IsSound l.here.system.now l.here.core l.here.moment PastTick None l.self;
-  goes : GoesOn l.here (releases by_priority l.here.system.now l.here.moment l.initial.self) (releases by_priority l.here.system.now l.here.moment l.self) l.initial.log l.log;
+  goes : GoesOn g.S.Sink.takes l.here (releases by_priority l.here.system.now l.here.moment l.initial.self) (releases by_priority l.here.system.now l.here.moment l.self) l.initial.log l.log;
 }
 
 abbrev pub decreases-due : goal.decreases-due
-decreases-due l = length l.self.releases
+decreases-due g l = length l.self.releases

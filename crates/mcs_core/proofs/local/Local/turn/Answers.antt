@@ -9,37 +9,37 @@ use Rattle.mcs_core.proofs.Whole.{on_ok-map, whole-turn, ticked-sound, arrived-s
 use Rattle.mcs_core.proofs.local.Local.turn.Goals as goal
 
 pub arrivals-requires-clause-sound : goal.arrivals-requires-clause-sound
-arrivals-requires-clause-sound c =
+arrivals-requires-clause-sound g c =
     ticked-sound c.args.here.now c.requires.well_formed c.requires.soon c.args.self.now c.tick.new.self c.requires.sound c.in_ok-tick.ensures.core
 
 pub orders-requires-clause-sound : goal.orders-requires-clause-sound
-orders-requires-clause-sound c =
+orders-requires-clause-sound g c =
     let ticked = ticked-sound c.args.here.now c.requires.well_formed c.requires.soon c.args.self.now c.tick.new.self c.requires.sound c.in_ok-tick.ensures.core in
     arrived-sound c.args.here.now c.requires.well_formed c.requires.soon c.args.mail.now.mails c.tick.new.self c.arrivals.new.self c.requires.known ticked c.in_ok-arrivals.ensures.makes.core
 
 pub orders-requires-clause-planned : goal.orders-requires-clause-planned
-orders-requires-clause-planned c =
+orders-requires-clause-planned g c =
     rw c.requires.planned (to_come-planned c.args.here.now.system.now c.args.here.now.core c.args.here.now.moment (orders_of c.args.here.now.system.now c.args.here.now.core) (orders_of-planned c.args.here.now.system.now c.args.here.now.core c.requires.well_formed))
 
 pub orders-requires-clause-by_moment : goal.orders-requires-clause-by_moment
-orders-requires-clause-by_moment c =
+orders-requires-clause-by_moment g c =
     rw c.requires.planned (to_come-by_moment 0 c.args.here.now.moment (orders_of c.args.here.now.system.now c.args.here.now.core) (orders_of-by_moment c.args.here.now.system.now c.args.here.now.core))
 
 pub releases-requires-clause-sound : goal.releases-requires-clause-sound
-releases-requires-clause-sound c =
+releases-requires-clause-sound g c =
     let ticked = ticked-sound c.args.here.now c.requires.well_formed c.requires.soon c.args.self.now c.tick.new.self c.requires.sound c.in_ok-tick.ensures.core in
     let arrived = arrived-sound c.args.here.now c.requires.well_formed c.requires.soon c.args.mail.now.mails c.tick.new.self c.arrivals.new.self c.requires.known ticked c.in_ok-arrivals.ensures.makes.core in
     obeyed-sound c.args.here.now c.requires.well_formed c.requires.soon c.args.agenda.now c.arrivals.new.self c.orders.new.self c.requires.planned arrived c.in_ok-orders.ensures.makes.core
 
 pub preempt-requires-clause-sound : goal.preempt-requires-clause-sound
-preempt-requires-clause-sound c =
+preempt-requires-clause-sound g c =
     let ticked = ticked-sound c.args.here.now c.requires.well_formed c.requires.soon c.args.self.now c.tick.new.self c.requires.sound c.in_ok-tick.ensures.core in
     let arrived = arrived-sound c.args.here.now c.requires.well_formed c.requires.soon c.args.mail.now.mails c.tick.new.self c.arrivals.new.self c.requires.known ticked c.in_ok-arrivals.ensures.makes.core in
     let obeyed = obeyed-sound c.args.here.now c.requires.well_formed c.requires.soon c.args.agenda.now c.arrivals.new.self c.orders.new.self c.requires.planned arrived c.in_ok-orders.ensures.makes.core in
     released-sound c.args.here.now c.requires.well_formed c.requires.soon c.orders.new.self c.releases.new.self obeyed c.in_ok-releases.ensures.core
 
 pub choose-requires-clause-sound : goal.choose-requires-clause-sound
-choose-requires-clause-sound c =
+choose-requires-clause-sound g c =
     let ticked = ticked-sound c.args.here.now c.requires.well_formed c.requires.soon c.args.self.now c.tick.new.self c.requires.sound c.in_ok-tick.ensures.core in
     let arrived = arrived-sound c.args.here.now c.requires.well_formed c.requires.soon c.args.mail.now.mails c.tick.new.self c.arrivals.new.self c.requires.known ticked c.in_ok-arrivals.ensures.makes.core in
     let obeyed = obeyed-sound c.args.here.now c.requires.well_formed c.requires.soon c.args.agenda.now c.arrivals.new.self c.orders.new.self c.requires.planned arrived c.in_ok-orders.ensures.makes.core in
@@ -47,7 +47,7 @@ choose-requires-clause-sound c =
     preempted-sound c.args.here.now c.requires.well_formed c.requires.soon c.releases.new.self c.preempt.new.self released c.in_ok-preempt.ensures.core
 
 pub returns-clause-makes : goal.returns-clause-makes
-returns-clause-makes c =
+returns-clause-makes g c =
     on_ok-map _ _ c.choose.result
     (whole-turn c.args.here.now (arriving c.args.here.now.moment c.args.mail.now.mails) (due_now c.args.here.now.moment c.args.agenda.now)
     c.args.self.now c.tick.new.self c.arrivals.new.self c.orders.new.self c.releases.new.self c.preempt.new.self c.choose.new.self
@@ -57,7 +57,7 @@ returns-clause-makes c =
     c.choose.ensures
 
 pub returns-clause-sound : goal.returns-clause-sound
-returns-clause-sound c =
+returns-clause-sound g c =
     on_ok-map _ _ c.choose.result
     (λ e. let made = whole-turn c.args.here.now (arriving c.args.here.now.moment c.args.mail.now.mails) (due_now c.args.here.now.moment c.args.agenda.now)
     c.args.self.now c.tick.new.self c.arrivals.new.self c.orders.new.self c.releases.new.self c.preempt.new.self c.choose.new.self

@@ -1,0 +1,23 @@
+-- What a sink was given.
+use Rattle.std.specs.Prelude.{◌≡◌, ◌⊎◌, ◌++◌, ◌+◌, ◌<◌, max, ℕ, Bool, true, false, List, [], ◌∷◌}
+use Rattle.std.specs.List.{FoldsTo}
+use Rattle.mcs_ticks.specs.declared.row.Row.{Row}
+
+-- what a sink tells of itself: the sink before, the row, whether it took it, and the sink after
+module _ {S : Type 0} (takes : S → Row → Bool → S → Type 0) where
+  -- it took these rows, in order
+  abbrev pub Given : S → List Row → S → Type 0
+  Given s rows t = FoldsTo (λ a row b. takes a row true b) s rows t
+
+  -- it took some first ones of these rows, and then refused the next
+  abbrev pub GivenUntil : S → List Row → S → Type 0
+  GivenUntil s [] t = ⊥
+  GivenUntil s (row ∷ rows) t = takes s row false t ⊎ ((m : S) × takes s row true m × GivenUntil m rows t)
+
+  -- it took some first ones of these rows, none or all of them too
+  abbrev pub GivenSome : S → List Row → S → Type 0
+  GivenSome s rows t = (first : List Row) × (rest : List Row) × (rows ≡ first ++ rest) × Given s first t
+
+  -- after these rows its size was not yet what was asked for, or no more than at first
+  abbrev pub IsShortAfter : (S → ℕ) → ℕ → S → List Row → Type 0
+  IsShortAfter size most s rows = (m : S) × Given s rows m × (size m < max most (size s + 1))

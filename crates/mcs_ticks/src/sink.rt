@@ -1,0 +1,77 @@
+use crate::{NoMemory, Row};
+use thiserror::Error;
+
+/// A sink takes a row no more.
+#[derive(Clone, Copy, Debug, PartialEq, Eq, Drop)]
+pub struct Refused;
+
+/// What takes rows, one after another. Each sink says by `takes` how it stands after a row, taken (true) or refused
+/// (false).
+pub trait Sink {
+    ghost use Rattle.std.specs.Prelude.{Bool, is_ok};
+    ghost use Rattle.mcs_ticks.specs.declared.row.Row.{Row};
+
+    ghost takes: { Self → Row → Bool → Self → Type 0 };
+
+    /// Takes a row, or refuses it.
+    fn row(&mut self, row: &Row) -> Result<(), Refused>
+        ensures { takes self.old row.now (is_ok result) self.new };
+}
+
+/// A list takes a row at its end. It refuses one only where there is no memory, and stays as it was.
+impl Sink for Vec<Row> {
+    ghost use Rattle.std.specs.Prelude.{◌≡◌, ◌++◌, ◌∷◌, [], if◌then◌else◌};
+
+    ghost takes = { λ before row taken after. after.items ≡ (if taken then before.items ++ row ∷ [] else before.items) };
+
+    fn row(&mut self, row: &Row) -> Result<(), Refused> {
+        let Row { moment, core, what } = *row;
+        let row = Row { moment, core, what };
+        self.push(row).ok().ok_or(Refused)
+    }
+}
+
+/// A sink with a size, at which a run can end.
+pub trait Measured: Sink {
+    ghost use Rattle.std.specs.Prelude.{◌≡◌, ℕ};
+
+    ghost size: { Self → ℕ };
+
+    /// How much stands in it.
+    fn size(&self) -> usize
+        ensures { result ≡ size self.now };
+}
+
+/// The size of a list is how many rows it holds.
+impl Measured for Vec<Row> {
+    ghost use Rattle.std.specs.Prelude.{length};
+
+    ghost size = { λ rows. length rows.items };
+
+    fn size(&self) -> usize {
+        self.len()
+    }
+}
+
+/// Why a simulation that gives its rows to a sink ends early.
+#[derive(Clone, Copy, Debug, PartialEq, Eq, Error)]
+pub enum FlowFault {
+    /// A growth was refused.
+    #[error("no memory")]
+    NoMemory,
+    /// The sink refused a row.
+    #[error("the sink refused a row")]
+    Sink,
+}
+
+impl From<NoMemory> for FlowFault {
+    fn from(_refusal: NoMemory) -> Self {
+        FlowFault::NoMemory
+    }
+}
+
+impl From<Refused> for FlowFault {
+    fn from(_refusal: Refused) -> Self {
+        FlowFault::Sink
+    }
+}
