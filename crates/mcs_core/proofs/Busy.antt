@@ -4,7 +4,7 @@ use Rattle.std.specs.Prelude.{◌==◌, nat_lt, nat_le, min, max, filter, All, O
 use Rattle.std.specs.List.{AllByRecursion}
 use Rattle.std.proofs.Math.ListN.{length-set}
 use Rattle.std.proofs.lemmas.Bool.Decides.{nat_tests}
-use Rattle.mcs_ticks.specs.Queue.{first_of}
+use Rattle.mcs_ticks.specs.Queue.{by_priority, first_of}
 use Rattle.mcs_ticks.specs.declared.queue.Queued.{Queued}
 use Rattle.mcs_control.specs.declared.config.Order.{Order}
 use Rattle.mcs_control.specs.Context.{head_amount}
@@ -20,7 +20,7 @@ use Rattle.mcs_core.specs.Core.{Core, thread_of}
 use Rattle.mcs_core.specs.Orders.{AreByMoment, due_now, to_come, orders_of}
 use Rattle.mcs_core.specs.Turn.{its_context, is_for_now}
 use Rattle.mcs_core.specs.Busy.{IsFirst, sooner, first_moment, IsBest, GoesOnAfter, counted_by}
-use Rattle.mcs_core.specs.Quiet.{counted_of, counted_times, IsQuiet, IsNextBusy}
+use Rattle.mcs_core.specs.Quiet.{counted_of, counted_times, IsQuietWith, IsNextBusyWith}
 use Rattle.mcs_core.proofs.Firsts.{first-both, first-same}
 use Rattle.mcs_core.proofs.Plans.{due-none, due-of, due-to_come}
 use Rattle.mcs_core.proofs.Runs.{to_come-twice}
@@ -232,7 +232,7 @@ module _ (system : System) (c : ℕ) where
     abbrev pub now : ℕ
     now = clock + n
 
-    idle-quiet : core.running ≡ None → StaysQuiet clock box core None n → IsQuiet system c now (arriving now box) core
+    idle-quiet : core.running ≡ None → StaysQuiet clock box core None n → IsQuietWith by_priority system c now (arriving now box) core
     idle-quiet e h =
         let P : Option Chosen → Type 0 = λ o. GoesOnAfter system 0 o core in
         let Q : Option Chosen → Type 0 = λ o. IsBest system o (first_of core.ready) in
@@ -240,7 +240,7 @@ module _ (system : System) (c : ℕ) where
         let calm : IsCalm system c now (arriving now box) core = record { no_mail = h.4; no_order = h.3; no_release = h.2; best = subst Q (sym e) h.1 } in
         quiet-when system c now (arriving now box) core (λ chosen f. cc) (subst P (sym e) tt) (subst R (sym (ap (λ o. counted_of system c o core) e)) calm)
 
-    quiet-idle : core.running ≡ None → IsQuiet system c now (arriving now box) core → StaysQuiet clock box core None n
+    quiet-idle : core.running ≡ None → IsQuietWith by_priority system c now (arriving now box) core → StaysQuiet clock box core None n
     quiet-idle e q =
         let P : Option Chosen → Type 0 = λ o. GoesOnAfter system 0 o core in
         let Q : Option Chosen → Type 0 = λ o. IsBest system o (first_of core.ready) in
@@ -274,13 +274,13 @@ module _ (system : System) (c : ℕ) where
           let P : ℕ → Type 0 = λ x. (thread_of (counted_by n chosen core) x).place.item < length (thread_part system x).script in
           (thread-after other e, subst P (runner-after other e) (rw item-after known.item))
 
-      busy-quiet : StaysQuiet clock box core (Some chosen) n → IsQuiet system c now (arriving now box) (counted_by n chosen core)
+      busy-quiet : StaysQuiet clock box core (Some chosen) n → IsQuietWith by_priority system c now (arriving now box) (counted_by n chosen core)
       busy-quiet h =
           quiet-when system c now (arriving now box) (counted_by n chosen core) thread-after
           (goes-to (thread_of core chosen.thread).place.left (thread_of (counted_by n chosen core) chosen.thread).place.left chosen.using (head_amount (its_context system chosen.thread core)) n left-after h.0.0 h.0.1)
           (record { no_mail = h.4; no_order = h.3; no_release = h.2; best = best-same chosen (record { thread = chosen.thread; using = chosen.using + n + 1 }) (first_of core.ready) refl h.1 })
 
-      quiet-busy : IsQuiet system c now (arriving now box) (counted_by n chosen core) → StaysQuiet clock box core (Some chosen) n
+      quiet-busy : IsQuietWith by_priority system c now (arriving now box) (counted_by n chosen core) → StaysQuiet clock box core (Some chosen) n
       quiet-busy q =
           let goes = quiet-goes system c now (arriving now box) (counted_by n chosen core) known-after q in
           let calm = quiet-calm system c now (arriving now box) (counted_by n chosen core) thread-after goes q in (
@@ -291,22 +291,22 @@ module _ (system : System) (c : ℕ) where
             calm.no_mail,
           )
 
-    pub stays-quiet : ((chosen : Chosen) → core.running ≡ Some chosen → IsKnown system core chosen) → StaysQuiet clock box core core.running n → IsQuiet system c now (arriving now box) (counted_times system c n core)
+    pub stays-quiet : ((chosen : Chosen) → core.running ≡ Some chosen → IsKnown system core chosen) → StaysQuiet clock box core core.running n → IsQuietWith by_priority system c now (arriving now box) (counted_times system c n core)
     stays-quiet known h = by core.running refl h
       where
-        by : (o : Option Chosen) → core.running ≡ o → StaysQuiet clock box core o n → IsQuiet system c now (arriving now box) (counted_times system c n core)
-        by None e h = let P : Core → Type 0 = λ k. IsQuiet system c now (arriving now box) k in subst P (sym (counted-idle system c n core e)) (idle-quiet e h)
+        by : (o : Option Chosen) → core.running ≡ o → StaysQuiet clock box core o n → IsQuietWith by_priority system c now (arriving now box) (counted_times system c n core)
+        by None e h = let P : Core → Type 0 = λ k. IsQuietWith by_priority system c now (arriving now box) k in subst P (sym (counted-idle system c n core e)) (idle-quiet e h)
         by (Some chosen) e h =
-            let P : Core → Type 0 = λ k. IsQuiet system c now (arriving now box) k in
+            let P : Core → Type 0 = λ k. IsQuietWith by_priority system c now (arriving now box) k in
             subst P (sym (counted-by system c n chosen core e (known chosen e).thread)) (busy-quiet chosen (known chosen e) h)
 
-    pub quiet-stays : ((chosen : Chosen) → core.running ≡ Some chosen → IsKnown system core chosen) → IsQuiet system c now (arriving now box) (counted_times system c n core) → StaysQuiet clock box core core.running n
+    pub quiet-stays : ((chosen : Chosen) → core.running ≡ Some chosen → IsKnown system core chosen) → IsQuietWith by_priority system c now (arriving now box) (counted_times system c n core) → StaysQuiet clock box core core.running n
     quiet-stays known q = by core.running refl
       where
         by : (o : Option Chosen) → core.running ≡ o → StaysQuiet clock box core o n
-        by None e = let P : Core → Type 0 = λ k. IsQuiet system c now (arriving now box) k in quiet-idle e (subst P (counted-idle system c n core e) q)
+        by None e = let P : Core → Type 0 = λ k. IsQuietWith by_priority system c now (arriving now box) k in quiet-idle e (subst P (counted-idle system c n core e) q)
         by (Some chosen) e =
-            let P : Core → Type 0 = λ k. IsQuiet system c now (arriving now box) k in
+            let P : Core → Type 0 = λ k. IsQuietWith by_priority system c now (arriving now box) k in
             quiet-busy chosen (known chosen e) (subst P (counted-by system c n chosen core e (known chosen e).thread) q)
 
   -- the next busy moment is the soonest of these
@@ -316,15 +316,15 @@ module _ (system : System) (c : ℕ) where
       IsFirst clock (λ n. filter (is_due (clock + n)) core.releases ≡ []) date →
       IsFirst clock (λ n. filter (is_for_now system c (clock + n)) system.orders ≡ []) order →
       IsFirst clock (λ n. arriving (clock + n) box ≡ []) mail →
-      IsNextBusy system c clock box core (sooner (sooner (sooner (sooner ends better) date) order) mail)
+      IsNextBusyWith by_priority system c clock box core (sooner (sooner (sooner (sooner ends better) date) order) mail)
   next-busy clock box core ends better date order mail known h1 h2 h3 h4 h5 =
       let all = first-both clock _ _ _ _ (first-both clock _ _ _ _ (first-both clock _ _ _ _ (first-both clock _ _ _ _ h1 h2) h3) h4) h5 in
       is (sooner (sooner (sooner (sooner ends better) date) order) mail)
-      (first-same clock _ (λ n. IsQuiet system c (clock + n) (arriving (clock + n) box) (counted_times system c n core)) _
+      (first-same clock _ (λ n. IsQuietWith by_priority system c (clock + n) (arriving (clock + n) box) (counted_times system c n core)) _
       (λ n h. stays-quiet clock box n core known (h.0.0.0.0, h.0.0.0.1, h.0.0.1, h.0.1, h.1))
       (λ n q. (let h = quiet-stays clock box n core known q in ((((h.0, h.1), h.2), h.3), h.4))) all)
     where
-      is : (o : Option ℕ) → IsFirst clock (λ n. IsQuiet system c (clock + n) (arriving (clock + n) box) (counted_times system c n core)) o → IsNextBusy system c clock box core o
+      is : (o : Option ℕ) → IsFirst clock (λ n. IsQuietWith by_priority system c (clock + n) (arriving (clock + n) box) (counted_times system c n core)) o → IsNextBusyWith by_priority system c clock box core o
       is None h = h
       is (Some moment) h =
-          (h.0, h.1, h.2, h.3, λ q. h.4 (let P : ℕ → Type 0 = λ t. IsQuiet system c t (arriving t box) (counted_times system c h.0 core) in subst P h.1 q))
+          (h.0, h.1, h.2, h.3, λ q. h.4 (let P : ℕ → Type 0 = λ t. IsQuietWith by_priority system c t (arriving t box) (counted_times system c h.0 core) in subst P h.1 q))

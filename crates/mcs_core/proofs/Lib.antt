@@ -13,6 +13,7 @@ pub mod Mails
 pub mod Opening
 pub mod Plans
 pub mod Quiet
+pub mod QuietAlike
 pub mod Released
 pub mod Runs
 pub mod Skips

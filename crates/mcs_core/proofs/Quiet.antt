@@ -13,7 +13,7 @@ use Rattle.mcs_script.specs.Script.{place_after}
 use Rattle.std.specs.Prelude.{◌==◌, nat_lt, not, filter, Option, Some, None}
 use Rattle.std.specs.List.{slice_get}
 use Rattle.std.proofs.lemmas.Bool.Decides.{nat_tests}
-use Rattle.mcs_ticks.specs.Queue.{by_priority, first_of}
+use Rattle.mcs_ticks.specs.Queue.{Discipline, by_priority, first_of}
 use Rattle.mcs_ticks.specs.declared.queue.Queued.{Queued}
 use Rattle.mcs_ticks.specs.declared.row.Why.TheVariants as why
 use Rattle.mcs_control.specs.declared.config.Order.{Order}
@@ -26,11 +26,11 @@ use Rattle.mcs_core.specs.declared.standing.AfterItem.TheVariants as after
 use Rattle.mcs_core.specs.declared.standing.Chosen.{Chosen}
 use Rattle.mcs_system.specs.System.{System, thread_part}
 use Rattle.mcs_core.specs.Core.{Core, thread_of, no_state, note_of}
-use Rattle.mcs_core.specs.Turn.{move_of, moves, may_stop, after_move, after_waited, waits_as, placed, Turn, silent, ◌followed_by◌, each, its_context, counts, finishes, stops_to_back, stops_to_front, charged, tick, tick_of, arrives, obeys, is_for_now, releases, released, preempts, preempts_by, chooses, chooses_of, turn}
-use Rattle.mcs_core.specs.Run.{ran, with_turn}
+use Rattle.mcs_core.specs.Turn.{move_of, moves, may_stop, after_move, after_waited, waits_as, placed, Turn, silent, ◌followed_by◌, each, its_context, counts, finishes, stops_to_back, stops_to_front, charged, tick, tick_of, arrives, obeys, is_for_now, releases, released, preempts, preempts_by, chooses, chooses_of, turn_with}
+use Rattle.mcs_core.specs.Run.{ran_with, with_turn}
 use Rattle.mcs_core.specs.declared.standing.Thread.{Thread}
 use Rattle.mcs_core.specs.Busy.{IsBest, GoesOnAfter, counted_by, counted_for}
-use Rattle.mcs_core.specs.Quiet.{counted, counted_of, counted_times, IsQuiet, AreQuiet}
+use Rattle.mcs_core.specs.Quiet.{counted, counted_of, counted_times, IsQuietWith, AreQuietWith}
 use Rattle.mcs_core.proofs.Turning.{releases-none}
 
 append-empty : {A : Type 0} (xs ys : List A) → xs ++ ys ≡ [] → (xs ≡ []) × (ys ≡ [])
@@ -130,16 +130,8 @@ module _ (system : System) (c : ℕ) where
 
   -- a turn is quiet when the thread that runs goes on and nothing else happens
   pub quiet-when : (t : ℕ) (mails : List Mail) (core : Core) → ((chosen : Chosen) → core.running ≡ Some chosen → chosen.thread < length core.threads) →
-      GoesOnAfter system 0 core.running core → IsCalm t mails (counted system c core) → IsQuiet system c t mails core
+      GoesOnAfter system 0 core.running core → IsCalm t mails (counted system c core) → IsQuietWith by_priority system c t mails core
   quiet-when t mails core k goes calm = ap (after_tick t mails) (tick-goes t core.running core k goes) ∙ calm-silent t mails (counted system c core) calm
-
-  none_arrives : (t : ℕ) (ms : List Mail) (core : Core) → (each (arrives by_priority system t) ms core).rows ≡ [] → ms ≡ []
-  none_arrives t [] core e = refl
-  none_arrives t (m ∷ ms) core e = cc
-
-  none_obeyed : (t : ℕ) (os : List Order) (core : Core) → (each (obeys by_priority system t) os core).rows ≡ [] → os ≡ []
-  none_obeyed t [] core e = refl
-  none_obeyed t (o ∷ os) core e = cc
 
   none_released : (ds : List Dated) (core : Core) → (each (released by_priority system) ds core).rows ≡ [] → ds ≡ []
   none_released [] core e = refl
@@ -263,7 +255,7 @@ module _ (system : System) (c : ℕ) where
   -- in a quiet turn the thread that runs goes on
   pub quiet-goes : (t : ℕ) (mails : List Mail) (core : Core) →
       ((chosen : Chosen) → core.running ≡ Some chosen → (chosen.thread < length core.threads) × ((thread_of core chosen.thread).place.item < length (thread_part system chosen.thread).script)) →
-      IsQuiet system c t mails core → GoesOnAfter system 0 core.running core
+      IsQuietWith by_priority system c t mails core → GoesOnAfter system 0 core.running core
   quiet-goes t mails core known q = by core.running refl q
     where
       by : (o : Option Chosen) → core.running ≡ o → after_tick t mails (tick_of by_priority system c t o core) ≡ silent (counted_of system c o core) → GoesOnAfter system 0 o core
@@ -300,34 +292,40 @@ module _ (system : System) (c : ℕ) where
 
   -- and nothing else happens in it
   pub quiet-calm : (t : ℕ) (mails : List Mail) (core : Core) → ((chosen : Chosen) → core.running ≡ Some chosen → chosen.thread < length core.threads) → GoesOnAfter system 0 core.running core →
-      IsQuiet system c t mails core → IsCalm t mails (counted system c core)
+      IsQuietWith by_priority system c t mails core → IsCalm t mails (counted system c core)
   quiet-calm t mails core k goes q =
       let P : Turn → Type 0 = λ turn. after_tick t mails turn ≡ silent (counted system c core) in
       let q' : after_tick t mails (silent (counted system c core)) ≡ silent (counted system c core) = subst P (tick-goes t core.running core k goes) q in
       calm-rows t mails (counted system c core) (ap (λ (turn : Turn). turn.rows) q')
 
-module _ (system : System) (c : ℕ) where
-  pub no_mail : (t : ℕ) (mails : List Mail) (core : Core) → IsQuiet system c t mails core → mails ≡ []
+-- however the ready threads are kept
+module _ (queue : Discipline) (system : System) (c : ℕ) where
+  none_arrives : (t : ℕ) (ms : List Mail) (core : Core) → (each (arrives queue system t) ms core).rows ≡ [] → ms ≡ []
+  none_arrives t [] core e = refl
+  none_arrives t (m ∷ ms) core e = cc
+
+  none_obeyed : (t : ℕ) (os : List Order) (core : Core) → (each (obeys queue system t) os core).rows ≡ [] → os ≡ []
+  none_obeyed t [] core e = refl
+  none_obeyed t (o ∷ os) core e = cc
+
+  pub no_mail : (t : ℕ) (mails : List Mail) (core : Core) → IsQuietWith queue system c t mails core → mails ≡ []
   no_mail t mails core q =
       let e = ap (λ (turn : Turn). turn.rows) q in
       let chosen = append-empty _ _ e in
       let preempted = append-empty _ _ chosen.0 in
       let released = append-empty _ _ preempted.0 in
       let obeyed = append-empty _ _ released.0 in
-      none mails (tick by_priority system c t core).core (append-empty _ _ obeyed.0).1
-    where
-      none : (ms : List Mail) (core : Core) → (each (arrives by_priority system t) ms core).rows ≡ [] → ms ≡ []
-      none [] core e = refl
-      none (m ∷ ms) core e = cc
+      none_arrives t mails (tick queue system c t core).core (append-empty _ _ obeyed.0).1
 
-  pub no_order : (t : ℕ) (mails : List Mail) (core : Core) → IsQuiet system c t mails core → filter (is_for_now system c t) system.orders ≡ []
+  pub no_order : (t : ℕ) (mails : List Mail) (core : Core) → IsQuietWith queue system c t mails core → filter (is_for_now system c t) system.orders ≡ []
   no_order t mails core q =
       let e = ap (λ (turn : Turn). turn.rows) q in
       let chosen = append-empty _ _ e in
       let preempted = append-empty _ _ chosen.0 in
       let released = append-empty _ _ preempted.0 in
-      none_obeyed system c t (filter (is_for_now system c t) system.orders) (each (arrives by_priority system t) mails (tick by_priority system c t core).core).core (append-empty _ _ released.0).1
+      none_obeyed t (filter (is_for_now system c t) system.orders) (each (arrives queue system t) mails (tick queue system c t core).core).core (append-empty _ _ released.0).1
 
+module _ (system : System) (c : ℕ) where
   counted-first : (n : ℕ) (core : Core) → counted_times system c n (counted system c core) ≡ counted system c (counted_times system c n core)
   counted-first zero core = refl
   counted-first (suc n) core = ap (counted system c) (counted-first n core)
@@ -378,24 +376,26 @@ module _ (system : System) (c : ℕ) where
       by true e i = cc
       by false e i = ap (λ ys. x ∷ ys) (i e)
 
+-- however the ready threads are kept
+module _ (queue : Discipline) (system : System) (c : ℕ) where
   -- one more turn before quiet ones
-  quiet-later : (t n : ℕ) (core : Core) (box : List Mail) → AreQuiet system c t box core (suc n) → AreQuiet system c (t + 1) box (counted system c core) n
+  quiet-later : (t n : ℕ) (core : Core) (box : List Mail) → AreQuietWith queue system c t box core (suc n) → AreQuietWith queue system c (t + 1) box (counted system c core) n
   quiet-later t n core box q = λ m l.
       let at = q (suc m) (omega arith) in
       let same : t + suc m ≡ t + 1 + m = omega arith in
-      let P : ℕ → Type 0 = λ u. IsQuiet system c u (arriving u box) (counted system c (counted_times system c m core)) in
-      let Q : Core → Type 0 = λ k. IsQuiet system c (t + 1 + m) (arriving (t + 1 + m) box) k in
-      subst Q (sym (counted-first m core)) (subst P same at)
+      let P : ℕ → Type 0 = λ u. IsQuietWith queue system c u (arriving u box) (counted system c (counted_times system c m core)) in
+      let Q : Core → Type 0 = λ k. IsQuietWith queue system c (t + 1 + m) (arriving (t + 1 + m) box) k in
+      subst Q (sym (counted-first system c m core)) (subst P same at)
 
-  pub quiet-ran : (n t : ℕ) (core : Core) (box : List Mail) → AreQuiet system c t box core n →
-      ran system c n t core box ≡ record { core = counted_times system c n core; rows = []; mails = []; box = box }
+  pub quiet-ran : (n t : ℕ) (core : Core) (box : List Mail) → AreQuietWith queue system c t box core n →
+      ran_with queue system c n t core box ≡ record { core = counted_times system c n core; rows = []; mails = []; box = box }
   quiet-ran zero t core box q = refl
   quiet-ran (suc n) t core box q =
-      let now : IsQuiet system c t (arriving t box) core = (let h = q 0 (omega arith) in let P : ℕ → Type 0 = λ u. IsQuiet system c u (arriving u box) core in subst P (add-zero t) h) in
-      let stay = all-stay t box (no_mail t (arriving t box) core now) in
-      first (turn system c t (arriving t box) core) (staying t box) now stay (quiet-ran n (t + 1) (counted system c core) box (quiet-later t n core box q))
+      let now : IsQuietWith queue system c t (arriving t box) core = (let h = q 0 (omega arith) in let P : ℕ → Type 0 = λ u. IsQuietWith queue system c u (arriving u box) core in subst P (add-zero t) h) in
+      let stay = all-stay system c t box (no_mail queue system c t (arriving t box) core now) in
+      first (turn_with queue system c t (arriving t box) core) (staying t box) now stay (quiet-ran n (t + 1) (counted system c core) box (quiet-later t n core box q))
     where
       first : (made : Turn) (left : List Mail) → made ≡ silent (counted system c core) → left ≡ box →
-          ran system c n (t + 1) (counted system c core) box ≡ record { core = counted_times system c n (counted system c core); rows = []; mails = []; box = box } →
-          with_turn system c t made (ran system c n (t + 1) made.core left) ≡ record { core = counted_times system c (suc n) core; rows = []; mails = []; box = box }
-      first made left e f g = rw (e, f, g, counted-first n core) refl
+          ran_with queue system c n (t + 1) (counted system c core) box ≡ record { core = counted_times system c n (counted system c core); rows = []; mails = []; box = box } →
+          with_turn system c t made (ran_with queue system c n (t + 1) made.core left) ≡ record { core = counted_times system c (suc n) core; rows = []; mails = []; box = box }
+      first made left e f g = rw (e, f, g, counted-first system c n core) refl

@@ -2,7 +2,7 @@
 use Rattle.std.proofs.Common.{◌≡◌, ℕ, zero, suc, ◌+◌, ◌-◌, ◌<◌, ◌≤◌, ◌^◌, Bool, true, false, cond, List, [], ◌∷◌, refl, sym, ap, subst, ◌∙◌, arith, ◌++◌}
 use Rattle.std.specs.Prelude.{◌==◌, nat_le, max, filter, All, Option, Some, None, IfSome, Result, Ok, Err, OnOk}
 use Rattle.std.proofs.lemmas.Bool.Decides.{nat_tests}
-use Rattle.mcs_ticks.specs.Queue.{first_of}
+use Rattle.mcs_ticks.specs.Queue.{Discipline, by_priority, first_of}
 use Rattle.mcs_ticks.specs.declared.row.Row.{Row}
 use Rattle.mcs_ticks.specs.declared.sink.FlowFault.{FlowFault}
 use Rattle.mcs_ticks.specs.Given.{Given}
@@ -22,7 +22,7 @@ use Rattle.mcs_core.specs.State.{State, Fits, IsExpected, made_by, state_after}
 use Rattle.mcs_core.specs.Run.{Ran, ran}
 use Rattle.mcs_core.proofs.Runs.{left_expected, joined, ran-more, same_state, to_come-twice}
 use Rattle.mcs_core.specs.Busy.{IsFirst, sooner, first_moment, IsBest, GoesOnAfter, counted_for}
-use Rattle.mcs_core.specs.Quiet.{counted_times, IsQuiet, AreQuiet, IsNextBusy}
+use Rattle.mcs_core.specs.Quiet.{counted_times, IsQuietWith, AreQuietWith, IsNextBusyWith}
 use Rattle.mcs_core.proofs.Effects.{runner_small}
 use Rattle.mcs_core.proofs.Plans.{orders_of-by_moment, to_come-by_moment, due-of, due-to_come}
 use Rattle.mcs_core.proofs.Systems.{one-each, orders-proper, all-noted}
@@ -59,7 +59,7 @@ none-now t (o ∷ os) e = by (o.moment == t) (nat_le t o.moment) (nat_le (t + 1)
 
 module _ (system : System) (c : ℕ) (w : IsWellFormed system) where
   -- quiet turns keep a sound core sound
-  pub quiet-sound : (n t : ℕ) (core : Core) → IsSound system c t Between None core → AreQuiet system c t [] core n → t + n ≤ 2 ^ 40 + 1 → IsSound system c (t + n) Between None (counted_times system c n core)
+  pub quiet-sound : (n t : ℕ) (core : Core) → IsSound system c t Between None core → AreQuietWith by_priority system c t [] core n → t + n ≤ 2 ^ 40 + 1 → IsSound system c (t + n) Between None (counted_times system c n core)
   quiet-sound zero t core h q l = let e : t ≡ t + zero = omega arith in let P : ℕ → Type 0 = λ u. IsSound system c u Between None core in subst P e h
   quiet-sound (suc n) t core h q l =
       let before = quiet-sound n t core h (λ m k. q m (omega arith)) (omega arith) in
@@ -72,11 +72,11 @@ module _ (system : System) (c : ℕ) (w : IsWellFormed system) where
       subst Q e (subst P same made)
 
   -- and no order is obeyed in them
-  pub quiet-orders : (n t : ℕ) (core : Core) → AreQuiet system c t [] core n → to_come t (orders_of system c) ≡ to_come (t + n) (orders_of system c)
+  pub quiet-orders : (n t : ℕ) (core : Core) → AreQuietWith by_priority system c t [] core n → to_come t (orders_of system c) ≡ to_come (t + n) (orders_of system c)
   quiet-orders zero t core q = let e : t ≡ t + zero = omega arith in ap (λ u. to_come u (orders_of system c)) e
   quiet-orders (suc n) t core q =
       let e : t + n + 1 ≡ t + suc n = omega arith in
-      let none = no_order system c (t + n) [] (counted_times system c n core) (q n (omega arith)) in
+      let none = no_order by_priority system c (t + n) [] (counted_times system c n core) (q n (omega arith)) in
       quiet-orders n t core (λ m k. q m (omega arith))
       ∙ none-now (t + n) (orders_of system c) (sym (due-to_come (t + n) (orders_of system c)) ∙ due-of system c (t + n) ∙ none)
       ∙ ap (λ u. to_come u (orders_of system c)) e
@@ -90,26 +90,26 @@ module _ (system : System) (c : ℕ) (w : IsWellFormed system) where
   -- order and no mail ..
   pub quiet-when-sound : (t : ℕ) (mails : List Mail) (core : Core) → IsSound system c t Between None core →
       GoesOnAfter system 0 core.running core → IsBest system core.running (first_of core.ready) → filter (is_due t) core.releases ≡ [] →
-      filter (is_for_now system c t) system.orders ≡ [] → mails ≡ [] → IsQuiet system c t mails core
+      filter (is_for_now system c t) system.orders ≡ [] → mails ≡ [] → IsQuietWith by_priority system c t mails core
   quiet-when-sound t mails core h goes best date order mail =
       let e : t + 0 ≡ t = omega arith in
       let P : ℕ → Type 0 = λ u. filter (is_due u) core.releases ≡ [] in
       let Q : ℕ → Type 0 = λ u. filter (is_for_now system c u) system.orders ≡ [] in
-      let R : ℕ → Type 0 = λ u. IsQuiet system c u [] core in
-      let S : List Mail → Type 0 = λ ms. IsQuiet system c t ms core in
+      let R : ℕ → Type 0 = λ u. IsQuietWith by_priority system c u [] core in
+      let S : List Mail → Type 0 = λ ms. IsQuietWith by_priority system c t ms core in
       subst S (sym mail) (subst R e (stays-quiet system c t [] 0 core (known t core h) (goes, best, subst P (sym e) date, subst Q (sym e) order, refl)))
 
   -- .. and then alone
-  pub quiet-only-when : (t : ℕ) (mails : List Mail) (core : Core) → IsSound system c t Between None core → IsQuiet system c t mails core →
+  pub quiet-only-when : (t : ℕ) (mails : List Mail) (core : Core) → IsSound system c t Between None core → IsQuietWith by_priority system c t mails core →
       GoesOnAfter system 0 core.running core × IsBest system core.running (first_of core.ready) × (filter (is_due t) core.releases ≡ [])
       × (filter (is_for_now system c t) system.orders ≡ []) × (mails ≡ [])
   quiet-only-when t mails core h q =
       let e : t + 0 ≡ t = omega arith in
-      let none = no_mail system c t mails core q in
+      let none = no_mail by_priority system c t mails core q in
       let P : ℕ → Type 0 = λ u. filter (is_due u) core.releases ≡ [] in
       let Q : ℕ → Type 0 = λ u. filter (is_for_now system c u) system.orders ≡ [] in
-      let R : ℕ → Type 0 = λ u. IsQuiet system c u [] core in
-      let S : List Mail → Type 0 = λ ms. IsQuiet system c t ms core in
+      let R : ℕ → Type 0 = λ u. IsQuietWith by_priority system c u [] core in
+      let S : List Mail → Type 0 = λ ms. IsQuietWith by_priority system c t ms core in
       let stays = quiet-stays system c t [] 0 core (known t core h) (subst R (sym e) (subst S none q)) in
       (stays.0, stays.1, subst P e stays.2, subst Q e stays.3, none)
 
@@ -131,7 +131,7 @@ module _ (system : System) (c : ℕ) (w : IsWellFormed system) where
       IsFirst clock (λ n. GoesOnAfter system n core.running core) ends →
       IsFirst clock (λ n. IsBest system core.running (first_of core.ready)) better →
       date ≡ next_date core.releases → IsEarlyTick date → order ≡ first_moment orders → IsEarlyTick order → mail ≡ first_arrival box → IsEarlyTick mail →
-      IsNextBusy system c clock box core (sooner (sooner (sooner (sooner ends better) date) order) mail)
+      IsNextBusyWith by_priority system c clock box core (sooner (sooner (sooner (sooner ends better) date) order) mail)
   next-busy-of clock box core orders ends better date order mail h planned ordered come h1 h2 e3 l3 e4 l4 e5 l5 =
       next-busy system c clock box core ends better date order mail (known clock core h) h1 h2
       (rw e3 (first-release clock core.releases h.later (λ m e. early-some date l3 m (e3 ∙ e))))
@@ -140,10 +140,10 @@ module _ (system : System) (c : ℕ) (w : IsWellFormed system) where
 
   -- the clock, where the thread that runs ends its item or uses up its head then
   pub busy-now : (clock : ℕ) (box : List Mail) (core : Core) (ends : Option ℕ) → IsSound system c clock Between None core →
-      IsFirst clock (λ n. GoesOnAfter system n core.running core) ends → ends ≡ Some clock → IsNextBusy system c clock box core (Some clock)
+      IsFirst clock (λ n. GoesOnAfter system n core.running core) ends → ends ≡ Some clock → IsNextBusyWith by_priority system c clock box core (Some clock)
   busy-now clock box core ends h first e = by (subst (λ o. IsFirst clock (λ n. GoesOnAfter system n core.running core) o) e first)
     where
-      by : IsFirst clock (λ n. GoesOnAfter system n core.running core) (Some clock) → IsNextBusy system c clock box core (Some clock)
+      by : IsFirst clock (λ n. GoesOnAfter system n core.running core) (Some clock) → IsNextBusyWith by_priority system c clock box core (Some clock)
       by (n, there, early, before, not) =
           let none : n ≡ 0 = omega arith in
           let stops : ¬ GoesOnAfter system 0 core.running core = subst (λ m. ¬ GoesOnAfter system m core.running core) none not in
@@ -151,7 +151,7 @@ module _ (system : System) (c : ℕ) (w : IsWellFormed system) where
 
   -- a state after quiet turns
   pub skipped-fits : (state : State) (to : ℕ) (core : Core) → c ≡ state.number → Fits system state → state.failed ≡ false → state.clock ≤ to → to ≤ 2 ^ 40 + 1 →
-      AreQuiet system c state.clock [] state.core (to - state.clock) → core ≡ counted_times system c (to - state.clock) state.core →
+      AreQuietWith by_priority system c state.clock [] state.core (to - state.clock) → core ≡ counted_times system c (to - state.clock) state.core →
       Fits system (record state { clock = to; core = core })
   skipped-fits state to core number fits going later in_time quiet e =
       let there : state.clock + (to - state.clock) ≡ to = omega arith in
@@ -171,36 +171,38 @@ module _ (system : System) (c : ℕ) (w : IsWellFormed system) where
         delays = λ f. fits.delays going;
       }
 
--- turns that are quiet with this mail are quiet with none
-pub quiet-alone : (system : System) (c t n : ℕ) (core : Core) (box : List Mail) → AreQuiet system c t box core n → AreQuiet system c t [] core n
-quiet-alone system c t n core box q = λ m l.
-    let at = q m l in
-    let P : List Mail → Type 0 = λ mails. IsQuiet system c (t + m) mails (counted_times system c m core) in
-    subst P (no_mail system c (t + m) (arriving (t + m) box) (counted_times system c m core) at) at
+-- however the ready threads are kept
+module _ (queue : Discipline) (system : System) (c t : ℕ) where
+  -- turns that are quiet with this mail are quiet with none
+  pub quiet-alone : (n : ℕ) (core : Core) (box : List Mail) → AreQuietWith queue system c t box core n → AreQuietWith queue system c t [] core n
+  quiet-alone n core box q = λ m l.
+      let at = q m l in
+      let P : List Mail → Type 0 = λ mails. IsQuietWith queue system c (t + m) mails (counted_times system c m core) in
+      subst P (no_mail queue system c (t + m) (arriving (t + m) box) (counted_times system c m core) at) at
 
--- up to the next busy moment, or up to a sooner one
-pub quiet-to : (system : System) (c t to : ℕ) (core : Core) (box : List Mail) (o : Option ℕ) → IsNextBusy system c t box core o → ((m : ℕ) → o ≡ Some m → to ≤ m) → to ≤ 2 ^ 42 → AreQuiet system c t box core (to - t)
-quiet-to system c t to core box None h late l = λ n k. h n (omega arith)
-quiet-to system c t to core box (Some moment) h late l = λ n k. (let e = late moment refl in let f = h.1 in h.3 n (omega arith))
+  -- up to the next busy moment, or up to a sooner one
+  pub quiet-to : (to : ℕ) (core : Core) (box : List Mail) (o : Option ℕ) → IsNextBusyWith queue system c t box core o → ((m : ℕ) → o ≡ Some m → to ≤ m) → to ≤ 2 ^ 42 → AreQuietWith queue system c t box core (to - t)
+  quiet-to to core box None h late l = λ n k. h n (omega arith)
+  quiet-to to core box (Some moment) h late l = λ n k. (let e = late moment refl in let f = h.1 in h.3 n (omega arith))
 
-pub quiet-at : (system : System) (c t moment : ℕ) (core : Core) (box : List Mail) → IsNextBusy system c t box core (Some moment) → AreQuiet system c t box core (moment - t)
-quiet-at system c t moment core box h = λ n k. (let f = h.1 in h.3 n (omega arith))
+  pub quiet-at : (moment : ℕ) (core : Core) (box : List Mail) → IsNextBusyWith queue system c t box core (Some moment) → AreQuietWith queue system c t box core (moment - t)
+  quiet-at moment core box h = λ n k. (let f = h.1 in h.3 n (omega arith))
 
-pub later-busy : (system : System) (c t moment : ℕ) (core : Core) (box : List Mail) → IsNextBusy system c t box core (Some moment) → t ≤ moment
-later-busy system c t moment core box h = let f = h.1 in omega arith
+  pub later-busy : (moment : ℕ) (core : Core) (box : List Mail) → IsNextBusyWith queue system c t box core (Some moment) → t ≤ moment
+  later-busy moment core box h = let f = h.1 in omega arith
 
-module _ (system : System) (state : State) (box : List Mail) (until : ℕ) (later : state.clock ≤ until) (quiet : AreQuiet system state.number state.clock box state.core (until - state.clock)) where
+module _ (system : System) (state : State) (box : List Mail) (until : ℕ) (later : state.clock ≤ until) (quiet : AreQuietWith by_priority system state.number state.clock box state.core (until - state.clock)) where
   -- the state after quiet turns
   abbrev pub quiet_state : State
   quiet_state = record state { clock = until; core = counted_times system state.number (until - state.clock) state.core }
 
   -- what turns make of which all are quiet
   made-quiet : made_by system state until box ≡ record { core = quiet_state.core; rows = []; mails = []; box = box }
-  made-quiet = quiet-ran system state.number (until - state.clock) state.clock state.core box quiet
+  made-quiet = quiet-ran by_priority system state.number (until - state.clock) state.clock state.core box quiet
 
   -- nor is a row made by fewer of them
   pub no-rows : (to : ℕ) → to ≤ until → (made_by system state to box).rows ≡ []
-  no-rows to l = ap (λ (made : Ran). made.rows) (quiet-ran system state.number (to - state.clock) state.clock state.core box (λ n k. quiet n (omega arith)))
+  no-rows to l = ap (λ (made : Ran). made.rows) (quiet-ran by_priority system state.number (to - state.clock) state.clock state.core box (λ n k. quiet n (omega arith)))
 
   -- what turns make from the clock on, they make from the state after the quiet ones on
   pub made-on : (to : ℕ) → until ≤ to → made_by system state to box ≡ made_by system quiet_state to box

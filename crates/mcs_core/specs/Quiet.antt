@@ -1,12 +1,13 @@
 -- Turns that do nothing but count a tick, and the moment of the next one that does more.
 use Rattle.std.specs.Prelude.{◌≡◌, ℕ, zero, suc, ◌+◌, ◌<◌, ◌≤◌, ◌^◌, Option, Some, None, List, []}
+use Rattle.mcs_ticks.specs.Queue.{Discipline, in_one_list}
 use Rattle.mcs_mail.specs.declared.mail.Mail.{Mail}
 use Rattle.mcs_mail.specs.Box.{arriving}
 use Rattle.mcs_system.specs.System.{System}
 use Rattle.mcs_core.specs.Core.{Core}
 use Rattle.mcs_core.specs.declared.standing.Chosen.{Chosen}
-use Rattle.mcs_core.specs.Turn.{turn, silent, counts}
-use Rattle.mcs_core.specs.Run.{ran}
+use Rattle.mcs_core.specs.Turn.{turn_with, silent, counts}
+use Rattle.mcs_core.specs.Run.{ran_with}
 
 module _ (system : System) (c : ℕ) where
   abbrev pub counted_of : Option Chosen → Core → Core
@@ -21,29 +22,43 @@ module _ (system : System) (c : ℕ) where
   counted_times zero core = core
   counted_times (suc n) core = counted (counted_times n core)
 
+-- with the ready threads kept by this discipline
+module _ (queue : Discipline) (system : System) (c : ℕ) where
   -- the turn makes no row and no signal, and changes nothing but by counting the tick
-  abbrev pub IsQuiet : ℕ → List Mail → Core → Type 0
-  IsQuiet t mails core = turn system c t mails core ≡ silent (counted core)
+  abbrev pub IsQuietWith : ℕ → List Mail → Core → Type 0
+  IsQuietWith t mails core = turn_with queue system c t mails core ≡ silent (counted system c core)
 
   -- from the clock on, the turns before this many moments are quiet
-  abbrev pub AreQuiet : ℕ → List Mail → Core → ℕ → Type 0
-  AreQuiet clock box core many =
-      (n : ℕ) → n < many → IsQuiet (clock + n) (arriving (clock + n) box) (counted_times n core)
+  abbrev pub AreQuietWith : ℕ → List Mail → Core → ℕ → Type 0
+  AreQuietWith clock box core many =
+      (n : ℕ) → n < many → IsQuietWith (clock + n) (arriving (clock + n) box) (counted_times system c n core)
 
   -- the next busy moment: the first whose turn is not quiet, and none where all turns up to 2^42 are quiet
-  abbrev pub IsNextBusy : ℕ → List Mail → Core → Option ℕ → Type 0
-  IsNextBusy clock box core (Some moment) =
+  abbrev pub IsNextBusyWith : ℕ → List Mail → Core → Option ℕ → Type 0
+  IsNextBusyWith clock box core (Some moment) =
       (n : ℕ)
       × (moment ≡ clock + n)
       × (moment ≤ 2 ^ 42)
-      × AreQuiet clock box core n
-      × (¬ IsQuiet moment (arriving moment box) (counted_times n core))
-  IsNextBusy clock box core None =
-      (n : ℕ) → clock + n ≤ 2 ^ 42 → IsQuiet (clock + n) (arriving (clock + n) box) (counted_times n core)
+      × AreQuietWith clock box core n
+      × (¬ IsQuietWith moment (arriving moment box) (counted_times system c n core))
+  IsNextBusyWith clock box core None =
+      (n : ℕ) → clock + n ≤ 2 ^ 42 → IsQuietWith (clock + n) (arriving (clock + n) box) (counted_times system c n core)
 
--- quiet turns make no row and no signal, leave the box as it was, and count their ticks
+-- with the ready threads in one list, as the clock has them
+module _ (system : System) (c : ℕ) where
+  abbrev pub IsQuiet : ℕ → List Mail → Core → Type 0
+  IsQuiet t mails core = IsQuietWith in_one_list system c t mails core
+
+  abbrev pub AreQuiet : ℕ → List Mail → Core → ℕ → Type 0
+  AreQuiet clock box core many = AreQuietWith in_one_list system c clock box core many
+
+  abbrev pub IsNextBusy : ℕ → List Mail → Core → Option ℕ → Type 0
+  IsNextBusy clock box core next = IsNextBusyWith in_one_list system c clock box core next
+
+-- however the ready threads are kept, quiet turns make no row and no signal, leave the box as it was, and count their ticks
 abbrev pub OnlyCount : Type 0
 OnlyCount =
-    (system : System) (c n clock : ℕ) (core : Core) (box : List Mail) →
-    AreQuiet system c clock box core n →
-    ran system c n clock core box ≡ record { core = counted_times system c n core; rows = []; mails = []; box = box }
+    (queue : Discipline) (system : System) (c n clock : ℕ) (core : Core) (box : List Mail) →
+    AreQuietWith queue system c clock box core n →
+    ran_with queue system c n clock core box
+    ≡ record { core = counted_times system c n core; rows = []; mails = []; box = box }

@@ -1,7 +1,10 @@
 ghost use Rattle.std.specs.Prelude.{◌≡◌, ◌⊎◌, ◌+◌, ◌-◌, ◌^◌, ◌≤◌, ◌<◌, ◌++◌, max, true, false, [], length, OnOk, OnErr, IfOk, IsErr, IsTrue, ◌↔◌, All};
 ghost use Rattle.mcs_ticks.specs.Given.{Given, IsShortAfter};
+ghost use Rattle.mcs_ticks.specs.Queue.{by_priority};
 ghost use Rattle.mcs_core.specs.Busy.{GoesOnAfter, IsFirst};
-ghost use Rattle.mcs_core.specs.Quiet.{AreQuiet, IsNextBusy, counted_times};
+ghost use Rattle.mcs_core.specs.Clock.{shown};
+ghost use Rattle.mcs_core.specs.Core.{Core};
+ghost use Rattle.mcs_core.specs.Quiet.{AreQuiet, AreQuietWith, IsNextBusy, IsNextBusyWith, counted_times};
 ghost use Rattle.mcs_core.specs.State.{Fits, IsExpected, opening_state, made_by, state_after, AreOfOneList};
 ghost use Rattle.mcs_core.specs.Views.{views_of};
 
@@ -94,13 +97,16 @@ impl CoreState {
 
     /// The next busy moment, with this mail as arrivals: the first moment whose turn does more than count a tick, or
     /// None where no turn up to 2^42 does. It looks at the thread that runs, and unless that stops or moves on at the clock,
-    /// at the best ready one, the least date, the next order and the first mail.
+    /// at the best ready one, the least date, the next order and the first mail. It is that of each core that keeps its
+    /// ready threads in one list, and that the state shows.
     #[inline(always)]
     pub fn next_busy(&self, system: &System, mail: &Mailbox) -> Option<Tick>
         requires fits { Fits system.now self.now }
         requires going { self.now.failed ≡ false }
         requires expected { All (IsExpected system.now self.now) mail.now.mails }
-        ensures { IsNextBusy system.now self.now.number self.now.clock mail.now.mails self.now.core result }
+        ensures busy { IsNextBusyWith by_priority system.now self.now.number self.now.clock mail.now.mails self.now.core result }
+        ensures one_list { (core : Core) → self.now.core ≡ shown core →
+            IsNextBusy system.now self.now.number self.now.clock mail.now.mails core result }
     {
         let _parts = system.parts();
         let ends = self.next_end(system);
@@ -135,7 +141,7 @@ impl CoreState {
         requires expected { All (IsExpected system.now self.now) mail.now.mails }
         requires ends { IsFirst self.now.clock
             (λ n. GoesOnAfter system.now n self.now.core.running self.now.core) ends }
-        ensures { IsNextBusy system.now self.now.number self.now.clock mail.now.mails self.now.core result }
+        ensures { IsNextBusyWith by_priority system.now self.now.number self.now.clock mail.now.mails self.now.core result }
     {
         let here = Here {
             system: system.parts(),
@@ -151,17 +157,21 @@ impl CoreState {
     }
 
     /// Takes the turns from the clock up to, not including, moment `to`, all of which are quiet, at once: the thread
-    /// that runs counts their ticks. Moment `to` may be the clock.
+    /// that runs counts their ticks. Moment `to` may be the clock. Of each core that keeps its ready threads in one list, and
+    /// that the state shows, these turns are quiet too, and the state shows what it is after them.
     pub fn skip(&mut self, system: &System, to: Tick)
         requires fits { Fits system.now self.old }
         requires going { self.old.failed ≡ false }
         requires later { self.old.clock ≤ to }
         requires in_time { to ≤ 2 ^ 40 + 1 }
-        requires quiet { AreQuiet system.now self.old.number self.old.clock [] self.old.core (to - self.old.clock) }
+        requires quiet { AreQuietWith by_priority system.now self.old.number self.old.clock [] self.old.core (to - self.old.clock) }
         ensures state { self.new ≡ record self.old {
           clock = to;
           core = counted_times system.now self.old.number (to - self.old.clock) self.old.core;
         } }
+        ensures one_list { (core : Core) → self.old.core ≡ shown core →
+            AreQuiet system.now self.old.number self.old.clock [] core (to - self.old.clock)
+            × (self.new.core ≡ shown (counted_times system.now self.old.number (to - self.old.clock) core)) }
         ensures fits { Fits system.now self.new }
     {
         let _parts = system.parts();
@@ -180,7 +190,7 @@ impl CoreState {
         requires in_time { to ≤ 2 ^ 40 + 1 }
         ensures later { self.now.clock ≤ result }
         ensures within { result ≤ to }
-        ensures quiet { AreQuiet system.now self.now.number self.now.clock mail.now.mails self.now.core (result - self.now.clock) }
+        ensures quiet { AreQuietWith by_priority system.now self.now.number self.now.clock mail.now.mails self.now.core (result - self.now.clock) }
     {
         let Some(moment) = self.next_busy(system, mail) else {
             return to;

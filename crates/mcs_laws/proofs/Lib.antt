@@ -2,7 +2,6 @@ pub mod Ranges
 mod Worked
 pub mod UnderWay
 pub mod Disciplines
-pub mod Quiets
 pub mod Kept
 pub mod Traces
 pub mod Histories

@@ -4,10 +4,9 @@ use Rattle.mcs_ticks.specs.Queue.{by_priority, in_one_list}
 use Rattle.mcs_system.specs.System.{System}
 use Rattle.mcs_mail.specs.declared.mail.Mail.{Mail}
 use Rattle.mcs_core.specs.Core.{Core}
-use Rattle.mcs_core.specs.Turn.{silent, turn_with}
 use Rattle.mcs_core.specs.Run.{ran, ran_with}
 use Rattle.mcs_core.specs.State.{ran_shown}
-use Rattle.mcs_core.specs.Quiet.{IsQuiet, counted}
+use Rattle.mcs_core.specs.Quiet.{IsQuiet, IsQuietWith}
 use Rattle.mcs_core.specs.Clock.{clock_with, schedule_with, shown}
 
 module _ (system : System) where
@@ -27,8 +26,8 @@ RunsAgree =
     (system : System) (c n t : ℕ) (core : Core) (box : List Mail) →
     ran system c n t (shown core) box ≡ ran_shown (ran_with in_one_list system c n t core box)
 
--- and a turn of such a core is quiet exactly where that of the core that is shown is
+-- and a turn of such a core is quiet exactly where that of the core that is shown, which has its ready threads by priority, is
 abbrev pub QuietTurnsAgree : Type 0
 QuietTurnsAgree =
     (system : System) (c t : ℕ) (mails : List Mail) (core : Core) →
-    (turn_with in_one_list system c t mails core ≡ silent (counted system c core)) ↔ IsQuiet system c t mails (shown core)
+    IsQuiet system c t mails core ↔ IsQuietWith by_priority system c t mails (shown core)

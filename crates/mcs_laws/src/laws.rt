@@ -45,7 +45,8 @@ pub fn signals_are_said()
     ensures { SignalsAreSaid }
 {}
 
-/// A law of single cores: quiet turns make no row and no signal, leave the box as it was, and count their ticks.
+/// A law of single cores: however the ready threads are kept, quiet turns make no row and no signal, leave the box as it was, and count their
+/// ticks.
 pub fn quiet_turns_only_count()
     ensures { OnlyCount }
 {}

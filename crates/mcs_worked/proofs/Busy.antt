@@ -16,17 +16,17 @@ use Rattle.mcs_core.specs.declared.standing.Standing.TheVariants.{Blocked, Pendi
 use Rattle.mcs_core.specs.declared.standing.Thread.{Thread}
 use Rattle.mcs_core.specs.Core.{Core, opening_core, thread_of}
 use Rattle.mcs_core.specs.Turn.{Turn, silent}
-use Rattle.mcs_core.specs.Clock.{world, core_shown}
+use Rattle.mcs_core.specs.Clock.{world, core_at}
 use Rattle.mcs_core.specs.Quiet.{counted, counted_times, IsQuiet, AreQuiet, IsNextBusy}
 use Rattle.mcs_worked.specs.Parts.{context, note, thread, order, one_core}
 use Rattle.mcs_worked.proofs.Schedules.{depletes_and_refills_system}
 
 -- core 0 before moment t
 abbrev core_before : System → ℕ → Core
-core_before system t = core_shown system (world system t) 0
+core_before system t = core_at system (world system t) 0
 
 -- a turn that makes a row is not quiet
-tells : (made : Turn) (after : Core) (what : What) (others : List What) → made.rows ≡ what ∷ others → made ≡ silent after → ⊥
+pub tells : (made : Turn) (after : Core) (what : What) (others : List What) → made.rows ≡ what ∷ others → made ≡ silent after → ⊥
 tells made after what others told quiet =
     let none : what ∷ others ≡ [] = sym told ∙ ap (λ (made : Turn). made.rows) quiet in cc
 

@@ -3,4 +3,5 @@ mod Contexts
 mod Turns
 mod Orders
 mod Random
-mod Busy
+pub mod Busy
+mod OneList

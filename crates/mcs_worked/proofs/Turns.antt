@@ -8,7 +8,7 @@ use Rattle.mcs_script.specs.declared.place.Place.{Place}
 use Rattle.mcs_system.specs.System.{System}
 use Rattle.mcs_core.specs.Core.{Core, thread_of}
 use Rattle.mcs_core.specs.Turn.{Turn}
-use Rattle.mcs_core.specs.Clock.{schedule, world, core_shown}
+use Rattle.mcs_core.specs.Clock.{schedule, world, core_at}
 use Rattle.mcs_core.specs.Quiet.{IsQuiet}
 use Rattle.mcs_worked.specs.Parts.{context, note, thread, at, one_core, two_cores}
 
@@ -118,7 +118,7 @@ abbrev item_ends_without_a_row_system : System
 item_ends_without_a_row_system = one_core (context (codes "a") 0 9 20 0 ∷ []) [] (thread (codes "A") 0 5 0 1 0 (Compute 2 ∷ Compute 3 ∷ []) ∷ []) []
 
 abbrev core_before : ℕ → Core
-core_before t = core_shown item_ends_without_a_row_system (world item_ends_without_a_row_system t) 0
+core_before t = core_at item_ends_without_a_row_system (world item_ends_without_a_row_system t) 0
 
 abbrev place_before : ℕ → Place
 place_before t = (thread_of (core_before t) 0).place

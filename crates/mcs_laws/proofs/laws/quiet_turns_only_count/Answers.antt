@@ -2,4 +2,4 @@ use Rattle.mcs_core.proofs.Quiet.{quiet-ran}
 use Rattle.mcs_laws.proofs.laws.quiet_turns_only_count.Goals as goal
 
 pub returns : goal.returns
-returns c = λ system number n clock core box quiet. quiet-ran system number n clock core box quiet
+returns c = λ queue system number n clock core box quiet. quiet-ran queue system number n clock core box quiet

@@ -1,7 +1,8 @@
-use Rattle.std.proofs.Common.{◌≡◌, refl, false, ◌-◌, ◌++◌, [], List, sym, subst, ap, ◌∙◌, append-nil, arith}
+use Rattle.std.proofs.Common.{◌≡◌, refl, ◌-◌, ◌++◌, [], List, sym, subst, ap, ◌∙◌, append-nil, arith}
 use Rattle.std.specs.Prelude.{All, is_err}
 use Rattle.mcs_mail.specs.declared.mail.Mail.{Mail}
 use Rattle.mcs_ticks.specs.Given.{Given}
+use Rattle.mcs_ticks.specs.Queue.{by_priority}
 use Rattle.mcs_core.specs.Run.{Ran}
 use Rattle.mcs_core.specs.State.{State, IsExpected}
 use Rattle.mcs_core.proofs.Runs.{if_ok}
@@ -10,7 +11,7 @@ use Rattle.mcs_core.proofs.state.CoreState.advance.Goals as goal
 
 pub skip-requires-clause-quiet : goal.skip-requires-clause-quiet
 skip-requires-clause-quiet g c =
-    quiet-alone c.args.system.now c.args.self.now.number c.args.self.now.clock (c.quiet_until-until.result - c.args.self.now.clock) c.args.self.now.core c.args.mail.now.mails c.quiet_until-until.ensures.quiet
+    quiet-alone by_priority c.args.system.now c.args.self.now.number c.args.self.now.clock (c.quiet_until-until.result - c.args.self.now.clock) c.args.self.now.core c.args.mail.now.mails c.quiet_until-until.ensures.quiet
 
 pub step-requires-clause-expected : goal.step-requires-clause-expected
 step-requires-clause-expected g c =

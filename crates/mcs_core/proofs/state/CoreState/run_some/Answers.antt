@@ -2,7 +2,6 @@ use Rattle.std.proofs.Common.{◌≡◌, false, sym, ◌∙◌}
 use Rattle.std.specs.Prelude.{is_err}
 use Rattle.std.specs.Vec.{vec_items}
 use Rattle.mcs_ticks.proofs.Givens.{given_to_a_list, short_list}
-use Rattle.mcs_core.specs.State.{made_by}
 use Rattle.mcs_core.proofs.Alike.{runs-of-one-list}
 use Rattle.mcs_core.proofs.Runs.{if_ok}
 use Rattle.mcs_core.proofs.state.CoreState.run_some.Goals as goal

@@ -1,7 +1,7 @@
-use Rattle.std.proofs.Common.{◌≡◌, ◌≤◌, refl, sym, ap, subst, ◌∙◌, append-nil, arith, rules, false, ◌+◌, ◌-◌, ◌<◌, ◌++◌, List}
+use Rattle.std.proofs.Common.{◌≡◌, ◌≤◌, refl, sym, ap, subst, ◌∙◌, append-nil, arith, rules, false, ◌+◌, ◌-◌, ◌<◌, ◌++◌}
 use Rattle.mcs_ticks.specs.Given.{Given}
 use Rattle.mcs_core.specs.Run.{Ran}
-use Rattle.mcs_core.specs.State.{State, made_by}
+use Rattle.mcs_core.specs.State.{State}
 use Rattle.mcs_core.proofs.Runs.{none-made, none-yet, state-at-first, state-through, given-through, given-rest, signals-through, box-through, expected-after}
 use Rattle.mcs_core.proofs.state.CoreState.run_some_to.Goals as goal
 

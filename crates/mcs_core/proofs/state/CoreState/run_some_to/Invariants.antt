@@ -1,4 +1,4 @@
-use Rattle.std.proofs.Common.{◌≡◌, ◌≤◌, ◌++◌, ◌-◌, ◌+◌, ◌<◌, length, All, false}
+use Rattle.std.proofs.Common.{◌≡◌, ◌≤◌, ◌++◌, ◌-◌, ◌+◌, ◌<◌, All, false}
 use Rattle.std.specs.Prelude.{max}
 use Rattle.mcs_ticks.specs.Given.{Given, IsShortAfter}
 use Rattle.mcs_core.specs.State.{Fits, IsExpected, made_by, state_after}

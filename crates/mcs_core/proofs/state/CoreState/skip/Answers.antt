@@ -1,9 +1,11 @@
-use Rattle.std.proofs.Common.{◌≡◌, ◌≤◌, ◌-◌, [], refl, sym, ap, subst, ◌∙◌, false, arith}
+use Rattle.std.proofs.Common.{◌≡◌, ℕ, ◌≤◌, ◌-◌, [], refl, sym, ap, subst, ◌∙◌, false, arith}
+use Rattle.mcs_ticks.specs.Queue.{by_priority}
 use Rattle.mcs_core.specs.Core.{Core}
 use Rattle.mcs_system.specs.System.{System}
 use Rattle.mcs_core.specs.Busy.{counted_for}
-use Rattle.mcs_core.specs.Quiet.{AreQuiet, counted_times}
+use Rattle.mcs_core.specs.Quiet.{AreQuietWith, counted_times}
 use Rattle.mcs_core.specs.State.{State, Fits}
+use Rattle.mcs_core.proofs.QuietAlike.{quiet-of-one-list, counted-of-one-list}
 use Rattle.mcs_core.proofs.Skips.{counts-fit, counts-many, skipped-fits}
 use Rattle.mcs_core.proofs.state.CoreState.skip.Goals as goal
 
@@ -38,7 +40,7 @@ returns-clause-fits c =
     let F : State → Type 0 = λ s. Fits system s in
     let G : State → Type 0 = λ s. s.failed ≡ false in
     let L : State → Type 0 = λ s. s.clock ≤ c.args.to in
-    let A : State → Type 0 = λ s. AreQuiet system s.number s.clock [] s.core (c.args.to - s.clock) in
+    let A : State → Type 0 = λ s. AreQuietWith by_priority system s.number s.clock [] s.core (c.args.to - s.clock) in
     let fits = subst F (sym c.self.view_is) c.requires.fits in
     let going = subst G (sym c.self.view_is) c.requires.going in
     let later = subst L (sym c.self.view_is) c.requires.later in
@@ -50,3 +52,11 @@ returns-clause-fits c =
     skipped-fits system c.self.inside.number c.parts-parts.ensures.well_formed
     (record { number = c.self.inside.number; clock = c.self.inside.clock; core = c.self.inside.local; orders = c.self.inside.agenda; delays = c.self.inside.delays; failed = c.self.inside.failed })
     c.args.to c.count_many.new.self refl fits going later c.requires.in_time quiet core
+
+pub returns-clause-one_list : goal.returns-clause-one_list
+returns-clause-one_list c core e =
+    let state : State = c.args.self.now in
+    let many : ℕ = c.args.to - state.clock in (
+      quiet-of-one-list c.args.system.now state core e [] many c.requires.quiet,
+      ap (λ (s : State). s.core) (returns-clause-state c) ∙ counted-of-one-list c.args.system.now state core e many,
+    )

@@ -1,11 +1,11 @@
 use Rattle.std.proofs.Common.{rules, ◌≡◌, ◌∙◌, ℕ, ap, sym, subst, false, List}
 use Rattle.std.specs.Prelude.{All, Option}
-use Rattle.mcs_ticks.specs.Queue.{first_of}
+use Rattle.mcs_ticks.specs.Queue.{by_priority, first_of}
 use Rattle.mcs_mail.specs.declared.mail.Mail.{Mail}
 use Rattle.mcs_core.specs.Core.{Core}
 use Rattle.mcs_system.specs.System.{System}
 use Rattle.mcs_core.specs.Busy.{IsFirst, IsBest, GoesOnAfter, sooner}
-use Rattle.mcs_core.specs.Quiet.{IsNextBusy}
+use Rattle.mcs_core.specs.Quiet.{IsNextBusyWith}
 use Rattle.mcs_core.specs.State.{State, Fits, IsExpected}
 use Rattle.mcs_core.proofs.Skips.{IsEarlyTick, next-busy-of}
 use Rattle.mcs_core.proofs.state.CoreState.soonest.Goals as goal
@@ -17,7 +17,7 @@ returns c =
     let number : ℕ = c.self.inside.number in
     let clock : ℕ = c.self.inside.clock in
     let core : Core = c.self.inside.local in
-    let P : State → Type 0 = λ s. IsNextBusy system s.number s.clock mails s.core c.sooner-4.result in
+    let P : State → Type 0 = λ s. IsNextBusyWith by_priority system s.number s.clock mails s.core c.sooner-4.result in
     let F : State → Type 0 = λ s. Fits system s in
     let G : State → Type 0 = λ s. s.failed ≡ false in
     let E : State → Type 0 = λ s. All (IsExpected system s) mails in
@@ -33,7 +33,7 @@ returns c =
     let early_arrival : IsEarlyTick c.next-arrival.result = search rules in
     let result : sooner (sooner (sooner (sooner c.args.ends c.next_choice-better.result) c.next_date-date.result) c.next-order.result) c.next-arrival.result ≡ c.sooner-4.result =
     sym (c.sooner-4.ensures ∙ ap (λ o. sooner o c.next-arrival.result) (c.sooner-3.ensures ∙ ap (λ o. sooner o c.next-order.result) (c.sooner-2.ensures ∙ ap (λ o. sooner o c.next_date-date.result) c.sooner.ensures))) in
-    let N : Option ℕ → Type 0 = λ o. IsNextBusy system number clock mails core o in
+    let N : Option ℕ → Type 0 = λ o. IsNextBusyWith by_priority system number clock mails core o in
     subst P c.self.view_is (subst N result
     (next-busy-of system number c.parts.ensures.well_formed clock mails core c.self.inside.agenda
     c.args.ends c.next_choice-better.result c.next_date-date.result c.next-order.result c.next-arrival.result

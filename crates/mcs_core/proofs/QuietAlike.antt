@@ -1,7 +1,7 @@
 -- Whether a turn is quiet does not ask how the ready threads are kept: a turn without a row leaves them as they were.
-use Rattle.std.proofs.Common.{◌≡◌, ℕ, ◌+◌, Bool, true, false, cond, List, [], ◌∷◌, ◌++◌, refl, sym, ap, ◌∙◌}
-use Rattle.std.specs.Prelude.{Option, Some, None, filter, not, ◌==◌, nat_lt}
-use Rattle.mcs_ticks.specs.Queue.{Discipline, in_one_list}
+use Rattle.std.proofs.Common.{◌≡◌, ℕ, zero, suc, ◌+◌, Bool, true, false, cond, List, [], ◌∷◌, ◌++◌, refl, sym, ap, subst, ◌∙◌}
+use Rattle.std.specs.Prelude.{◌↔◌, Option, Some, None, filter, not, ◌==◌, nat_lt}
+use Rattle.mcs_ticks.specs.Queue.{Discipline, by_priority, in_one_list}
 use Rattle.mcs_ticks.specs.declared.queue.Queued.{Queued}
 use Rattle.mcs_ticks.specs.declared.row.Why.TheVariants as why
 use Rattle.mcs_control.specs.Context.{head_amount}
@@ -14,6 +14,7 @@ use Rattle.mcs_script.specs.declared.item.Item.TheVariants.{Compute, Signal, Wai
 use Rattle.mcs_script.specs.declared.moved.Moved.{Moved}
 use Rattle.mcs_script.specs.declared.moved.Moved.TheVariants.{Next, RoundEnds, AllDone}
 use Rattle.mcs_mail.specs.declared.mail.Mail.{Mail}
+use Rattle.mcs_mail.specs.Box.{arriving}
 use Rattle.mcs_release.specs.declared.dated.Dated.{Dated}
 use Rattle.mcs_release.specs.Release.{is_due}
 use Rattle.mcs_system.specs.System.{System}
@@ -24,9 +25,9 @@ use Rattle.mcs_core.specs.declared.standing.Chosen.{Chosen}
 use Rattle.mcs_core.specs.Turn as turns
 use Rattle.mcs_core.specs.Turn.{Turn, each, silent, ◌followed_by◌}
 use Rattle.mcs_core.specs.Clock.{shown}
-use Rattle.mcs_core.specs.Quiet.{counted, counted_of}
+use Rattle.mcs_core.specs.Quiet.{counted, counted_of, counted_times, IsQuiet, IsQuietWith, AreQuiet, AreQuietWith, IsNextBusy, IsNextBusyWith}
+use Rattle.mcs_core.specs.State.{State}
 use Rattle.mcs_core.proofs.Alike.{turn_shown, turn-alike}
-use Rattle.mcs_laws.specs.Disciplines.{QuietTurnsAgree}
 
 -- where it makes no row, it leaves the ready threads as they are on this core
 abbrev Keeps : Turn → Core → Type 0
@@ -156,15 +157,63 @@ module _ (system : System) (c : ℕ) where
   counted-ready None k = refl
   counted-ready (Some chosen) k = refl
 
-pub quiet-turns-agree : QuietTurnsAgree
-quiet-turns-agree system c t mails k = (
-  λ q. sym (turn-alike system c t mails k) ∙ ap turn_shown q ∙ ap silent (counted-shown system c k.running k),
-  λ q.
-      let made = turns.turn_with in_one_list system c t mails k in
-      let both : turn_shown made ≡ silent (shown (counted system c k)) = turn-alike system c t mails k ∙ q ∙ ap silent (sym (counted-shown system c k.running k)) in
-      let none : made.rows ≡ [] = ap (λ (turn : Turn). turn.rows) both in
-      same-turn made (counted system c k)
-      (same-core made.core (counted system c k) (ap (λ (turn : Turn). turn.core) both)
-      (turn-keeps in_one_list system c t mails k none ∙ sym (counted-ready system c k.running k)))
-      none (ap (λ (turn : Turn). turn.mails) both),
-)
+  -- the turn of a core that keeps one list is quiet exactly where that of the core that is shown is
+  pub quiet-alike : (t : ℕ) (mails : List Mail) (k : Core) → IsQuiet system c t mails k ↔ IsQuietWith by_priority system c t mails (shown k)
+  quiet-alike t mails k = (
+    λ q. sym (turn-alike system c t mails k) ∙ ap turn_shown q ∙ ap silent (counted-shown k.running k),
+    λ q.
+        let made = turns.turn_with in_one_list system c t mails k in
+        let both : turn_shown made ≡ silent (shown (counted system c k)) = turn-alike system c t mails k ∙ q ∙ ap silent (sym (counted-shown k.running k)) in
+        let none : made.rows ≡ [] = ap (λ (turn : Turn). turn.rows) both in
+        same-turn made (counted system c k)
+        (same-core made.core (counted system c k) (ap (λ (turn : Turn). turn.core) both)
+        (turn-keeps in_one_list system c t mails k none ∙ sym (counted-ready k.running k)))
+        none (ap (λ (turn : Turn). turn.mails) both),
+  )
+
+  pub counted-times-shown : (n : ℕ) (k : Core) → counted_times system c n (shown k) ≡ shown (counted_times system c n k)
+  counted-times-shown zero k = refl
+  counted-times-shown (suc n) k =
+      let before = counted_times system c n k in
+      ap (counted system c) (counted-times-shown n k) ∙ sym (counted-shown before.running before)
+
+  later-shown : (t n : ℕ) (mails : List Mail) (k : Core) → IsQuiet system c t mails (counted_times system c n k) →
+      IsQuietWith by_priority system c t mails (counted_times system c n (shown k))
+  later-shown t n mails k q =
+      let P : Core → Type 0 = λ l. IsQuietWith by_priority system c t mails l in
+      subst P (sym (counted-times-shown n k)) ((quiet-alike t mails (counted_times system c n k)).0 q)
+
+  later-kept : (t n : ℕ) (mails : List Mail) (k : Core) → IsQuietWith by_priority system c t mails (counted_times system c n (shown k)) →
+      IsQuiet system c t mails (counted_times system c n k)
+  later-kept t n mails k q =
+      let P : Core → Type 0 = λ l. IsQuietWith by_priority system c t mails l in
+      (quiet-alike t mails (counted_times system c n k)).1 (subst P (counted-times-shown n k) q)
+
+  -- so are many turns, and the next busy moment is the same
+  pub quiet-shown : (clock : ℕ) (box : List Mail) (k : Core) (many : ℕ) → AreQuiet system c clock box k many → AreQuietWith by_priority system c clock box (shown k) many
+  quiet-shown clock box k many q = λ n l. later-shown (clock + n) n (arriving (clock + n) box) k (q n l)
+
+  quiet-kept : (clock : ℕ) (box : List Mail) (k : Core) (many : ℕ) → AreQuietWith by_priority system c clock box (shown k) many → AreQuiet system c clock box k many
+  quiet-kept clock box k many q = λ n l. later-kept (clock + n) n (arriving (clock + n) box) k (q n l)
+
+  busy-kept : (clock : ℕ) (box : List Mail) (k : Core) (o : Option ℕ) → IsNextBusyWith by_priority system c clock box (shown k) o → IsNextBusy system c clock box k o
+  busy-kept clock box k None h = λ n l. later-kept (clock + n) n (arriving (clock + n) box) k (h n l)
+  busy-kept clock box k (Some moment) h =
+      (h.0, h.1, h.2, quiet-kept clock box k h.0 h.3, λ q. h.4 (later-shown moment h.0 (arriving moment box) k q))
+
+-- what is so of the core of a state is so of each core that keeps one list and that the state shows
+module _ (system : System) (state : State) (core : Core) (e : state.core ≡ shown core) where
+  pub busy-of-one-list : (box : List Mail) (o : Option ℕ) → IsNextBusyWith by_priority system state.number state.clock box state.core o →
+      IsNextBusy system state.number state.clock box core o
+  busy-of-one-list box o h =
+      let P : Core → Type 0 = λ k. IsNextBusyWith by_priority system state.number state.clock box k o in
+      busy-kept system state.number state.clock box core o (subst P e h)
+
+  pub quiet-of-one-list : (box : List Mail) (many : ℕ) → AreQuietWith by_priority system state.number state.clock box state.core many →
+      AreQuiet system state.number state.clock box core many
+  quiet-of-one-list box many h =
+      let P : Core → Type 0 = λ k. AreQuietWith by_priority system state.number state.clock box k many in
+      quiet-kept system state.number state.clock box core many (subst P e h)
+
+  pub counted-of-one-list : (n : ℕ) → counted_times system state.number n state.core ≡ shown (counted_times system state.number n core)
+  counted-of-one-list n = ap (counted_times system state.number n) e ∙ counted-times-shown system state.number n core
