@@ -1,7 +1,9 @@
 //! Desks, from which cores are lent and to which they come back. Each test is a list of steps, with how each of them goes.
 ghost use Rattle.std.specs.Prelude.{◌≡◌, ◌<◌, OnOk};
 
-use super::systems::{IDLE, ONE_ROUND, RING, RING_OF_LINKS, SIGNALS, TWO_MAKERS, moment, system};
+use super::systems::{
+    IDLE, ONE_ROUND, ONE_TICK, RING, RING_OF_LINKS, SIGNALS, TWO_MAKERS, moment, system,
+};
 use mcs_team::simulate_alone;
 use mcs_ticks::{CoreId, Row, What};
 use mcs_window::{Desk, Done, Lost, SettleFault};
@@ -20,6 +22,9 @@ enum Step {
     Front(usize, [u64; 3]),
     /// The stretch of a core made so many signals for other cores, and so many arrived at it.
     Mail(usize, usize, usize),
+    /// The stretch of a core is that of a thread's first round, which took this long and ended at this moment, and the core stands
+    /// before the moment that comes next.
+    Round(usize, u64, u64),
     /// The stretch of a core comes back.
     Settles(usize),
     /// The stretch of a core is refused, and is gone.
@@ -157,6 +162,32 @@ fn has_mail(done: Option<&Done>, out: usize, arrived: usize) -> bool {
     }
 }
 
+// Whether a row tells that a thread's first round, which took this long, ended at this moment.
+fn ends_round(row: &Row, took: u64, moment: u64) -> bool {
+    match row.what {
+        What::Round {
+            number: 1,
+            response,
+            ..
+        } => response == took && row.moment.get() == moment,
+        _ => false,
+    }
+}
+
+// Whether a stretch has four rows, the third of which tells the end of a thread's first round, with the clock one moment later, and no
+// mail.
+fn is_round(done: Option<&Done>, took: u64, moment: u64) -> bool {
+    match done {
+        Some(done) => {
+            done.rows.len() == 4
+                && ends_round(&done.rows[2], took, moment)
+                && done.mail.len() == 0
+                && done.state.clock().get() == moment.saturating_add(1)
+        }
+        None => false,
+    }
+}
+
 // Whether a step goes as it is to go.
 fn goes(desk: &mut Desk, away: &mut Vec<Done>, step: Step) -> Result<bool, Fail>
     ensures { OnOk result (desk.new.system ≡ desk.old.system) }
@@ -166,6 +197,9 @@ fn goes(desk: &mut Desk, away: &mut Vec<Done>, step: Step) -> Result<bool, Fail>
         Step::LendsNone => Ok(lends_none(desk)),
         Step::Front(core, front) => Ok(is_by(kept(away.as_slice(), core), front)),
         Step::Mail(core, out, arrived) => Ok(has_mail(kept(away.as_slice(), core), out, arrived)),
+        Step::Round(core, took, moment) => {
+            Ok(is_round(kept(away.as_slice(), core), took, moment))
+        }
         Step::Settles(core) => settles(desk, away, core, None),
         Step::Refuses(core, fault) => settles(desk, away, core, Some(fault)),
         Step::Forfeits(core) => Ok(forfeits(desk, away, core)),
@@ -257,6 +291,22 @@ fn cores_are_lent_by_their_links(rt: HostRuntime) -> Result<(), Fail> {
 #[test]
 fn mail_comes_by_way_of_the_desk(rt: HostRuntime) -> Result<(), Fail> {
     let differs = differs_alone(rt.alloc(), TWO_MAKERS, 4, BY_THE_DESK.as_slice())?;
+    assert_eq!(rt; differs, None);
+    Ok(())
+}
+
+// Both cores are lent up to the horizon: the least delay is longer.
+static ONE_THREAD: [Step; 5] = [
+    Step::Lends(0, 0, 2),
+    Step::Lends(1, 0, 2),
+    Step::Front(1, [0, 0, 0]),
+    Step::Round(1, 1, 1),
+    Step::Mail(1, 0, 0),
+];
+
+#[test]
+fn a_piece_is_the_core_s_turns(rt: HostRuntime) -> Result<(), Fail> {
+    let differs = differs_alone(rt.alloc(), ONE_TICK, 1, ONE_THREAD.as_slice())?;
     assert_eq!(rt; differs, None);
     Ok(())
 }

@@ -8,7 +8,7 @@ use Rattle.mcs_mail.specs.declared.mail.Mail.{Mail}
 use Rattle.mcs_mail.specs.Box.{arriving, put_all}
 use Rattle.mcs_system.specs.System.{System}
 use Rattle.mcs_system.specs.WellFormed.{IsWellFormed}
-use Rattle.mcs_core.specs.Clock.{world, core_shown}
+use Rattle.mcs_core.specs.Clock.{world, core_at}
 use Rattle.mcs_core.specs.Core.{Core}
 use Rattle.mcs_core.specs.Quiet.{AreQuiet, IsQuiet, counted, counted_times}
 use Rattle.mcs_window.specs.Desk.{Table, AllAreHere, clock_of, settled_at}
@@ -46,7 +46,7 @@ module _ (system : System) (c : ℕ) where
       let a = slice_index later c - t in
       let there : t + a ≡ slice_index later c = omega arith in
       same n _ _ _ _ _ _ there (sym counts.same_mail) (sym counts.core_is)
-      (quiet-on t a (b - slice_index later c) (core_shown system (world system t) c) (inbox system c t clocks) (λ m j. idle m (omega arith)) n k)
+      (quiet-on t a (b - slice_index later c) (core_at system (world system t) c) (inbox system c t clocks) (λ m j. idle m (omega arith)) n k)
     where
       same : (n u v : ℕ) (box other : List Mail) (core k : Core) → u ≡ v → box ≡ other → core ≡ k → IsQuiet system c (u + n) (arriving (u + n) box) (counted_times system c n core) → IsQuiet system c (v + n) (arriving (v + n) other) (counted_times system c n k)
       same n u v box other core k e f g h = rw (sym e, sym f, sym g) h
@@ -65,8 +65,8 @@ module _ (system : System) (well : IsWellFormed system) (clocks : List ℕ) (k t
   idle-beside : (c b : ℕ) → c ≢ k → NothingArrivesBefore system c (slice_index clocks c) clocks → IsIdle system clocks b c → IsIdle system later b c
   idle-beside c b other reached idle =
       let here : slice_index later c ≡ slice_index clocks c = get_or-set_other clocks k c to 0 other in
-      let P : ℕ → Type 0 = λ t. AreQuiet system c t (inbox system c t later) (core_shown system (world system t) c) (b - t) in
-      let Q : List Mail → Type 0 = λ box. AreQuiet system c (slice_index clocks c) box (core_shown system (world system (slice_index clocks c)) c) (b - slice_index clocks c) in
+      let P : ℕ → Type 0 = λ t. AreQuiet system c t (inbox system c t later) (core_at system (world system t) c) (b - t) in
+      let Q : List Mail → Type 0 = λ box. AreQuiet system c (slice_index clocks c) box (core_at system (world system (slice_index clocks c)) c) (b - slice_index clocks c) in
       subst P (sym here) (subst Q (same-inbox c (slice_index clocks c) reached) idle)
 
 -- nothing is known of a core at moment 0

@@ -4,15 +4,15 @@ use Rattle.std.specs.Prelude.{filter, flat_map, nat_lt, slice_index}
 use Rattle.std.specs.List.{range_with_len}
 use Rattle.std.proofs.lemmas.Bool.Decides.{nat_tests}
 use Rattle.std.proofs.lemmas.List.FromFn.{get_or-map-range_with_len}
+use Rattle.mcs_ticks.specs.Queue.{in_one_list}
 use Rattle.mcs_mail.specs.declared.mail.Mail.{Mail}
 use Rattle.mcs_mail.specs.Box.{arriving, IsIn}
 use Rattle.mcs_system.specs.System.{System, note_part, TakesTime}
 use Rattle.mcs_core.specs.Core.{Core}
-use Rattle.mcs_core.specs.Turn.{Turn, turn, silent, stamped}
+use Rattle.mcs_core.specs.Turn.{Turn, turn_with, silent, stamped}
 use Rattle.mcs_core.specs.Clock as clocks
 use Rattle.mcs_core.specs.Quiet.{counted_times}
-use Rattle.mcs_core.proofs.Alike.{turn_shown}
-use Rattle.mcs_core.proofs.Clock.{turn_of-kept, core_shown-world}
+use Rattle.mcs_core.proofs.Clock.{core_at-world}
 use Rattle.mcs_core.proofs.Quiet.{no_mail}
 use Rattle.mcs_window.specs.Inbox.{inbox, known_at, IsMade, AreNews, Rises}
 use Rattle.mcs_window.specs.Idle as idle
@@ -33,22 +33,22 @@ none-joined f (suc n) a h =
 module _ (system : System) (takes_time : TakesTime system) (front : List ℕ) where
   -- core c before its clock, and n ticks on
   abbrev core_now : ℕ → Core
-  core_now c = clocks.core_shown system (clocks.world system (slice_index front c)) c
+  core_now c = clocks.core_at system (clocks.world system (slice_index front c)) c
 
   abbrev core_on : ℕ → ℕ → Core
   core_on c n = counted_times system c n (core_now c)
 
   -- the turns of all cores from their clocks to before the moment do nothing but count
   abbrev AreStill : ℕ → Type 0
-  AreStill t = (c n : ℕ) → c < system.cores → slice_index front c + n < t → turn_shown (clocks.turn_of system c (slice_index front c + n)) ≡ silent (core_on c (suc n))
+  AreStill t = (c n : ℕ) → c < system.cores → slice_index front c + n < t → clocks.turn_of system c (slice_index front c + n) ≡ silent (core_on c (suc n))
 
   -- then so do the cores
   core-still : (t c : ℕ) → c < system.cores → AreStill t → (n : ℕ) → n ≤ t - slice_index front c →
-      clocks.core_shown system (clocks.world system (slice_index front c + n)) c ≡ core_on c n
-  core-still t c known h zero l = ap (λ m. clocks.core_shown system (clocks.world system m) c) (add-zero (slice_index front c))
+      clocks.core_at system (clocks.world system (slice_index front c + n)) c ≡ core_on c n
+  core-still t c known h zero l = ap (λ m. clocks.core_at system (clocks.world system m) c) (add-zero (slice_index front c))
   core-still t c known h (suc n) l =
       let e : slice_index front c + suc n ≡ suc (slice_index front c + n) = omega arith in
-      ap (λ m. clocks.core_shown system (clocks.world system m) c) e ∙ core_shown-world system takes_time (slice_index front c + n) c known
+      ap (λ m. clocks.core_at system (clocks.world system m) c) e ∙ core_at-world system takes_time (slice_index front c + n) c known
       ∙ ap (λ (made : Turn). made.core) (h c n known (omega arith))
 
   -- there is no news, so each inbox is by later clocks what it is by these
@@ -80,7 +80,7 @@ module _ (system : System) (takes_time : TakesTime system) (front : List ℕ) wh
         let t = slice_index front c + n in
         let e : slice_index front c + suc n ≡ t + 1 = omega arith in
         let before = inbox-waits c known n (omega arith) in
-        let none : arriving t (inbox system c (slice_index front c) front) ≡ [] = no_mail system c t _ (core_on c n) (is_idle c known n (omega arith)) in
+        let none : arriving t (inbox system c (slice_index front c) front) ≡ [] = no_mail in_one_list system c t _ (core_on c n) (is_idle c known n (omega arith)) in
         let none_now : known_at system c t front ≡ [] = sym (arriving-inbox system c front t) ∙ ap (arriving t) before ∙ none in
         ap (λ from. inbox system c from front) e
         ∙ sym (inbox-step system c front t ∙ ap (λ ms. ms ++ inbox system c (t + 1) front) none_now)
@@ -94,7 +94,7 @@ module _ (system : System) (takes_time : TakesTime system) (front : List ℕ) wh
     are-set t c known = get_or-map-range_with_len (λ b. max (slice_index front b) t) 0 system.cores c c 0 known (omega arith)
 
     -- one moment more
-    still-now : (c n : ℕ) → c < system.cores → slice_index front c + n < m → AreStill (slice_index front c + n) → turn_shown (clocks.turn_of system c (slice_index front c + n)) ≡ silent (core_on c (suc n))
+    still-now : (c n : ℕ) → c < system.cores → slice_index front c + n < m → AreStill (slice_index front c + n) → clocks.turn_of system c (slice_index front c + n) ≡ silent (core_on c (suc n))
     still-now c n known l still =
         let t = slice_index front c + n in
         let now : filter (clocks.arrives_at system t c) (clocks.world system t).mails ≡ known_at system c t (set_to t) =
@@ -102,16 +102,16 @@ module _ (system : System) (takes_time : TakesTime system) (front : List ℕ) wh
         let mail : filter (clocks.arrives_at system t c) (clocks.world system t).mails ≡ arriving t (inbox system c (slice_index front c) front) =
         now ∙ sym (arriving-inbox system c (set_to t) t)
         ∙ ap (arriving t) (same-inbox t still (set_to t) (are-set t) c t ∙ inbox-waits c known n (omega arith)) in
-        turn_of-kept system c t ∙ same _ _ _ _ mail (core-still t c known still n (omega arith)) ∙ is_idle c known n (omega arith)
+        same _ _ _ _ mail (core-still t c known still n (omega arith)) ∙ is_idle c known n (omega arith)
       where
-        same : (xs ys : List Mail) (x y : Core) → xs ≡ ys → x ≡ y → turn system c (slice_index front c + n) xs x ≡ turn system c (slice_index front c + n) ys y
+        same : (xs ys : List Mail) (x y : Core) → xs ≡ ys → x ≡ y → turn_with in_one_list system c (slice_index front c + n) xs x ≡ turn_with in_one_list system c (slice_index front c + n) ys y
         same xs ys x y e f = cc
 
     all-still : (t : ℕ) → t ≤ m → AreStill t
     all-still zero l c n known k = absurd (omega arith)
     all-still (suc t) l c n known k = by (all-still t (omega arith)) (nat_lt (slice_index front c + n) t) refl
       where
-        by : AreStill t → (u : Bool) → nat_lt (slice_index front c + n) t ≡ u → turn_shown (clocks.turn_of system c (slice_index front c + n)) ≡ silent (core_on c (suc n))
+        by : AreStill t → (u : Bool) → nat_lt (slice_index front c + n) t ≡ u → clocks.turn_of system c (slice_index front c + n) ≡ silent (core_on c (suc n))
         by still true e =
             let early : slice_index front c + n < t = grind (arith, nat_tests) in
             still c n known early
@@ -133,7 +133,7 @@ module _ (system : System) (takes_time : TakesTime system) (front : List ℕ) wh
               let made = (of_turn system b k x i).arrives in
               let long = takes_time b (note_part system x.note).core in
               omega arith;
-          core_is = ap (λ t. clocks.core_shown system (clocks.world system t) c) (sym e) ∙ core-still m c known still n (omega arith);
+          core_is = ap (λ t. clocks.core_at system (clocks.world system t) c) (sym e) ∙ core-still m c known still n (omega arith);
           no_rows = none-joined (clocks.rows_of system c) n (slice_index front c)
               (λ i l. ap (λ (made : Turn). stamped c (slice_index front c + i) made.rows) (still c i known (omega arith)));
           no_signals = none-joined (λ t. (clocks.turn_of system c t).mails) n (slice_index front c)

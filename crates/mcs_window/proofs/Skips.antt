@@ -5,13 +5,15 @@ use Rattle.std.specs.Arc.{arc_value}
 use Rattle.std.specs.Vec.{with_items}
 use Rattle.std.proofs.lemmas.Bool.Decides.{eqb_tells}
 use Rattle.std.proofs.lemmas.List.{ext_get_or, get_or-map, get_or-set_same, get_or-set_other, length-map, length-set, with_items_is}
+use Rattle.mcs_ticks.specs.Queue.{by_priority, in_one_list}
 use Rattle.mcs_mail.specs.declared.mail.Mail.{Mail}
 use Rattle.mcs_mail.specs.Box.{arriving}
 use Rattle.mcs_system.specs.System.{System, TakesTime}
-use Rattle.mcs_core.specs.Clock.{world, core_shown}
+use Rattle.mcs_core.specs.Clock.{world, core_at, shown}
 use Rattle.mcs_core.specs.Core.{Core}
-use Rattle.mcs_core.specs.Quiet.{AreQuiet, IsQuiet, IsNextBusy, counted_times}
+use Rattle.mcs_core.specs.Quiet.{AreQuietWith, IsQuiet, IsNextBusy, counted_times}
 use Rattle.mcs_core.specs.State.{State, Fits, opening_state}
+use Rattle.mcs_core.proofs.QuietAlike.{counted-times-shown, quiet-shown}
 use Rattle.mcs_core.proofs.Skips.{quiet-alone, quiet-to, quiet-at}
 use Rattle.mcs_window.specs.Idle.{IsIdle, AreIdle, AreReached, AreSet, IsIdleUntil, OnlyCounts}
 use Rattle.mcs_window.specs.Inbox.{inbox}
@@ -32,13 +34,14 @@ pub never-before : (next : Option ℕ) (until : ℕ) → next ≡ None → (m : 
 never-before next until e m f = cc
 
 module _ (system : System) (clocks : List ℕ) where
-  -- a core's next busy moment, said of the state that is kept, is that of the clock's core
+  -- a core's next busy moment, said of each core that the state that is kept shows, is that of the clock's core
   pub next-here : (c t : ℕ) (state : State) (box : List Mail) (next : Option ℕ) → StandsAt system c t state → box ≡ inbox system c t clocks →
-      IsNextBusy system state.number state.clock box state.core next → IsNextBusy system c t (inbox system c t clocks) (core_shown system (world system t) c) next
-  next-here c t state box next stands box_is h = same _ _ _ _ _ _ _ _ stands.number_is stands.clock_is box_is stands.core_is h
+      ((core : Core) → state.core ≡ shown core → IsNextBusy system state.number state.clock box core next) → IsNextBusy system c t (inbox system c t clocks) (core_at system (world system t) c) next
+  next-here c t state box next stands box_is h = same _ _ _ _ _ _ stands.number_is stands.clock_is box_is (h (core_at system (world system t) c) stands.core_is)
     where
-      same : (c c' t t' : ℕ) (box box' : List Mail) (core core' : Core) → c ≡ c' → t ≡ t' → box ≡ box' → core ≡ core' → IsNextBusy system c t box core next → IsNextBusy system c' t' box' core' next
-      same c c' t t' box box' core core' d e f g h = rw (sym d, sym e, sym f, sym g) h
+      same : (n c' u t' : ℕ) (mails box' : List Mail) → n ≡ c' → u ≡ t' → mails ≡ box' → IsNextBusy system n u mails (core_at system (world system t) c) next →
+          IsNextBusy system c' t' box' (core_at system (world system t) c) next
+      same n c' u t' mails box' d e f h = rw (sym d, sym e, sym f) h
 
   -- the cores below a number, and one more
   pub below-none : (past : ℕ) → AreIdleBelow system clocks past 0 past
@@ -53,27 +56,27 @@ module _ (system : System) (clocks : List ℕ) where
 
     -- a core that is not busy before
     pub below-same : (next : Option ℕ) → until ≤ 2 ^ 42 → ((moment : ℕ) → next ≡ Some moment → until ≤ moment) →
-        IsNextBusy system many (slice_index clocks many) (inbox system many (slice_index clocks many) clocks) (core_shown system (world system (slice_index clocks many)) many) next →
+        IsNextBusy system many (slice_index clocks many) (inbox system many (slice_index clocks many) clocks) (core_at system (world system (slice_index clocks many)) many) next →
         AreIdleBelow system clocks past (many + 1) until
     below-same next l late h =
         record {
           in_time = below.in_time;
-          idle = each-below until (omega arith) (quiet-to system many (slice_index clocks many) until _ _ next h late l);
+          idle = each-below until (omega arith) (quiet-to in_one_list system many (slice_index clocks many) until _ _ next h late l);
           busy = λ p all. below.busy p (λ c q. all c (omega arith));
         }
 
     -- a core that is busy before
     pub below-sooner : (busy : ℕ) → busy < until →
-        IsNextBusy system many (slice_index clocks many) (inbox system many (slice_index clocks many) clocks) (core_shown system (world system (slice_index clocks many)) many) (Some busy) →
+        IsNextBusy system many (slice_index clocks many) (inbox system many (slice_index clocks many) clocks) (core_at system (world system (slice_index clocks many)) many) (Some busy) →
         AreIdleBelow system clocks past (many + 1) busy
     below-sooner busy l h =
         record {
           in_time = (let k = below.in_time in omega arith);
-          idle = each-below busy (omega arith) (quiet-at system many (slice_index clocks many) busy _ _ h);
+          idle = each-below busy (omega arith) (quiet-at in_one_list system many (slice_index clocks many) busy _ _ h);
           busy = λ p all.
               (let e : slice_index clocks many + h.0 ≡ busy = sym h.1 in
               let quiet = all many (omega arith) h.0 (omega arith) in
-              let P : ℕ → Type 0 = λ t. IsQuiet system many t (arriving t (inbox system many (slice_index clocks many) clocks)) (counted_times system many h.0 (core_shown system (world system (slice_index clocks many)) many)) in
+              let P : ℕ → Type 0 = λ t. IsQuiet system many t (arriving t (inbox system many (slice_index clocks many) clocks)) (counted_times system many h.0 (core_at system (world system (slice_index clocks many)) many)) in
               h.4 (subst P e quiet));
         }
 
@@ -124,10 +127,14 @@ module _ (system : System) (takes_time : TakesTime system) (clocks : List ℕ) (
   counts-all = idle-passes system takes_time clocks (set_all clocks moment) moment reached idle all-set
 
   -- a core that skips
-  pub skip-quiet : (c : ℕ) (state : State) → c < system.cores → StandsAt system c (slice_index clocks c) state → AreQuiet system state.number state.clock [] state.core (moment - state.clock)
-  skip-quiet c state p stands = same _ _ _ _ _ _ stands.number_is stands.clock_is stands.core_is (quiet-alone system c (slice_index clocks c) (moment - slice_index clocks c) _ _ (idle c p))
+  pub skip-quiet : (c : ℕ) (state : State) → c < system.cores → StandsAt system c (slice_index clocks c) state → AreQuietWith by_priority system state.number state.clock [] state.core (moment - state.clock)
+  skip-quiet c state p stands =
+      let t = slice_index clocks c in
+      let core = core_at system (world system t) c in
+      same _ _ _ _ _ _ stands.number_is stands.clock_is stands.core_is
+      (quiet-shown system c t [] core (moment - t) (quiet-alone in_one_list system c t (moment - t) core (inbox system c t clocks) (idle c p)))
     where
-      same : (c c' t t' : ℕ) (core core' : Core) → c ≡ c' → t ≡ t' → core ≡ core' → AreQuiet system c' t' [] core' (moment - t') → AreQuiet system c t [] core (moment - t)
+      same : (c c' t t' : ℕ) (core core' : Core) → c ≡ c' → t ≡ t' → core ≡ core' → AreQuietWith by_priority system c' t' [] core' (moment - t') → AreQuietWith by_priority system c t [] core (moment - t)
       same c c' t t' core core' d e f h = rw (d, e, f) h
 
   pub skip-stands : (c : ℕ) (state after : State) → c < system.cores → slice_index clocks c < moment → StandsAt system c (slice_index clocks c) state →
@@ -139,8 +146,9 @@ module _ (system : System) (takes_time : TakesTime system) (clocks : List ℕ) (
         number_is = ap (λ (s : State). s.number) e ∙ stands.number_is;
         clock_is = ap (λ (s : State). s.clock) e;
         core_is = ap (λ (s : State). s.core) e ∙ same _ _ _ _ _ _ stands.number_is stands.clock_is stands.core_is
-            ∙ ap (λ t. counted_times system c (t - slice_index clocks c) (core_shown system (world system (slice_index clocks c)) c)) (sym there)
-            ∙ sym later.core_is ∙ ap (λ t. core_shown system (world system t) c) there;
+            ∙ counted-times-shown system c (moment - slice_index clocks c) (core_at system (world system (slice_index clocks c)) c)
+            ∙ ap shown (ap (λ t. counted_times system c (t - slice_index clocks c) (core_at system (world system (slice_index clocks c)) c)) (sym there)
+            ∙ sym later.core_is ∙ ap (λ t. core_at system (world system t) c) there);
         whole = ap (λ (s : State). s.failed) e ∙ stands.whole;
         fits = fits;
       }

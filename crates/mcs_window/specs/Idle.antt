@@ -1,7 +1,7 @@
 -- Idle time: all cores only count ticks until a moment, whatever the clock of each is.
 use Rattle.std.specs.Prelude.{◌≡◌, ℕ, ◌+◌, ◌-◌, ◌<◌, ◌≤◌, max, List, [], slice_index}
 use Rattle.mcs_system.specs.System.{System}
-use Rattle.mcs_core.specs.Clock.{world, core_shown}
+use Rattle.mcs_core.specs.Clock.{world, core_at}
 use Rattle.mcs_core.specs.Quiet.{AreQuiet, counted_times}
 use Rattle.mcs_window.specs.Inbox.{inbox, signals_between}
 use Rattle.mcs_window.specs.Stretch.{NothingArrivesBefore, rows_between}
@@ -16,7 +16,7 @@ module _ (system : System) where
   abbrev pub IsIdle : List ℕ → ℕ → ℕ → Type 0
   IsIdle clocks moment c =
       let clock = slice_index clocks c in
-      AreQuiet system c clock (inbox system c clock clocks) (core_shown system (world system clock) c) (moment - clock)
+      AreQuiet system c clock (inbox system c clock clocks) (core_at system (world system clock) c) (moment - clock)
 
   abbrev pub AreIdle : List ℕ → ℕ → Type 0
   AreIdle clocks moment = (c : ℕ) → c < system.cores → IsIdle clocks moment c
@@ -35,9 +35,9 @@ module _ (system : System) where
   -- core c only counts ticks from its clock to its later one: it makes no row and no signal, and its inbox is what it was
   pub record OnlyCounts (clocks later : List ℕ) (c : ℕ) : Type 0 where
     pub reached : NothingArrivesBefore system c (slice_index later c) later
-    pub core_is : core_shown system (world system (slice_index later c)) c
+    pub core_is : core_at system (world system (slice_index later c)) c
         ≡ counted_times system c (slice_index later c - slice_index clocks c)
-        (core_shown system (world system (slice_index clocks c)) c)
+        (core_at system (world system (slice_index clocks c)) c)
     pub no_rows : rows_between system c (slice_index clocks c) (slice_index later c) ≡ []
     pub no_signals : signals_between system c (slice_index clocks c) (slice_index later c) ≡ []
     pub same_mail : inbox system c (slice_index later c) later ≡ inbox system c (slice_index clocks c) clocks

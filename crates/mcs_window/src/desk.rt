@@ -1,6 +1,6 @@
 ghost use Rattle.std.specs.Prelude.{◌≡◌, ◌≢◌, ◌↔◌, ℕ, ◌+◌, ◌-◌, ◌≤◌, ◌<◌, ◌^◌, min, max, ◌⊎◌, suc, true, false, [], None, length, slice_index, IfOk, IfErr, OnOk, OnErr, IfSome, IfNone, IsTrue, IsFalse};
 ghost use Rattle.std.specs.Arc.{arc_value};
-ghost use Rattle.mcs_core.specs.Clock.{world, core_shown};
+ghost use Rattle.mcs_core.specs.Clock.{world, core_at};
 ghost use Rattle.mcs_core.specs.Quiet.{IsNextBusy};
 ghost use Rattle.mcs_system.specs.System.{delay_between};
 ghost use Rattle.mcs_window.specs.ByScripts.{IsFarByScripts};
@@ -347,7 +347,7 @@ impl Desk {
         requires here { loan_of self.now core ≡ None }
         ensures { IsNextBusy self.now.system core (clock_of self.now core)
             (inbox self.now.system core (clock_of self.now core) self.now.clocks)
-            (core_shown self.now.system (world self.now.system (clock_of self.now core)) core) result }
+            (core_at self.now.system (world self.now.system (clock_of self.now core)) core) result }
     {
         match &self.slots[core.0] {
             Slot::Here { state, .. } => state.next_busy(&self.system, &self.boxes[core.0]),

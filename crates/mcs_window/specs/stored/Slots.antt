@@ -6,8 +6,9 @@ use Rattle.mcs_mail.specs.declared.mail.Mail.{Mail}
 use Rattle.mcs_mail.specs.Box.{Content}
 use Rattle.mcs_system.specs.System.{System}
 use Rattle.mcs_system.specs.WellFormed.{IsWellFormed}
-use Rattle.mcs_core.specs.Quiet.{AreQuiet, counted_times}
+use Rattle.mcs_core.specs.Quiet.{AreQuietWith, counted_times}
 use Rattle.mcs_core.specs.State.{Fits, opening_state}
+use Rattle.mcs_ticks.specs.Queue.{by_priority}
 use Rattle.mcs_ticks.specs.declared.row.Row.{Row}
 use Rattle.mcs_window.specs.Idle.{IsIdle}
 use Rattle.mcs_window.specs.Inbox.{AreNews, Rises, inbox, signals_between}
@@ -98,7 +99,7 @@ MaySkip system moment (Here spare state) =
     Fits system state
     × (state.failed ≡ false)
     × (state.clock ≤ moment)
-    × AreQuiet system state.number state.clock [] state.core (moment - state.clock)
+    × AreQuietWith by_priority system state.number state.clock [] state.core (moment - state.clock)
 MaySkip system moment (Away loan) = ⊥
 
 abbrev pub HasSkipped : System → ℕ → Slot → Slot → Type 0

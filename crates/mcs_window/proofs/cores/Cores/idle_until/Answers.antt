@@ -36,7 +36,7 @@ loop-core-preserved c =
     let here = (c.self.invariant.whole unspent).here k state c.index.result.now known in
     let at = c.state-item.is ∙ ap (λ states. slice_index_or states k state) c.deref-state-items.ensures.value in
     let next = next-here s a.clocks.items k (slice_index a.clocks.items k) state c.index.result.now.mails c.next_busy.result (subst (StandsAt s k (slice_index a.clocks.items k)) (sym at) here.state_is)
-    (ap (λ (box : Content). box.mails) c.index.ensures ∙ here.box_is) (rw c.deref.ensures at c.next_busy.ensures) in
+    (ap (λ (box : Content). box.mails) c.index.ensures ∙ here.box_is) (rw c.deref.ensures at c.next_busy.ensures.one_list) in
     let early : c.loop-core.until ≤ 2 ^ 42 = (let l = c.loop-core.invariant.in_time in let h = c.self.invariant.horizon in omega arith) in
     elim c.match-next_busy.branch [
       | in-Some+then-get w ↦ (let sooner : w.in-Some.busy < c.loop-core.until = omega arith in

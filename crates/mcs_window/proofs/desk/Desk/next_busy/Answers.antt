@@ -1,7 +1,7 @@
 use Rattle.std.proofs.Common.{◌<◌, ℕ, ap, subst, arith}
 use Rattle.std.specs.Prelude.{slice_index}
 use Rattle.std.specs.Arc.{arc_value}
-use Rattle.mcs_core.specs.Clock.{world, core_shown}
+use Rattle.mcs_core.specs.Clock.{world, core_at}
 use Rattle.mcs_core.specs.Quiet.{IsNextBusy}
 use Rattle.mcs_window.specs.Desk.{Table, clock_of}
 use Rattle.mcs_window.specs.Inbox.{inbox}
@@ -38,7 +38,7 @@ returns-in-Here c =
     let s = arc_value a.system in
     let k = c.core.inside.0 in
     let d = c.before in
-    let next = next-here s a.clocks k (slice_index a.clocks k) c.in-Here.state c.index-in-Here.result.now.mails c.next_busy.result (here c.before).state_is (here c.before).box_is (rw c.deref.ensures at c.next_busy.ensures) in
+    let next = next-here s a.clocks k (slice_index a.clocks k) c.in-Here.state c.index-in-Here.result.now.mails c.next_busy.result (here c.before).state_is (here c.before).box_is (rw c.deref.ensures at c.next_busy.ensures.one_list) in
     let P : Table → ℕ → Type 0 = λ t n.
-    IsNextBusy t.system n (clock_of t n) (inbox t.system n (clock_of t n) t.clocks) (core_shown t.system (world t.system (clock_of t n)) n) c.next_busy.result in
+    IsNextBusy t.system n (clock_of t n) (inbox t.system n (clock_of t n) t.clocks) (core_at t.system (world t.system (clock_of t n)) n) c.next_busy.result in
     subst (λ n. P c.args.self.now n) c.core.view_is (subst (λ t. P t k) c.self.view_is next)
