@@ -2,9 +2,16 @@
 
 The growths are the calls of malloc, calloc, realloc and their relatives after the program was loaded. A few lines of C, which cc compiles
 here and the loader puts before the C library, count and refuse them."""
+from __future__ import annotations
+
 import pathlib
+import shutil
 import subprocess
 import tempfile
+from collections.abc import Sequence
+from typing import NamedTuple
+
+import common
 
 LIBRARY = r'''
 #define _GNU_SOURCE
@@ -73,21 +80,43 @@ int pthread_create(pthread_t *thread, const pthread_attr_t *attributes, void *(*
 '''
 
 
-def compiled(folder):
+COMPILER = 'cc'
+# what is told of a growth that was refused: while a thread was started, or else
+AT_START, ELSE = ord('s'), ord('r')
+
+
+class Answer(NamedTuple):
+    """What a run came to, and a byte for each growth that was refused."""
+
+    status: int
+    stdout: bytes
+    stderr: bytes
+    refused: bytes
+
+
+def is_there() -> bool:
+    """Whether there is what compiles the library."""
+    return shutil.which(COMPILER) is not None
+
+
+def compiled(folder: str) -> pathlib.Path:
     """The library, made in this folder."""
     source, library = pathlib.Path(folder, 'refusing.c'), pathlib.Path(folder, 'refusing.so')
     source.write_text(LIBRARY)
-    subprocess.run(['cc', '-O2', '-shared', '-fPIC', '-o', library, source], check=True)
+    subprocess.run([COMPILER, '-O2', '-shared', '-fPIC', '-o', library, source], check=True)
     return library
 
 
-def answer(command, library, first, last, stdin=b'', folder=None):
-    """Status, standard output and standard error of a run whose growths are refused from the first to the last of these (from 1), and a
-    byte for each that was: s while a thread was started, and else r. Where nothing is to be refused, the library is None."""
+def answer(
+    command: Sequence[common.Word], library: pathlib.Path, first: int, last: int, stdin: bytes = b'', folder: pathlib.Path | None = None
+) -> Answer | None:
+    """What a run comes to whose growths are refused from the first to the last of these (from 1; none where both are 0), or None where it gives no
+    answer in time."""
     with tempfile.TemporaryFile() as told:
-        env = {'REFUSED_FIRST': str(first), 'REFUSED_LAST': str(last), 'REFUSED_TOLD': str(told.fileno())}
-        if library:
-            env['LD_PRELOAD'] = str(library)
-        ran = subprocess.run(command, input=stdin, capture_output=True, env=env, pass_fds=(told.fileno(),), timeout=60, cwd=folder)
+        number = told.fileno()
+        env = {'REFUSED_FIRST': str(first), 'REFUSED_LAST': str(last), 'REFUSED_TOLD': str(number), 'LD_PRELOAD': str(library)}
+        ran = common.run(command, stdin, env=env, pass_fds=(number,), cwd=folder)
+        if ran is common.NO_ANSWER:
+            return None
         told.seek(0)
-        return ran.returncode, ran.stdout, ran.stderr, told.read()
+        return Answer(*ran, told.read())

@@ -1,0 +1,145 @@
+"""What the scripts of this folder share: where things stand, the built program, and the count with which each of them ends.
+
+The last line of each script that tries something is 'N passed, M failed', with ', K skipped' where something that it needs is not there. Its
+status is 0 where M is 0 and something passed or was skipped."""
+from __future__ import annotations
+
+import argparse
+import contextlib
+import os
+import pathlib
+import re
+import signal
+import subprocess
+import sys
+from collections.abc import Iterator, Sequence
+from typing import NamedTuple, NoReturn, Union
+
+TOP = pathlib.Path(__file__).resolve().parent.parent
+DATA = TOP / 'crates' / 'mcs_corpus' / 'data'
+# the program as the gate leaves it, and the one that comes with the repository
+BUILT = TOP / 'crates' / 'mcsim' / 'out' / 'mcsim'
+SHIPPED = TOP / 'bin' / 'mcsim'
+# a single run that takes longer has no answer
+SECONDS = 60
+
+Word = Union[str, bytes, 'os.PathLike[str]']
+
+
+class Tally(NamedTuple):
+    """How much passed, failed and was skipped."""
+
+    passed: int = 0
+    failed: int = 0
+    skipped: int = 0
+
+    def __str__(self) -> str:
+        skipped = f', {self.skipped} skipped' if self.skipped else ''
+        return f'{self.passed} passed, {self.failed} failed{skipped}'
+
+    def plus(self, other: Tally) -> Tally:
+        return Tally(self.passed + other.passed, self.failed + other.failed, self.skipped + other.skipped)
+
+    @property
+    def status(self) -> int:
+        """The exit status: a script that tried nothing and skipped nothing has shown nothing."""
+        return 0 if self.failed == 0 and self.passed + self.skipped > 0 else 1
+
+
+def tally_of(line: str) -> Tally | None:
+    """The count that a line tells, or None where it is another line."""
+    found = re.fullmatch(r'(\d+) passed, (\d+) failed(?:, (\d+) skipped)?(?: \(.*\))?', line.strip())
+    return Tally(*(int(number or 0) for number in found.groups())) if found else None
+
+
+class Count:
+    """Counts tries, and says at once what failed or was skipped."""
+
+    def __init__(self) -> None:
+        self.tally = Tally()
+
+    def add(self, passed: int = 0, failed: int = 0) -> None:
+        self.tally = self.tally.plus(Tally(passed, failed))
+
+    def expect(self, what: str, good: bool) -> None:
+        """A try, and what is said of it where it is not good."""
+        self.add(passed=int(good), failed=int(not good))
+        if not good:
+            print(f'failed: {what}', flush=True)
+
+    def skip(self, what: str) -> None:
+        print(f'skipped: {what}', flush=True)
+        self.tally = self.tally.plus(Tally(skipped=1))
+
+    def end(self) -> NoReturn:
+        """Writes the last line, and ends the script."""
+        print(self.tally)
+        sys.exit(self.tally.status)
+
+
+def stop(why: str) -> NoReturn:
+    """Ends a script that cannot try anything, which is a failure."""
+    print(f'{pathlib.Path(sys.argv[0]).name}: {why}', file=sys.stderr)
+    print(Tally(failed=1))
+    sys.exit(1)
+
+
+def asking(doc: str | None) -> argparse.ArgumentParser:
+    """A parser of the words of a script, whose help is the script's own text."""
+    return argparse.ArgumentParser(description=doc, formatter_class=argparse.RawDescriptionHelpFormatter)
+
+
+def asking_program(doc: str | None) -> argparse.ArgumentParser:
+    """The same of a script that tries the built program."""
+    parser = asking(doc)
+    parser.add_argument('--program', type=pathlib.Path, metavar='PATH', help='the built program (default: crates/mcsim/out/mcsim, else bin/mcsim)')
+    return parser
+
+
+def is_program(path: pathlib.Path) -> bool:
+    return path.is_file() and os.access(path, os.X_OK)
+
+
+def built_program(given: pathlib.Path | None) -> pathlib.Path:
+    """The program that was given, or else the one that is found."""
+    if given and not is_program(given):
+        stop(f'{given} is no program')
+    found = given or next(filter(is_program, (BUILT, SHIPPED)), None)
+    if found is None:
+        stop('no built program was found: ./mcsim --prove builds one, and --program PATH gives one')
+    return found.resolve()
+
+
+class Ran(NamedTuple):
+    """What a run came to."""
+
+    status: int
+    stdout: bytes
+    stderr: bytes
+
+
+NO_ANSWER = Ran(-1, b'', b'no answer in time\n')
+
+
+def run(command: Sequence[Word], stdin: bytes = b'', seconds: float = SECONDS, **how) -> Ran:
+    """Runs a command to its end, or as long as it may take."""
+    try:
+        ended = subprocess.run(command, input=stdin, capture_output=True, timeout=seconds, **how)
+    except subprocess.TimeoutExpired:
+        return NO_ANSWER
+    return Ran(ended.returncode, ended.stdout, ended.stderr)
+
+
+@contextlib.contextmanager
+def started(command: Sequence[Word]) -> Iterator[subprocess.Popen[str]]:
+    """A command at the top of the repository, whose output can be read while it runs; it ends where this script is stopped."""
+    signal.signal(signal.SIGTERM, lambda *_: sys.exit(128 + signal.SIGTERM))
+    how = {'stdin': subprocess.DEVNULL, 'stdout': subprocess.PIPE, 'text': True, 'errors': 'replace'}
+    with subprocess.Popen(command, cwd=TOP, **how) as running:
+        try:
+            yield running
+        except BaseException:
+            running.terminate()
+            raise
+        finally:
+            signal.signal(signal.SIGTERM, signal.SIG_DFL)

@@ -1,0 +1,190 @@
+#!/usr/bin/env python3
+"""Tells whether all is well, in one line: the gate proves and tries the repository (rt ci), and then the program that it has built is checked.
+
+The last line is 'N passed, M failed' over all, with ', K skipped' where something is missing that a check needs, and the status is 0 where M
+is 0. The gate leaves its program in crates/mcsim/out, where ./mcsim finds it. With --program or --no-proofs, and where the command rt is not on
+PATH, nothing is proved, and one line says so: then the checks try the program that is given, or crates/mcsim/out/mcsim, or else bin/mcsim."""
+from __future__ import annotations
+
+import argparse
+import concurrent.futures
+import os
+import pathlib
+import shutil
+import subprocess
+import sys
+import time
+from collections.abc import Sequence
+from typing import NamedTuple
+
+sys.dont_write_bytecode = True
+import common
+from common import TOP, Tally
+
+HERE = pathlib.Path(__file__).resolve().parent
+# a check that takes longer is stopped, and has failed
+SECONDS = 900
+
+
+class Check(NamedTuple):
+    """A script of this folder, whether it tries the built program, and further words for it."""
+
+    name: str
+    tries_program: bool = True
+    words: tuple[str, ...] = ()
+
+    def command(self, program: pathlib.Path | None) -> list[str]:
+        given = ['--program', str(program)] if self.tries_program else []
+        return [sys.executable, str(HERE / f'{self.name}.py'), *given, *self.words]
+
+
+# those that take longest begin first
+CHECKS = (
+    Check('stress', words=('--systems', '2000')),
+    Check('schema'),
+    Check('waves', tries_program=False),
+    Check('bandwidth'),
+    Check('refused_runs'),
+    Check('early', tries_program=False),
+    Check('units', tries_program=False),
+    Check('theorems', tries_program=False),
+    Check('faults'),
+    Check('manual'),
+    Check('pages'),
+)
+
+
+def say(text: str) -> None:
+    print(text, flush=True)
+
+
+def asked() -> argparse.Namespace:
+    parser = common.asking(__doc__)
+    parser.prog = 'test'
+    parser.add_argument('--program', type=pathlib.Path, metavar='PATH', help='checks this built program, and proves nothing')
+    parser.add_argument('--no-proofs', action='store_true', help='checks the built program that is found, and proves nothing')
+    parser.add_argument('--times', type=pathlib.Path, metavar='FILE', help='writes to FILE what took the time in the gate, as checks/gate.py does')
+    parser.add_argument('--anew', action='store_true', help='takes nothing of what earlier gates kept on this machine')
+    parser.add_argument('--only', action='append', choices=[check.name for check in CHECKS], help='of the checks after the gate only this one; may be given several times')
+    return parser.parse_args()
+
+
+def why_no_proofs(words: argparse.Namespace) -> str | None:
+    """Why nothing is to be proved, or None where the gate is to run."""
+    if words.program:
+        return f'--program gives {words.program}'
+    if words.no_proofs:
+        return '--no-proofs was given'
+    if not shutil.which('rt'):
+        return 'the command rt of the Rattle toolchain is not on PATH'
+    return None
+
+
+def gate_command(words: argparse.Namespace) -> list[str]:
+    anew = ['--anew'] if words.anew else []
+    if words.times:
+        return [sys.executable, str(HERE / 'gate.py'), *anew, str(words.times.resolve())]
+    return ['rt', 'ci', *anew]
+
+
+def judged(told: Tally | None, status: int, what: str) -> tuple[str, Tally]:
+    """The count that something told, which its status has to agree with, and what is to be said of it."""
+    if told is None:
+        return f'failed: {what} ended with status {status} and told no count\n', Tally(failed=1)
+    if status and not told.failed:
+        return f'failed: {what} ended with status {status}\n', told.plus(Tally(failed=1))
+    return '', told
+
+
+def gate(command: Sequence[str]) -> Tally:
+    """Runs the gate, and shows what it writes; its count is told with a name, so that nobody takes it for the last line."""
+    told = None
+    with common.started(command) as running:
+        for line in running.stdout:
+            count = common.tally_of(line)
+            if count is None:
+                print(line, end='', flush=True)
+            else:
+                told = count
+    said, count = judged(told, running.returncode, 'rt ci')
+    say(f'{said}rt ci: {count}')
+    return count
+
+
+def stamp(program: pathlib.Path, began: float) -> None:
+    """Gives the program the time at which the gate began: a source that was edited meanwhile is newer, as the launcher asks."""
+    if program.exists():
+        os.utime(program, (began, began))
+
+
+def prove(words: argparse.Namespace) -> Tally:
+    """Runs the gate, unless nothing is to be proved."""
+    if why := why_no_proofs(words):
+        say(f'nothing was proved: {why}')
+        return Tally(skipped=1)
+    began = time.time()
+    count = gate(gate_command(words))
+    stamp(common.BUILT, began)
+    return count
+
+
+def program_to_try(words: argparse.Namespace) -> pathlib.Path | None:
+    """The program that the checks are to try; after a gate this is the gate's, and no other."""
+    if why_no_proofs(words):
+        places = [words.program] if words.program else [common.BUILT, common.SHIPPED]
+    else:
+        places = [common.BUILT]
+    return next((place.resolve() for place in places if common.is_program(place)), None)
+
+
+def tried(check: Check, program: pathlib.Path | None) -> tuple[str, Tally, float]:
+    """What a check writes, its count and its seconds."""
+    began = time.monotonic()
+    how = {'stdin': subprocess.DEVNULL, 'stdout': subprocess.PIPE, 'stderr': subprocess.STDOUT}
+    try:
+        ran = subprocess.run(check.command(program), cwd=TOP, timeout=SECONDS, text=True, errors='replace', **how)
+    except subprocess.TimeoutExpired:
+        return f'failed: it had not ended after {SECONDS} seconds\n', Tally(failed=1), SECONDS
+    *lines, last = ran.stdout.splitlines() or ['']
+    told = common.tally_of(last)
+    if told is None:
+        lines.append(last)
+    said, count = judged(told, ran.returncode, check.name)
+    return ''.join(f'{line}\n' for line in lines) + said, count, time.monotonic() - began
+
+
+def check_all(checks: Sequence[Check], program: pathlib.Path | None) -> Tally:
+    """Runs the checks side by side, and shows each once it has ended."""
+    total = Tally()
+    with concurrent.futures.ThreadPoolExecutor(len(os.sched_getaffinity(0))) as pool:
+        running = {pool.submit(tried, check, program): check for check in checks}
+        for ended in concurrent.futures.as_completed(running):
+            text, count, seconds = ended.result()
+            say(f'== {running[ended].name}\n{text}{running[ended].name}: {count} ({seconds:.0f} s)')
+            total = total.plus(count)
+    return total
+
+
+def checks_for(words: argparse.Namespace, program: pathlib.Path | None) -> list[Check]:
+    """The checks that are asked for; without a program those that try none."""
+    wanted = [check for check in CHECKS if not words.only or check.name in words.only]
+    return [check for check in wanted if program or not check.tries_program]
+
+
+def main() -> int:
+    words = asked()
+    say(f'processors: {len(os.sched_getaffinity(0))}')
+    total = prove(words)
+    program = program_to_try(words)
+    if program is None:
+        say('failed: there is no built program to check')
+        total = total.plus(Tally(failed=1))
+    else:
+        say(f'checking {os.path.relpath(program, TOP) if program.is_relative_to(TOP) else program}')
+    total = total.plus(check_all(checks_for(words, program), program))
+    print(total)
+    return total.status
+
+
+if __name__ == '__main__':
+    sys.exit(main())

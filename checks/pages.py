@@ -1,0 +1,64 @@
+#!/usr/bin/env python3
+"""Tells whether the pages of examples/ show what the built program writes: each of their commands is run, at the top of the repository.
+
+The lines of a block that follows a command are lines of its output, in order; a page may leave lines out, and marks that by a line of two dots.
+Each command ends with status 0 and says nothing on standard error."""
+from __future__ import annotations
+
+import pathlib
+import re
+import shlex
+import sys
+from collections.abc import Iterable, Sequence
+
+sys.dont_write_bytecode = True
+import common
+from common import TOP, Count, Ran
+
+PROGRAM = './mcsim'
+LEFT_OUT = '..'
+
+
+def are_in(lines: Iterable[str], others: Iterable[str]) -> bool:
+    """Whether these lines stand among the others, in order."""
+    rest = iter(others)
+    return all(line in rest for line in lines)
+
+
+def blocks_of(page: pathlib.Path) -> list[tuple[str, str]]:
+    """The blocks of a page: the word after the fence, and the text."""
+    return re.findall(r'^```(\w*)\n(.*?)^```', page.read_text(), re.M | re.S)
+
+
+def ran(program: pathlib.Path, block: str) -> Ran:
+    """What a block of commands comes to, with this program in place of ./mcsim."""
+    return common.run(['sh', '-c', block.replace(PROGRAM, shlex.quote(str(program)))], cwd=TOP)
+
+
+def is_shown(block: str, written: Sequence[str]) -> bool:
+    """Whether a block shows lines that were written."""
+    lines = [line for line in block.splitlines() if line != LEFT_OUT]
+    return bool(lines) and are_in(lines, written)
+
+
+def try_page(program: pathlib.Path, page: pathlib.Path, count: Count) -> None:
+    written: list[str] = []
+    for kind, block in blocks_of(page):
+        if kind == 'sh' and PROGRAM in block:
+            status, stdout, stderr = ran(program, block)
+            count.expect(f'{page.name}: {block.strip()}: status {status}, {stderr.decode().strip()}', status == 0 and not stderr)
+            written = stdout.decode().splitlines()
+        elif kind == '' and page.name != 'README.md':
+            count.expect(f'{page.name}: a block that its command did not write: {block.splitlines()[:1]}', is_shown(block, written))
+
+
+def main() -> None:
+    program = common.built_program(common.asking_program(__doc__).parse_args().program)
+    count = Count()
+    for page in sorted((TOP / 'examples').glob('*.md')):
+        try_page(program, page, count)
+    count.end()
+
+
+if __name__ == '__main__':
+    main()

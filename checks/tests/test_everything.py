@@ -1,0 +1,185 @@
+"""The command ./test, in a folder with a made-up gate, made-up checks and a made-up program."""
+import os
+import pathlib
+import shutil
+import subprocess
+import sys
+import tempfile
+import unittest
+
+CHECKS = pathlib.Path(__file__).resolve().parent.parent
+sys.path.insert(0, str(CHECKS))
+import common
+import everything
+
+TOP = CHECKS.parent
+MANY = len(everything.CHECKS)
+# what is passed where there is no program to try
+OTHERS = 2 * sum(not check.tries_program for check in everything.CHECKS)
+# what ./test, .ci/run and the made-up gate call
+TOOLS = ('sh', 'bash', 'dirname', 'mkdir', 'chmod', 'sleep')
+BUILDS = 'mkdir -p crates/mcsim/out; echo "exit 0" >crates/mcsim/out/mcsim; chmod +x crates/mcsim/out/mcsim'
+
+
+class Folder:
+    """A folder with ./test and .ci/run, in which each check tells the same count."""
+
+    def __init__(self, path: str) -> None:
+        self.top = pathlib.Path(path)
+        self.tools = self.top / 'tools_on_path'
+        for part in ('checks', '.ci', 'bin', 'tools_on_path'):
+            (self.top / part).mkdir()
+        shutil.copy(TOP / 'test', self.top)
+        shutil.copy(TOP / '.ci' / 'run', self.top / '.ci')
+        for script in ('common.py', 'everything.py'):
+            shutil.copy(CHECKS / script, self.top / 'checks')
+        for tool in TOOLS:
+            (self.tools / tool).symlink_to(shutil.which(tool))
+        (self.tools / 'python3').symlink_to(sys.executable)
+        for check in everything.CHECKS:
+            self.check(check.name, 'print("tries", *sys.argv[1:])\nprint("2 passed, 0 failed")')
+
+    def check(self, name: str, text: str) -> None:
+        (self.top / 'checks' / f'{name}.py').write_text(f'import sys\n{text}\n')
+
+    def script(self, path: str, text: str) -> pathlib.Path:
+        file = self.top / path
+        file.parent.mkdir(parents=True, exist_ok=True)
+        file.write_text(f'#!/bin/sh\n{text}\n')
+        file.chmod(0o755)
+        return file
+
+    def gate(self, text: str) -> None:
+        """A made-up rt."""
+        self.script('tools_on_path/rt', text)
+
+    def run(self, *command: str) -> tuple[int, list[str]]:
+        """The status of a command, and the lines that it writes."""
+        how = {'stdin': subprocess.DEVNULL, 'stdout': subprocess.PIPE, 'stderr': subprocess.STDOUT, 'text': True}
+        ran = subprocess.run(command, cwd=self.top, env={'PATH': str(self.tools)}, **how)
+        return ran.returncode, ran.stdout.splitlines()
+
+
+class InFolder(unittest.TestCase):
+    def setUp(self) -> None:
+        path = tempfile.TemporaryDirectory()
+        self.addCleanup(path.cleanup)
+        self.folder = Folder(path.name)
+
+    def counts(self, lines: list[str]) -> list[str]:
+        return [line for line in lines if common.tally_of(line)]
+
+
+class WithoutProofs(InFolder):
+    def test_without_rt_the_program_of_the_repository_is_checked(self) -> None:
+        program = self.folder.script('bin/mcsim', 'exit 0')
+        status, lines = self.folder.run('./test')
+        self.assertEqual((status, lines[-1]), (0, f'{2 * MANY} passed, 0 failed, 1 skipped'))
+        self.assertEqual(lines[0], f'processors: {len(os.sched_getaffinity(0))}')
+        self.assertEqual(lines[1], 'nothing was proved: the command rt of the Rattle toolchain is not on PATH')
+        self.assertIn(f'tries --program {program.resolve()}', lines)
+        self.assertEqual(self.counts(lines), lines[-1:])
+
+    def test_the_program_that_the_gate_left_comes_first(self) -> None:
+        self.folder.script('bin/mcsim', 'exit 0')
+        program = self.folder.script('crates/mcsim/out/mcsim', 'exit 0')
+        _, lines = self.folder.run('./test')
+        self.assertIn(f'tries --program {program.resolve()}', lines)
+
+    def test_a_program_that_is_given_is_checked_and_no_gate_runs(self) -> None:
+        self.folder.gate('echo the gate ran; echo 1 passed, 0 failed')
+        program = self.folder.script('other', 'exit 0')
+        status, lines = self.folder.run('./test', '--program', 'other')
+        self.assertEqual((status, lines[-1]), (0, f'{2 * MANY} passed, 0 failed, 1 skipped'))
+        self.assertEqual(lines[1], 'nothing was proved: --program gives other')
+        self.assertIn(f'tries --program {program.resolve()}', lines)
+        self.assertNotIn('the gate ran', lines)
+
+    def test_no_proofs_runs_no_gate(self) -> None:
+        self.folder.gate('echo the gate ran; echo 1 passed, 0 failed')
+        self.folder.script('bin/mcsim', 'exit 0')
+        status, lines = self.folder.run('./test', '--no-proofs', '--only', 'pages')
+        self.assertEqual((status, lines[-1]), (0, '2 passed, 0 failed, 1 skipped'))
+        self.assertNotIn('the gate ran', lines)
+
+    def test_without_a_program_it_fails(self) -> None:
+        for words in ((), ('--program', 'none')):
+            status, lines = self.folder.run('./test', *words)
+            self.assertEqual((status, lines[-1]), (1, f'{OTHERS} passed, 1 failed, 1 skipped'))
+
+    def test_the_merge_gate_needs_rt(self) -> None:
+        self.folder.script('bin/mcsim', 'exit 0')
+        status, lines = self.folder.run('bash', '.ci/run')
+        self.assertEqual((status, lines[-1]), (1, '0 passed, 1 failed'))
+
+
+class WithAGate(InFolder):
+    def test_the_count_is_over_the_gate_and_the_checks(self) -> None:
+        self.folder.gate(f'{BUILDS}; echo rt: said; echo 5 passed, 0 failed')
+        self.folder.script('bin/mcsim', 'exit 0')
+        status, lines = self.folder.run('bash', '.ci/run')
+        self.assertEqual((status, lines[-1]), (0, f'{5 + 2 * MANY} passed, 0 failed'))
+        self.assertEqual(lines[1:3], ['rt: said', 'rt ci: 5 passed, 0 failed'])
+        self.assertIn(f'tries --program {(self.folder.top / "crates/mcsim/out/mcsim").resolve()}', lines)
+        self.assertEqual(self.counts(lines), lines[-1:])
+
+    def test_the_gate_is_asked_for_all_crates(self) -> None:
+        self.folder.gate(f'{BUILDS}; echo "given $*"; echo 5 passed, 0 failed')
+        self.assertIn('given ci', self.folder.run('./test')[1])
+        self.assertIn('given ci --anew', self.folder.run('./test', '--anew')[1])
+
+    def test_times_are_asked_of_the_script_that_times_the_gate(self) -> None:
+        self.folder.gate('exit 1')
+        self.folder.script('crates/mcsim/out/mcsim', 'exit 0')
+        self.folder.check('gate', 'print("timed", *sys.argv[1:])\nprint("5 passed, 0 failed")')
+        status, lines = self.folder.run('./test', '--anew', '--times', 'table')
+        self.assertEqual((status, lines[-1]), (0, f'{5 + 2 * MANY} passed, 0 failed'))
+        self.assertIn(f'timed --anew {(self.folder.top / "table").resolve()}', lines)
+
+    def test_a_source_that_is_edited_meanwhile_is_newer_than_the_program(self) -> None:
+        self.folder.gate(f'sleep 0.1; echo x >source; {BUILDS}; echo 5 passed, 0 failed')
+        self.folder.run('./test')
+        source, program = self.folder.top / 'source', self.folder.top / 'crates' / 'mcsim' / 'out' / 'mcsim'
+        self.assertLess(program.stat().st_mtime_ns, source.stat().st_mtime_ns)
+
+    def test_a_gate_that_fails_fails_the_whole(self) -> None:
+        for text, count in (('echo 5 passed, 2 failed; exit 1', (5, 2)), ('echo 5 passed, 0 failed; exit 1', (5, 1)), ('exit 0', (0, 1)), ('kill -9 $$', (0, 1))):
+            self.folder.gate(f'{BUILDS}; {text}')
+            status, lines = self.folder.run('./test')
+            self.assertEqual((status, lines[-1]), (1, f'{count[0] + 2 * MANY} passed, {count[1]} failed'))
+
+    def test_no_other_program_is_checked_in_place_of_the_gates(self) -> None:
+        self.folder.gate('echo 5 passed, 0 failed')
+        self.folder.script('bin/mcsim', 'exit 0')
+        status, lines = self.folder.run('./test')
+        self.assertEqual((status, lines[-1]), (1, f'{5 + OTHERS} passed, 1 failed'))
+
+
+class OfChecks(InFolder):
+    def setUp(self) -> None:
+        super().setUp()
+        self.folder.script('bin/mcsim', 'exit 0')
+
+    def told(self, text: str) -> tuple[int, str]:
+        self.folder.check('pages', text)
+        status, lines = self.folder.run('./test', '--only', 'pages', '--only', 'manual')
+        return status, lines[-1]
+
+    def test_what_is_skipped_is_added(self) -> None:
+        self.assertEqual(self.told('print("1 passed, 0 failed, 2 skipped")'), (0, '3 passed, 0 failed, 3 skipped'))
+
+    def test_a_failure_is_added(self) -> None:
+        self.assertEqual(self.told('print("1 passed, 4 failed")\nsys.exit(1)'), (1, '3 passed, 4 failed, 1 skipped'))
+
+    def test_a_check_without_a_count_has_failed(self) -> None:
+        self.assertEqual(self.told('print("all is well")'), (1, '2 passed, 1 failed, 1 skipped'))
+
+    def test_a_check_whose_count_is_not_last_has_failed(self) -> None:
+        self.assertEqual(self.told('print("9 passed, 0 failed")\nraise ValueError'), (1, '2 passed, 1 failed, 1 skipped'))
+
+    def test_a_status_that_says_otherwise_is_a_failure(self) -> None:
+        self.assertEqual(self.told('print("9 passed, 0 failed")\nsys.exit(1)'), (1, '11 passed, 1 failed, 1 skipped'))
+
+
+if __name__ == '__main__':
+    unittest.main()

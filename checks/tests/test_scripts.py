@@ -1,0 +1,144 @@
+"""The scripts that try the built program, with programs that are wrong: each script has to see it."""
+import os
+import pathlib
+import random
+import subprocess
+import sys
+import tempfile
+import unittest
+
+CHECKS = pathlib.Path(__file__).resolve().parent.parent
+sys.path.insert(0, str(CHECKS))
+import bandwidth
+import common
+import faults
+import manual
+import pages
+import random_systems
+import refused_runs
+import stress
+import theorems
+import waves
+from refusing import Answer
+
+
+class WrongPrograms(unittest.TestCase):
+    def setUp(self) -> None:
+        folder = tempfile.TemporaryDirectory()
+        self.addCleanup(folder.cleanup)
+        # another user runs programs below it
+        pathlib.Path(folder.name).chmod(0o755)
+        self.program = pathlib.Path(folder.name, 'program')
+
+    def tally(self, script: str, program: str, *words: str) -> common.Tally:
+        """What a script counts of a program that is these lines of the shell; its status has to agree."""
+        self.program.write_text(f'#!/bin/sh\n{program}\n')
+        self.program.chmod(0o755)
+        command = [sys.executable, str(CHECKS / f'{script}.py'), '--program', str(self.program), *words]
+        ran = subprocess.run(command, capture_output=True, text=True, env={**os.environ, 'TMPDIR': str(self.program.parent)})
+        found = common.tally_of(ran.stdout.splitlines()[-1])
+        self.assertEqual(ran.returncode, found.status, ran.stderr)
+        return found
+
+    def test_a_program_that_says_nothing_answers_no_fault(self) -> None:
+        self.assertEqual(self.tally('faults', 'exit 0'), (0, 16, 0))
+
+    def test_a_program_that_says_nothing_has_no_manual(self) -> None:
+        self.assertGreater(self.tally('manual', 'exit 0').failed, 4)
+
+    def test_a_program_that_says_nothing_writes_no_page(self) -> None:
+        self.assertGreater(self.tally('pages', 'exit 0').failed, 4)
+
+    def test_a_program_that_complains_writes_no_page(self) -> None:
+        self.assertEqual(self.tally('pages', 'echo wrong >&2').passed, 0)
+
+    def test_a_program_without_help_is_not_run_with_refused_memory(self) -> None:
+        self.assertEqual(self.tally('refused_runs', 'exit 0').failed, 1)
+
+    def test_a_program_that_tells_its_workers_is_not_the_same_with_several(self) -> None:
+        found = self.tally('stress', 'echo "$6"', '--systems', '2')
+        self.assertEqual((found.passed, found.failed), (0, 10))
+
+    def test_a_program_that_is_the_same_with_several_workers_passes(self) -> None:
+        found = self.tally('stress', 'echo the same', '--systems', '2')
+        self.assertEqual((found.passed, found.failed), (10, 0))
+
+    def test_a_program_that_does_not_end_with_many_workers_fails(self) -> None:
+        found = self.tally('stress', 'test "$6" = 64 && exec sleep 60; exit 0', '--systems', '1', '--limit', '3')
+        self.assertEqual((found.passed, found.failed), (4, 1))
+
+    def test_a_thread_that_always_runs_has_more_than_its_budget(self) -> None:
+        found = self.tally('bandwidth', 'for n in 0 1 2 3 4 5 6 7 8 9; do echo 0 0 run "tc$n"; done', '--systems', '3')
+        self.assertEqual(found, (1, 3, 0))
+
+    def test_systems_that_show_nothing_are_a_failure(self) -> None:
+        self.assertEqual(self.tally('bandwidth', 'exit 0', '--systems', '3'), (3, 1, 0))
+
+
+class Rules(unittest.TestCase):
+    def test_the_fullest_stretch_begins_with_a_tick_that_was_run(self) -> None:
+        self.assertEqual(bandwidth.fullest([0, 1, 5, 6, 7, 12], 5), 3)
+        self.assertEqual(bandwidth.fullest([0, 4, 5], 5), 2)
+        self.assertEqual(bandwidth.fullest([], 5), 0)
+
+    def test_a_thread_runs_from_run_to_stop_and_else_to_the_horizon(self) -> None:
+        rows = f'3 0 run A\n5 0 stop A spent 2 until 9\n{bandwidth.HORIZON - 2} 0 run A\n'
+        self.assertEqual(bandwidth.ticks_run(rows), {'A': [3, 4, bandwidth.HORIZON - 2, bandwidth.HORIZON - 1]})
+
+    def test_lines_are_in_others_only_in_their_order(self) -> None:
+        self.assertTrue(pages.are_in(['a', 'c'], ['a', 'b', 'c']))
+        self.assertFalse(pages.are_in(['c', 'a'], ['a', 'b', 'c']))
+        self.assertFalse(pages.are_in(['a', 'a'], ['a', 'b']))
+        self.assertFalse(pages.is_shown('..\n', ['a']))
+
+    def test_a_case_names_what_differs(self) -> None:
+        case = faults.Case('one', [], b'', faults.NOTHING, faults.exactly(b'said\n'), 3)
+        self.assertEqual(case.differs(common.Ran(3, b'', b'said\n')), '')
+        self.assertEqual(case.differs(common.Ran(1, b'x', b'said\n')), 'standard output, status')
+
+    def test_a_run_without_memory_gives_a_first_part(self) -> None:
+        kind = refused_runs.Kind('one', [], b'', 0, b'lines', b'')
+        without = (4, b'li', b'mcsim: no memory\n')
+        self.assertTrue(kind.is_cut_well(Answer(*without, b'sr')))
+        # only a thread's start was refused
+        self.assertFalse(kind.is_cut_well(Answer(*without, b's')))
+        self.assertFalse(kind.is_cut_well(Answer(4, b'lies', b'mcsim: no memory\n', b'r')))
+        self.assertFalse(kind.is_cut_well(Answer(3, b'li', b'mcsim: no memory\n', b'r')))
+
+    def test_a_reader_that_leaves_is_told_or_has_all(self) -> None:
+        alone = stress.Left(b'line\n', 3, b'mcsim: write failed\n')
+        self.assertTrue(stress.Left(b'line\n', 0, b'').is_like(alone))
+        self.assertFalse(stress.Left(b'line\n', 1, b'').is_like(alone))
+        self.assertFalse(stress.Left(b'other\n', 3, b'mcsim: write failed\n').is_like(alone))
+        self.assertFalse(alone.is_like(None))
+
+    def test_a_random_system_waits_at_home_and_never_last(self) -> None:
+        for seed in range(50):
+            notes = [random_systems.Note('n0', 0), random_systems.Note('n1', 1)]
+            items = random_systems.script_of(random.Random(seed), notes, 1)
+            self.assertNotIn('wait n0', items)
+            self.assertFalse(items[-1].startswith('wait'))
+
+    def test_the_options_of_a_help(self) -> None:
+        text = 'Options:\n  -h, --help  Help\n      --workers <W>  Threads, 1 to 64\n                     [default: 1]\n\nRest'
+        self.assertEqual(manual.options_of_help(text), {'help': (None, None, None), 'workers': ('W', '1', '1 to 64')})
+
+    def test_waves_that_are_read_back(self) -> None:
+        dump = '$scope module core0 $end\n$var string 1 ! runs $end\n$upscope $end\n$dumpvars\ns- !\n$end\n#3\nsA !\n#5\ns- !\n'
+        waves_found = waves.waves_of(dump)
+        self.assertEqual(waves_found, {'core0.runs': [(-1, '-'), (3, 'A'), (5, '-')]})
+        self.assertEqual([waves.value_at(waves_found['core0.runs'], moment) for moment in (0, 3, 4, 9)], ['-', 'A', 'A', '-'])
+
+    def test_what_follows_a_wake_says_whether_a_thread_is_ready(self) -> None:
+        told = waves.Told(waves.rows_of('4 0 release A\n4 0 wake A n 1\n6 0 hold n 5\n7 1 arrive n 2 from B\n'))
+        self.assertEqual(told.values, {'core0.until.A': {}, 'core0.threads.A': {}, 'core0.words.n': {6: '101'}})
+        self.assertEqual(told.events, {'core1.arrivals.n': {7}})
+
+    def test_a_row_as_a_term(self) -> None:
+        numbers = theorems.Numbers({'thread': [{'name': 'A'}, {'name': 'B'}], 'note': [{'name': 'n'}]})
+        self.assertEqual(theorems.row_term('2 0 stop B spent 2 until 5', numbers), 'at 2 0 (row.Stop 1 why.Spent 2 (Some 5))')
+        self.assertEqual(theorems.row_term('2 1 signal A n 4', numbers), 'at 2 1 (row.Signal 0 0 4)')
+
+
+if __name__ == '__main__':
+    unittest.main()
