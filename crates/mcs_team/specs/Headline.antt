@@ -1,9 +1,10 @@
--- The headline: for every accepted system, every horizon and every number of workers the schedule and the reports that are given are those of
--- one clock that takes all cores' turns singly, by moment, then core, with signals in order of making; and at each moment every context's
--- refills, with the ticks in use counted, sum to its budget and do not overlap.
+-- The headline: for every accepted system, every horizon and every number of workers, the schedule and the reports are those of one clock that
+-- takes all cores' turns singly. At each moment every context's refills, with the ticks in use counted, sum to its budget and do not overlap.
 --
--- Its premises: the system is accepted, which is to be well formed (`System` holds no other); the horizon is at most 2^40, which is a
--- condition of the calls; and the call has succeeded, which being out of memory alone prevents.
+-- One clock: it takes turns by moment, then core, and signals in order of making (`schedule`). Its premises: the system is accepted, which is to
+-- be well formed (`System` holds no other); the horizon is at most 2^40, which is a condition of the calls; and the call has returned, and with
+-- success. What prevents success is being out of memory and, where rows go to a sink, a sink that refuses one. That a call which starts
+-- threads returns is not among its promises.
 use Rattle.std.specs.Prelude.{◌≡◌, ℕ, suc, ◌+◌, ◌≤◌, List, sum}
 use Rattle.mcs_ticks.specs.declared.row.Row.{Row}
 use Rattle.mcs_control.specs.declared.view.ContextView.{ContextView}
