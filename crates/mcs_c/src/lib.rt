@@ -1,0 +1,90 @@
+//! The simulator for a caller that is no Rattle program, as a program in C or Python: the text of a system goes in, and the lines of its
+//! schedule and reports, or the line of the text's first fault, come out in memory that the caller gives. `include/mcsim.h` is its header.
+#![tactic(auto)]
+
+ghost use Rattle.std.specs.Prelude.{◌≡◌, ◌≤◌, ◌<◌, ◌^◌, ◌++◌, ◌↔◌, ◌⊎◌, Ok, Err, length, take, drop};
+ghost use Rattle.mcs_system.specs.System.{System};
+ghost use Rattle.mcs_load.specs.declared.fault.LoadFault.{LoadFault};
+ghost use Rattle.mcs_cli.specs.Fault.{run_fault_text};
+ghost use Rattle.mcs_cli.specs.Run.{loaded, output_of};
+ghost use Rattle.mcs_cli.specs.declared.fault.RunFault.TheVariants.{Load};
+ghost use Rattle.mcs_c.specs.Output.{IsLengthOf, show_of};
+
+mod answer;
+mod output;
+
+use answer::{Answer, answer_to};
+use mcs_cli::Show;
+use mcs_ticks::Tick;
+use std::alloc::Global;
+
+/// Simulates the system that a text describes, on the caller's thread alone, up to a horizon, in ticks, of at most 2^40, and keeps all rows until
+/// the last is made. The lines that are asked for (`show`: 0 the schedule, 1 the reports, 2 both) come to the head of the room, and their
+/// number of bytes to `length_of`; the bytes of the room behind them stay as they were. The result says what is there:
+///
+/// * 0: the lines that `mcsim` prints, each with its line feed;
+/// * 1: the line of the text's first fault, as `mcsim` tells it, without a line feed;
+/// * 2: nothing, as the room is too small: `length_of` is the number of bytes that are needed, and the room is as it was;
+/// * 3: nothing, as there is no such horizon or no such `show`: `length_of` is 0, and the room is as it was;
+/// * 4: nothing, as there was no memory: `length_of` is 0, and the room is as it was.
+#[unsafe(no_mangle)]
+pub extern "C" fn mcs_run(
+    alloc: Global,
+    text: &[u8],
+    horizon: u64,
+    show: u32,
+    room: &mut [u8],
+    length_of: &mut usize,
+) -> u32
+    ensures output { result ≡ 0 → (system : System) × (loaded text.now ≡ Ok system)
+        × (take length_of.new room.new ≡ output_of (show_of show) system horizon) }
+    ensures fault { result ≡ 1 → (f : LoadFault) × (loaded text.now ≡ Err f)
+        × (take length_of.new room.new ≡ run_fault_text (Load f)) }
+    ensures fits { result ≤ 1 → length_of.new ≤ length room.new }
+    ensures needs { result ≡ 2 → length room.new < length_of.new }
+    ensures needs_all { result ≡ 2 → IsLengthOf text.now show horizon length_of.new }
+    ensures wrong { (result ≡ 3) ↔ ((2 ^ 40 < horizon) ⊎ (2 < show)) }
+    ensures codes { result ≤ 4 }
+    ensures behind { result ≤ 1 → drop length_of.new room.new ≡ drop length_of.new room.old }
+    ensures unchanged { 2 ≤ result → room.new ≡ room.old }
+    ensures nothing { 3 ≤ result → length_of.new ≡ 0 }
+    ensures room { length room.new ≡ length room.old }
+{
+    *length_of = 0;
+    let Some(until) = Tick::new(horizon) else {
+        return 3;
+    };
+    if horizon > 1 << 40 || show > 2 {
+        return 3;
+    }
+    let show = match show {
+        0 => Show::Schedule,
+        1 => Show::Reports,
+        _ => Show::Both,
+    };
+    match answer_to(alloc, text, until, show) {
+        Answer::Output(lines) => handed(lines.as_slice(), room, length_of, 0),
+        Answer::Fault(line) => handed(line.as_bytes(), room, length_of, 1),
+        Answer::NoMemory => 4,
+    }
+}
+
+/// Hands bytes to the caller, and tells how many they are: the result is the code where they fit into the room, else 2.
+fn handed(bytes: &[u8], room: &mut [u8], length_of: &mut usize, code: u32) -> u32
+    requires { code ≤ 1 }
+    ensures code { (result ≡ code) ⊎ (result ≡ 2) }
+    ensures length { length_of.new ≡ length bytes.now }
+    ensures done { result ≡ code → take length_of.new room.new ≡ bytes.now }
+    ensures fits { result ≡ code → length_of.new ≤ length room.new }
+    ensures behind { result ≡ code → drop length_of.new room.new ≡ drop length_of.new room.old }
+    ensures needs { result ≡ 2 → length room.new < length_of.new }
+    ensures unchanged { result ≡ 2 → room.new ≡ room.old }
+    ensures room { length room.new ≡ length room.old }
+{
+    *length_of = bytes.len();
+    if bytes.len() > room.len() {
+        return 2;
+    }
+    room[..bytes.len()].copy_from_slice(bytes);
+    code
+}
