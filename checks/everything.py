@@ -22,8 +22,8 @@ import common
 from common import TOP, Tally
 
 HERE = pathlib.Path(__file__).resolve().parent
-# a check that takes longer is stopped, and has failed
-SECONDS = 900
+# a check that takes longer is stopped, and has failed: on a busy machine each takes many times its minutes
+SECONDS = 3600
 
 
 class Check(NamedTuple):

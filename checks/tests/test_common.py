@@ -49,7 +49,7 @@ class Programs(unittest.TestCase):
         self.assertTrue(common.is_program(pathlib.Path('/bin/sh')))
 
     def test_a_run_that_does_not_end_has_no_answer(self) -> None:
-        self.assertEqual(common.run(['sleep', '60'], seconds=0.1), common.NO_ANSWER)
+        self.assertEqual(common.run(['tail', '-f', '/dev/null'], seconds=0.1), common.NO_ANSWER)
 
     def test_a_run_gives_status_and_both_outputs(self) -> None:
         ran = common.run(['sh', '-c', 'cat; echo said >&2; exit 3'], b'given')

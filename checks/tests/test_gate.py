@@ -78,21 +78,30 @@ class Model(unittest.TestCase):
         self.assertEqual((gate.wall([], 2), gate.longest_chain([])), (0.0, []))
 
 
-# a command like rt: two tasks, of which the second waits and starts its command in a pool of its own, and a run at the end
+# a command like rt: two tasks, of which the second starts its command in a pool of its own, and a run at the end; a command that ends with status N
+# has taken N seconds by themselves and a half of the system, whatever the machine's clock says
 RT = '''#!/usr/bin/env python3
-import subprocess, sys, types
+import os, subprocess, sys, types
 from concurrent.futures import ThreadPoolExecutor
 
 rtlib = types.SimpleNamespace(ThreadPoolExecutor=ThreadPoolExecutor)
-BUSY = [sys.executable, "-c", "import time\\nwhile time.process_time() < 0.4: pass"]
+wait4 = os.wait4
 
-def busy(given, jobs):
-    subprocess.run(BUSY)
-    return True
+def spent(process, flags):
+    ended, status, _ = wait4(process, flags)
+    return ended, status, types.SimpleNamespace(ru_utime=float(os.waitstatus_to_exitcode(status)), ru_stime=0.5)
+
+os.wait4 = spent
+
+def takes(seconds):
+    return subprocess.run(["sh", "-c", f"exit {seconds}"]).returncode == seconds
+
+def alone(given, jobs):
+    return takes(3)
 
 def pooled(given, jobs):
     with rtlib.ThreadPoolExecutor(1) as pool:
-        return pool.submit(subprocess.run, BUSY).result().returncode == 0
+        return pool.submit(takes, 5).result()
 
 def in_lanes(tasks):
     given = {}
@@ -102,8 +111,8 @@ def in_lanes(tasks):
 
 def main(words):
     print("words", *words)
-    given = in_lanes({("a", "proof"): ([], 7, 1, busy), ("b", "edits", 3): ([("a", "proof")], 9, 1, pooled)})
-    subprocess.run(BUSY)
+    given = in_lanes({("a", "proof"): ([], 7, 1, alone), ("b", "edits", 3): ([("a", "proof")], 9, 1, pooled)})
+    takes(7)
     print(f"{sum(given.values())} passed, 1 failed")
     return 1
 '''
@@ -129,15 +138,14 @@ class Timed(unittest.TestCase):
         first, second = told['tasks']
         self.assertEqual([first['crate'], first['part'], first['number'], first['waits'], first['lines']], ['a', 'proof', None, [], 7])
         self.assertEqual([second['crate'], second['part'], second['number'], second['waits'], second['lines']], ['b', 'edits', 3, [0], 9])
-        for seconds in (first['seconds'], second['seconds'], told['runs']):
-            self.assertTrue(0.4 <= seconds < 0.8, seconds)
+        self.assertEqual((first['seconds'], second['seconds'], told['runs']), (3.5, 5.5, 7.5))
         self.assertLessEqual(first['ended'], second['began'])
 
     def test_the_count_of_the_gate_is_the_last_line(self) -> None:
         ran = self.ran(str(CHECKS / 'gate.py'), '--crate', 'b', str(self.folder / 'table'))
         self.assertEqual((ran.returncode, ran.stdout.splitlines()[-1]), (1, '2 passed, 1 failed'))
         self.assertEqual(ran.stdout.count('passed, 1 failed\n'), 1)
-        self.assertIn('| `a` | ', (self.folder / 'table').read_text())
+        self.assertIn('| `a` | 4 | - | - | - | - | 0.1 | 0 |', (self.folder / 'table').read_text())
 
 
 if __name__ == '__main__':

@@ -1,4 +1,6 @@
 """The scripts that try the built program, with programs that are wrong: each script has to see it."""
+import contextlib
+import io
 import os
 import pathlib
 import random
@@ -6,6 +8,7 @@ import subprocess
 import sys
 import tempfile
 import unittest
+from unittest import mock
 
 CHECKS = pathlib.Path(__file__).resolve().parent.parent
 sys.path.insert(0, str(CHECKS))
@@ -64,8 +67,15 @@ class WrongPrograms(unittest.TestCase):
         self.assertEqual((found.passed, found.failed), (10, 0))
 
     def test_a_program_that_does_not_end_with_many_workers_fails(self) -> None:
-        found = self.tally('stress', 'test "$6" = 64 && exec sleep 60; exit 0', '--systems', '1', '--limit', '3')
-        self.assertEqual((found.passed, found.failed), (4, 1))
+        def ran(command: list[common.Word], **_: object) -> common.Ran:
+            return common.NO_ANSWER if '64' in command else common.Ran(0, b'', b'')
+
+        self.program.touch(0o755)
+        words, out = ['stress.py', '--program', str(self.program), '--systems', '1'], io.StringIO()
+        with mock.patch('common.run', ran), mock.patch('sys.argv', words), mock.patch('tempfile.tempdir', str(self.program.parent)):
+            with contextlib.redirect_stdout(out), self.assertRaises(SystemExit) as ended:
+                stress.main()
+        self.assertEqual((out.getvalue().splitlines()[-1], ended.exception.code), ('4 passed, 1 failed', 1))
 
     def test_a_thread_that_always_runs_has_more_than_its_budget(self) -> None:
         found = self.tally('bandwidth', 'for n in 0 1 2 3 4 5 6 7 8 9; do echo 0 0 run "tc$n"; done', '--systems', '3')
