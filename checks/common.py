@@ -20,6 +20,9 @@ DATA = TOP / 'crates' / 'mcs_corpus' / 'data'
 # the program as the gate leaves it, and the one that comes with the repository
 BUILT = TOP / 'crates' / 'mcsim' / 'out' / 'mcsim'
 SHIPPED = TOP / 'bin' / 'mcsim'
+# the library for C, the same way
+LIBRARY = TOP / 'crates' / 'mcs_c' / 'out' / 'libmcs_c.a'
+SHIPPED_LIBRARY = TOP / 'bin' / 'libmcs_c.a'
 # a single run that takes longer has no answer
 SECONDS = 60
 

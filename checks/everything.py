@@ -2,8 +2,9 @@
 """Tells whether all is well, in one line: the gate proves and tries the repository (rt ci), and then the program that it has built is checked.
 
 The last line is 'N passed, M failed' over all, with ', K skipped' where something is missing that a check needs, and the status is 0 where M
-is 0. The gate leaves its program in crates/mcsim/out, where ./mcsim finds it. With --program or --no-proofs, and where the command rt is not on
-PATH, nothing is proved, and one line says so: then the checks try the program that is given, or crates/mcsim/out/mcsim, or else bin/mcsim."""
+is 0. The gate leaves its program in crates/mcsim/out, where ./mcsim finds it, and after it the library for C is built. With --program or
+--no-proofs, and where the command rt is not on PATH, nothing is proved, and one line says so: then the checks try the program that is given, or
+crates/mcsim/out/mcsim, or else bin/mcsim."""
 from __future__ import annotations
 
 import argparse
@@ -19,7 +20,7 @@ from typing import NamedTuple
 
 sys.dont_write_bytecode = True
 import common
-from common import TOP, Tally
+from common import LIBRARY, TOP, Tally
 
 HERE = pathlib.Path(__file__).resolve().parent
 # a check that takes longer is stopped, and has failed: on a busy machine each takes many times its minutes
@@ -47,10 +48,12 @@ CHECKS = (
     Check('refused_runs'),
     Check('early', tries_program=False),
     Check('units', tries_program=False),
+    Check('library'),
     Check('theorems', tries_program=False),
     Check('faults'),
     Check('manual'),
     Check('pages'),
+    Check('built'),
 )
 
 
@@ -117,6 +120,19 @@ def stamp(program: pathlib.Path, began: float) -> None:
         os.utime(program, (began, began))
 
 
+def build_library(began: float) -> Tally:
+    """Builds the library for C of what the gate has proved: the gate itself builds programs alone."""
+    if not LIBRARY.parent.parent.is_dir():
+        return Tally()
+    LIBRARY.unlink(missing_ok=True)
+    how = {'stdin': subprocess.DEVNULL, 'stdout': subprocess.PIPE, 'stderr': subprocess.STDOUT, 'text': True, 'errors': 'replace'}
+    ran = subprocess.run(['rt', 'lib'], cwd=LIBRARY.parent.parent, **how)
+    built = ran.returncode == 0 and LIBRARY.is_file()
+    stamp(LIBRARY, began)
+    say(f'built {LIBRARY.relative_to(TOP)}' if built else f'{ran.stdout}failed: rt lib did not build {LIBRARY.relative_to(TOP)}')
+    return Tally(passed=int(built), failed=int(not built))
+
+
 def prove(words: argparse.Namespace) -> Tally:
     """Runs the gate, unless nothing is to be proved."""
     if why := why_no_proofs(words):
@@ -125,7 +141,7 @@ def prove(words: argparse.Namespace) -> Tally:
     began = time.time()
     count = gate(gate_command(words))
     stamp(common.BUILT, began)
-    return count
+    return count if count.failed else count.plus(build_library(began))
 
 
 def program_to_try(words: argparse.Namespace) -> pathlib.Path | None:

@@ -123,6 +123,25 @@ class WithAGate(InFolder):
         self.assertIn(f'tries --program {(self.folder.top / "crates/mcsim/out/mcsim").resolve()}', lines)
         self.assertEqual(self.counts(lines), lines[-1:])
 
+    def with_library(self, gate: str, lib: str) -> tuple[int, str]:
+        """The status and the last line where the repository has the library for C, and the made-up rt does this."""
+        (self.folder.top / 'crates' / 'mcs_c').mkdir(parents=True)
+        self.folder.gate(f'if [ "$*" = lib ]; then {lib}; else {BUILDS}; {gate}; fi')
+        status, lines = self.folder.run('./test')
+        return status, lines[-1]
+
+    def test_the_library_is_built_after_the_gate_in_its_own_folder(self) -> None:
+        told = self.with_library('echo 5 passed, 0 failed', 'test "${PWD##*/}" = mcs_c || exit 1; mkdir -p out; echo new >out/libmcs_c.a')
+        self.assertEqual(told, (0, f'{6 + 2 * MANY} passed, 0 failed'))
+        self.assertEqual((self.folder.top / 'crates/mcs_c/out/libmcs_c.a').read_text(), 'new\n')
+
+    def test_a_library_that_is_not_built_is_a_failure(self) -> None:
+        self.assertEqual(self.with_library('echo 5 passed, 0 failed', 'exit 0'), (1, f'{5 + 2 * MANY} passed, 1 failed'))
+
+    def test_no_library_is_built_after_a_gate_that_failed(self) -> None:
+        self.assertEqual(self.with_library('echo 5 passed, 2 failed; exit 1', 'mkdir out'), (1, f'{5 + 2 * MANY} passed, 2 failed'))
+        self.assertFalse((self.folder.top / 'crates/mcs_c/out').exists())
+
     def test_the_gate_is_asked_for_all_crates(self) -> None:
         self.folder.gate(f'{BUILDS}; echo "given $*"; echo 5 passed, 0 failed')
         self.assertIn('given ci', self.folder.run('./test')[1])

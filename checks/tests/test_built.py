@@ -1,0 +1,342 @@
+"""The launcher and checks/built.py, in a folder with made-up sources, a made-up program and, where it is wanted, a made-up rt."""
+import hashlib
+import os
+import pathlib
+import shutil
+import subprocess
+import sys
+import tempfile
+import unittest
+from collections.abc import Sequence
+
+CHECKS = pathlib.Path(__file__).resolve().parent.parent
+TOP = CHECKS.parent
+# what the launcher and the scripts call beside rt
+TOOLS = (
+    'awk', 'cat', 'chmod', 'cp', 'find', 'grep', 'head', 'ln', 'mkdir', 'mktemp', 'mv', 'readlink', 'rm', 'rmdir', 'sed', 'sh', 'sha256sum', 'sort', 'tail',
+    'touch', 'uname', 'xargs',
+)
+CRATES = """# made up
+mcs_ticks: thiserror
+mcs_cli may_wait=7: mcs_ticks
+mcsim: mcs_cli
+mcs_c staticlib: mcs_ticks
+mcs_other: mcs_ticks
+"""
+SOURCES = {'mcs_ticks/src/lib.rt': 'ticks\n', 'mcs_cli/src/lib.rt': 'cli\n', 'mcs_cli/src/asked/words.rt': 'words\n', 'mcsim/src/main.rt': 'main\n', 'mcs_c/src/lib.rt': 'c\n', 'mcs_other/src/lib.rt': 'other\n'}
+PAGE = '| File | Bytes | SHA-256 |\n|---|---|---|\n| `mcsim` | - | none |\n| `libmcs_c.a` | - | none |\n'
+# says which program it is, and what it was given; the help of all is the same
+SAYS = '#!/bin/sh\n[ "$1" = --help ] && echo help && exit\necho {name} "$@"\ntest $# = 0 || cat "$1"\n'
+# gives its line, and makes of `try` what a program does that prints its words and its input
+RT = """case $1 in
+    --version) echo kit 1 ;;
+    lib) mkdir -p out; echo archive >out/libmcs_c.a ;;
+    try) shift; echo "try $*"; cat; for word; do case $word in system.toml=*) cat "${word#*=}" ;; esac; done
+        printf 'checked: ended status=0\\nrun=ended status=0 proved=no\\n' >&2 ;;
+esac"""
+
+
+PROGRAM, ARCHIVE = SAYS.format(name='gate'), 'archive\n'
+# the files of which each is built
+BELOW = ('crates.txt', 'crates/mcs_cli/src/asked/words.rt', 'crates/mcs_cli/src/lib.rt', 'crates/mcs_ticks/src/lib.rt', 'crates/mcsim/src/main.rt')
+BELOW_LIBRARY = ('crates.txt', 'crates/mcs_c/src/lib.rt', 'crates/mcs_ticks/src/lib.rt')
+
+
+def sum_of(text: bytes) -> str:
+    return hashlib.sha256(text).hexdigest()
+
+
+class InFolder(unittest.TestCase):
+    def setUp(self) -> None:
+        path = tempfile.TemporaryDirectory()
+        self.addCleanup(path.cleanup)
+        self.top = pathlib.Path(path.name, 'repository with a space')
+        self.tools = pathlib.Path(path.name, 'tools')
+        self.home = pathlib.Path(path.name, 'home')
+        for folder in (self.top / 'checks', self.top / 'bin', self.tools, self.home):
+            folder.mkdir(parents=True)
+        shutil.copy(TOP / 'mcsim', self.top)
+        shutil.copytree(TOP / 'launcher', self.top / 'launcher')
+        for script in ('common.py', 'built.py'):
+            shutil.copy(CHECKS / script, self.top / 'checks')
+        for tool in TOOLS:
+            (self.tools / tool).symlink_to(shutil.which(tool))
+        (self.tools / 'python3').symlink_to(sys.executable)
+        self.write('crates.txt', CRATES)
+        self.write('bin/README.md', PAGE)
+        for name, text in SOURCES.items():
+            self.write(f'crates/{name}', text)
+
+    def write(self, path: str, text: str, mode: int = 0o644) -> pathlib.Path:
+        file = self.top / path
+        file.parent.mkdir(parents=True, exist_ok=True)
+        file.write_text(text)
+        file.chmod(mode)
+        return file
+
+    def rt(self) -> None:
+        (self.tools / 'rt').write_text(f'#!/bin/sh\n{RT}\n')
+        (self.tools / 'rt').chmod(0o755)
+
+    def run_in(self, command: list[str], **how) -> subprocess.CompletedProcess:
+        env = {'PATH': str(self.tools), 'HOME': str(self.home)}
+        return subprocess.run(command, cwd=self.top.parent, env=env, capture_output=True, text=True, **{'stdin': subprocess.DEVNULL, **how})
+
+    def launch(self, *words: str, **how) -> tuple[int, str, str]:
+        ran = self.run_in([str(self.top / 'mcsim'), *words], **how)
+        return ran.returncode, ran.stdout, ran.stderr
+
+    def look(self, *words: str) -> tuple[int, list[str]]:
+        """The status of built.py, and its lines."""
+        ran = self.run_in(['python3', str(self.top / 'checks' / 'built.py'), *words])
+        return ran.returncode, (ran.stdout + ran.stderr).splitlines()
+
+    def built_here(self) -> None:
+        """A program newer than all sources, as the gate leaves it."""
+        self.write('crates/mcsim/out/mcsim', PROGRAM, 0o755)
+
+    def digest(self, paths: Sequence[str]) -> str:
+        """The sum of the lines that sha256sum writes of these files."""
+        return sum_of(''.join(f'{sum_of((self.top / path).read_bytes())}  {path}\n' for path in paths).encode())
+
+    def renewed(self) -> None:
+        """bin/ of these sources."""
+        self.write('bin/mcsim', PROGRAM, 0o755)
+        self.write('bin/libmcs_c.a', ARCHIVE)
+        self.write('bin/HELP', 'help\n')
+        self.write('bin/SOURCES', f'# made up\nkit kit 1\nmcsim {self.digest(BELOW)}\nmcs_c {self.digest(BELOW_LIBRARY)}\n')
+        rows = [f'| `{name}` | {len(text)} | `{sum_of(text.encode())}` |\n' for name, text in (('mcsim', PROGRAM), ('libmcs_c.a', ARCHIVE))]
+        self.write('bin/README.md', PAGE.partition('| `')[0] + ''.join(rows))
+
+
+class Launched(InFolder):
+    def test_the_shipped_program_runs_where_the_sources_are_its_own(self) -> None:
+        self.renewed()
+        self.assertEqual(self.launch(), (0, 'gate\n', ''))
+
+    def test_the_program_that_was_built_here_comes_first(self) -> None:
+        self.renewed()
+        self.write('crates/mcsim/out/mcsim', SAYS.format(name='newer'), 0o755)
+        self.assertEqual(self.launch(), (0, 'newer\n', ''))
+
+    def test_through_links_too(self) -> None:
+        self.renewed()
+        (self.top.parent / 'link').symlink_to('repository with a space/mcsim')
+        (self.home / 'second').symlink_to('../link')
+        self.assertEqual(self.run_in([str(self.home / 'second')]).stdout, 'gate\n')
+
+    def test_without_rt_and_with_a_changed_source_the_status_is_127_and_one_line_says_why(self) -> None:
+        changes = {'crates.txt': CRATES + '\n', 'crates/mcs_cli/src/asked/words.rt': 'other\n', 'crates/mcs_ticks/src/new.rt': ''}
+        for path, text in changes.items():
+            self.renewed()
+            file = self.top / path
+            before = file.read_text() if file.exists() else None
+            self.write(path, text)
+            self.assertEqual(self.launch(), (127, '', (
+                'mcsim: bin/mcsim was not built of these sources, and to run the sources the command rt of the Rattle toolchain is needed, which is '
+                'not on PATH\n'
+            )))
+            file.unlink() if before is None else file.write_text(before)
+            self.assertEqual(self.launch()[:2], (0, 'gate\n'))
+
+    def test_a_change_beside_the_program_does_not_matter(self) -> None:
+        self.renewed()
+        for path in ('crates/mcs_other/src/lib.rt', 'crates/mcs_c/src/lib.rt', 'crates/mcs_cli/proofs/Lib.antt', 'crates/mcs_cli/src/.words.rt.swp'):
+            self.write(path, 'changed\n')
+        self.assertEqual(self.launch(), (0, 'gate\n', ''))
+
+    def test_without_any_program_it_says_so(self) -> None:
+        status, stdout, stderr = self.launch()
+        self.assertEqual((status, stdout, stderr.count('\n')), (127, '', 1))
+        self.assertTrue(stderr.startswith('mcsim: there is no bin/mcsim, and '))
+
+    def test_a_program_that_does_not_start_is_told(self) -> None:
+        self.renewed()
+        self.write('bin/mcsim', '#!/bin/sh\nexit 1\n', 0o755)
+        self.assertEqual(self.launch()[0], 127)
+        self.assertIn('glibc 2.34', self.launch()[2])
+        self.write('bin/mcsim', PROGRAM, 0o644)
+        self.assertIn('chmod +x bin/mcsim', self.launch()[2])
+
+    def test_a_processor_without_a_part_is_named(self) -> None:
+        self.renewed()
+        (self.tools / 'grep').unlink()
+        (self.tools / 'grep').write_text('#!/bin/sh\necho "flags : cx16 lahf_lm pni popcnt sse4_1 ssse3"\n')
+        (self.tools / 'grep').chmod(0o755)
+        self.assertIn('x86-64-v2, and this one has no sse4_2, and ', self.launch()[2])
+
+    def test_help_needs_no_rt(self) -> None:
+        self.renewed()
+        self.write('crates/mcsim/src/main.rt', 'changed\n')
+        for word in ('--help', '-h'):
+            self.assertEqual(self.launch(word), (0, 'help\n', ''))
+
+    def test_a_pipe_is_read(self) -> None:
+        self.rt()
+        pipe = self.top.parent / 'pipe'
+        os.mkfifo(pipe)
+        for word in (str(pipe), '--'):
+            feeder = subprocess.Popen(['sh', '-c', f'echo "the system" >"{pipe}"'])
+            words = ['--horizon', '5', *(['--'] if word == '--' else []), str(pipe)]
+            status, stdout, stderr = self.launch(*words)
+            self.assertEqual(feeder.wait(), 0)
+            self.assertEqual((status, stdout.splitlines()[1:]), (0, ['the system']))
+            self.assertIn(' system.toml\n', stdout)
+            self.assertEqual(stderr.count('\n'), 1)
+
+    def test_standard_input_is_read(self) -> None:
+        self.rt()
+        read, write = os.pipe()
+        os.write(write, b'from a pipe\n')
+        os.close(write)
+        with os.fdopen(read) as pipe:
+            self.assertIn('from a pipe\n', self.launch('--show', 'both', stdin=pipe)[1])
+
+    def test_a_value_of_an_option_is_no_file(self) -> None:
+        self.rt()
+        (self.top.parent / 'both').write_text('a file\n')
+        self.assertEqual(self.launch('--show', 'both')[1], 'try -- --show both\n')
+
+    def test_the_version_has_the_digest_of_the_check(self) -> None:
+        self.renewed()
+        noted = (self.top / 'bin' / 'SOURCES').read_text().splitlines()
+        digest = noted[2].removeprefix('mcsim ')
+        self.assertEqual(self.launch('--version'), (0, f'mcsim, proved and built: bin/mcsim\ntoolchain kit 1\nsources {digest}\n', ''))
+
+    def test_proving_needs_rt(self) -> None:
+        status, stdout, stderr = self.launch('--prove')
+        self.assertEqual((status, stdout, stderr.count('\n')), (127, '', 1))
+
+    def test_what_was_proved_here_is_not_proved_again(self) -> None:
+        self.rt()
+        self.built_here()
+        self.assertEqual(self.launch('--prove'), (0, '', 'mcsim: the program was proved and built here, and no source is newer\n'))
+
+
+class Installed(InFolder):
+    def setUp(self) -> None:
+        super().setUp()
+        self.renewed()
+        for path in ('tools/vcd.py', 'docs/mcsim.1', 'docs/mcsim.schema.json', 'include/mcsim.h'):
+            self.write(path, path)
+
+    def files(self, folder: pathlib.Path) -> set[str]:
+        return {str(path.relative_to(folder)) for path in folder.rglob('*') if not path.is_dir()}
+
+    def test_what_is_installed_runs_without_the_repository_and_is_taken_away(self) -> None:
+        self.write('../home/.local/bin/own', 'own')
+        status, stdout, stderr = self.launch('--install')
+        self.assertEqual((status, stderr), (0, ''))
+        prefix = self.home / '.local'
+        files = self.files(prefix)
+        for path in ('bin/mcsim', 'bin/mcsim-waves', 'share/man/man1/mcsim.1', 'share/zsh/site-functions/_mcsim', 'lib/libmcs_c.a', 'include/mcsim.h'):
+            self.assertIn(path, files)
+            self.assertIn(f'  {path}\n', stdout)
+        self.assertIn(f'{prefix}/bin is not on PATH', stdout)
+        self.top.rename(self.top.parent / 'away')
+        installed = str(prefix / 'bin' / 'mcsim')
+        self.assertEqual(self.run_in([installed]).stdout, 'gate\n')
+        self.assertEqual(self.run_in([installed, '--version']).stdout.splitlines()[:2], ['mcsim, proved and built', 'toolchain kit 1'])
+        self.assertEqual(self.run_in([installed, '--uninstall']).returncode, 0)
+        self.assertEqual(self.files(prefix), {'bin/own'})
+        self.assertEqual([path.name for path in prefix.iterdir()], ['bin'])
+
+    def test_a_prefix_from_here(self) -> None:
+        self.assertEqual(self.launch('--install', 'some where')[0], 0)
+        self.assertEqual(self.run_in([str(self.top.parent / 'some where' / 'bin' / 'mcsim')]).stdout, 'gate\n')
+        self.assertEqual(self.launch('--uninstall', 'some where')[0], 0)
+        self.assertEqual(self.files(self.top.parent / 'some where'), set())
+
+    def test_a_second_installation_takes_away_what_is_no_longer_there(self) -> None:
+        self.launch('--install')
+        (self.top / 'tools' / 'vcd.py').unlink()
+        self.assertEqual(self.launch('--install')[0], 0)
+        self.assertNotIn('bin/mcsim-waves', self.files(self.home / '.local'))
+        self.launch('--uninstall')
+        self.assertEqual(self.files(self.home), set())
+
+    def test_what_another_put_there_is_left(self) -> None:
+        self.write('../home/.local/bin/mcsim', 'another')
+        status, _, stderr = self.launch('--install')
+        self.assertEqual((status, stderr.count('\n')), (1, 1))
+        self.assertIn('bin/mcsim is there, and no installation put it there', stderr)
+        self.assertEqual(self.files(self.home), {'.local/bin/mcsim'})
+
+    def test_nothing_is_installed_of_other_sources(self) -> None:
+        self.write('crates/mcsim/src/main.rt', 'changed\n')
+        self.assertEqual(self.launch('--install'), (1, '', 'mcsim: nothing was installed: bin/mcsim was not built of these sources\n'))
+
+    def test_nothing_to_take_away(self) -> None:
+        self.assertEqual(self.launch('--uninstall')[0], 1)
+
+
+class Checked(InFolder):
+    def test_bin_of_these_sources_passes(self) -> None:
+        self.renewed()
+        status, lines = self.look()
+        self.assertEqual((status, lines[-1]), (0, '5 passed, 0 failed, 3 skipped'), lines)
+
+    def test_what_was_built_here_is_put_there(self) -> None:
+        self.renewed()
+        wanted = {path.name: path.read_text() for path in (self.top / 'bin').iterdir()}
+        shutil.rmtree(self.top / 'bin')
+        self.write('bin/README.md', PAGE)
+        self.rt()
+        self.built_here()
+        status, lines = self.look('--renew')
+        self.assertEqual((status, lines[-1]), (0, f'{sum_of(ARCHIVE.encode())}  bin/libmcs_c.a'))
+        found = {path.name: path.read_text() for path in (self.top / 'bin').iterdir()}
+        for texts in (wanted, found):
+            texts['SOURCES'] = texts['SOURCES'].partition('\n')[2]
+        self.assertEqual(found, wanted)
+        self.assertTrue(os.access(self.top / 'bin' / 'mcsim', os.X_OK))
+
+    def test_a_changed_source_fails(self) -> None:
+        self.renewed()
+        self.write('crates/mcs_ticks/src/lib.rt', 'changed\n')
+        status, lines = self.look()
+        self.assertEqual((status, lines[-1]), (1, '3 passed, 2 failed, 3 skipped'))
+        self.assertEqual(lines[1], 'failed: bin/mcsim was not built of these sources: after a green gate checks/built.py --renew puts the new one there')
+
+    def test_another_program_of_the_gate_fails(self) -> None:
+        self.renewed()
+        self.built_here()
+        self.assertEqual(self.look()[1][-1], '6 passed, 0 failed, 2 skipped')
+        self.write('crates/mcsim/out/mcsim', SAYS.format(name='another'), 0o755)
+        status, lines = self.look()
+        self.assertEqual((status, lines[-1]), (1, '5 passed, 1 failed, 2 skipped'))
+        self.assertIn('failed: bin/mcsim is not crates/mcsim/out/mcsim: checks/built.py --renew copies it', lines)
+
+    def test_another_file_in_bin_than_the_page_has_fails(self) -> None:
+        self.renewed()
+        self.write('bin/libmcs_c.a', 'another\n')
+        status, lines = self.look()
+        self.assertEqual((status, lines[-1]), (1, '4 passed, 1 failed, 3 skipped'))
+
+    def test_another_toolchain_fails(self) -> None:
+        self.renewed()
+        self.rt()
+        self.assertEqual(self.look()[1][-1], '6 passed, 0 failed, 2 skipped')
+        noted = self.top / 'bin' / 'SOURCES'
+        noted.write_text(noted.read_text().replace('kit kit 1', 'kit kit 0'))
+        self.assertEqual(self.look()[1][-1], '5 passed, 1 failed, 2 skipped')
+
+    def test_an_empty_bin_is_one_clear_line(self) -> None:
+        status, lines = self.look()
+        self.assertEqual((status, lines), (1, ['failed: there is no bin/SOURCES: checks/built.py --renew puts the built program there', '0 passed, 1 failed']))
+
+    def test_what_is_older_than_a_source_is_not_taken(self) -> None:
+        self.rt()
+        self.built_here()
+        os.utime(self.top / 'crates' / 'mcsim' / 'out' / 'mcsim', (1, 1))
+        status, lines = self.look('--renew')
+        self.assertEqual((status, len(lines)), (1, 1))
+        self.assertIn('is newer than crates/mcsim/out/mcsim', lines[0])
+        self.assertFalse((self.top / 'bin' / 'mcsim').exists())
+
+    def test_without_a_built_program_nothing_is_renewed(self) -> None:
+        self.assertEqual(self.look('--renew'), (1, ['built.py: nothing was renewed: there is no crates/mcsim/out/mcsim: ./test builds it']))
+
+
+if __name__ == '__main__':
+    unittest.main()
