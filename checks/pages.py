@@ -1,5 +1,6 @@
 #!/usr/bin/env python3
-"""Tells whether the pages of examples/ show what the built program writes: each of their commands is run, at the top of the repository.
+"""Tells whether the pages show what the built program writes: those of examples/, README.md and docs/LEFT_OUT.md. Each of their commands that runs
+a system is run, at the top of the repository.
 
 The lines of a block that follows a command are lines of its output, in order; a page may leave lines out, and marks that by a line of two dots.
 Each command ends with status 0 and says nothing on standard error."""
@@ -17,6 +18,8 @@ from common import TOP, Count, Ran
 
 PROGRAM = './mcsim'
 LEFT_OUT = '..'
+# pages with blocks beside those that a command wrote
+SHOW_OTHERS = (pathlib.Path('README.md'), pathlib.Path('examples', 'README.md'))
 
 
 def are_in(lines: Iterable[str], others: Iterable[str]) -> bool:
@@ -41,21 +44,32 @@ def is_shown(block: str, written: Sequence[str]) -> bool:
     return bool(lines) and are_in(lines, written)
 
 
+def runs_a_system(block: str) -> bool:
+    """Whether a block of commands runs the program with a file, or with a text in the block."""
+    return PROGRAM in block and ('.toml' in block or '<<' in block)
+
+
 def try_page(program: pathlib.Path, page: pathlib.Path, count: Count) -> None:
-    written: list[str] = []
+    """Tries a page. On those that show other blocks too, only one that follows a command directly is its output."""
+    name = page.relative_to(TOP)
+    shows_others = name in SHOW_OTHERS
+    written: list[str] | None = None if shows_others else []
     for kind, block in blocks_of(page):
-        if kind == 'sh' and PROGRAM in block:
+        if kind == 'sh' and runs_a_system(block):
             status, stdout, stderr = ran(program, block)
-            count.expect(f'{page.name}: {block.strip()}: status {status}, {stderr.decode().strip()}', status == 0 and not stderr)
+            count.expect(f'{name}: {block.strip()}: status {status}, {stderr.decode().strip()}', status == 0 and not stderr)
             written = stdout.decode().splitlines()
-        elif kind == '' and page.name != 'README.md':
-            count.expect(f'{page.name}: a block that its command did not write: {block.splitlines()[:1]}', is_shown(block, written))
+        elif kind == '' and written is not None:
+            count.expect(f'{name}: a block that its command did not write: {block.splitlines()[:1]}', is_shown(block, written))
+            written = None if shows_others else written
+        elif shows_others:
+            written = None
 
 
 def main() -> None:
     program = common.built_program(common.asking_program(__doc__).parse_args().program)
     count = Count()
-    for page in sorted((TOP / 'examples').glob('*.md')):
+    for page in (*sorted((TOP / 'examples').glob('*.md')), TOP / 'README.md', TOP / 'docs' / 'LEFT_OUT.md'):
         try_page(program, page, count)
     count.end()
 
