@@ -2,8 +2,8 @@
 """Tells whether the manual page docs/mcsim.1 says what the built program says and does.
 
 Each option, with its value, default and range, each status and each word of `--show` stands both in the page and in the program's `--help`; the
-page's keys are those of docs/mcsim.schema.json; the program gives what the page's examples say; and mandoc, where it is installed, has nothing to
-say of the page."""
+page's keys are those of docs/mcsim.schema.json; the program gives what the page's examples say; the completions of each shell have the page's options,
+the launcher's and the words of `--show`; and mandoc, where it is installed, has nothing to say of the page."""
 from __future__ import annotations
 
 import json
@@ -20,6 +20,9 @@ from common import TOP, Count
 
 SOURCE = TOP / 'docs' / 'mcsim.1'
 PAGE = SOURCE.read_text()
+COMPLETIONS = TOP / 'launcher' / 'completions'
+# the words of the launcher, which the program does not know
+LAUNCHER = {'version', 'install', 'uninstall', 'prove'}
 RANGE = r'\b(\d+ to [\d^]+)'
 
 # the name of an option's value, its default and its range, each None where there is none
@@ -80,6 +83,14 @@ def keys_of_schema() -> dict[str, list[str]]:
     return found
 
 
+def completed(file: pathlib.Path) -> tuple[set[str], list[str]]:
+    """The options that the completions of a shell have, and the words of --show."""
+    text = file.read_text()
+    options = re.findall(r'-l (\w+)' if file.suffix == '.fish' else r'--([a-z]+)', text)
+    choices = re.search(r'(?:-W|what:|show -x -a) *[(\']([a-z ]+)[)\']', text)
+    return set(options), sorted(choices[1].split()) if choices else []
+
+
 class Trial:
     """The page beside a program."""
 
@@ -97,6 +108,9 @@ class Trial:
         self.same('words of --show', choices_of_page(), choices_of_help(text))
         self.same('statuses', re.findall(r'^\.It (\d)$', section('EXIT STATUS'), re.M), re.findall(r'^  (\d)  ', text, re.M))
         self.same('keys', keys_of_page(), keys_of_schema())
+        for file in sorted(COMPLETIONS.iterdir()):
+            wanted = ({*options_of_help(text), *LAUNCHER}, choices_of_help(text))
+            self.count.expect(f'{file.name} has {completed(file)}, and not {wanted}', completed(file) == wanted)
 
     def examples(self, folder: pathlib.Path) -> None:
         """The page's examples: a file, a command with what it writes, one with a fault, and a line that runs several files."""
