@@ -1,0 +1,90 @@
+"""Which lanes a picture has, and where: for each core one, and below it those of its threads by priority, each with its budget where it is plotted."""
+from __future__ import annotations
+
+from collections.abc import Collection
+from dataclasses import dataclass, field
+from typing import Optional
+
+from . import style
+from .faults import Fault
+from .system import System, Thread
+
+TOP = 62
+
+
+@dataclass
+class Lanes:
+    """Places from top to bottom. A thread's is its base line: its bar stands above it."""
+
+    shown: list[Thread] = field(default_factory=list)
+    core_at: dict[int, int] = field(default_factory=dict)
+    base: dict[str, int] = field(default_factory=dict)
+    plot_at: dict[str, int] = field(default_factory=dict)
+    colour: dict[str, int] = field(default_factory=dict)
+    bottom: int = TOP
+
+    def on(self, core: int) -> list[Thread]:
+        return [thread for thread in self.shown if thread.core == core]
+
+
+def lanes_of(system: System, threads: Collection[str], plotted: Collection[str]) -> Lanes:
+    lanes, at = Lanes(), TOP
+    for core, own in system.by_core().items():
+        lanes.colour.update({thread.name: place % len(style.COLOURS) for place, thread in enumerate(own)})
+        here = [thread for thread in own if thread.name in threads]
+        if not here:
+            continue
+        lanes.core_at[core] = at
+        at += style.CORE + 5
+        for thread in here:
+            lanes.base[thread.name] = at + style.HEAD + style.BAR
+            at += style.LANE
+            if thread.name in plotted:
+                lanes.plot_at[thread.name] = at + 1
+                at += style.PLOT + 7
+        lanes.shown += here
+        at += 12
+    lanes.bottom = at - 6
+    return lanes
+
+
+@dataclass(frozen=True)
+class Choice:
+    """The threads that get lanes, and how many of those that were asked for get none."""
+
+    threads: frozenset[str]
+    left_out: int
+
+
+def names_in(asked: Optional[str]) -> Optional[list[str]]:
+    return None if asked is None else [name for name in asked.split(',') if name]
+
+
+def choose(system: System, threads: Optional[str], cores: Optional[str], most: int) -> Choice:
+    """The threads and cores that are asked for, names with commas between; None asks for all."""
+    names, numbers = names_in(threads), names_in(cores)
+    for name in names or []:
+        if name not in system.threads:
+            raise Fault(f'there is no thread {name!r}')
+    for number in numbers or []:
+        if not (number.isascii() and number.isdigit() and int(number) < system.cores):
+            raise Fault(f'there is no core {number!r}')
+    cores_asked = None if numbers is None else {int(number) for number in numbers}
+    found = [thread.name for own in system.by_core().values() for thread in own
+             if (names is None or thread.name in names) and (cores_asked is None or thread.core in cores_asked)]
+    return Choice(frozenset(found[:most]), len(found[most:]))
+
+
+FEW = 5
+
+
+def choose_budgets(system: System, asked: str) -> frozenset[str]:
+    """The threads whose budgets are plotted: `all`, `none`, `auto` (all, where they are few), or names with commas between."""
+    sporadic = [thread.name for thread in system.threads.values() if not thread.context.is_round_robin]
+    if asked in ('all', 'none', 'auto'):
+        return frozenset(sporadic if asked == 'all' or asked == 'auto' and len(sporadic) <= FEW else [])
+    names = names_in(asked) or []
+    for name in names:
+        if name not in system.threads:
+            raise Fault(f'there is no thread {name!r}')
+    return frozenset(names)

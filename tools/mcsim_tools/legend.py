@@ -1,0 +1,80 @@
+"""What the signs of a picture mean: those that stand in it."""
+from __future__ import annotations
+
+from collections.abc import Callable, Mapping
+from typing import NamedTuple, Optional
+
+from .style import BAR
+
+ROW, LETTER, SAMPLE, GAP = 26, 5.4, 26, 16
+Draw = Callable[[int, int], str]
+
+
+class Item(NamedTuple):
+    text: str
+    draw: Draw
+
+
+def box(look: str, height: float, wide: int = 18, up: float = 0) -> Draw:
+    return lambda x, y: f'<rect class="{look}" x="{x}" y="{y - 4 - height / 2 - up:g}" width="{wide}" height="{height:g}"/>'
+
+
+def sign(name: str, look: str, low: int = 7) -> Draw:
+    return lambda x, y: f'<use class="{look}" href="#{name}" x="{x + 9}" y="{y + low}"/>'
+
+
+def both(*parts: Draw) -> Draw:
+    return lambda x, y: ''.join(part(x, y) for part in parts)
+
+
+def at_end(name: str, look: str) -> Draw:
+    return lambda x, y: f'<use class="{look}" href="#{name}" x="{x + 18}" y="{y - 8}"/>'
+
+
+def dot(x: int, y: int) -> str:
+    return f'<circle class="ink" cx="{x + 2}" cy="{y + 1}" r="2.1"/>'
+
+
+def line(x: int, y: int) -> str:
+    return f'<path class="join" d="M{x + 2} {y + 1}C{x + 2} {y - 8} {x + 16} {y - 1} {x + 16} {y - 11}"/>'
+
+
+def hatched(x: int, y: int) -> str:
+    return f'<rect style="fill:url(#hatch0)" x="{x}" y="{y - 8}" width="18" height="8"/>'
+
+
+def items(drawn: Mapping[str, int], column_width: Optional[int]) -> list[Item]:
+    """The signs that were drawn, in the order in which a reader meets them."""
+    is_single = column_width is None
+    known = [
+        (drawn.get('running') or drawn.get('on'), Item('running', box('running c0', BAR))),
+        (drawn.get('ready'), Item('ready: waits for the core', box('ready c0', 7))),
+        (drawn.get('throttled'), Item('throttled: waits for budget', hatched)),
+        (drawn.get('blocked'), Item('blocked: waits for a signal', box('blocked', 1.6))),
+        (drawn.get('up'), Item('activation of a round', sign('up', 'ink'))),
+        (drawn.get('down'), Item('its deadline' + (' (if met, not shown in crowded lanes)' if drawn.get('left out') else ''), sign('down', 'ink'))),
+        (drawn.get('resp'), Item('response: from the activation to the end of the round', both(box('resp', 1.4), at_end('end', 'ink')))),
+        (drawn.get('queued'), Item('activated, and the round before not ended', box('queued', 1.4))),
+        (drawn.get('late') and is_single, Item('deadline missed, or overdue', both(box('late', 4), at_end('endlate', 'bad')))),
+        (drawn.get('late') and not is_single, Item('below a lane: rounds missed; above it: signals lost', box('late', 4))),
+        (drawn.get('join'), Item('signal, joined to where it takes effect', both(line, dot))),
+        (drawn.get('made') and not drawn.get('join'), Item('signal made', dot)),
+        (drawn.get('hold'), Item('held: nobody waits yet', sign('hold', 'soft', BAR + 2))),
+        (drawn.get('lost'), Item('lost: its bits are held already', sign('lost', 'bad', BAR + 1))),
+        (drawn.get('order'), Item('order of SchedControl', sign('order', 'order', BAR - 1))),
+        (drawn.get('plot'), Item('budget: to be used now, coming back', both(box('use c0', 7, up=-3), box('come1', 7, up=4)))),
+        (not is_single, Item(f'each column is {column_width:,} ticks, and shows shares of them' if column_width else '', lambda x, y: '')),
+    ]
+    return [item for is_there, item in known if is_there]
+
+
+def legend(drawn: Mapping[str, int], column_width: Optional[int], top: int, wide: float) -> tuple[str, int]:
+    """The legend from `top` on, in lines of this width; and its height."""
+    x, y, parts = 10, top, []
+    for text, draw in items(drawn, column_width):
+        need = int(SAMPLE + LETTER * len(text) + GAP)
+        if x + need > wide and x > 10:
+            x, y = 10, y + ROW
+        parts.append(f'{draw(x, y)}<text class="small" x="{x + SAMPLE}" y="{y - 1}">{text}</text>')
+        x += need
+    return ''.join(parts), y - top + ROW - 6

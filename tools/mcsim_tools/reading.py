@@ -1,0 +1,326 @@
+"""One pass over the rows of a schedule, which tells a listener what they say of threads, rounds, signals and budgets.
+
+Words are those of mcscheck. A round is *activated* where its script's first wait has its word: when that word was first set since it was 0,
+or at the wake; without a first wait, when the thread is first ready or runs. A *miss* is a round that ended more than its deadline after its
+activation; *overdue* is one that is activated and not ended at the horizon, a deadline later or more. A signal is *lost* where it leaves a
+held word as it was, and *merged* where it adds bits to one.
+
+Of a row nothing is kept but what is open: a record for each thread, the signals under way, the words of notifications, and what each context
+holds, which tells at a wake whether the thread is ready or throttled."""
+from __future__ import annotations
+
+import collections
+from collections.abc import Collection, Iterable, Sequence
+from typing import NamedTuple, Optional
+
+from .refills import Refill, Refills
+from .rows import no_row, rows_of
+from .source import Told
+from .system import Context, System, Thread
+
+PENDING, READY, RUNNING, THROTTLED, BLOCKED, DONE = range(6)
+STANDINGS = ('pending', 'ready', 'running', 'throttled', 'blocked', 'done')
+WOKE, HELD, MERGED, LOST = 'woke', 'held', 'merged', 'lost'
+
+
+class Stood(NamedTuple):
+    """How a thread stood from one moment to before another, and what put it there."""
+
+    thread: Thread
+    standing: int
+    begin: int
+    end: int
+    why: str
+
+
+class Round(NamedTuple):
+    """A round. One that is open at the horizon has the number 0, and ends there."""
+
+    thread: Thread
+    number: int
+    activated: int
+    begun: int
+    end: int
+
+    @property
+    def response(self) -> int:
+        return self.end - self.activated
+
+    @property
+    def due(self) -> int:
+        return self.activated + self.thread.deadline
+
+    @property
+    def is_missed(self) -> bool:
+        return self.number > 0 and 0 < self.thread.deadline < self.response
+
+    @property
+    def is_overdue(self) -> bool:
+        return self.number == 0 and 0 < self.thread.deadline <= self.response
+
+
+class Post(NamedTuple):
+    """A signal that took effect: who made it where and when, and whom it woke or for whom it is held, where scripts tell."""
+
+    note: str
+    badge: str
+    maker: Optional[Thread]
+    made: int
+    core: int
+    arrived: int
+    thread: Optional[Thread]
+    outcome: str
+
+
+class UnderWay(NamedTuple):
+    """A signal that has not arrived."""
+
+    maker: Optional[Thread]
+    made: int
+    core: int
+    badge: str
+
+
+class Holding(NamedTuple):
+    """What the context of a thread holds from a moment on; while the thread runs the head is being used."""
+
+    thread: Thread
+    refills: Sequence[Refill]
+    moment: int
+    is_used: bool
+
+
+class Listener:
+    """What a reading tells; a tool overrides what it needs. `hears_holdings` tells whose budgets it follows."""
+
+    hears_holdings: Collection[str] = ()
+
+    def stood(self, stood: Stood) -> None: ...
+
+    def round_ended(self, ended: Round) -> None: ...
+
+    def round_open(self, open_round: Round) -> None: ...
+
+    def posted(self, post: Post) -> None: ...
+
+    def under_way(self, note: str, signal: UnderWay) -> None: ...
+
+    def ordered(self, context: Context, moment: int) -> None: ...
+
+    def holds(self, holding: Holding) -> None: ...
+
+    def never(self, thread: Thread, horizon: int) -> None:
+        """The thread has a deadline, and was not activated once."""
+
+
+class Account:
+    """What is open of a thread."""
+
+    __slots__ = ('thread', 'activated_by', 'standing', 'since', 'why', 'begun', 'activated', 'chosen', 'was_activated')
+
+    def __init__(self, thread: Thread) -> None:
+        self.thread = thread
+        self.activated_by = thread.activated_by
+        self.standing, self.since, self.why = PENDING, 0, ''
+        self.begun: Optional[int] = None
+        self.activated: Optional[int] = None
+        self.chosen = 0
+        self.was_activated = False
+
+    def begin(self, moment: int, activated: Optional[int]) -> None:
+        self.begun, self.activated = moment, activated
+        self.was_activated = self.was_activated or activated is not None
+
+    def end(self) -> None:
+        self.begun = self.activated = None
+
+    def see_standing(self, moment: int, standing: int) -> None:
+        """A round that begins with no wait is activated once its thread is ready or runs, for longer than no time."""
+        if standing in (READY, RUNNING):
+            if self.activated is None:
+                self.begin(self.begun, moment)
+        elif self.activated == moment:
+            self.activated = None
+
+
+class Reading:
+    """A pass over rows. `count` is how many there were, `end` where they end: the horizon, or the last row."""
+
+    def __init__(self, system: System, listener: Listener) -> None:
+        self.system, self.listener = system, listener
+        self.accounts = {name: Account(thread) for name, thread in system.threads.items()}
+        self.words: dict[str, int] = dict.fromkeys(system.home_of, 0)
+        self.first_set: dict[str, int] = {}
+        self.signals: dict[tuple[int, str], collections.deque[UnderWay]] = collections.defaultdict(collections.deque)
+        self.arriving: Optional[UnderWay] = None
+        self.refills = {name: Refills(thread.context, thread.start, system.min_budget, system.orders[thread.context.name]) for name, thread in system.threads.items()}
+        self.count = 0
+        self.end = 0
+
+    def read(self, lines: Iterable[str], horizon: Optional[int]) -> None:
+        heard = {
+            'release': self.release, 'run': self.run, 'stop': self.stop, 'signal': self.signal, 'arrive': self.arrive, 'wake': self.wake,
+            'hold': self.hold, 'got': self.got, 'round': self.round, 'order': self.order,
+        }
+        for name in self.accounts:
+            self.tell_held(name, 0, False)
+        for number, moment, core, kind, words in rows_of(lines):
+            if horizon is not None and moment > horizon:
+                break
+            self.count += 1
+            self.end = moment
+            try:
+                heard[kind](moment, core, words)
+            except (KeyError, ValueError):
+                raise no_row(number, words) from None
+        if horizon is not None:
+            self.end = horizon
+        self.close()
+
+    # ---- rows
+
+    def release(self, moment: int, core: int, words: list[str]) -> None:
+        account = self.accounts[words[3]]
+        if account.standing not in (PENDING, THROTTLED) or not self.refills[words[3]].is_ready(moment):
+            raise ValueError
+        if account.standing == PENDING and not account.activated_by:
+            account.begin(moment, None)
+        self.enter(account, moment, READY)
+
+    def run(self, moment: int, core: int, words: list[str]) -> None:
+        account, own = self.accounts[words[3]], self.refills[words[3]]
+        if account.standing != READY:
+            raise ValueError
+        self.enter(account, moment, RUNNING)
+        account.chosen = moment
+        if own.is_bandwidth:
+            own.unblock(moment)
+        self.tell_held(words[3], moment, True)
+
+    def stop(self, moment: int, core: int, words: list[str]) -> None:
+        account, own, why = self.accounts[words[3]], self.refills[words[3]], words[4]
+        if account.standing != RUNNING:
+            raise ValueError
+        if len(words) == 8:
+            standing = THROTTLED
+        elif why == 'wait':
+            standing = BLOCKED
+        elif why == 'done':
+            standing = DONE
+            account.end()
+        else:
+            standing = READY
+        self.enter(account, moment, standing, why)
+        # the order has charged what was in use
+        if why != 'order':
+            own.charge(int(words[5]))
+        if len(words) == 8 and own.list[0][0] != int(words[7]):
+            raise ValueError
+        self.tell_held(words[3], moment, False)
+
+    def round(self, moment: int, core: int, words: list[str]) -> None:
+        account = self.accounts[words[3]]
+        begun = moment - int(words[5])
+        activated = begun if account.activated is None else account.activated
+        self.listener.round_ended(Round(account.thread, int(words[4]), activated, begun, moment))
+        if account.activated_by:
+            account.end()
+        else:
+            account.begin(moment, moment)
+
+    def signal(self, moment: int, core: int, words: list[str]) -> None:
+        signal = UnderWay(self.accounts[words[3]].thread, moment, core, words[5])
+        if self.system.home_of[words[4]] == core:
+            self.arriving = signal
+        else:
+            self.signals[core, words[4]].append(signal)
+
+    def arrive(self, moment: int, core: int, words: list[str]) -> None:
+        queue = self.signals[int(words[6]), words[3]]
+        self.arriving = queue.popleft() if queue else UnderWay(None, moment, int(words[6]), words[4])
+
+    def wake(self, moment: int, core: int, words: list[str]) -> None:
+        account, own = self.accounts[words[3]], self.refills[words[3]]
+        if account.standing != BLOCKED:
+            raise ValueError
+        self.post(words[4], moment, account.thread, WOKE)
+        if account.activated_by and account.begun is None:
+            account.begin(moment, moment)
+        if not own.is_bandwidth:
+            own.unblock(moment)
+        if own.is_ready(moment):
+            self.enter(account, moment, READY)
+        else:
+            self.enter(account, moment, THROTTLED, 'wake')
+        self.tell_held(words[3], moment, False)
+
+    def hold(self, moment: int, core: int, words: list[str]) -> None:
+        note, word = words[3], int(words[4])
+        was, self.words[note] = self.words[note], word
+        if not was:
+            self.first_set[note] = moment
+        waiters = self.system.waiters[note]
+        self.post(note, moment, waiters[0] if waiters else None, HELD if not was else LOST if was == word else MERGED)
+
+    def got(self, moment: int, core: int, words: list[str]) -> None:
+        account, note = self.accounts[words[3]], words[4]
+        self.words[note] = 0
+        if account.activated_by and account.begun is None:
+            account.begin(moment, self.first_set.get(note, moment))
+
+    def order(self, moment: int, core: int, words: list[str]) -> None:
+        context = self.system.contexts[words[3]]
+        self.listener.ordered(context, moment)
+        if thread := self.system.thread_of.get(context.name):
+            account, own = self.accounts[thread.name], self.refills[thread.name]
+            # what is in use is charged by the configuration until now
+            if account.standing == RUNNING:
+                own.charge(moment - account.chosen)
+            own.order(moment)
+            self.tell_held(thread.name, moment, False)
+
+    # ---- what rows come to
+
+    def enter(self, account: Account, moment: int, standing: int, why: str = '') -> None:
+        if moment > account.since:
+            self.listener.stood(Stood(account.thread, account.standing, account.since, moment, account.why))
+        account.standing, account.since, account.why = standing, moment, why
+        if account.begun is not None and account.activated_by is None:
+            account.see_standing(moment, standing)
+
+    def tell_held(self, name: str, moment: int, is_used: bool) -> None:
+        if name in self.listener.hears_holdings:
+            self.listener.holds(Holding(self.accounts[name].thread, self.refills[name].list, moment, is_used))
+
+    def post(self, note: str, moment: int, thread: Optional[Thread], outcome: str) -> None:
+        maker, made, core, badge = self.arriving or UnderWay(None, moment, self.system.home_of[note], '?')
+        self.arriving = None
+        self.listener.posted(Post(note, badge, maker, made, core, moment, thread, outcome))
+
+    def close(self) -> None:
+        """What is open at the end."""
+        for account in self.accounts.values():
+            if self.end > account.since:
+                self.listener.stood(Stood(account.thread, account.standing, account.since, self.end, account.why))
+            self.close_round(account)
+        for (_, note), queue in self.signals.items():
+            for signal in queue:
+                self.listener.under_way(note, signal)
+
+    def close_round(self, account: Account) -> None:
+        """A round under way, or the word that is held for the next one."""
+        activated, note = account.activated, account.activated_by
+        if account.begun is None and note and self.words[note] and account.standing != DONE:
+            activated = self.first_set[note]
+        if activated is not None:
+            begun = self.end if account.begun is None else account.begun
+            self.listener.round_open(Round(account.thread, 0, activated, begun, self.end))
+        elif account.thread.deadline and not account.was_activated:
+            self.listener.never(account.thread, self.end)
+
+
+def read(told: Told, listener: Listener) -> Reading:
+    """Reads a whole schedule."""
+    reading = Reading(told.system, listener)
+    reading.read(told.lines, told.horizon)
+    return reading

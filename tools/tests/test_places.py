@@ -1,0 +1,56 @@
+"""The line of a place that the program names."""
+from __future__ import annotations
+
+import unittest
+
+import worked
+from mcsim_tools.places import line_of
+
+TABLES = b'''version = 1
+cores = 0  # top
+
+[[context]]
+name = "a"
+budget = 2
+
+[[thread]]
+name = "[[thread]]"
+script = ["compute 5",
+  "compute 0"]
+
+[[thread]]
+name = "B"
+prio = 1
+'''
+INLINE = b'''version = 1
+# thread = [ { no = "table" } ]
+context = [ { name = "a", core = 0 },
+            { name = "b", core = 0 } ]
+thread = [
+  { name = "A", context = "a", script = ["compute {5}", "]"] },
+  { name = "B",
+    priority = 300 },
+]
+'''
+
+
+class Lines(unittest.TestCase):
+    def test_of_tables(self) -> None:
+        self.assertEqual(line_of(TABLES, 'out of range at top cores'), 2)
+        self.assertEqual(line_of(TABLES, 'missing key at context 1 core'), 4)
+        self.assertEqual(line_of(TABLES, 'control: zero budget at context 1 budget'), 6)
+        self.assertEqual(line_of(TABLES, 'bad item: bad number at thread 1 script item 2'), 10)
+        self.assertEqual(line_of(TABLES, 'unknown key at thread 2 ?'), 13)
+
+    def test_of_inline_tables(self) -> None:
+        self.assertEqual(line_of(INLINE, 'unknown name at context 2 name'), 4)
+        self.assertEqual(line_of(INLINE, 'unknown key at thread 1 ?'), 6)
+        self.assertEqual(line_of(INLINE, 'out of range at thread 2 priority'), 8)
+
+    def test_what_has_no_line(self) -> None:
+        for fault in ('not TOML at file', 'missing key at top delay', 'too many at thread', 'no memory', 'unknown key at thread 9 ?', 'unknown key at top ?'):
+            self.assertIsNone(line_of(INLINE, fault), fault)
+
+
+if __name__ == '__main__':
+    unittest.main()

@@ -1,0 +1,244 @@
+"""What is drawn, in single things and in columns. A tick of a small picture has 34 pixels, and time begins at 176."""
+from __future__ import annotations
+
+import argparse
+import collections
+import decimal
+import os
+import pathlib
+import re
+import subprocess
+import sys
+import tempfile
+import unittest
+import xml.etree.ElementTree as ElementTree
+
+from worked import ONE, ONE_ROWS, PAIR, PAIR_ROWS, TOOLS, told
+from mcsim_tools import view
+from mcsim_tools.faults import Fault
+from mcsim_tools.scale import Clock, Scale, step_of
+from mcsim_tools.source import Words
+
+SVG = '{http://www.w3.org/2000/svg}'
+
+
+def words(*given: str) -> argparse.Namespace:
+    parser = Words(None).takes_rows()
+    view.add_looks(parser)
+    return parser.parse_args(['system.toml', *given])
+
+
+def drawn(text: str, rows: str, *given: str) -> ElementTree.Element:
+    asked = words(*given)
+    window = view.window_of(asked, True)
+    return ElementTree.fromstring(view.draw(told(text, rows, window.horizon), asked, window, False))
+
+
+def paged(text: str, rows: str, *given: str) -> str:
+    asked = words(*given)
+    window = view.window_of(asked, True)
+    return view.draw(told(text, rows, window.horizon), asked, window, True)
+
+
+def bars(svg: ElementTree.Element, thread: str) -> list[tuple[str, float, float]]:
+    """The bars of a thread's lane: what each shows, where it begins, how wide it is."""
+    lane = next(group for group in svg.iter(f'{SVG}g') if group.get('class') == 'T' and group.get('data-name') == thread)
+    return [(rect.get('class').split()[0], float(rect.get('x')), float(rect.get('width'))) for rect in lane.iter(f'{SVG}rect')]
+
+
+def signs(svg: ElementTree.Element, thread: str) -> list[tuple[str, float]]:
+    lane = next(group for group in svg.iter(f'{SVG}g') if group.get('class') == 'M' and group.get('data-name') == thread)
+    return [(use.get('href')[1:], float(use.get('x'))) for use in lane]
+
+
+def at(moment: int) -> float:
+    return 176 + 34 * moment
+
+
+class SingleThings(unittest.TestCase):
+    def test_a_thread(self) -> None:
+        svg = drawn(ONE, ONE_ROWS, '--horizon', '12')
+        wanted = [('running', at(0), 68), ('throttled', at(2), 102), ('running', at(5), 68), ('throttled', at(7), 102), ('running', at(10), 34)]
+        # the response is 11, and the deadline at 10 is missed
+        self.assertEqual(bars(svg, 'A'), [*wanted, ('resp', at(0), 374), ('late', at(10), 34)])
+        self.assertEqual(signs(svg, 'A'), [('up', at(0)), ('down', at(10)), ('endlate', at(11))])
+
+    def test_a_window_cuts_what_reaches_beyond(self) -> None:
+        svg = drawn(ONE, ONE_ROWS, '--horizon', '12', '--from', '1', '--to', '11')
+        self.assertEqual(bars(svg, 'A')[:2], [('running', 176, 34), ('throttled', 176 + 34, 102)])
+        self.assertEqual(signs(svg, 'A'), [('down', 176 + 9 * 34), ('endlate', 176 + 10 * 34)])
+
+    def test_signals(self) -> None:
+        svg = drawn(PAIR, PAIR_ROWS, '--horizon', '12')
+        found = signs(svg, 'W')
+        self.assertEqual([sign for sign in found if sign[0] in ('hold', 'lost')], [('hold', at(4)), ('hold', at(5)), ('lost', at(6)), ('hold', at(7))])
+        self.assertEqual([sign for sign in signs(svg, 'D') if sign[0] == 'made'], [('made', at(k)) for k in range(1, 6)])
+        self.assertEqual(len([path for path in svg.iter(f'{SVG}path') if path.get('class') == 'join' and path.find(f'{SVG}title') is not None]), 5)
+
+    def test_what_is_queued_stands_before_the_round(self) -> None:
+        own = bars(drawn(PAIR, PAIR_ROWS, '--horizon', '12'), 'W')
+        # the second round was activated at 4, took its word at 7, and ended at 10, 2 after its deadline; the third is overdue at 12
+        self.assertIn(('queued', at(4), 102), own)
+        self.assertIn(('resp', at(7), 102), own)
+        self.assertEqual([bar for bar in own if bar[0] == 'late'], [('late', at(8), 68), ('late', at(11), 34)])
+
+    def test_the_core_shows_who_runs(self) -> None:
+        svg = drawn(PAIR, PAIR_ROWS, '--horizon', '12')
+        lanes = {group.get('data-core'): [rect.get('data-n') for rect in group] for group in svg.iter(f'{SVG}g') if group.get('class') == 'C'}
+        self.assertEqual(lanes, {'0': ['W', 'W'], '1': ['D']})
+
+    def test_lanes_that_are_asked_for(self) -> None:
+        names = [group.get('data-name') for group in drawn(PAIR, PAIR_ROWS, '--horizon', '12', '--cores', '1').iter(f'{SVG}g') if group.get('class') == 'T']
+        self.assertEqual(names, ['D'])
+
+    def test_the_heading_counts(self) -> None:
+        said = drawn(PAIR, PAIR_ROWS, '--horizon', '12').find(f'{SVG}title').text
+        self.assertEqual(said, 'system: 12 ticks, 27 rows: 1 missed, 1 overdue, 1 lost')
+
+    def test_the_legend_has_what_is_drawn(self) -> None:
+        one, two = (''.join(drawn(*system, '--horizon', '12').find(f"./{SVG}g[@id='legend']").itertext()) for system in ((ONE, ONE_ROWS), (PAIR, PAIR_ROWS)))
+        self.assertIn('throttled', one)
+        self.assertNotIn('lost', one)
+        self.assertIn('lost', two)
+        self.assertNotIn('throttled', two)
+
+    def test_crowded_lanes_have_small_signs_and_no_deadline_that_was_met(self) -> None:
+        many = 200
+        rows = '0 0 release A\n0 0 run A\n' + '\n'.join(f'{k + 1} 0 round A {k + 1} 1' for k in range(many))
+        system = ONE.replace('budget = 2, period = 5', 'budget = 5, period = 5').replace('deadline = 10', 'deadline = 1').replace('rounds = 1, ', '')
+        kinds = collections.Counter(sign for sign, _ in signs(drawn(system, rows, '--horizon', f'{many}'), 'A'))
+        # the round that begins at the horizon is activated there
+        self.assertEqual(kinds, {'up-s': many + 1, 'end-s': many})
+
+
+class ManyThings(unittest.TestCase):
+    def test_columns_count_what_was_missed_and_lost(self) -> None:
+        svg = drawn(PAIR, PAIR_ROWS, '--horizon', '12', '--most', '3')
+        # columns of a tick: a signal that was lost at 6, a round that was missed at 10, and one that is overdue from 11 on
+        self.assertEqual([bar for bar in bars(svg, 'W') if bar[0] == 'late'], [('late', at(6), 34), ('late', at(10), 34), ('late', at(11), 34)])
+
+    def test_areas_give_the_ticks(self) -> None:
+        svg = drawn(ONE, ONE_ROWS, '--horizon', '12', '--most', '1')
+        path = next(path for path in svg.iter(f'{SVG}path') if path.get('class') == 'running c0')
+        # columns of a tick: whole for 0 and 1, 5 and 6, and 10
+        self.assertEqual(re.findall(r'M([\d.]+)', path.get('d')), ['176', f'{at(5)}', f'{at(10)}'])
+
+    def test_a_page_has_close_ups_of_its_findings(self) -> None:
+        page = paged(PAIR, PAIR_ROWS, '--horizon', '12', '--most', '3')
+        self.assertEqual(len(re.findall('<template id="close', page)), 3)
+        self.assertIn('around: lost n, badge 2 was there already, for W', page)
+        self.assertIn('data-name="W" data-close="0"><b>lost</b> 6 n: badge 2 was there already, for W</li>', page)
+        close = ElementTree.fromstring(re.search('<template id="close0">(.*?)</template>', page, re.S)[1])
+        self.assertIn('lost', [sign for sign, _ in signs(close, 'W')])
+
+
+class Pages(unittest.TestCase):
+    def test_the_table(self) -> None:
+        page = paged(PAIR, PAIR_ROWS, '--horizon', '12')
+        row = re.search('<tr data-name="W">(.*?)</tr>', page)[1]
+        # 2 rounds, greatest response 6, deadline 4, margin -2, 1 missed, overdue, 1 lost, 1 merged; it ran 10 ticks of 12
+        cells = re.findall(r'<t[hd][^>]*>([^<]*)</t[hd]>', row)
+        self.assertEqual(cells, ['W', '0', '5', '20/20', '100.0%', '83.3%', '2', '6', '4', '-2', '1', 'overdue', '1', '1'])
+
+    def test_the_findings(self) -> None:
+        found = re.findall('<b>(.*?)</b> ([^<]*)<', paged(PAIR, PAIR_ROWS, '--horizon', '12'))
+        self.assertEqual(found, [('lost', '6 n: badge 2 was there already, for W'), ('miss', '10 W: round 2 took 6, deadline 4'),
+                                 ('overdue', '12 W: activated at 7 and not ended 5 later, deadline 4')])
+
+
+class Scales(unittest.TestCase):
+    def test_steps(self) -> None:
+        # 70 pixels at least
+        self.assertEqual([step_of(span, 700) for span in (1, 10, 11, 25, 60, 1000)], [1, 1, 2, 5, 10, 100])
+
+    def test_moments(self) -> None:
+        self.assertEqual(list(Scale(3, 21, 0, 280).moments()), [5, 10, 15, 20])
+
+    def test_real_units(self) -> None:
+        clock = Clock(decimal.Decimal('2.5'))
+        self.assertEqual([clock.text(moment, 100) for moment in (0, 1, 100)], ['0 µs', '2.5 µs', '250 µs'])
+        self.assertEqual(clock.text(1000, 4000), '2.5 ms')
+        self.assertEqual(clock.text(400_000, 4_000_000), '1 s')
+        self.assertEqual(Clock().text(1200, 4000), '1,200')
+
+
+class Tool(unittest.TestCase):
+    def setUp(self) -> None:
+        folder = tempfile.TemporaryDirectory()
+        self.addCleanup(folder.cleanup)
+        self.folder = pathlib.Path(folder.name)
+        self.system = self.folder / 'one.toml'
+        self.system.write_text(ONE)
+
+    def run_tool(self, *given: str, rows: str = ONE_ROWS.lstrip()) -> tuple[int, str]:
+        ran = subprocess.run([sys.executable, str(TOOLS / 'view'), *given], input=rows, capture_output=True, text=True, cwd=self.folder)
+        self.assertEqual(ran.stdout, '')
+        return ran.returncode, ran.stderr
+
+    def refused(self, said: str, *given: str, rows: str = ONE_ROWS.lstrip()) -> None:
+        before = sorted(self.folder.iterdir())
+        self.assertEqual(self.run_tool(*given, rows=rows), (2, f'view: {said}\n'))
+        self.assertEqual(sorted(self.folder.iterdir()), before)
+
+    def test_rows_of_standard_input(self) -> None:
+        self.assertEqual(self.run_tool('one.toml', '--rows', '-', '-o', 'one.svg'), (0, ''))
+        self.assertEqual(ElementTree.parse(self.folder / 'one.svg').getroot().find(f'{SVG}title').text, 'one: 11 ticks, 10 rows: 1 missed, 0 overdue, 0 lost')
+
+    def test_bad_input_is_one_line_and_nothing_is_written(self) -> None:
+        rest = ('--rows', '-', '-o', 'x.svg')
+        self.refused('line 1 is no row of a schedule of this system: hello', 'one.toml', *rest, rows='hello\n')
+        self.refused('none.toml: No such file or directory', 'none.toml', *rest)
+        self.refused('.: Is a directory', '.', *rest)
+        self.refused('x.png is no .svg and no .html', 'one.toml', '--rows', '-', '-o', 'x.png')
+        self.refused('none/x.svg: No such file or directory', 'one.toml', '--rows', '-', '-o', 'none/x.svg')
+        self.refused('--to 9 is beyond the horizon 5', 'one.toml', *rest, '--horizon', '5', '--to', '9')
+        self.refused('--from 9 is not before the end, 9', 'one.toml', *rest, '--from', '9', '--to', '9')
+        self.refused("there is no thread 'B'", 'one.toml', *rest, '--threads', 'B')
+        self.refused("there is no core '1'", 'one.toml', *rest, '--cores', '1')
+        self.refused("argument --horizon: 'x' is no moment of 0 to 2^40", 'one.toml', *rest, '--horizon', 'x')
+        self.refused("argument --tick-us: '0' is no length of a tick in microseconds", 'one.toml', *rest, '--tick-us', '0')
+        self.refused('rows.txt: No such file or directory', 'one.toml', '--rows', 'rows.txt', '-o', 'x.svg')
+
+    def test_a_file_that_is_no_system(self) -> None:
+        for text, said in (('x = ', 'not TOML: Invalid value (at end of document)'), ('version = 1', "no system: 'cores' is missing"), ('cores = 1\nthread = 3', 'no system')):
+            self.system.write_text(text)
+            self.refused(f'one.toml: {said}', 'one.toml', '--rows', '-', '-o', 'x.svg')
+
+    def program(self, text: str) -> str:
+        file = self.folder / 'program'
+        file.write_text(f'#!/bin/sh\n{text}\n')
+        file.chmod(0o755)
+        return str(file)
+
+    def test_a_run(self) -> None:
+        # the program is given the file and the horizon
+        program = self.program(f'cat >given.toml; echo "$@" >given.words; cat <<"E"\n{ONE_ROWS.strip()}\nE')
+        self.assertEqual(self.run_tool('one.toml', '--program', program, '--horizon', '12', '-o', 'one.html'), (0, ''))
+        self.assertEqual((self.folder / 'given.toml').read_text(), ONE)
+        self.assertEqual((self.folder / 'given.words').read_text(), '--horizon 12\n')
+        self.assertIn('<b>miss</b> 11 A: round 1 took 11, deadline 10', (self.folder / 'one.html').read_text())
+
+    def test_what_the_program_says_has_its_line(self) -> None:
+        program = self.program('cat >/dev/null; echo "mcsim: zero budget at context 1 budget" >&2; exit 1')
+        self.refused('one.toml:5: zero budget at context 1 budget', 'one.toml', '--program', program, '-o', 'x.svg')
+        self.refused('none: No such file or directory', 'one.toml', '--program', 'none', '-o', 'x.svg')
+
+    def test_a_program_that_breaks_off_leaves_no_picture(self) -> None:
+        program = self.program('cat >/dev/null; echo "0 0 release A"; echo "mcsim: no memory" >&2; exit 4')
+        self.refused('one.toml: no memory', 'one.toml', '--program', program, '-o', 'x.svg')
+
+
+class Windows(unittest.TestCase):
+    def test_defaults(self) -> None:
+        self.assertEqual(view.window_of(words(), False), view.Window(0, 1000, 1000))
+        self.assertEqual(view.window_of(words(), True), view.Window(0, None, None))
+        self.assertEqual(view.window_of(words('--to', '30'), False), view.Window(0, 30, 30))
+
+    def test_horizon_zero(self) -> None:
+        self.assertEqual(view.window_of(words('--horizon', '0'), False), view.Window(0, 0, 0))
+        with self.assertRaises(Fault):
+            view.window_of(words('--horizon', '0', '--from', '1'), False)
+
+
+if __name__ == '__main__':
+    unittest.main()

@@ -1,0 +1,146 @@
+"""Small systems and schedules that were worked out by hand, for the tests."""
+from __future__ import annotations
+
+import pathlib
+import sys
+import tomllib
+from typing import Optional
+
+TOOLS = pathlib.Path(__file__).resolve().parent.parent
+sys.path.insert(0, str(TOOLS))
+from mcsim_tools import system as systems
+from mcsim_tools.reading import Holding, Listener, Post, Reading, Round, Stood, read
+from mcsim_tools.source import Told
+from mcsim_tools.system import Context, System, Thread
+
+# 2 ticks in 5 for a computation of 5
+ONE = '''
+version = 1
+cores = 1
+delay = 1
+context = [{ name = "a", core = 0, budget = 2, period = 5 }]
+thread = [{ name = "A", context = "a", priority = 5, rounds = 1, deadline = 10, script = ["compute 5"] }]
+'''
+ONE_ROWS = '''
+0 0 release A
+0 0 run A
+2 0 stop A spent 2 until 5
+5 0 release A
+5 0 run A
+7 0 stop A spent 2 until 10
+10 0 release A
+10 0 run A
+11 0 round A 1 11
+11 0 stop A done 1
+'''
+# work that is done once in each period, always in 3 ticks, though the round begins where the one before ended
+LOOP = '''
+version = 1
+cores = 1
+delay = 1
+context = [{ name = "a", core = 0, budget = 3, period = 10 }]
+thread = [{ name = "Loop", context = "a", priority = 9, deadline = 5, script = ["compute 2", "yield"] }]
+'''
+LOOP_ROWS = '''
+0 0 release Loop
+0 0 run Loop
+3 0 round Loop 1 3
+3 0 stop Loop yield 3 until 10
+10 0 release Loop
+10 0 run Loop
+13 0 round Loop 2 10
+13 0 stop Loop yield 3 until 20
+'''
+# a device signals at 1, 2, 3, 4 and 5; W takes 3 ticks for each word, a wait costs one, and a signal is under way for 2
+PAIR = '''
+version = 1
+cores = 2
+delay = 2
+context = [{ name = "w", core = 0, budget = 20, period = 20 }, { name = "d", core = 1, budget = 9, period = 9 }]
+note = [{ name = "n", core = 0 }]
+thread = [
+    { name = "W", context = "w", priority = 5, deadline = 4, script = ["wait n", "compute 3"] },
+    { name = "D", context = "d", priority = 5, rounds = 1, script = ["signal n 1", "signal n 1", "signal n 2", "signal n 2", "signal n 1"] },
+]
+'''
+PAIR_ROWS = '''
+0 0 release W
+0 0 run W
+0 1 release D
+0 1 run D
+1 0 stop W wait 1
+1 1 signal D n 1
+2 1 signal D n 1
+3 0 arrive n 1 from 1
+3 0 wake W n 1
+3 0 run W
+3 1 signal D n 2
+4 0 arrive n 1 from 1
+4 0 hold n 1
+4 1 signal D n 2
+5 0 arrive n 2 from 1
+5 0 hold n 3
+5 1 signal D n 1
+5 1 round D 1 5
+5 1 stop D done 5
+6 0 round W 1 3
+6 0 arrive n 2 from 1
+6 0 hold n 3
+7 0 got W n 3
+7 0 arrive n 1 from 1
+7 0 hold n 1
+10 0 round W 2 3
+11 0 got W n 1
+'''
+
+
+def system(text: str) -> System:
+    return systems.system_of(tomllib.loads(text))
+
+
+def told(text: str, rows: str, horizon: Optional[int]) -> Told:
+    return Told(system(text), iter(rows.strip().splitlines()), horizon)
+
+
+class Heard(Listener):
+    """Keeps all that a reading tells."""
+
+    def __init__(self, hears_holdings: tuple[str, ...] = ()) -> None:
+        self.hears_holdings = hears_holdings
+        self.stands: list[Stood] = []
+        self.rounds: list[Round] = []
+        self.open: list[Round] = []
+        self.posts: list[Post] = []
+        self.orders: list[tuple[str, int]] = []
+        self.holdings: list[tuple[int, list[list[int]], bool]] = []
+        self.nevers: list[str] = []
+        self.signals: list[str] = []
+
+    def stood(self, stood: Stood) -> None:
+        self.stands.append(stood)
+
+    def round_ended(self, ended: Round) -> None:
+        self.rounds.append(ended)
+
+    def round_open(self, open_round: Round) -> None:
+        self.open.append(open_round)
+
+    def posted(self, post: Post) -> None:
+        self.posts.append(post)
+
+    def under_way(self, note: str, signal: object) -> None:
+        self.signals.append(note)
+
+    def ordered(self, context: Context, moment: int) -> None:
+        self.orders.append((context.name, moment))
+
+    def holds(self, holding: Holding) -> None:
+        self.holdings.append((holding.moment, [list(refill) for refill in holding.refills], holding.is_used))
+
+    def never(self, thread: Thread, horizon: int) -> None:
+        self.nevers.append(thread.name)
+
+
+def heard(text: str, rows: str, horizon: Optional[int], hears: tuple[str, ...] = ()) -> tuple[Heard, Reading]:
+    listener = Heard(hears)
+    return listener, read(told(text, rows, horizon), listener)
