@@ -54,6 +54,7 @@ CHECKS = (
     Check('manual'),
     Check('pages'),
     Check('built'),
+    Check('pictures'),
 )
 
 

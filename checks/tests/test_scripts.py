@@ -55,6 +55,9 @@ class WrongPrograms(unittest.TestCase):
     def test_a_program_that_complains_writes_no_page(self) -> None:
         self.assertEqual(self.tally('pages', 'echo wrong >&2').passed, 0)
 
+    def test_a_program_that_says_nothing_draws_no_picture(self) -> None:
+        self.assertGreater(self.tally('pictures', 'exit 0').failed, 4)
+
     def test_a_program_without_help_is_not_run_with_refused_memory(self) -> None:
         self.assertEqual(self.tally('refused_runs', 'exit 0').failed, 1)
 

@@ -3,6 +3,7 @@ from __future__ import annotations
 
 import os
 import pathlib
+import signal
 import sys
 from collections.abc import Callable
 from typing import Union
@@ -29,6 +30,8 @@ def why(path: Union[str, pathlib.Path], error: OSError) -> Fault:
 def guarded(main: Callable[[], None]) -> int:
     """Runs a tool to its status: a fault is told in one line."""
     name = pathlib.Path(sys.argv[0]).stem
+    # what was begun is ended too: a run of the program, a file that is half written
+    signal.signal(signal.SIGTERM, lambda *_: sys.exit(128 + signal.SIGTERM))
     try:
         main()
         sys.stdout.flush()
