@@ -52,6 +52,7 @@ CHECKS = (
     Check('theorems', tries_program=False),
     Check('faults'),
     Check('manual'),
+    Check('mended'),
     Check('pages'),
     Check('built'),
     Check('pictures'),

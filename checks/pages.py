@@ -6,6 +6,7 @@ The lines of a block that follows a command are lines of its output, in order; a
 Each command ends with status 0 and says nothing on standard error."""
 from __future__ import annotations
 
+import os
 import pathlib
 import re
 import shlex
@@ -28,14 +29,14 @@ def are_in(lines: Iterable[str], others: Iterable[str]) -> bool:
     return all(line in rest for line in lines)
 
 
-def blocks_of(page: pathlib.Path) -> list[tuple[str, str]]:
-    """The blocks of a page: the word after the fence, and the text."""
-    return re.findall(r'^```(\w*)\n(.*?)^```', page.read_text(), re.M | re.S)
+def blocks_in(text: str) -> list[tuple[str, str]]:
+    """The blocks of a page's text: the word after the fence, and what stands in it."""
+    return re.findall(r'^```(\w*)\n(.*?)^```', text, re.M | re.S)
 
 
 def ran(program: pathlib.Path, block: str) -> Ran:
-    """What a block of commands comes to, with this program in place of ./mcsim."""
-    return common.run(['sh', '-c', block.replace(PROGRAM, shlex.quote(str(program)))], cwd=TOP)
+    """What a block of commands comes to, with this program in place of ./mcsim, and for the tools."""
+    return common.run(['sh', '-c', block.replace(PROGRAM, shlex.quote(str(program)))], cwd=TOP, env={**os.environ, 'MCSIM': str(program)})
 
 
 def is_shown(block: str, written: Sequence[str]) -> bool:
@@ -54,7 +55,7 @@ def try_page(program: pathlib.Path, page: pathlib.Path, count: Count) -> None:
     name = page.relative_to(TOP)
     shows_others = name in SHOW_OTHERS
     written: list[str] | None = None if shows_others else []
-    for kind, block in blocks_of(page):
+    for kind, block in blocks_in(page.read_text()):
         if kind == 'sh' and runs_a_system(block):
             status, stdout, stderr = ran(program, block)
             count.expect(f'{name}: {block.strip()}: status {status}, {stderr.decode().strip()}', status == 0 and not stderr)

@@ -1,0 +1,368 @@
+"""What the first fault of a system's file means: its line, the key, what may stand there, and what was probably meant.
+
+The program finds the fault (docs/FORMAT.md has the order of its tests) and names it and its place in one line. Here the place becomes a line of
+the file, and the fault a few facts, from the file itself and from docs/mcsim.schema.json."""
+from __future__ import annotations
+
+import difflib
+import re
+from collections.abc import Callable, Iterable, Iterator
+from dataclasses import dataclass
+from typing import Any, NamedTuple, Optional
+
+from .positions import Node, Position, read
+
+try:
+    import tomllib
+except ImportError:
+    tomllib = None
+
+LINE = re.compile(
+    r'mcsim: (?P<kind>.+?) at (?P<section>file|top|context|note|thread|order|link)'
+    r'(?: (?P<row>\d+))?(?: (?P<key>[a-z_]+|\?))?(?: item (?P<item>\d+))?'
+)
+# what a row of each section is called
+ROWS = {'top': 'the top', 'context': 'a context', 'note': 'a notification', 'thread': 'a thread', 'order': 'an order', 'link': 'a link'}
+# keys that are listed in version 2 alone
+OF_VERSION_2 = {('top', 'link'), ('context', 'mode')}
+# keys whose values number cores
+CORES = ('core', 'maker', 'home')
+ITEMS = {'compute': 'compute N', 'signal': 'signal NOTE BADGE', 'wait': 'wait NOTE', 'yield': 'yield'}
+NUMBERS = {'compute': 'N is 1 to 2^40', 'signal': 'BADGE is 1 to 4,294,967,295'}
+KINDS = {'integer': 'an integer', 'string': 'a text', 'array': 'an array'}
+NEAR = 0.5
+
+
+class Fault(NamedTuple):
+    """A fault and its place, as the program names them."""
+
+    kind: str
+    section: str
+    row: int
+    key: Optional[str]
+    item: int
+
+    def __str__(self) -> str:
+        parts = [self.section, str(self.row) if self.row else None, self.key, f'item {self.item}' if self.item else None]
+        return f'{self.kind} at {" ".join(filter(None, parts))}'
+
+
+def fault_of(line: str) -> Optional[Fault]:
+    """The fault that a line of the program tells, or None where it tells another thing."""
+    found = LINE.fullmatch(line.strip())
+    return found and Fault(found['kind'], found['section'], int(found['row'] or 0), found['key'], int(found['item'] or 0))
+
+
+def nearest(word: str, known: Iterable[str]) -> Optional[str]:
+    """The known word that is most like this one, if any is."""
+    words = {other.lower(): other for other in known}
+    found = difflib.get_close_matches(word.lower(), words, 1, NEAR)
+    return words[found[0]] if found else None
+
+
+def meant(word: str, known: Iterable[str]) -> str:
+    near = nearest(word, known)
+    return f'; the nearest is {near}' if near else ''
+
+
+def amount(number: int) -> str:
+    """A number as the pages write it."""
+    return '2^40' if number == 2**40 else f'{number:,}'
+
+
+def named(names: Iterable[str]) -> str:
+    return ', '.join(names) or 'none'
+
+
+def kind_of(node: Node) -> str:
+    """What a value is."""
+    if node.kind != 'other':
+        return {'table': 'a table', 'array': 'an array', 'text': 'a text'}[node.kind]
+    if node.text in ('true', 'false'):
+        return f'a boolean, {node.text}'
+    plain = re.fullmatch(r'[+-]?(?:0x[0-9A-Fa-f_]+|0o[0-7_]+|0b[01_]+|[0-9_]+)', node.text)
+    return f'{"an integer" if plain else "no integer"}, {node.text}'
+
+
+def number_of(node: Optional[Node]) -> Optional[int]:
+    try:
+        return int(node.text, 0) if node and node.kind == 'other' else None
+    except ValueError:
+        return None
+
+
+def text_of(node: Optional[Node]) -> str:
+    return node.text if node else ''
+
+
+@dataclass
+class Case:
+    """A fault beside the file in which it lies."""
+
+    fault: Fault
+    root: Node
+    schema: dict[str, Any]
+
+    def rows(self, section: str) -> list[Node]:
+        array = self.root.get(section)
+        return array.items if array else []
+
+    @property
+    def row(self) -> Optional[Node]:
+        """The table of the fault's place."""
+        if self.fault.section == 'top':
+            return self.root
+        rows = self.rows(self.fault.section)
+        return rows[self.fault.row - 1] if 0 < self.fault.row <= len(rows) else None
+
+    def value(self, key: str) -> Optional[Node]:
+        return self.row.get(key) if self.row else None
+
+    @property
+    def item(self) -> str:
+        """The text of the fault's item."""
+        script = self.value('script')
+        return script.items[self.fault.item - 1].text if script and self.fault.item <= len(script.items) else ''
+
+    def setting(self, key: str) -> Optional[int]:
+        """A number at the top, or its default."""
+        found = number_of(self.root.get(key))
+        return self.schema['properties'][key].get('default') if found is None else found
+
+    def properties(self) -> dict[str, Any]:
+        """The keys that the section lists, with what the schema says of them."""
+        section = self.fault.section
+        listed = self.schema['properties'] if section == 'top' else self.schema['definitions'][section]['properties']
+        is_two = self.setting('version') == 2
+        return {key: part for key, part in listed.items() if is_two or (section, key) not in OF_VERSION_2}
+
+    def unknown_keys(self) -> list[str]:
+        return [key for key in self.row.keys if key not in self.properties()] if self.row else []
+
+    def earlier(self, is_same: Callable[[Node], bool]) -> Optional[int]:
+        """The line of the first earlier row that has what this one has."""
+        found = next(filter(is_same, self.rows(self.fault.section)[: self.fault.row - 1]), None)
+        return found and found.position.line
+
+    def wanted(self, key: str) -> str:
+        """What the schema wants at a key: its kind and its range."""
+        part = self.properties().get(key, {})
+        for inner in part.get('allOf', [part]):
+            if '$ref' in inner:
+                part = {**self.schema['definitions'][inner['$ref'].rsplit('/', 1)[1]], **part}
+        kind = KINDS.get(part.get('type', ''), 'a value')
+        if 'enum' in part:
+            return f'{kind}: {" or ".join(map(str, part["enum"]))}'
+        if key in CORES:
+            cores = self.setting('cores')
+            return f'{kind}, 0 to {cores - 1} (cores - 1)' if cores else f'{kind}, 0 to cores - 1'
+        if 'minimum' in part:
+            return f'{kind}, {amount(part["minimum"])} to {amount(part["maximum"])}'
+        if key == 'script':
+            return f'{kind} of texts, 1 to 1,024 of them'
+        if part.get('type') == 'array':
+            return f'{kind} of tables, at most {amount(part["maxItems"])}'
+        return f'{kind} of 1 to 32 characters of A-Z a-z 0-9 _ -' if 'pattern' in part else kind
+
+    def meaning(self, key: str) -> str:
+        return self.properties().get(key, {}).get('description', '').rstrip('.')
+
+    def told(self, key: str) -> str:
+        """What is wanted at a key, and what the key means."""
+        return '. '.join(filter(None, [self.wanted(key), self.meaning(key)]))
+
+    def position(self) -> Optional[Position]:
+        """Where the fault lies; where that can't be told, where its row or its section begins."""
+        section = self.root.keys.get(self.fault.section)
+        if not self.row:
+            return section and section.position
+        if self.fault.key == '?':
+            return next((self.row.keys[key].position for key in self.unknown_keys()), self.row.position)
+        node = self.row.get(self.fault.key) if self.fault.key else None
+        if node and 0 < self.fault.item <= len(node.items):
+            return node.items[self.fault.item - 1].position
+        return node.position if node else self.row.position
+
+
+def not_toml(text: bytes) -> tuple[Optional[Position], list[str]]:
+    """Where a text is no TOML, and what Python's reader says of it."""
+    try:
+        plain = text.decode()
+    except UnicodeDecodeError as error:
+        before = text[: error.start].decode()
+        return Position(before.count('\n') + 1, len(before.rpartition('\n')[2]) + 1), ['the file is no UTF-8 from here on']
+    lost, said = read(plain).lost, reason(plain)
+    return lost, [*(['no TOML from here on: a quote, a bracket or a brace may be open, or a comma lacking'] if lost else []), *([said] if said else [])]
+
+
+def reason(text: str) -> Optional[str]:
+    """What Python's reader of TOML has against a text."""
+    if tomllib is None:
+        return "Python 3.11 or later has a reader of TOML, which would say more"
+    try:
+        tomllib.loads(text)
+    except tomllib.TOMLDecodeError as error:
+        return f"Python's reader of TOML says: {error}"
+    return None
+
+
+def unknown_key(case: Case) -> Iterator[str]:
+    listed = case.properties()
+    for key in case.unknown_keys():
+        if (case.fault.section, key) in OF_VERSION_2:
+            yield f'{key} is a key of version 2 alone, and this file says version = {case.setting("version")}'
+            continue
+        yield f'{key} is no key of {ROWS[case.fault.section]}{meant(key, listed)}'
+        near = nearest(key, listed)
+        if near:
+            yield f'{near}: {case.told(near)}'
+    yield f'keys of {ROWS[case.fault.section]}: {named(listed)}'
+
+
+def missing_key(case: Case) -> Iterator[str]:
+    key = case.fault.key or ''
+    yield f'{key} is required: {case.told(key)}'
+
+
+def wrong_kind(case: Case) -> Iterator[str]:
+    fault = case.fault
+    if fault.item:
+        yield f'an item is a text in quotes: {named(ITEMS.values())}'
+    elif fault.key:
+        node = case.value(fault.key)
+        yield f'{fault.key} is {case.wanted(fault.key)}' + (f'; here stands {kind_of(node)}' if node else '')
+    elif fault.row:
+        yield f'each row of {fault.section} is a table'
+    else:
+        yield f'{fault.section} is an array of tables: [[{fault.section}]] with two brackets, or {fault.section} = [{{ .. }}, ..]'
+
+
+def out_of_range(case: Case) -> Iterator[str]:
+    key = case.fault.key or ''
+    node = case.value(key)
+    yield f'{key} is {case.wanted(key)}' + (f'; here stands {node.text}' if node and node.text else '')
+    if key == 'mode':
+        near = nearest(text_of(node), ('sporadic', 'bandwidth'))
+        if near:
+            yield f'the nearest is {near}'
+    elif case.meaning(key):
+        yield case.meaning(key)
+
+
+def too_many(case: Case) -> Iterator[str]:
+    if case.fault.key == 'script':
+        yield f'a script has at most 1,024 items; this one has {amount(len(case.value("script").items))}'
+    else:
+        yield f'there are at most 4,096 rows; here are {amount(len(case.rows(case.fault.section)))}'
+
+
+def bad_name(case: Case) -> Iterator[str]:
+    name = text_of(case.value('name'))
+    wrong = ''.join(dict.fromkeys(re.findall(r'[^A-Za-z0-9_-]', name)))
+    yield 'a name is 1 to 32 characters of A-Z a-z 0-9 _ -'
+    yield f'this one has {len(name)} characters' + (f', and {wrong!r} is none of these' if wrong else '')
+
+
+def double_name(case: Case) -> Iterator[str]:
+    name = text_of(case.value('name'))
+    yield f'the name {name} stands first in line {case.earlier(lambda row: text_of(row.get("name")) == name)}'
+
+
+def unknown_name(case: Case) -> Iterator[str]:
+    if case.fault.key == 'context':
+        section, what, name = 'context', 'context', text_of(case.value('context'))
+    else:
+        section, what, name = 'note', 'notification', ''.join(case.item.split()[1:2])
+    names = [text_of(row.get('name')) for row in case.rows(section)]
+    yield f'no {what} has the name {name}{meant(name, names)}'
+    yield f'names of {what}s: {named(names)}'
+
+
+def unknown_word(case: Case) -> Iterator[str]:
+    word = ''.join(case.item.split(' ')[:1])
+    yield f'{word or "nothing"} is no word of an item{meant(word, ITEMS)}'
+    yield f'items: {named(ITEMS.values())}'
+
+
+def bad_parts(case: Case) -> Iterator[str]:
+    word = (case.item.split() or [''])[0]
+    yield f'the item is {ITEMS.get(word, word)}; here stands {case.item.strip()}'
+    if word in NUMBERS:
+        yield f'{NUMBERS[word]}, in digits without a sign and without a leading zero'
+
+
+def wait_is_last(case: Case) -> Iterator[str]:
+    yield 'the last item of a script is no wait: put the wait first, which waits for each round in its turn, or let an item follow it'
+
+
+def of_control(case: Case) -> Iterator[str]:
+    budget, period, least = number_of(case.value('budget')), number_of(case.value('period')), case.setting('min_budget')
+    yield {
+        'zero budget': 'a budget is at least 1',
+        'budget too small': f'budget is {budget}, and min_budget at the top {least}: a budget is at least min_budget',
+        'budget over period': f'budget is {budget}, and period {period}: a budget is at most its period (where it is the same, the context is round robin)',
+        'period too long': 'a period is at most 2^40',
+        'too many refills': 'extra_refills is at most 64: the list has two refills and so many more',
+    }[case.fault.kind.partition(': ')[2]]
+
+
+def context_taken(case: Case) -> Iterator[str]:
+    name = text_of(case.value('context'))
+    yield f'the thread in line {case.earlier(lambda row: text_of(row.get("context")) == name)} has the context {name}: each thread has its own'
+    threads = case.rows('thread')
+    taken = {text_of(row.get('context')) for row in threads}
+    free = [text_of(row.get('name')) for row in case.rows('context') if text_of(row.get('name')) not in taken]
+    yield f'contexts without a thread: {named(free)}'
+
+
+def row_named(case: Case, section: str, name: str) -> Optional[Node]:
+    return next((row for row in case.rows(section) if text_of(row.get('name')) == name), None)
+
+
+def other_core(case: Case) -> Iterator[str]:
+    context = row_named(case, 'context', text_of(case.value('context')))
+    core = text_of(context.get('core') if context else None)
+    if case.fault.section == 'order':
+        yield f'the context {text_of(case.value("context"))} is on core {core}, and the order on core {text_of(case.value("core"))}'
+        return
+    note = ''.join(case.item.split()[1:2])
+    home = row_named(case, 'note', note)
+    yield f'{note} is at home on core {text_of(home.get("core") if home else None)}, and the thread runs on core {core}: a thread waits at home alone'
+    yield 'put the notification on the core of the thread that waits; threads of any core may signal it'
+
+
+def kind_change(case: Case) -> Iterator[str]:
+    context = row_named(case, 'context', text_of(case.value('context')))
+    old = [text_of(context.get(key) if context else None) for key in ('budget', 'period')]
+    new = [text_of(case.value(key)) for key in ('budget', 'period')]
+    yield f'the context has {old[0]} in {old[1]}, and the order gives {new[0]} in {new[1]}'
+    yield 'budget equal to period is round robin, and an order neither makes a context so nor ends it'
+
+
+def self_link(case: Case) -> Iterator[str]:
+    yield 'a link goes to another core: signals to a notification of the own core take no time'
+
+
+def double_link(case: Case) -> Iterator[str]:
+    pair = [text_of(case.value(key)) for key in ('maker', 'home')]
+    line = case.earlier(lambda row: [text_of(row.get(key)) for key in ('maker', 'home')] == pair)
+    yield f'the link from core {pair[0]} to core {pair[1]} stands first in line {line}'
+
+
+def mode_of_slice(case: Case) -> Iterator[str]:
+    yield f'budget and period are both {text_of(case.value("period"))}: such a context is round robin and has no other mode'
+
+
+FACTS: dict[str, Callable[[Case], Iterator[str]]] = {
+    'unknown key': unknown_key, 'missing key': missing_key, 'wrong kind': wrong_kind, 'out of range': out_of_range, 'too many': too_many,
+    'bad name': bad_name, 'double name': double_name, 'unknown name': unknown_name, 'wait is last': wait_is_last, 'control': of_control,
+    'context taken': context_taken, 'other core': other_core, 'kind change': kind_change, 'self link': self_link, 'double link': double_link,
+    'mode of slice': mode_of_slice, 'bad item: unknown word': unknown_word, 'bad item': bad_parts,
+}
+
+
+def facts_of(case: Case) -> list[str]:
+    """What there is to say of a fault; nothing of one that is not known here."""
+    kind = case.fault.kind
+    found = FACTS.get(kind) or FACTS.get(kind.partition(':')[0])
+    return list(found(case)) if found else []

@@ -1,0 +1,138 @@
+"""tools/explain beside programs that tell a fault of their own: what it says of each, expected by hand."""
+import os
+import pathlib
+import subprocess
+import sys
+import tempfile
+import unittest
+
+TOOLS = pathlib.Path(__file__).resolve().parent.parent
+HEAD = 'version = 1\ncores = 2\ndelay = 1\n'
+CONTEXTS = 'context = [{ name = "a", core = 0, budget = 2, period = 5 }, { name = "b", core = 1, budget = 2, period = 5 }]\n'
+NOTE = 'note = [{ name = "tick", core = 0 }]\n'
+
+
+class Explained(unittest.TestCase):
+    def setUp(self) -> None:
+        folder = tempfile.TemporaryDirectory()
+        self.addCleanup(folder.cleanup)
+        self.folder = pathlib.Path(folder.name)
+
+    def ran(self, text: bytes, script: str, *words: str) -> subprocess.CompletedProcess:
+        program = self.folder / 'program'
+        program.write_text(f'#!/bin/sh\n{script}\n')
+        program.chmod(0o755)
+        (self.folder / 'system.toml').write_bytes(text)
+        command = [sys.executable, str(TOOLS / 'explain'), *(words or ['system.toml'])]
+        return subprocess.run(command, cwd=self.folder, env={**os.environ, 'MCSIM': str(program)}, capture_output=True, text=True)
+
+    def told(self, text: str, fault: str) -> list[str]:
+        """The lines for a fault of a file."""
+        ended = self.ran(text.encode(), f"echo 'mcsim: {fault}' >&2; exit 1")
+        self.assertEqual((ended.returncode, ended.stderr), (1, ''))
+        return ended.stdout.splitlines()
+
+    def test_a_misspelt_key_is_marked_and_the_nearest_named(self) -> None:
+        text = HEAD + CONTEXTS + 'thread = [{ name = "A", prio = 5, script = ["yield"] }]\n'
+        self.assertEqual(self.told(text, 'unknown key at thread 1 ?'), [
+            'system.toml:5:25: unknown key at thread 1 ?',
+            '    thread = [{ name = "A", prio = 5, script = ["yield"] }]',
+            '                            ^',
+            '  prio is no key of a thread; the nearest is priority',
+            '  priority: an integer, 0 to 255. The greatest runs first',
+            '  keys of a thread: name, context, priority, start, rounds, deadline, script',
+        ])
+
+    def test_a_key_of_version_2_is_told_as_such(self) -> None:
+        lines = self.told(HEAD + '[[context]]\nmode = "bandwidth"\n', 'unknown key at context 1 ?')
+        self.assertEqual(lines[0], 'system.toml:5:1: unknown key at context 1 ?')
+        self.assertEqual(lines[3], '  mode is a key of version 2 alone, and this file says version = 1')
+
+    def test_the_range_of_a_core_is_that_of_the_file(self) -> None:
+        lines = self.told(HEAD + 'note = [{ name = "n", core = 2 }]\n', 'out of range at note 1 core')
+        self.assertEqual(lines[0], 'system.toml:4:30: out of range at note 1 core')
+        self.assertEqual(lines[3], '  core is an integer, 0 to 1 (cores - 1); here stands 2')
+
+    def test_a_missing_key_is_told_at_its_row(self) -> None:
+        lines = self.told(HEAD + '\n[[note]]\nname = "n"\n', 'missing key at note 1 core')
+        self.assertEqual(lines[:2], ['system.toml:5:1: missing key at note 1 core', '    [[note]]'])
+        self.assertTrue(lines[3].startswith('  core is required: an integer, 0 to 1'))
+
+    def test_a_value_of_another_kind(self) -> None:
+        lines = self.told('version = 1.0\n', 'wrong kind at top version')
+        self.assertEqual(lines[3], '  version is an integer: 1 or 2; here stands no integer, 1.0')
+
+    def test_a_table_in_place_of_an_array(self) -> None:
+        lines = self.told(HEAD + '[context]\nname = "a"\n', 'wrong kind at context')
+        self.assertEqual(lines[0], 'system.toml:4:2: wrong kind at context')
+        self.assertIn('[[context]] with two brackets', lines[3])
+
+    def test_a_name_that_is_there_already_has_its_line(self) -> None:
+        lines = self.told(HEAD + '[[note]]\nname = "n"\n[[note]]\nname = "n"\n', 'double name at note 2 name')
+        self.assertEqual(lines[0], 'system.toml:7:8: double name at note 2 name')
+        self.assertEqual(lines[3], '  the name n stands first in line 4')
+
+    def test_a_name_that_is_nowhere_has_its_nearest(self) -> None:
+        text = HEAD + CONTEXTS + NOTE + 'thread = [{ name = "A", context = "a", priority = 1, script = ["wait tck", "yield"] }]\n'
+        lines = self.told(text, 'unknown name at thread 1 script item 1')
+        self.assertEqual(lines[0], 'system.toml:6:64: unknown name at thread 1 script item 1')
+        self.assertEqual(lines[3], '  no notification has the name tck; the nearest is tick')
+
+    def test_an_item_whose_word_is_unknown(self) -> None:
+        text = HEAD + CONTEXTS + 'thread = [{ name = "A", context = "a", priority = 1, script = ["yield",\n"yeild"] }]\n'
+        lines = self.told(text, 'bad item: unknown word at thread 1 script item 2')
+        self.assertEqual(lines[0], 'system.toml:6:1: bad item: unknown word at thread 1 script item 2')
+        self.assertEqual(lines[3], '  yeild is no word of an item; the nearest is yield')
+
+    def test_a_bad_number_has_its_range(self) -> None:
+        text = HEAD + CONTEXTS + 'thread = [{ name = "A", context = "a", priority = 1, script = ["signal n 0"] }]\n'
+        lines = self.told(text, 'bad item: bad number at thread 1 script item 1')
+        self.assertEqual(lines[3], '  the item is signal NOTE BADGE; here stands signal n 0')
+        self.assertIn('1 to 4,294,967,295', lines[4])
+
+    def test_a_budget_below_the_least(self) -> None:
+        lines = self.told(HEAD + 'min_budget = 4\n' + CONTEXTS, 'control: budget too small at context 1 budget')
+        self.assertIn('budget is 2, and min_budget at the top 4', lines[3])
+
+    def test_a_context_of_two_threads(self) -> None:
+        text = HEAD + CONTEXTS + '[[thread]]\ncontext = "a"\n[[thread]]\ncontext = "a"\n'
+        lines = self.told(text, 'context taken at thread 2 context')
+        self.assertEqual(lines[3], '  the thread in line 5 has the context a: each thread has its own')
+        self.assertEqual(lines[4], '  contexts without a thread: b')
+
+    def test_a_wait_on_another_core(self) -> None:
+        text = HEAD + CONTEXTS + NOTE + '[[thread]]\ncontext = "b"\nscript = ["wait tick"]\n'
+        lines = self.told(text, 'other core at thread 1 script item 1')
+        self.assertEqual(lines[3], '  tick is at home on core 0, and the thread runs on core 1: a thread waits at home alone')
+
+    def test_an_open_quote_has_its_line(self) -> None:
+        self.assertEqual(self.told('version = 1\nnote = [{ name = "n }]\n', 'not TOML at file')[0], 'system.toml:2:18: not TOML at file')
+
+    def test_bytes_that_are_no_text_have_their_line(self) -> None:
+        ended = self.ran(b'version = 1\n# \xff\n', "echo 'mcsim: not TOML at file' >&2; exit 1")
+        self.assertEqual(ended.stdout.splitlines()[0], 'system.toml:2:3: not TOML at file')
+
+    def test_the_part_of_a_long_line_round_the_mark_is_shown(self) -> None:
+        text = '# ' + '-' * 300 + '\nnote = [' + ' ' * 200 + '{ name = "x y" }]\n'
+        lines = self.told(text, 'bad name at note 1 name')
+        self.assertEqual(lines[0], 'system.toml:2:218: bad name at note 1 name')
+        self.assertEqual(lines[1][lines[2].index('^'):], '"x y" }]')
+
+    def test_a_place_that_the_file_has_not_is_told_without_a_line(self) -> None:
+        self.assertEqual(self.told(HEAD, 'missing key at thread 3 name')[0], 'system.toml: missing key at thread 3 name')
+
+    def test_no_fault(self) -> None:
+        ended = self.ran(HEAD.encode(), 'exit 0')
+        self.assertEqual((ended.returncode, ended.stdout), (0, 'system.toml: no fault\n'))
+
+    def test_what_is_no_fault_of_the_file_is_passed_on(self) -> None:
+        ended = self.ran(HEAD.encode(), "echo 'mcsim: read failed' >&2; exit 3")
+        self.assertEqual((ended.returncode, ended.stdout, ended.stderr), (3, '', 'explain: mcsim: read failed\n'))
+
+    def test_a_program_that_is_not_there(self) -> None:
+        ended = self.ran(HEAD.encode(), 'exit 0', '--program', './none', 'system.toml')
+        self.assertEqual((ended.returncode, ended.stderr), (2, 'explain: ./none: No such file or directory\n'))
+
+
+if __name__ == '__main__':
+    unittest.main()
