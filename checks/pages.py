@@ -1,5 +1,5 @@
 #!/usr/bin/env python3
-"""Tells whether the pages show what the built program writes: those of examples/, README.md and docs/LEFT_OUT.md. Each of their commands that runs
+"""Tells whether the pages show what the built program writes: those of examples/, README.md and the guides of docs/. Each of their commands that runs
 a system is run, at the top of the repository.
 
 The lines of a block that follows a command are lines of its output, in order; a page may leave lines out, and marks that by a line of two dots.
@@ -19,6 +19,7 @@ from common import TOP, Count, Ran
 
 PROGRAM = './mcsim'
 LEFT_OUT = '..'
+GUIDES = [TOP / 'docs' / name for name in ('KERNEL.md', 'LEFT_OUT.md')]
 # pages with blocks beside those that a command wrote
 SHOW_OTHERS = (pathlib.Path('README.md'), pathlib.Path('examples', 'README.md'))
 
@@ -70,7 +71,7 @@ def try_page(program: pathlib.Path, page: pathlib.Path, count: Count) -> None:
 def main() -> None:
     program = common.built_program(common.asking_program(__doc__).parse_args().program)
     count = Count()
-    for page in (*sorted((TOP / 'examples').glob('*.md')), TOP / 'README.md', TOP / 'docs' / 'LEFT_OUT.md'):
+    for page in (*sorted((TOP / 'examples').glob('*.md')), TOP / 'README.md', *GUIDES):
         try_page(program, page, count)
     count.end()
 
