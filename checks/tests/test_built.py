@@ -27,11 +27,14 @@ SOURCES = {'mcs_ticks/src/lib.rt': 'ticks\n', 'mcs_cli/src/lib.rt': 'cli\n', 'mc
 PAGE = '| File | Bytes | SHA-256 |\n|---|---|---|\n| `mcsim` | - | none |\n| `libmcs_c.a` | - | none |\n'
 # says which program it is, and what it was given; the help of all is the same
 SAYS = '#!/bin/sh\n[ "$1" = --help ] && echo help && exit\necho {name} "$@"\ntest $# = 0 || cat "$1"\n'
-# gives its line, and makes of `try` what a program does that prints its words and its input
-RT = """case $1 in
+# gives its line, and makes of `try` what a program does that prints its words and its input; where the horizon is 900 it writes too much
+RT = """case "$*" in
     --version) echo kit 1 ;;
     lib) mkdir -p out; echo archive >out/libmcs_c.a ;;
-    try) shift; echo "try $*"; cat; for word; do case $word in system.toml=*) cat "${word#*=}" ;; esac; done
+    *'--horizon 900'* | *--horizon=900*)
+        printf "the end of the program's standard output:\\n| 70 0 run A\\n| 70 0 stop A\\n| 71 0 r\\nchecked: no-answer: too much\\nrun=no-answer proved=no\\n" >&2
+        exit 6 ;;
+    try*) shift; echo "try $*" | sed 's/ --data [^ ]*//'; cat; for word; do case $word in system.toml=*) cat "${word#*=}" ;; esac; done
         printf 'checked: ended status=0\\nrun=ended status=0 proved=no\\n' >&2 ;;
 esac"""
 
@@ -195,7 +198,22 @@ class Launched(InFolder):
     def test_a_value_of_an_option_is_no_file(self) -> None:
         self.rt()
         (self.top.parent / 'both').write_text('a file\n')
-        self.assertEqual(self.launch('--show', 'both')[1], 'try -- --show both\n')
+        self.assertEqual(self.launch('--show', 'both')[1], 'try --seconds 86400 -- --show both\n')
+
+    def test_where_too_much_was_written_the_rows_before_the_last_moments_are_shown(self) -> None:
+        self.rt()
+        (self.top.parent / 'file.toml').write_text('the system\n')
+        shown = ['try --seconds 86400 -- --horizon 69 --show schedule --workers 2 system.toml', 'the system']
+        for words in (['--horizon', '900', '--workers', '2', '--show', 'both', 'file.toml'], ['--show=both', '--workers', '2', 'file.toml', '--horizon=900']):
+            status, stdout, stderr = self.launch(*words)
+            self.assertEqual((status, stdout.splitlines()), (70, shown))
+            self.assertEqual([line.partition(' rows end at moment ')[2].partition(';')[0] for line in stderr.splitlines()], ['', '69'])
+
+    def test_a_run_that_fails_otherwise_shows_what_rt_said(self) -> None:
+        (self.tools / 'rt').write_text('#!/bin/sh\necho "error: a mistake" >&2\necho run=none proved=no >&2\nexit 1\n')
+        (self.tools / 'rt').chmod(0o755)
+        status, stdout, stderr = self.launch()
+        self.assertEqual((status, stdout, stderr.splitlines()[1:]), (70, '', ['error: a mistake', 'run=none proved=no', 'mcsim: rt did not run the sources']))
 
     def test_the_version_has_the_digest_of_the_check(self) -> None:
         self.renewed()
