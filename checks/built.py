@@ -35,6 +35,10 @@ class Artefact(NamedTuple):
     file: str
 
     @property
+    def is_program(self) -> bool:
+        return self.file == self.crate
+
+    @property
     def here(self) -> pathlib.Path:
         """Where it was built here, if it was."""
         return TOP / 'crates' / self.crate / 'out' / self.file
@@ -45,6 +49,7 @@ class Artefact(NamedTuple):
 
 
 PROGRAM = Artefact('mcsim', 'mcsim')
+# a program or a library that comes along has one line here, and one in launcher/installed
 ARTEFACTS = (PROGRAM, Artefact('mcs_c', 'libmcs_c.a'))
 
 
@@ -177,11 +182,11 @@ def build_library(artefact: Artefact) -> None:
 
 def look_before_renewing() -> None:
     """Refuses what is not there, or is older than a source."""
-    if not common.is_program(PROGRAM.here):
-        refuse(f'there is no {PROGRAM.here.relative_to(TOP)}: ./test builds it')
     for artefact in ARTEFACTS:
-        if artefact != PROGRAM:
+        if not artefact.is_program:
             build_library(artefact)
+        elif not common.is_program(artefact.here):
+            refuse(f'there is no {artefact.here.relative_to(TOP)}: ./test builds it')
         if newer := newer_source(artefact):
             refuse(f'{newer.relative_to(TOP)} is newer than {artefact.here.relative_to(TOP)}')
     if kit() is None:
@@ -205,7 +210,7 @@ def renew() -> None:
     for artefact in ARTEFACTS:
         new = artefact.shipped.with_name(f'.{artefact.file}.new')
         shutil.copyfile(artefact.here, new)
-        new.chmod(0o755 if artefact == PROGRAM else 0o644)
+        new.chmod(0o755 if artefact.is_program else 0o644)
         new.replace(artefact.shipped)
     for file, text in list(texts()):
         file.write_text(text)

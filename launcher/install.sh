@@ -24,7 +24,7 @@ stop() {
     exit 1
 }
 
-# the program that is installed: that which was proved and built here, or that of the repository
+# the simulator that is installed: that which was proved and built here, or that of the repository
 set_from() {
     if is_proved; then
         from=$program
@@ -40,8 +40,11 @@ source_of() {
     case $1 in
         bin/mcsim) echo "$from" ;;
         bin/SOURCES) echo "$room/SOURCES" ;;
-        bin/libmcs_c.a)
-            if [ -f "$top/$1" ] && [ "$(noted mcs_c)" = "$(digest mcs_c)" ]; then
+        bin/*)
+            # another built file: bin/NAME or bin/libNAME.a of the crate NAME
+            of=${1#bin/}
+            of=${of#lib}
+            if [ -f "$top/$1" ] && [ "$(noted "${of%.a}")" = "$(digest "${of%.a}")" ]; then
                 echo "$top/$1"
             fi
             ;;
@@ -61,7 +64,7 @@ plan() {
         elif [ -n "$(source_of "$source")" ]; then
             echo "$source $place $link"
         else
-            say "left out, as it is not there: $source"
+            say "left out: $source, which is not there, or not built of these sources"
         fi
     done <"$top/launcher/installed"
 }
@@ -101,7 +104,10 @@ install_below() {
     room=$(mktemp -d) || exit 1
     trap 'rm -rf "$room"' EXIT
     trap 'exit 130' INT TERM HUP
-    printf 'kit %s\nmcsim %s\n' "$(kit_of)" "$(digest mcsim)" >"$room/SOURCES"
+    {
+        printf 'kit %s\nmcsim %s\n' "$(kit_of)" "$(digest mcsim)"
+        grep -v '^#\|^kit \|^mcsim ' "$top/bin/SOURCES"
+    } >"$room/SOURCES" 2>/dev/null
     plan >"$room/plan"
     while read -r source place link; do
         for target in $place $link; do

@@ -7,14 +7,14 @@ run_unproved() {
     shift
     case ${1-} in
         -h | --help)
-            if [ -r "$top/bin/HELP" ]; then
+            if [ "$main" = mcsim ] && [ -r "$top/bin/HELP" ]; then
                 cat "$top/bin/HELP"
                 exit
             fi
             ;;
     esac
     need_rt "$why, and to run the sources the command rt of the Rattle toolchain is needed, which is not on PATH"
-    say "$why: the sources run unproved, which takes a minute or more (./mcsim --prove proves and builds them)"
+    say "$why: the sources run unproved, which takes a minute or more (./$main --prove proves and builds them)"
     room=$(mktemp -d) || exit 1
     trap 'rm -rf "$room"' EXIT
     trap 'exit 130' INT TERM HUP
@@ -69,7 +69,7 @@ has_met_limit() {
 # schedule up to an earlier horizon, so that is run.
 show_first_part() {
     last=$(sed -n 's/^| \([0-9][0-9]*\) [0-9].*/\1/p' "$room/said" | tail -n 2 | head -n 1)
-    do='./mcsim --prove proves and builds the program, which has no such limit'
+    do="./$main --prove proves and builds the program, which has no such limit"
     if [ "${last:-0}" -gt 0 ] && (attempt_until "$((last - 1))" "$@"); then
         say "rt takes a megabyte at most of what unproved sources write, so these rows end at moment $((last - 1)); $do"
     else

@@ -142,6 +142,17 @@ class Launched(InFolder):
             file.unlink() if before is None else file.write_text(before)
             self.assertEqual(self.launch()[:2], (0, 'gate\n'))
 
+    def test_a_link_with_the_name_of_another_program_runs_that(self) -> None:
+        self.renewed()
+        for name in ('mcs_look', 'another'):
+            (self.top / name).symlink_to('mcsim')
+        self.write('crates/mcs_look/src/main.rt', 'look\n')
+        self.write('crates.txt', CRATES + 'mcs_look: mcs_ticks\n')
+        self.write('crates/mcs_look/out/mcs_look', SAYS.format(name='look'), 0o755)
+        self.assertEqual(self.run_in([str(self.top / 'mcs_look'), '--x']).stdout, 'look --x\n')
+        self.write('crates.txt', CRATES)
+        self.assertEqual(self.run_in([str(self.top / 'another')]).stdout, 'gate\n')
+
     def test_a_change_beside_the_program_does_not_matter(self) -> None:
         self.renewed()
         for path in ('crates/mcs_other/src/lib.rt', 'crates/mcs_c/src/lib.rt', 'crates/mcs_cli/proofs/Lib.antt', 'crates/mcs_cli/src/.words.rt.swp'):
@@ -283,6 +294,12 @@ class Installed(InFolder):
     def test_nothing_is_installed_of_other_sources(self) -> None:
         self.write('crates/mcsim/src/main.rt', 'changed\n')
         self.assertEqual(self.launch('--install'), (1, '', 'mcsim: nothing was installed: bin/mcsim was not built of these sources\n'))
+
+    def test_a_library_of_other_sources_is_left_out(self) -> None:
+        self.write('crates/mcs_c/src/lib.rt', 'changed\n')
+        status, _, stderr = self.launch('--install')
+        self.assertEqual((status, stderr), (0, 'mcsim: left out: bin/libmcs_c.a, which is not there, or not built of these sources\n'))
+        self.assertNotIn('lib/libmcs_c.a', self.files(self.home / '.local'))
 
     def test_nothing_to_take_away(self) -> None:
         self.assertEqual(self.launch('--uninstall')[0], 1)
