@@ -98,7 +98,7 @@ put_link() {
 }
 
 install_below() {
-    has_sources && [ -f "$top/launcher/installed" ] || stop '--install needs the repository: this is installed'
+    has_sources || stop '--install needs the repository: this is installed'
     set_prefix "$1"
     set_from
     room=$(mktemp -d) || exit 1
@@ -155,6 +155,7 @@ tell() {
         "$HOME/.local" | /usr | /usr/local) ;;
         *) echo "bash and fish look for completions in XDG_DATA_DIRS: export XDG_DATA_DIRS=\"$prefix/share:\${XDG_DATA_DIRS:-/usr/local/share:/usr/share}\"" ;;
     esac
+    echo "an editor with a TOML plugin checks a file that begins with the line: #:schema file://$prefix/share/mcsim/mcsim.schema.json"
     echo './mcsim --uninstall takes all this away' | sed "s|--uninstall|& $prefix|"
 }
 
@@ -162,6 +163,8 @@ uninstall_below() {
     set_prefix "$1"
     [ -f "$list" ] || stop "nothing is installed below $prefix"
     lines=$(sort -r "$list") || exit 1
+    # what Python made of the tools' modules
+    find "$prefix/lib/mcsim" -type d -name __pycache__ -exec rm -rf {} +
     printf '%s\n' "$lines" | while read -r path; do
         case $path in
             */) rmdir "$prefix/${path%/}" 2>/dev/null || : ;;

@@ -295,6 +295,19 @@ class Installed(InFolder):
         self.write('crates/mcsim/src/main.rt', 'changed\n')
         self.assertEqual(self.launch('--install'), (1, '', 'mcsim: nothing was installed: bin/mcsim was not built of these sources\n'))
 
+    def test_a_tool_that_is_listed_comes_with_the_folder_that_it_imports(self) -> None:
+        listed = self.top / 'launcher' / 'installed'
+        listed.write_text(listed.read_text() + 'tools/shared lib/mcsim/tools/shared\ntools/look lib/mcsim/tools/look bin/mcsim-look\n')
+        self.write('tools/look', '#!/usr/bin/env python3\nimport shared.words\nprint(shared.words.SAID)\n', 0o755)
+        self.write('tools/shared/words.py', 'SAID = "a tool"\n')
+        self.write('tools/shared/tests/test_words.py', '')
+        self.assertEqual(self.launch('--install')[0], 0)
+        self.assertEqual(self.run_in(['python3', str(self.home / '.local' / 'bin' / 'mcsim-look')]).stdout, 'a tool\n')
+        self.assertTrue(os.access(self.home / '.local' / 'bin' / 'mcsim-look', os.X_OK))
+        self.assertFalse((self.home / '.local/lib/mcsim/tools/shared/tests').exists())
+        self.launch('--uninstall')
+        self.assertEqual(self.files(self.home), set())
+
     def test_a_library_of_other_sources_is_left_out(self) -> None:
         self.write('crates/mcs_c/src/lib.rt', 'changed\n')
         status, _, stderr = self.launch('--install')
