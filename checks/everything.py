@@ -43,7 +43,8 @@ class Check(NamedTuple):
 CHECKS = (
     Check('stress', words=('--systems', '2000')),
     Check('schema'),
-    Check('waves', tries_program=False),
+    Check('waves'),
+    Check('traces'),
     Check('bandwidth'),
     Check('refused_runs'),
     Check('early', tries_program=False),

@@ -1,6 +1,7 @@
 """The scripts that try the built program, with programs that are wrong: each script has to see it."""
 import contextlib
 import io
+import json
 import os
 import pathlib
 import random
@@ -21,6 +22,7 @@ import random_systems
 import refused_runs
 import stress
 import theorems
+import traces
 import waves
 from refusing import Answer
 
@@ -141,6 +143,26 @@ class Rules(unittest.TestCase):
         waves_found = waves.waves_of(dump)
         self.assertEqual(waves_found, {'core0.runs': [(-1, '-'), (3, 'A'), (5, '-')]})
         self.assertEqual([waves.value_at(waves_found['core0.runs'], moment) for moment in (0, 3, 4, 9)], ['-', 'A', 'A', '-'])
+
+    def trace_faults(self, *events: dict) -> int:
+        named = {'ph': 'M', 'name': 'thread_name', 'pid': 0, 'tid': 1, 'args': {'name': 'A'}}
+        return len(traces.faults(json.dumps({'traceEvents': [named, *events]}).encode()))
+
+    def test_rules_of_traces(self) -> None:
+        one = {'ph': 'X', 'name': 'running', 'cat': 'c', 'pid': 0, 'tid': 1, 'ts': 1, 'dur': 2}
+        begin = {'ph': 's', 'name': 'n', 'cat': 'c', 'id': 1, 'pid': 0, 'tid': 1, 'ts': 1.5}
+        end = {**begin, 'ph': 'f', 'bp': 'e', 'ts': 2.5}
+        self.assertEqual(self.trace_faults(one, {**one, 'ts': 3}, begin, end), 0)
+        # slices that overlap, have no length, or no key; a track without a name; a flow that ends twice, not at all, before it begins, or nowhere
+        self.assertEqual(self.trace_faults(one, {**one, 'ts': 2}), 1)
+        self.assertEqual(self.trace_faults({**one, 'dur': 0}), 1)
+        self.assertEqual(self.trace_faults({key: value for key, value in one.items() if key != 'dur'}), 1)
+        self.assertEqual(self.trace_faults({**one, 'tid': 2}), 1)
+        self.assertEqual(self.trace_faults(one, begin, end, end), 1)
+        self.assertEqual(self.trace_faults(one, begin), 1)
+        self.assertEqual(self.trace_faults(one, begin, {**end, 'ts': 1.2}), 1)
+        self.assertEqual(self.trace_faults(one, begin, {**end, 'ts': 3}), 1)
+        self.assertEqual(len(traces.faults(b'{')), 1)
 
     def test_what_follows_a_wake_says_whether_a_thread_is_ready(self) -> None:
         told = waves.Told(waves.rows_of('4 0 release A\n4 0 wake A n 1\n6 0 hold n 5\n7 1 arrive n 2 from B\n'))
