@@ -43,7 +43,7 @@ class Check(NamedTuple):
 CHECKS = (
     Check('stress', words=('--systems', '2000')),
     Check('schema'),
-    Check('waves'),
+    Check('waves', tries_program=False),
     Check('traces'),
     Check('bandwidth'),
     Check('refused_runs'),

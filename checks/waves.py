@@ -1,9 +1,9 @@
 #!/usr/bin/env python3
-"""Tells whether tools/vcd.py makes waves that say what a schedule says, for each worked schedule of crates/mcs_corpus/data.
+"""Tells whether tools/waves makes waves that say what a schedule says, for each worked schedule of crates/mcs_corpus/data.
 
-A dump is read back, and for each core the thread that runs, for each thread whether it runs, and the date of its budget, for each notification its
-word and its arrivals are compared, moment by moment, with what the rows say. Where vcd2fst (of GTKWave) is installed it reads each dump without a
-word."""
+A dump is read back, and for each core the thread that runs, for each thread whether it runs, the date of its budget and its rounds, for each
+notification its word and its arrivals are compared, moment by moment, with what the rows say. The view that is saved beside it names each wave once.
+Where vcd2fst (of GTKWave) is installed it reads each dump without a word."""
 from __future__ import annotations
 
 import pathlib
@@ -79,6 +79,8 @@ class Told:
             date = f'{int(row.words[-1]):b}' if 'until' in row.words else 'z'
             self.tell(f'{here}.until.{row.words[1]}', row.moment, date)
             self.tell(f'{here}.threads.{row.words[1]}', row.moment, word == 'run')
+        if word == 'round':
+            self.events.setdefault(f'{here}.rounds.{row.words[1]}', set()).add(row.moment)
         if word == 'wake':
             # what follows the wake says whether it is ready
             for part in ('until', 'threads'):
@@ -113,6 +115,20 @@ def compare(file: pathlib.Path, rows: Sequence[Row], waves: dict[str, Changes], 
         count.expect(f'{file}: {wave}', waves[wave] == [(moment, EVENT) for moment in sorted(moments)])
 
 
+def made(system: pathlib.Path, rows: str) -> tuple[bytes, str]:
+    """The dump of rows, and the view that is saved beside it."""
+    with tempfile.TemporaryDirectory() as folder:
+        view = pathlib.Path(folder, 'view.gtkw')
+        dump = common.run([sys.executable, TOP / 'tools' / 'waves', system, '--rows', '-', '--save', view], rows.encode()).stdout
+        return dump, view.read_text() if view.exists() else ''
+
+
+def names_of(view: str) -> list[str]:
+    """The waves that a view of GTKWave names."""
+    lines = (line for line in view.splitlines() if line.startswith('+'))
+    return [line.rpartition(' ')[2].partition('[')[0] for line in lines]
+
+
 def pack(file: pathlib.Path, dump: bytes, count: Count) -> None:
     """Whether vcd2fst reads a dump without a word."""
     with tempfile.TemporaryDirectory() as folder:
@@ -129,8 +145,9 @@ def main() -> None:
     for file in sorted(DATA.glob('*/*/*.stdout')):
         text = file.read_text()
         if text[:1].isdigit():
-            dump = common.run([sys.executable, TOP / 'tools' / 'vcd.py'], text.encode()).stdout
+            dump, saved = made(file.parent.with_suffix('.toml'), text)
             compare(file.relative_to(TOP), rows_of(text), waves_of(dump.decode()), count)
+            count.expect(f'{file.relative_to(TOP)}: the view and the dump have other waves', sorted(names_of(saved)) == sorted(waves_of(dump.decode())))
             if packs:
                 pack(file.relative_to(TOP), dump, count)
     if not packs:

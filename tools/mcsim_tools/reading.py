@@ -95,6 +95,9 @@ class Listener:
 
     hears_holdings: Collection[str] = ()
 
+    def entered(self, thread: Thread, moment: int, standing: int, date: Optional[int]) -> None:
+        """From the moment on a thread stands so, for no time perhaps; one that is throttled until the date."""
+
     def stood(self, stood: Stood) -> None: ...
 
     def round_ended(self, ended: Round) -> None: ...
@@ -102,6 +105,9 @@ class Listener:
     def round_open(self, open_round: Round) -> None: ...
 
     def posted(self, post: Post) -> None: ...
+
+    def word(self, note: str, moment: int, word: int) -> None:
+        """From the moment on this is a notification's word."""
 
     def under_way(self, note: str, signal: UnderWay) -> None: ...
 
@@ -210,12 +216,12 @@ class Reading:
             account.end()
         else:
             standing = READY
-        self.enter(account, moment, standing, why)
         # the order has charged what was in use
         if why != 'order':
             own.charge(int(words[5]))
         if len(words) == 8 and own.list[0][0] != int(words[7]):
             raise ValueError
+        self.enter(account, moment, standing, why)
         self.tell_held(words[3], moment, False)
 
     def round(self, moment: int, core: int, words: list[str]) -> None:
@@ -259,12 +265,14 @@ class Reading:
         was, self.words[note] = self.words[note], word
         if not was:
             self.first_set[note] = moment
+        self.listener.word(note, moment, word)
         waiters = self.system.waiters[note]
         self.post(note, moment, waiters[0] if waiters else None, HELD if not was else LOST if was == word else MERGED)
 
     def got(self, moment: int, core: int, words: list[str]) -> None:
         account, note = self.accounts[words[3]], words[4]
         self.words[note] = 0
+        self.listener.word(note, moment, 0)
         if account.activated_by and account.begun is None:
             account.begin(moment, self.first_set.get(note, moment))
 
@@ -285,6 +293,7 @@ class Reading:
         if moment > account.since:
             self.listener.stood(Stood(account.thread, account.standing, account.since, moment, account.why))
         account.standing, account.since, account.why = standing, moment, why
+        self.listener.entered(account.thread, moment, standing, self.refills[account.thread.name].list[0][0] if standing == THROTTLED else None)
         if account.begun is not None and account.activated_by is None:
             account.see_standing(moment, standing)
 
