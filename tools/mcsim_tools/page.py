@@ -4,6 +4,7 @@ from __future__ import annotations
 import html
 import pathlib
 from collections.abc import Sequence
+from typing import Optional
 
 from .reading import BLOCKED, DONE, PENDING, READY, RUNNING, STANDINGS, THROTTLED
 from .scene import Shown
@@ -58,15 +59,22 @@ def findings_list(shown: Shown) -> str:
     return ''.join(items) or '<li class="more">nothing missed, overdue or lost</li>'
 
 
-def page(shown: Shown, svg: str, close_ups: Sequence[str], title: str, theme: Theme, horizon: int, live: bool = False) -> str:
-    """The text of a page. A live one follows the file that it shows."""
+def page(shown: Shown, svg: str, close_ups: Sequence[str], title: str, theme: Theme, horizon: int, live: Optional[int] = None) -> str:
+    """The text of a page. A live one has a number, and follows the file that it shows."""
     templates = ''.join(f'<template id="close{number}">{text}</template>' for number, text in enumerate(close_ups))
-    script = (HERE / 'page.js').read_text(encoding='utf-8') + ((HERE / 'live.js').read_text(encoding='utf-8') if live else '')
+    script = (HERE / 'page.js').read_text(encoding='utf-8') + ((HERE / 'live.js').read_text(encoding='utf-8') if live is not None else '')
     parts = {
-        'TITLE': escaped(title), 'THEME': theme.value, 'STYLE': (HERE / 'page.css').read_text(encoding='utf-8'), 'SCRIPT': script,
+        'TITLE': escaped(title), 'THEME': theme.value, 'PICTURE': str(live or ''), 'STYLE': (HERE / 'page.css').read_text(encoding='utf-8'), 'SCRIPT': script,
         'TABLE': ''.join(table_row(shown, thread, horizon) for thread in shown.system.threads.values()), 'FOUND': findings_list(shown),
         'COUNTS': escaped(shown.summary()), 'SVG': svg, 'CLOSE': templates,
     }
     head, *rest = (HERE / 'page.html').read_text(encoding='utf-8').split('@@')
     # the template's pieces are text and names of parts in turn
     return head + ''.join(parts[piece] if place % 2 == 0 else piece for place, piece in enumerate(rest))
+
+
+def fault_page(fault: str) -> str:
+    """The page of a file of which there is no picture yet: it looks again."""
+    script = "setTimeout(() => location.reload(), 500)"
+    style = (HERE / 'page.css').read_text(encoding='utf-8')
+    return f'<!doctype html><html lang="en"><head><meta charset="utf-8"><title>mcsim live</title><style>{style}</style></head><body><p id="fault">{escaped(fault)}</p><script>{script}</script></body></html>'

@@ -133,6 +133,6 @@ def rows_of_file(path: pathlib.Path, name: str, horizon: Optional[int]) -> Itera
 
 def told(words: argparse.Namespace, horizon: Optional[int]) -> contextlib.AbstractContextManager[Told]:
     """What the words of a tool ask for: rows that are there, or a run."""
-    if words.rows:
+    if getattr(words, 'rows', None):
         return rows_of_file(words.system, words.rows, horizon)
     return run(words.program, words.system, HORIZON if horizon is None else horizon)

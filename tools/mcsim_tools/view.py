@@ -80,8 +80,8 @@ def window_of(words: argparse.Namespace, reads_rows: bool) -> Window:
     return Window(words.begin, end, horizon)
 
 
-def draw(told: Told, words: argparse.Namespace, window: Window, is_page: bool, live: bool = False) -> str:
-    """The text of a picture, or of a page."""
+def draw(told: Told, words: argparse.Namespace, window: Window, is_page: bool, live: Optional[int] = None) -> str:
+    """The text of a picture, or of a page; a live page has a number."""
     system = told.system
     choice = lanes.choose(system, words.threads, words.cores, words.lanes)
     plotted = lanes.choose_budgets(system, words.budgets)
