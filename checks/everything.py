@@ -45,6 +45,7 @@ CHECKS = (
     Check('schema'),
     Check('waves', tries_program=False),
     Check('traces'),
+    Check('views'),
     Check('bandwidth'),
     Check('refused_runs'),
     Check('early', tries_program=False),
