@@ -12,6 +12,38 @@ import unittest
 sys.path.insert(0, str(pathlib.Path(__file__).resolve().parent.parent))
 import edits
 
+# the wrong bodies that somebody is most likely to write: whatever else leaves the gate, these stay
+ALWAYS_TRIED = (
+    # budgets: refills, and what is charged when
+    'mcs_refills/refills_charge_overwrites_the_oldest_refill',
+    'mcs_refills/refills_charge_tests_fullness_before_the_head_leaves',
+    'mcs_refills/refills_unblock_unblocks_the_head_alone',
+    'mcs_core/state_skip_charges_what_is_in_use',
+    # a core's turn
+    'mcs_core/turn_turn_releases_before_arrivals',
+    'mcs_core/stops_leave_to_front_enters_at_the_back',
+    'mcs_core/choice_gives_way_to_an_equal',
+    'mcs_core/state_next_busy_forgets_the_arrival',
+    # signals
+    'mcs_mail/mailbox_put_takes_arrivals_in_settling_order',
+    'mcs_window/delivery_deliver_reserved_drops_signals',
+    # stretches that are lent and come back
+    'mcs_window/desk_past_lends_one_moment_too_far',
+    'mcs_window/desk_lend_now_lends_one_piece_at_a_time',
+    'mcs_window/desk_fault_of_takes_a_stretch_twice',
+    'mcs_window/desk_take_back_keeps_the_opening_state',
+    'mcs_window/desk_settle_calls_every_stretch_foreign',
+    'mcs_window/cores_first_behind_always_not_safe',
+    # what is given
+    'mcs_merge/lists_join_merges_by_core_first',
+    'mcs_team/stream_flow_all_answers_a_part_after_a_loss',
+    'mcs_report/account_report_at_leaves_an_open_run_out',
+    # files, and who is blamed
+    'mcs_load/config_config_later_fault_first',
+    'mcs_load/words_number_repairs_a_bad_file',
+    'mcs_cli/streams_read_text_blames_a_source_that_did_not_fail',
+)
+
 
 class Verdicts(unittest.TestCase):
     def test_a_refused_goal_passes_with_its_reason(self) -> None:
@@ -35,6 +67,16 @@ class Verdicts(unittest.TestCase):
 
     def test_a_line_has_no_more_of_a_reason_than_fits(self) -> None:
         self.assertTrue(str(edits.Tried('low/a', edits.REFUSED, 1.25, 'x' * 999)).endswith('  1.2 s  ' + 'x' * edits.SHOWN))
+
+
+class Places(unittest.TestCase):
+    def test_the_gate_tries_the_likeliest_wrong_bodies(self) -> None:
+        tried = {f'{edit.parent.parent.name}/{edit.stem}' for edit in edits.TOP.glob('crates/*/must-fail/*.edit')}
+        self.assertEqual(set(ALWAYS_TRIED) - tried, set())
+
+    def test_no_edit_stands_in_both_folders(self) -> None:
+        places = [f'{edit.parent.parent.name}/{edit.stem}' for place in ('edits', 'must-fail') for edit in edits.TOP.glob(f'crates/*/{place}/*.edit')]
+        self.assertEqual(len(places), len(set(places)))
 
 
 class Choice(unittest.TestCase):
