@@ -7,7 +7,7 @@ use mcs_control::ContextView;
 use mcs_core::CoreState;
 use mcs_mail::Mailbox;
 use mcs_system::System;
-use mcs_ticks::{CoreId, Tick};
+use mcs_ticks::{CoreId, NoMemory, Tick};
 use std::alloc::Global;
 use std::process::Abort;
 use std::test::Fail;
@@ -32,13 +32,27 @@ fn is_seen(rt: &impl Abort, view: &ContextView, seen: Seen) {
 fn sees(
     rt: &impl Abort,
     alloc: Global,
-    system: &System,
+    text: &str,
     core: usize,
     last: u64,
     seen: &[Seen],
 ) -> Result<(), Fail> {
     let end = moment(last.saturating_add(1))?;
-    let mut state = opened(alloc, system, CoreId(core))?;
+    let system = system(alloc, text)?;
+    sees_before(rt, alloc, &system, CoreId(core), end, seen)
+}
+
+fn sees_before(
+    rt: &impl Abort,
+    alloc: Global,
+    system: &System,
+    core: CoreId,
+    end: Tick,
+    seen: &[Seen],
+) -> Result<(), Fail>
+    requires { end ≤ 2 ^ 40 + 1 }
+{
+    let mut state = opened(alloc, system, core)?;
     sees_at(rt, alloc, system, &mut state, end, seen)
 }
 
@@ -53,9 +67,7 @@ fn sees_at(
     requires fits { Fits system.now state.old }
     requires in_time { end ≤ 2 ^ 40 + 1 }
 {
-    let mut mailbox = Mailbox::new(alloc);
-    let mut made = nothing(alloc);
-    go_on(system, state, &mut mailbox, end, &mut made)?;
+    go_to(alloc, system, state, end)?;
     assert_eq!(rt; state.clock(), end);
     assert!(rt; !state.failed());
     let views = state.contexts(alloc, system)?;
@@ -66,13 +78,23 @@ fn sees_at(
     Ok(())
 }
 
+// Takes the turns to a moment of a core without mail.
+fn go_to(alloc: Global, system: &System, state: &mut CoreState, end: Tick) -> Result<(), NoMemory>
+    requires fits { Fits system.now state.old }
+    requires in_time { end ≤ 2 ^ 40 + 1 }
+    ensures { Fits system.now state.new }
+{
+    let mut mailbox = Mailbox::new(alloc);
+    let mut made = nothing(alloc);
+    go_on(system, state, &mut mailbox, end, &mut made)
+}
+
 // Ticks in use are not charged yet.
 #[test]
 fn ticks_in_use(rt: HostRuntime) -> Result<(), Fail> {
     let alloc = rt.alloc();
-    let depletes = system(alloc, DEPLETES)?;
-    sees(&rt, alloc, &depletes, 0, 1, &[Seen(0, None, &[(0, 2)], 1)])?;
-    sees(&rt, alloc, &depletes, 0, 2, &[Seen(0, None, &[(5, 2)], 0)])
+    sees(&rt, alloc, DEPLETES, 0, 1, &[Seen(0, None, &[(0, 2)], 1)])?;
+    sees(&rt, alloc, DEPLETES, 0, 2, &[Seen(0, None, &[(5, 2)], 0)])
 }
 
 const SLICES: &str = r#"
@@ -93,14 +115,12 @@ thread = [
 
 #[test]
 fn slices_and_refills(rt: HostRuntime) -> Result<(), Fail> {
-    let alloc = rt.alloc();
-    let slices = system(alloc, SLICES)?;
     let seen = [
         Seen(0, Some(2), &[], 1),
         Seen(1, Some(3), &[], 0),
         Seen(2, None, &[(2, 1), (11, 1)], 0),
     ];
-    sees(&rt, alloc, &slices, 0, 3, &seen)
+    sees(&rt, rt.alloc(), SLICES, 0, 3, &seen)
 }
 
 const ON_TWO_CORES: &str = r#"
@@ -122,8 +142,7 @@ thread = [
 #[test]
 fn contexts_of_a_core(rt: HostRuntime) -> Result<(), Fail> {
     let alloc = rt.alloc();
-    let apart = system(alloc, ON_TWO_CORES)?;
-    sees(&rt, alloc, &apart, 0, 3, &[Seen(1, Some(4), &[], 3)])?;
+    sees(&rt, alloc, ON_TWO_CORES, 0, 3, &[Seen(1, Some(4), &[], 3)])?;
     let seen = [Seen(0, None, &[(0, 2)], 0), Seen(2, None, &[(4, 3)], 0)];
-    sees(&rt, alloc, &apart, 1, 3, &seen)
+    sees(&rt, alloc, ON_TWO_CORES, 1, 3, &seen)
 }

@@ -1,7 +1,7 @@
-ghost use Rattle.std.specs.Prelude.{◌+◌, ◌^◌, ◌≤◌, All};
+ghost use Rattle.std.specs.Prelude.{◌+◌, ◌^◌, ◌≤◌, All, OnOk};
 ghost use Rattle.mcs_core.specs.State.{Fits, IsExpected};
 
-use super::play::{Letter, go_on, moment, nothing, opened, posted};
+use super::play::{Letter, Made, go_on, moment, nothing, opened, posted};
 use super::systems::{DEPLETES, system};
 use mcs_core::CoreState;
 use mcs_mail::Mailbox;
@@ -27,10 +27,27 @@ fn is_busy_at(
     let mut mailbox = posted(alloc, system, &state, CoreId(0), letters)?;
     let mut made = nothing(alloc);
     for next in nexts {
-        let Next(before, busy) = *next;
-        go_on(system, &mut state, &mut mailbox, moment(before)?, &mut made)?;
-        assert_eq!(rt; next_busy(system, &state, &mailbox)?, busy);
+        is_next(rt, system, &mut state, &mut mailbox, &mut made, *next)?;
     }
+    Ok(())
+}
+
+fn is_next(
+    rt: &impl Abort,
+    system: &System,
+    state: &mut CoreState,
+    mailbox: &mut Mailbox,
+    made: &mut Made,
+    next: Next,
+) -> Result<(), Fail>
+    requires fits { Fits system.now state.old }
+    requires expected { All (IsExpected system.now state.old) mailbox.old.mails }
+    ensures fits { Fits system.now state.new }
+    ensures expected { OnOk result (All (IsExpected system.now state.new) mailbox.new.mails) }
+{
+    let Next(before, busy) = next;
+    go_on(system, state, mailbox, moment(before)?, made)?;
+    assert_eq!(rt; next_busy(system, state, mailbox)?, busy);
     Ok(())
 }
 
@@ -200,9 +217,10 @@ fn makes(
     requires { Fits system.now state.old }
     ensures { Fits system.now state.new }
 {
+    let to = moment(to)?;
     let mut mailbox = Mailbox::new(alloc);
     let mut made = nothing(alloc);
-    go_on(system, state, &mut mailbox, moment(to)?, &mut made)?;
+    go_on(system, state, &mut mailbox, to, &mut made)?;
     assert_eq!(rt; made.rows.len(), rows);
     Ok(())
 }
@@ -213,8 +231,19 @@ fn quiet_turns_are_skipped(rt: HostRuntime) -> Result<(), Fail> {
     let alloc = rt.alloc();
     let depletes = system(alloc, DEPLETES)?;
     let mut state = opened(alloc, &depletes, CoreId(0))?;
-    makes(&rt, alloc, &depletes, &mut state, 1, 2)?;
-    skips(&rt, alloc, &depletes, &mut state, 1, 0)?;
-    skips(&rt, alloc, &depletes, &mut state, 2, 1)?;
-    makes(&rt, alloc, &depletes, &mut state, 3, 1)
+    skips_between(&rt, alloc, &depletes, &mut state)
+}
+
+fn skips_between(
+    rt: &impl Abort,
+    alloc: Global,
+    system: &System,
+    state: &mut CoreState,
+) -> Result<(), Fail>
+    requires { Fits system.now state.old }
+{
+    makes(rt, alloc, system, state, 1, 2)?;
+    skips(rt, alloc, system, state, 1, 0)?;
+    skips(rt, alloc, system, state, 2, 1)?;
+    makes(rt, alloc, system, state, 3, 1)
 }

@@ -11,6 +11,17 @@ use std::test::Fail;
 fn makes_the_same(
     rt: &impl Abort,
     alloc: Global,
+    text: &str,
+    core: usize,
+    letters: &[Letter],
+) -> Result<(), Fail> {
+    let system = system(alloc, text)?;
+    makes_again(rt, alloc, &system, core, letters)
+}
+
+fn makes_again(
+    rt: &impl Abort,
+    alloc: Global,
     system: &System,
     core: usize,
     letters: &[Letter],
@@ -44,22 +55,19 @@ fn is_like(rt: &impl Abort, made: &Made, wanted: &Made) {
 #[test]
 fn single_turns_make_what_a_stretch_makes(rt: HostRuntime) -> Result<(), Fail> {
     let alloc = rt.alloc();
-    let kinds = system(alloc, OF_ALL_KINDS)?;
     let letters = [
         Letter(4, 2, 1, 5),
         Letter(18, 16, 1, 5),
         Letter(41, 39, 1, 5),
     ];
-    makes_the_same(&rt, alloc, &kinds, 0, &letters)?;
-    makes_the_same(&rt, alloc, &kinds, 1, &[])
+    makes_the_same(&rt, alloc, OF_ALL_KINDS, 0, &letters)?;
+    makes_the_same(&rt, alloc, OF_ALL_KINDS, 1, &[])
 }
 
 #[test]
 fn single_turns_take_mail_of_two_makers(rt: HostRuntime) -> Result<(), Fail> {
-    let alloc = rt.alloc();
-    let makers = system(alloc, TWO_MAKERS)?;
     let letters = [Letter(4, 2, 0, 1), Letter(4, 1, 1, 2)];
-    makes_the_same(&rt, alloc, &makers, 2, &letters)
+    makes_the_same(&rt, rt.alloc(), TWO_MAKERS, 2, &letters)
 }
 
 // A stretch that ends with so many rows, the clock after it, and the rows that there are then.

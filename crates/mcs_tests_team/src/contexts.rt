@@ -5,6 +5,7 @@ use super::orders::step;
 use super::systems::{moment, system};
 use mcs_control::ContextView;
 use mcs_window::Cores;
+use std::alloc::Global;
 use std::process::Abort;
 use std::test::Fail;
 
@@ -49,27 +50,43 @@ fn shows_slice(rt: &impl Abort, view: &ContextView, left: u64, using: u64) {
     assert_eq!(rt; (view.left, view.using), (Some(left), using));
 }
 
+// What the contexts show: of the first one always the refill at 5, of the second one its refill and its ticks in use, of the third one
+// what is left of its slice and its ticks in use.
+fn shows(
+    rt: &impl Abort,
+    alloc: Global,
+    cores: &Cores,
+    refill: (u64, u64),
+    using: u64,
+    slice: (u64, u64),
+) -> Result<(), Fail> {
+    let views = cores.contexts(alloc)?;
+    assert_eq!(rt; views.len(), 3);
+    shows_refill(rt, &views[0], (5, 2), 0);
+    shows_refill(rt, &views[1], refill, using);
+    shows_slice(rt, &views[2], slice.0, slice.1);
+    Ok(())
+}
+
 #[test]
 fn each_core_shows_its_contexts_at_its_clock(rt: HostRuntime) -> Result<(), Fail> {
     let alloc = rt.alloc();
+    let horizon = moment(20)?;
     let system = system(alloc, BOTH)?;
     assert_eq!(rt; system.parts().cores, 2);
-    let mut cores = Cores::new(alloc, system, moment(20)?)?;
+    let mut cores = Cores::new(alloc, system, horizon)?;
+    show_their_contexts(&rt, alloc, &mut cores)
+}
+
+fn show_their_contexts(rt: &impl Abort, alloc: Global, cores: &mut Cores) -> Result<(), Fail>
+    requires { cores.old.system.cores ≡ 2 }
+{
     // core 0 has taken moments 0 and 1: B has run one tick. Core 1 has taken 0 to 3: A used up 2 ticks, and C has run one.
-    steps(&mut cores, 0, 2)?;
-    steps(&mut cores, 1, 4)?;
-    let views = cores.contexts(alloc)?;
-    assert_eq!(rt; views.len(), 3);
-    shows_refill(&rt, &views[0], (5, 2), 0);
-    shows_refill(&rt, &views[1], (0, 3), 1);
-    shows_slice(&rt, &views[2], 4, 1);
+    steps(cores, 0, 2)?;
+    steps(cores, 1, 4)?;
+    shows(rt, alloc, cores, (0, 3), 1, (4, 1))?;
     // core 0 has taken 0 to 3: B used up 3 ticks. Core 1 has taken 0 to 5: A came back and C was charged 3 ticks.
-    steps(&mut cores, 0, 2)?;
-    steps(&mut cores, 1, 2)?;
-    let later = cores.contexts(alloc)?;
-    assert_eq!(rt; later.len(), 3);
-    shows_refill(&rt, &later[0], (5, 2), 0);
-    shows_refill(&rt, &later[1], (10, 3), 0);
-    shows_slice(&rt, &later[2], 1, 0);
-    Ok(())
+    steps(cores, 0, 2)?;
+    steps(cores, 1, 2)?;
+    shows(rt, alloc, cores, (10, 3), 0, (1, 0))
 }

@@ -217,15 +217,26 @@ fn differs(desk: &mut Desk, away: &mut Vec<Done>, steps: &[Step]) -> Result<Opti
 }
 
 // The first step, from 0, of a fresh desk that goes otherwise.
+fn differs_afresh(
+    alloc: Global,
+    text: &str,
+    horizon: u64,
+    away: &mut Vec<Done>,
+    steps: &[Step],
+) -> Result<Option<usize>, Fail> {
+    let mut desk = desk(alloc, text, horizon)?;
+    differs(&mut desk, away, steps)
+}
+
+// The same, where none is away at first.
 fn differs_alone(
     alloc: Global,
     text: &str,
     horizon: u64,
     steps: &[Step],
 ) -> Result<Option<usize>, Fail> {
-    let mut desk = desk(alloc, text, horizon)?;
     let mut away = Vec::new(alloc);
-    differs(&mut desk, &mut away, steps)
+    differs_afresh(alloc, text, horizon, &mut away, steps)
 }
 
 static MEANWHILE: [Step; 10] = [
@@ -343,10 +354,8 @@ fn differs_at_another(
     at: (&str, u64, &[Step]),
 ) -> Result<(Option<usize>, Option<usize>), Fail> {
     let mut away = Vec::new(alloc);
-    let mut lender = desk(alloc, from.0, from.1)?;
-    let first = differs(&mut lender, &mut away, from.2)?;
-    let mut settler = desk(alloc, at.0, at.1)?;
-    let second = differs(&mut settler, &mut away, at.2)?;
+    let first = differs_afresh(alloc, from.0, from.1, &mut away, from.2)?;
+    let second = differs_afresh(alloc, at.0, at.1, &mut away, at.2)?;
     Ok((first, second))
 }
 
@@ -399,13 +408,19 @@ fn a_stretch_of_another_length(rt: HostRuntime) -> Result<(), Fail> {
     Ok(())
 }
 
-// The stretches that a fresh desk has away after steps, of which none goes otherwise.
-fn away_after(alloc: Global, text: &str, steps: &[Step]) -> Result<Vec<Done>, Fail> {
-    let mut desk = desk(alloc, text, 4)?;
+// Whether a desk refuses the stretch of a core that a fresh desk has away after steps, of which none goes otherwise.
+fn refuses(
+    desk: &mut Desk,
+    alloc: Global,
+    text: &str,
+    steps: &[Step],
+    core: usize,
+    fault: SettleFault,
+) -> Result<bool, Fail> {
     let mut away = Vec::new(alloc);
-    match differs(&mut desk, &mut away, steps)? {
-        None => Ok(away),
-        Some(_) => Err(Fail::from("a step that goes otherwise")),
+    match differs_afresh(alloc, text, 4, &mut away, steps)? {
+        None => settles(desk, &mut away, core, Some(fault)),
+        Some(_) => Ok(false),
     }
 }
 
@@ -414,22 +429,33 @@ fn away_after(alloc: Global, text: &str, steps: &[Step]) -> Result<Vec<Done>, Fa
 #[test]
 fn a_stretch_by_other_clocks(rt: HostRuntime) -> Result<(), Fail> {
     let alloc = rt.alloc();
-    let lent = [Step::Lends(0, 0, 2), Step::Settles(0), Step::Lends(1, 0, 2)];
-    let ahead = [Step::Lends(0, 0, 2), Step::Lends(1, 0, 2)];
-    let mut others = away_after(alloc, ONE_ROUND, ahead.as_slice())?;
-    let mut copies = away_after(alloc, ONE_ROUND, lent.as_slice())?;
-    let mut foreign = away_after(alloc, RING, [Step::Lends(0, 0, 1)].as_slice())?;
     let mut desk = desk(alloc, ONE_ROUND, 4)?;
     let mut own = Vec::new(alloc);
-    assert_eq!(rt; differs(&mut desk, &mut own, lent.as_slice())?, None);
-    let other = settles(&mut desk, &mut others, 1, Some(SettleFault::OtherLoan))?;
-    assert!(rt; other);
-    let back = settles(&mut desk, &mut own, 1, None)?;
+    comes_back_alone(&rt, alloc, &mut desk, &mut own)
+}
+
+fn comes_back_alone(
+    rt: &impl Abort,
+    alloc: Global,
+    desk: &mut Desk,
+    own: &mut Vec<Done>,
+) -> Result<(), Fail> {
+    let lent = [Step::Lends(0, 0, 2), Step::Settles(0), Step::Lends(1, 0, 2)];
+    let ahead = [Step::Lends(0, 0, 2), Step::Lends(1, 0, 2)];
+    let of_ring = [Step::Lends(0, 0, 1)];
+    let same = differs(desk, own, lent.as_slice())?;
+    assert_eq!(rt; same, None);
+    let other = SettleFault::OtherLoan;
+    let refused = refuses(desk, alloc, ONE_ROUND, ahead.as_slice(), 1, other)?;
+    assert!(rt; refused);
+    let back = settles(desk, own, 1, None)?;
     assert!(rt; back);
-    let again = settles(&mut desk, &mut copies, 1, Some(SettleFault::NotLent))?;
+    let gone = SettleFault::NotLent;
+    let again = refuses(desk, alloc, ONE_ROUND, lent.as_slice(), 1, gone)?;
     assert!(rt; again);
     // core 0 is not lent, which is not what is told of a stretch of another system
-    let strange = settles(&mut desk, &mut foreign, 0, Some(SettleFault::Foreign))?;
+    let foreign = SettleFault::Foreign;
+    let strange = refuses(desk, alloc, RING, of_ring.as_slice(), 0, foreign)?;
     assert!(rt; strange);
     Ok(())
 }
@@ -491,6 +517,16 @@ fn has_made(desk: &mut Desk, core: usize, schedule: &[Row]) -> bool
 // All three cores are lent before any comes back, and they come back in this order. Then the desk takes the turns that are left.
 fn makes(rt: &impl Abort, alloc: Global, order: [usize; 3], schedule: &[Row]) -> Result<(), Fail> {
     let mut desk = desk(alloc, ONE_ROUND, 4)?;
+    all_come_back(rt, alloc, &mut desk, order)?;
+    has_made_all(rt, &mut desk, schedule)
+}
+
+fn all_come_back(
+    rt: &impl Abort,
+    alloc: Global,
+    desk: &mut Desk,
+    order: [usize; 3],
+) -> Result<(), Fail> {
     let steps = [
         Step::Lends(0, 0, 2),
         Step::Lends(1, 0, 2),
@@ -501,15 +537,20 @@ fn makes(rt: &impl Abort, alloc: Global, order: [usize; 3], schedule: &[Row]) ->
         Step::Settles(order[2]),
     ];
     let mut away = Vec::new(alloc);
-    assert_eq!(rt; differs(&mut desk, &mut away, steps.as_slice())?, None);
+    let otherwise = differs(desk, &mut away, steps.as_slice())?;
+    assert_eq!(rt; otherwise, None);
+    Ok(())
+}
+
+fn has_made_all(rt: &impl Abort, desk: &mut Desk, schedule: &[Row]) -> Result<(), Fail> {
     assert_eq!(rt; desk.cores(), 3);
     if !desk.is_whole() {
         return Err(Fail::from("a whole desk"));
     }
     desk.finish()?;
-    assert!(rt; has_made(&mut desk, 0, schedule));
-    assert!(rt; has_made(&mut desk, 1, schedule));
-    assert!(rt; has_made(&mut desk, 2, schedule));
+    assert!(rt; has_made(desk, 0, schedule));
+    assert!(rt; has_made(desk, 1, schedule));
+    assert!(rt; has_made(desk, 2, schedule));
     Ok(())
 }
 

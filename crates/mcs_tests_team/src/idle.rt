@@ -1,11 +1,12 @@
 //! Idle time, which takes no turns however long it is.
-ghost use Rattle.std.specs.Prelude.{◌≡◌};
+ghost use Rattle.std.specs.Prelude.{◌≡◌, ◌≤◌, ◌^◌};
 
 use super::orders::step;
 use super::systems::{moment, system};
 use mcs_team::{Open, Refused, Sink, probe, schedule_to, simulate_alone};
-use mcs_ticks::{CoreId, NoteId, Row, ThreadId, What, Why};
+use mcs_ticks::{CoreId, NoteId, Row, ThreadId, Tick, What, Why};
 use mcs_window::Cores;
+use std::alloc::Global;
 use std::process::Abort;
 use std::test::Fail;
 
@@ -122,12 +123,27 @@ fn are(rt: &impl Abort, rows: &[Row], expected: &[(u64, usize, What)]) {
     }
 }
 
+// Compares the schedule of a system with rows.
+fn rows_are(
+    rt: &impl Abort,
+    alloc: Global,
+    text: &str,
+    horizon: Tick,
+    expected: &[(u64, usize, What)],
+) -> Result<(), Fail>
+    requires { horizon ≤ 2 ^ 40 }
+{
+    let whole = simulate_alone(alloc, system(alloc, text)?, horizon)?;
+    are(rt, whole.rows.as_slice(), expected);
+    Ok(())
+}
+
 #[test]
 fn idle_for_ever_after_one_tick(rt: HostRuntime) -> Result<(), Fail> {
     let alloc = rt.alloc();
-    let whole = simulate_alone(alloc, system(alloc, ONE_TICK)?, moment(LONGEST)?)?;
-    are(&rt, whole.rows.as_slice(), one_tick_rows().as_slice());
-    let views = probe(alloc, system(alloc, ONE_TICK)?, moment(LONGEST)?)?;
+    let horizon = moment(LONGEST)?;
+    rows_are(&rt, alloc, ONE_TICK, horizon, one_tick_rows().as_slice())?;
+    let views = probe(alloc, system(alloc, ONE_TICK)?, horizon)?;
     assert_eq!(rt; views.len(), 1);
     assert_eq!(rt; views[0].using, 0);
     Ok(())
@@ -135,10 +151,9 @@ fn idle_for_ever_after_one_tick(rt: HostRuntime) -> Result<(), Fail> {
 
 #[test]
 fn idle_between_two_starts(rt: HostRuntime) -> Result<(), Fail> {
-    let alloc = rt.alloc();
-    let whole = simulate_alone(alloc, system(alloc, FAR_APART)?, moment(2 * START)?)?;
-    are(&rt, whole.rows.as_slice(), far_apart_rows().as_slice());
-    Ok(())
+    let horizon = moment(2 * START)?;
+    let expected = far_apart_rows();
+    rows_are(&rt, rt.alloc(), FAR_APART, horizon, expected.as_slice())
 }
 
 // A sink that keeps the rows.
@@ -162,9 +177,9 @@ impl Sink for Kept {
 #[test]
 fn a_sink_gets_rows_that_are_far_apart(rt: HostRuntime) -> Result<(), Fail> {
     let alloc = rt.alloc();
+    let horizon = moment(2 * START)?;
     for workers in [1usize, 2] {
         let shared = system(alloc, FAR_APART)?;
-        let horizon = moment(2 * START)?;
         let mut kept = Kept {
             rows: Vec::new(alloc),
         };
@@ -184,22 +199,29 @@ fn clocks(cores: &Cores) -> (u64, u64)
 #[test]
 fn only_earlier_clocks_are_set(rt: HostRuntime) -> Result<(), Fail> {
     let alloc = rt.alloc();
+    let horizon = moment(START + 1)?;
     let system = system(alloc, FAR_APART)?;
     assert_eq!(rt; system.parts().cores, 2);
-    let mut cores = Cores::new(alloc, system, moment(START + 1)?)?;
+    let mut cores = Cores::new(alloc, system, horizon)?;
+    go_to_busy_moments(&rt, &mut cores)
+}
+
+fn go_to_busy_moments(rt: &impl Abort, cores: &mut Cores) -> Result<(), Fail>
+    requires { cores.old.system.cores ≡ 2 }
+{
     // the first thread is released at once
     assert_eq!(rt; cores.skip_idle()?.get(), 0);
-    assert_eq!(rt; step(&mut cores, 0), Ok(()));
+    assert_eq!(rt; step(cores, 0), Ok(()));
     // its wait begins at moment 1: core 0 is there, and core 1 goes there
     assert_eq!(rt; cores.skip_idle()?.get(), 1);
-    assert_eq!(rt; clocks(&cores), (1, 1));
-    assert_eq!(rt; step(&mut cores, 0), Ok(()));
+    assert_eq!(rt; clocks(cores), (1, 1));
+    assert_eq!(rt; step(cores, 0), Ok(()));
     // the next start; core 0 is ahead of core 1
     assert_eq!(rt; cores.skip_idle()?.get(), START);
-    assert_eq!(rt; clocks(&cores), (START, START));
-    assert_eq!(rt; step(&mut cores, 0), Ok(()));
+    assert_eq!(rt; clocks(cores), (START, START));
+    assert_eq!(rt; step(cores, 0), Ok(()));
     // core 1 is busy at its clock, so nothing changes
     assert_eq!(rt; cores.skip_idle()?.get(), START);
-    assert_eq!(rt; clocks(&cores), (START + 1, START));
+    assert_eq!(rt; clocks(cores), (START + 1, START));
     Ok(())
 }

@@ -33,9 +33,10 @@ fn are(rt: &impl Abort, reports: &Reports, threads: &[ThreadReport], cores: &[Co
 #[test]
 fn a_core_that_only_gets_signals_is_idle(rt: HostRuntime) -> Result<(), Fail> {
     let alloc = rt.alloc();
+    let horizon = moment(20)?;
     for workers in [0usize, 1, 2, 64] {
         let system = system(alloc, SIGNALS)?;
-        let reports = report(&rt, alloc, system, moment(20)?, workers, &Open)?;
+        let reports = report(&rt, alloc, system, horizon, workers, &Open)?;
         are(&rt, &reports, &[ran(4, 4)], &[core(0, 20), core(4, 16)]);
     }
     Ok(())
@@ -45,11 +46,12 @@ fn a_core_that_only_gets_signals_is_idle(rt: HostRuntime) -> Result<(), Fail> {
 #[test]
 fn a_run_ends_at_the_horizon(rt: HostRuntime) -> Result<(), Fail> {
     let alloc = rt.alloc();
+    let horizon = moment(4)?;
     let threads = [ran(2, 2), ran(2, 2), ran(1, 0)];
     let cores = [core(2, 2), core(2, 2), core(1, 3)];
     for workers in [0usize, 1, 2, 64] {
         let system = system(alloc, ONE_ROUND)?;
-        let reports = report(&rt, alloc, system, moment(4)?, workers, &Open)?;
+        let reports = report(&rt, alloc, system, horizon, workers, &Open)?;
         are(&rt, &reports, &threads, &cores);
     }
     Ok(())

@@ -19,12 +19,13 @@ fn are_same(one: &Whole, other: &Whole) -> bool {
 #[test]
 fn teams_of_all_sizes_give_what_one_thread_gives(rt: HostRuntime) -> Result<(), Fail> {
     let alloc = rt.alloc();
+    let horizon = moment(20)?;
     for text in [SIGNALS, TWO_MAKERS] {
-        let alone = simulate_alone(alloc, system(alloc, text)?, moment(20)?)?;
+        let alone = simulate_alone(alloc, system(alloc, text)?, horizon)?;
         assert!(rt; alone.rows.len() > 10);
         for workers in [0, 1, 2, 64] {
             let system = system(alloc, text)?;
-            let whole = simulate(&rt, alloc, system, moment(20)?, workers, &Open)?;
+            let whole = simulate(&rt, alloc, system, horizon, workers, &Open)?;
             assert!(rt; are_same(&whole, &alone), "{workers} workers");
         }
     }
@@ -60,12 +61,13 @@ impl Gate for Both {
 #[test]
 fn two_pieces_run_at_once(rt: HostRuntime) -> Result<(), Fail> {
     let alloc = rt.alloc();
+    let horizon = moment(7)?;
     let gate = Both {
         begun: AtomicU64::new(0),
         alone: AtomicU64::new(0),
     };
     let system = system(alloc, SIGNALS)?;
-    let whole = simulate(&rt, alloc, system, moment(7)?, 2, &gate)?;
+    let whole = simulate(&rt, alloc, system, horizon, 2, &gate)?;
     assert_eq!(rt; whole.rows.len(), 13);
     assert_eq!(rt; gate.begun.load(Ordering::SeqCst), 2);
     assert_eq!(rt;
@@ -112,10 +114,11 @@ fn counted(gate: &Counts) -> (u64, u64) {
 #[test]
 fn two_workers_run_pieces_and_one_runs_none(rt: HostRuntime) -> Result<(), Fail> {
     let alloc = rt.alloc();
+    let horizon = moment(20)?;
     for (workers, some) in [(2, true), (1, false)] {
         let gate = zero_counts();
         let system = system(alloc, TWO_MAKERS)?;
-        simulate(&rt, alloc, system, moment(20)?, workers, &gate)?;
+        simulate(&rt, alloc, system, horizon, workers, &gate)?;
         let (begun, ended) = counted(&gate);
         assert_eq!(rt; begun > 0, some, "{workers} workers");
         assert_eq!(rt; begun, ended, "{workers} workers");
