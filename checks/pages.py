@@ -19,7 +19,7 @@ from common import TOP, Count, Ran
 
 PROGRAM = './mcsim'
 LEFT_OUT = '..'
-GUIDES = [TOP / 'docs' / name for name in ('KERNEL.md', 'LEFT_OUT.md')]
+GUIDES = [TOP / 'docs' / name for name in ('KERNEL.md', 'LEFT_OUT.md', 'MODELLING.md')]
 # pages with blocks beside those that a command wrote
 SHOW_OTHERS = (pathlib.Path('README.md'), pathlib.Path('examples', 'README.md'))
 
