@@ -2,8 +2,8 @@
 """Tells whether docs/FAULTS.md is right: each fault of a file or a run has a heading there, its wrong file gives the fault, and the mended file none.
 
 Below a heading stand one or more triples: a wrong file (or a command), the line that it gives, and the file (or the command) mended. The mended
-file runs to the end without a word. tools/explain, for each wrong file, tells that fault with a line of the file and something to say of it, and
-for each mended one that there is none. The texts of the faults are read from the sources, so that none is forgotten."""
+file runs to the end without a word. tools/explain tells the fault of each wrong file with a line of it and something to say of it. The texts of the
+faults are read from the sources, so that none is forgotten."""
 from __future__ import annotations
 
 import os
@@ -99,8 +99,6 @@ def try_part(program: pathlib.Path, folder: pathlib.Path, title: str, part: Part
     if part.wrong[0] == FILE:
         told = explained(program, folder, part.wrong[1])
         count.expect(f'{title}: tools/explain says {told.stdout.decode()!r}', explains(told, part.line))
-        told = explained(program, folder, part.mended[1])
-        count.expect(f'{title}: tools/explain says {told.stdout.decode()!r} of the mended file', (told.status, told.stdout) == (0, b'system.toml: no fault\n'))
 
 
 def try_first_lines(program: pathlib.Path, count: Count) -> None:

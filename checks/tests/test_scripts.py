@@ -17,6 +17,7 @@ import bandwidth
 import common
 import faults
 import manual
+import mended
 import pages
 import random_systems
 import refused_runs
@@ -59,6 +60,11 @@ class WrongPrograms(unittest.TestCase):
 
     def test_a_program_that_says_nothing_draws_no_picture(self) -> None:
         self.assertGreater(self.tally('pictures', 'exit 0').failed, 4)
+
+    def test_a_program_that_takes_every_file_has_no_fault_of_the_page(self) -> None:
+        # of each wrong file, and what tools/explain says of it, and of each wrong command
+        wrong = [part.wrong[0] for parts in mended.headings().values() for part in parts]
+        self.assertEqual(self.tally('mended', 'exit 0').failed, 2 * wrong.count('toml') + wrong.count('sh') + 1)
 
     def test_a_program_without_help_is_not_run_with_refused_memory(self) -> None:
         self.assertEqual(self.tally('refused_runs', 'exit 0').failed, 1)
