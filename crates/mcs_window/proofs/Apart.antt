@@ -1,4 +1,4 @@
--- Turns in an order that is safe by the scripts are the turns of the clock.
+-- Turns in an order that is safe by the signals are the turns of the clock.
 use Rattle.std.proofs.Common.{◌≡◌, ◌≢◌, ℕ, zero, suc, ◌+◌, ◌-◌, ◌<◌, ◌≤◌, Bool, true, false, List, [], ◌∷◌, ◌++◌, length, map, set, replicate, inl, inr, refl, sym, ap, ◌∙◌, subst, arith}
 use Rattle.std.specs.Prelude.{filter, slice_index, ◌==◌, if◌then◌else◌}
 use Rattle.std.specs.List.{range_with_len}
@@ -14,10 +14,12 @@ use Rattle.mcs_core.specs.Run.{ran}
 use Rattle.mcs_core.proofs.Clock.{core_shown-first}
 use Rattle.mcs_laws.specs.Links.{Signals}
 use Rattle.mcs_laws.proofs.Links.{signals-said}
-use Rattle.mcs_window.specs.ByScripts.{IsSafeByScripts, IsFarByScripts, clocks_after}
+use Rattle.mcs_window.specs.ByScripts.{IsFarByScripts, clocks_after}
 use Rattle.mcs_window.specs.Inbox.{inbox}
 use Rattle.mcs_window.specs.Stretch.{NothingArrivesBefore, rows_between, After}
 use Rattle.mcs_window.specs.stored.Delivery.{is_home}
+use Rattle.mcs_window.specs.laws.BySignals as by_signals
+use Rattle.mcs_window.specs.laws.BySignals.{IsSafeBySignals}
 use Rattle.mcs_window.specs.laws.Orders as orders
 use Rattle.mcs_window.specs.laws.Orders.{Apart, with_at, opening_apart, turn_now, with_turn_of, after_turns, IsAsTheClock}
 use Rattle.mcs_window.proofs.Advances.{takes_time, later_same, later_other, rises, signals_own}
@@ -76,7 +78,7 @@ module _ (system : System) (well : IsWellFormed system) where
             };
       }
 
-  module _ (apart : Apart) (holds : Holds apart) (c : ℕ) (known : c < system.cores) (far : IsFarByScripts system apart.clocks c (suc (slice_index apart.clocks c))) where
+  module _ (apart : Apart) (holds : Holds apart) (c : ℕ) (known : c < system.cores) (reached-next : NothingArrivesBefore system c (suc (slice_index apart.clocks c)) apart.clocks) where
     abbrev t : ℕ
     t = slice_index apart.clocks c
 
@@ -88,9 +90,6 @@ module _ (system : System) (well : IsWellFormed system) where
 
     up : t ≤ suc t
     up = omega arith
-
-    reached-next : NothingArrivesBefore system c (suc t) apart.clocks
-    reached-next = scripts-reached c (suc t) apart.clocks far
 
     made-is : After system c t (suc t) apart.clocks (turn_now system apart c).core (turn_now system apart c).rows (turn_now system apart c).mails (turn_now system apart c).box
     made-is =
@@ -164,15 +163,14 @@ module _ (system : System) (well : IsWellFormed system) where
           ];
         }
 
-  holds-turns : (horizon : ℕ) (turns : List ℕ) (apart : Apart) → Holds apart → IsSafeByScripts system horizon apart.clocks turns →
+  holds-turns : (horizon : ℕ) (turns : List ℕ) (apart : Apart) → Holds apart → IsSafeBySignals system horizon apart.clocks turns →
       Holds (after_turns system apart turns) × ((after_turns system apart turns).clocks ≡ clocks_after apart.clocks turns)
   holds-turns horizon [] apart holds safe = (holds, refl)
   holds-turns horizon (c ∷ turns) apart holds safe =
-      holds-turns horizon turns (with_turn_of system apart c (turn_now system apart c))
-      (holds-next apart holds c safe.0.known (λ b l other r. let s = safe.0.safe b l other r in omega arith)) safe.1
+      holds-turns horizon turns (with_turn_of system apart c (turn_now system apart c)) (holds-next apart holds c safe.0.known safe.0.safe) safe.1
 
-  pub orders-give : orders.OrdersGiveTheSchedule system
-  orders-give horizon turns safe =
+  pub signal-orders-give : by_signals.SignalOrdersGiveTheSchedule system
+  signal-orders-give horizon turns safe =
       let all = holds-turns horizon turns (opening_apart system) holds-opening safe in
       let apart = after_turns system (opening_apart system) turns in (
         all.1,
@@ -181,3 +179,18 @@ module _ (system : System) (well : IsWellFormed system) where
             (all.0.like b (omega arith)).rows_are ∙ ap (λ m. rows_between system b 0 m) (ended b (omega arith))))
             ∙ merging.rows_merge system (takes_time system well) horizon,
       )
+
+  -- safe by the scripts is safe by the signals
+  pub scripts-signals : by_signals.ScriptOrdersAreBySignals system
+  scripts-signals horizon clocks [] safe = tt
+  scripts-signals horizon clocks (c ∷ cs) safe = (
+    record {
+      known = safe.0.known;
+      in_time = safe.0.in_time;
+      safe = scripts-reached c (suc (slice_index clocks c)) clocks (λ b l other r. let s = safe.0.safe b l other r in omega arith);
+    },
+    scripts-signals horizon (set clocks c (suc (slice_index clocks c))) cs safe.1,
+  )
+
+  pub orders-give : orders.OrdersGiveTheSchedule system
+  orders-give horizon turns safe = signal-orders-give horizon turns (scripts-signals horizon (replicate system.cores 0) turns safe)

@@ -12,11 +12,11 @@ use Rattle.mcs_window.specs.stored.Cores.{AreSetBelow}
 use Rattle.mcs_window.proofs.Leading.{IsSafeBy, leads-stretch, leads-idle}
 use Rattle.mcs_window.proofs.Steps.{by-scripts}
 
-safe-append : (system : System) (horizon : ℕ) (clocks xs ys : List ℕ) → IsSafeByScripts system horizon clocks xs → IsSafeByScripts system horizon (clocks_after clocks xs) ys → IsSafeByScripts system horizon clocks (xs ++ ys)
+pub safe-append : (system : System) (horizon : ℕ) (clocks xs ys : List ℕ) → IsSafeByScripts system horizon clocks xs → IsSafeByScripts system horizon (clocks_after clocks xs) ys → IsSafeByScripts system horizon clocks (xs ++ ys)
 safe-append system horizon clocks [] ys p q = q
 safe-append system horizon clocks (c ∷ xs) ys p q = (p.0, safe-append system horizon (set clocks c (suc (slice_index clocks c))) xs ys p.1 q)
 
-after-append : (clocks xs ys : List ℕ) → clocks_after clocks (xs ++ ys) ≡ clocks_after (clocks_after clocks xs) ys
+pub after-append : (clocks xs ys : List ℕ) → clocks_after clocks (xs ++ ys) ≡ clocks_after (clocks_after clocks xs) ys
 after-append clocks [] ys = refl
 after-append clocks (c ∷ xs) ys = after-append (set clocks c (suc (slice_index clocks c))) xs ys
 
@@ -65,7 +65,7 @@ skipped-later before after sound here e went =
     }
 
 -- the clocks after the turns of one core
-stretch-after : (n : ℕ) (clocks : List ℕ) (c : ℕ) → c < length clocks → clocks_after clocks (replicate n c) ≡ set clocks c (slice_index clocks c + n)
+pub stretch-after : (n : ℕ) (clocks : List ℕ) (c : ℕ) → c < length clocks → clocks_after clocks (replicate n c) ≡ set clocks c (slice_index clocks c + n)
 stretch-after zero clocks c l = sym (ap (set clocks c) (let e : slice_index clocks c + 0 ≡ slice_index clocks c = omega arith in e) ∙ set-get_or clocks c 0)
 stretch-after (suc n) clocks c l =
     stretch-after n (set clocks c (suc (slice_index clocks c))) c (let e = length-set clocks c (suc (slice_index clocks c)) in omega arith)
@@ -89,7 +89,7 @@ settled-went table after c past to may many ahead in_time e =
     }
 
 -- turns of known cores leave what stands past the last core
-past-same : (system : System) (horizon : ℕ) (R : ℕ → ℕ → Type 0) (clocks turns : List ℕ) → IsSafeBy system horizon R clocks turns →
+pub past-same : (system : System) (horizon : ℕ) (R : ℕ → ℕ → Type 0) (clocks turns : List ℕ) → IsSafeBy system horizon R clocks turns →
     (length (clocks_after clocks turns) ≡ length clocks) × ((b : ℕ) → system.cores ≤ b → slice_index (clocks_after clocks turns) b ≡ slice_index clocks b)
 past-same system horizon R clocks [] safe = (refl, λ b l. refl)
 past-same system horizon R clocks (c ∷ turns) safe =

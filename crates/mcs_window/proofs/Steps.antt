@@ -222,7 +222,7 @@ none-fine table (step ∷ steps) h = (one step h.0, none-fine (after_step table 
     one (Go c past) g = absurd g
     one (Spend c past) g = absurd g
 
-safe-by : (system : System) (horizon : ℕ) (clocks cs : List ℕ) → IsSafeBy system horizon (λ b c. Unit {0}) clocks cs → IsSafe system horizon clocks cs
+pub safe-by : (system : System) (horizon : ℕ) (clocks cs : List ℕ) → IsSafeBy system horizon (λ b c. Unit {0}) clocks cs → IsSafe system horizon clocks cs
 safe-by system horizon clocks [] h = tt
 safe-by system horizon clocks (c ∷ cs) h = (
   record { known = h.0.known; in_time = h.0.in_time; safe = λ b l other. h.0.safe b l other tt },
