@@ -145,7 +145,8 @@ kit_of() {
 # says what was put where, and what is still to be done
 tell() {
     echo "installed below $prefix:"
-    sed -n '/\/$/!s/^/  /p' "$list"
+    grep -v '/$\|^lib/mcsim/' "$list" | sed 's/^/  /'
+    echo "  lib/mcsim: $(grep -v '/$' "$list" | grep -c '^lib/mcsim/') files, to which the commands in bin are links"
     case :$PATH: in
         *":$prefix/bin:"*) echo "$prefix/bin is on PATH" ;;
         *) echo "$prefix/bin is not on PATH: export PATH=\"$prefix/bin:\$PATH\" in your shell's profile puts it there" ;;

@@ -246,8 +246,12 @@ class Installed(InFolder):
     def setUp(self) -> None:
         super().setUp()
         self.renewed()
-        for path in ('tools/vcd.py', 'docs/mcsim.1', 'docs/mcsim.schema.json', 'include/mcsim.h'):
-            self.write(path, path)
+        lines = [line.split() for line in (self.top / 'launcher' / 'installed').read_text().splitlines()]
+        self.listed = [line for line in lines if line and line[0] != '#']
+        for source, *_ in self.listed:
+            if not (self.top / source).exists():
+                self.write(source, source)
+        self.tool, _, self.link = next(line for line in self.listed if line[0].startswith('tools/') and len(line) == 3)
 
     def files(self, folder: pathlib.Path) -> set[str]:
         return {str(path.relative_to(folder)) for path in folder.rglob('*') if not path.is_dir()}
@@ -258,7 +262,7 @@ class Installed(InFolder):
         self.assertEqual((status, stderr), (0, ''))
         prefix = self.home / '.local'
         files = self.files(prefix)
-        for path in ('bin/mcsim', 'bin/mcsim-waves', 'share/man/man1/mcsim.1', 'share/zsh/site-functions/_mcsim', 'lib/libmcs_c.a', 'include/mcsim.h'):
+        for path in ('bin/mcsim', self.link, 'share/man/man1/mcsim.1', 'share/zsh/site-functions/_mcsim', 'lib/libmcs_c.a', 'include/mcsim.h'):
             self.assertIn(path, files)
             self.assertIn(f'  {path}\n', stdout)
         self.assertIn(f'{prefix}/bin is not on PATH', stdout)
@@ -278,9 +282,10 @@ class Installed(InFolder):
 
     def test_a_second_installation_takes_away_what_is_no_longer_there(self) -> None:
         self.launch('--install')
-        (self.top / 'tools' / 'vcd.py').unlink()
+        self.assertIn(self.link, self.files(self.home / '.local'))
+        (self.top / self.tool).unlink()
         self.assertEqual(self.launch('--install')[0], 0)
-        self.assertNotIn('bin/mcsim-waves', self.files(self.home / '.local'))
+        self.assertNotIn(self.link, self.files(self.home / '.local'))
         self.launch('--uninstall')
         self.assertEqual(self.files(self.home), set())
 

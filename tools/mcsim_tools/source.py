@@ -15,7 +15,7 @@ from collections.abc import Iterator, Sequence
 from dataclasses import dataclass
 from typing import Optional
 
-from . import places, system
+from . import places, system, version
 from .faults import Fault, first_line, why
 from .system import System
 
@@ -42,6 +42,7 @@ class Words(argparse.ArgumentParser):
 
     def __init__(self, doc: Optional[str]) -> None:
         super().__init__(prog=pathlib.Path(sys.argv[0]).stem, description=doc, formatter_class=argparse.RawDescriptionHelpFormatter)
+        version.add_to(self)
         self.add_argument('system', type=pathlib.Path, metavar='SYSTEM', help='the file of the system')
         self.add_argument('--horizon', type=moment, metavar='N', help=f'the last moment of the run (default: {HORIZON}; of rows: that of the last one)')
         self.add_argument('--program', default=default_program(), metavar='PATH', help='the program to run (default: %(default)s)')
