@@ -14,7 +14,7 @@ TOP = CHECKS.parent
 # what the launcher and the scripts call beside rt
 TOOLS = (
     'awk', 'cat', 'chmod', 'cp', 'find', 'grep', 'head', 'ln', 'mkdir', 'mktemp', 'mv', 'readlink', 'rm', 'rmdir', 'sed', 'sh', 'sha256sum', 'sort', 'tail',
-    'touch', 'uname', 'xargs',
+    'touch', 'xargs',
 )
 CRATES = """# made up
 mcs_ticks: thiserror
@@ -178,6 +178,8 @@ class Launched(InFolder):
         (self.tools / 'grep').write_text('#!/bin/sh\necho "flags : cx16 lahf_lm pni popcnt sse4_1 ssse3"\n')
         (self.tools / 'grep').chmod(0o755)
         self.assertIn('x86-64-v2, and this one has no sse4_2, and ', self.launch()[2])
+        (self.tools / 'grep').write_text('#!/bin/sh\nexit 1\n')
+        self.assertIn('bin/mcsim is for Linux on x86-64, and ', self.launch()[2])
 
     def test_help_needs_no_rt(self) -> None:
         self.renewed()
