@@ -2,7 +2,8 @@
 """Tells whether the pictures on pages are those that tools/view draws today, and whether each example's page has one.
 
 A page names the command of each of its pictures, `tools/view SYSTEM .. -o FILE.svg`. Each command is run at the top of the repository, but writes
-elsewhere, and what it draws has to be the file, byte for byte. With --write the pictures are drawn anew."""
+elsewhere, and what it draws has to be the file, byte for byte. With --write the pictures are drawn anew. The commands in blocks of docs/VIEWER.md are
+run too, beside the repository: each ends with status 0 and says nothing. Those that open a window or a page are left out."""
 from __future__ import annotations
 
 import os
@@ -17,8 +18,11 @@ sys.dont_write_bytecode = True
 import common
 from common import TOP, Count
 
-PAGES = [TOP / 'README.md', TOP / 'docs' / 'VIEWER.md', *sorted((TOP / 'examples').glob('*.md'))]
-COMMAND = re.compile(r'(tools/view [^`\n]* -o ([^`\s]+\.svg))')
+VIEWER = TOP / 'docs' / 'VIEWER.md'
+PAGES = [TOP / 'README.md', VIEWER, *sorted((TOP / 'examples').glob('*.md'))]
+BLOCK = re.compile(r'^```sh\n(.*?)^```', re.M | re.S)
+NOT_RUN = ('gtkwave ', 'tools/live ')
+COMMAND = re.compile(r'`(tools/view [^`\n]* -o (examples/pictures/[^`\s]+\.svg))`')
 IMAGE = re.compile(r'!\[[^\]]+\]\(([^)\s]+\.svg)\)')
 
 
@@ -32,13 +36,28 @@ def images_of(page: pathlib.Path) -> set[pathlib.Path]:
     return {(page.parent / name).resolve() for name in IMAGE.findall(page.read_text())}
 
 
+def environment(program: pathlib.Path) -> dict[str, str]:
+    return {**os.environ, 'MCSIM': str(program), 'PYTHONDONTWRITEBYTECODE': '1'}
+
+
+def try_commands(page: pathlib.Path, program: pathlib.Path, count: Count) -> None:
+    """Runs the commands in blocks of a page, in a folder from which the repository's are seen."""
+    commands = [line for block in BLOCK.findall(page.read_text()) for line in block.splitlines() if not line.startswith(NOT_RUN)]
+    with tempfile.TemporaryDirectory() as folder:
+        for name, target in (('tools', TOP / 'tools'), ('crates', TOP / 'crates'), ('mcsim', program)):
+            pathlib.Path(folder, name).symlink_to(target)
+        for command in commands:
+            ran = common.run(['sh', '-c', command], cwd=folder, env=environment(program))
+            count.expect(f'{page.name}: {command}: {ran}', ran == (0, b'', b''))
+
+
 def drawn(program: pathlib.Path, command: str) -> common.Ran | bytes:
     """What a command draws, or how it ended where it drew nothing."""
     words = shlex.split(command)
     with tempfile.TemporaryDirectory() as folder:
         target = pathlib.Path(folder, 'picture.svg')
         words[words.index('-o') + 1] = str(target)
-        ran = common.run([sys.executable, *words], cwd=TOP, env={**os.environ, 'MCSIM': str(program), 'PYTHONDONTWRITEBYTECODE': '1'})
+        ran = common.run([sys.executable, *words], cwd=TOP, env=environment(program))
         return target.read_bytes() if ran == (0, b'', b'') and target.exists() else ran
 
 
@@ -68,6 +87,7 @@ def main() -> None:
             count.expect(f'{page.name}: another command draws {target.name}', commands.setdefault(target, command) == command)
     for target, command in commands.items():
         try_picture(target, command, program, words.write, count)
+    try_commands(VIEWER, program, count)
     kept = set((TOP / 'examples' / 'pictures').glob('*.svg'))
     count.expect('pictures that no page has', kept <= set(commands))
     count.end()
