@@ -145,7 +145,8 @@ def is_apart(kind: str) -> bool:
 
 def differences(found: dict[str, int], wanted: dict[str, int]) -> list[str]:
     kinds = {*found, *wanted}
-    said = [f'{kind}: {found.get(kind, 0)} in the page, {wanted.get(kind, 0)} in the rows' for kind in sorted(filter(is_apart, kinds)) if found.get(kind, 0) != wanted.get(kind, 0)]
+    both = ((kind, found.get(kind, 0), wanted.get(kind, 0)) for kind in sorted(filter(is_apart, kinds)))
+    said = [f'{kind}: {one} in the page, {two} in the rows' for kind, one, two in both if one != two]
     for stem in {kind.rpartition(' ')[0] for kind in kinds}:
         both = [[counts.get(f'{stem} {kind}'.strip(), 0) for kind in ('ready', 'throttled', 'woken')] for counts in (found, wanted)]
         # what is woken in the rows is one of both in the page

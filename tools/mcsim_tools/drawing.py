@@ -163,9 +163,11 @@ class Picture:
             parts.append(self.bar('late', one.due, one.end, base + 2, 4, f'{said}: {"overdue" if is_open else "missed"} by {one.end - one.due:,}'))
         self.mark(thread.name, 'up', 'ink', one.activated, f'{thread.name}: activation at {one.activated:,}')
         if thread.deadline and (not is_open or one.due <= self.end):
-            self.mark(thread.name, 'down', 'bad' if is_bad else 'ink', one.due, f'{thread.name}: deadline at {one.due:,} of the activation at {one.activated:,}' + (', missed' if is_bad else ''))
+            due = f'{thread.name}: deadline at {one.due:,} of the activation at {one.activated:,}' + (', missed' if is_bad else '')
+            self.mark(thread.name, 'down', 'bad' if is_bad else 'ink', one.due, due)
         if not is_open:
-            self.mark(thread.name, 'endlate' if is_bad else 'end', 'bad' if is_bad else 'ink', one.end, said + (f': missed by {one.end - one.due:,}' if is_bad else ''))
+            said += f': missed by {one.end - one.due:,}' if is_bad else ''
+            self.mark(thread.name, 'endlate' if is_bad else 'end', 'bad' if is_bad else 'ink', one.end, said)
         return parts
 
     def post(self, post: Post) -> None:
@@ -212,7 +214,8 @@ class Picture:
                 word = 'overdue' if finding.kind == OVERDUE else 'never'
                 self.drawn[finding.kind] += 1
                 at = f'x="{number(LEFT + self.scale.wide + 6)}" y="{self.lanes.base[finding.thread.name] + 3}"'
-                self.names.append(f'<text class="badtext" data-end="{min(finding.end, self.end)}" {at}>{word}<title>{escaped(finding.name)}: {escaped(finding.said)}</title></text>')
+                title = f'<title>{escaped(finding.name)}: {escaped(finding.said)}</title>'
+                self.names.append(f'<text class="badtext" data-end="{min(finding.end, self.end)}" {at}>{word}{title}</text>')
 
     # ---- what contexts hold
 
@@ -276,14 +279,16 @@ class Picture:
         for standing, look in ((RUNNING, f'running c{colour}'), (READY, f'ready c{colour}'), (THROTTLED, 'throttled')):
             if path := stack.add(cells[standing]):
                 self.drawn[STANDINGS[standing]] += 1
-                parts.append(f'<path class="{look}" d="{path}"><title>{escaped(thread.name)}: {STANDINGS[standing]}, {columns.width:,} ticks a column</title></path>')
+                title = f'<title>{escaped(thread.name)}: {STANDINGS[standing]}, {columns.width:,} ticks a column</title>'
+                parts.append(f'<path class="{look}" d="{path}">{title}</path>')
         for k in range(many):
             begin = self.begin + k * columns.width
             end = min(self.end, begin + columns.width)
+            where = f'{thread.name} {begin:,} to {end:,}'
             if cells[MISSED][k]:
-                parts.append(self.bar('late', begin, end, base + 1.5, 5, f'{thread.name} {begin:,} to {end:,}: {cells[MISSED][k]:,} of {cells[ROUNDS][k]:,} rounds missed'))
+                parts.append(self.bar('late', begin, end, base + 1.5, 5, f'{where}: {cells[MISSED][k]:,} of {cells[ROUNDS][k]:,} rounds missed'))
             if cells[LOSSES][k]:
-                parts.append(self.bar('late', begin, end, base - BAR - 6, 3, f'{thread.name} {begin:,} to {end:,}: {cells[LOSSES][k]:,} signals lost'))
+                parts.append(self.bar('late', begin, end, base - BAR - 6, 3, f'{where}: {cells[LOSSES][k]:,} signals lost'))
         return ''.join(parts)
 
     def beyond(self, thread: Thread, overdue: list[Round]) -> str:
@@ -297,7 +302,8 @@ class Picture:
     def background(self) -> str:
         parts = [self.bar('core', self.begin, self.end, top, CORE) for top in self.lanes.core_at.values()]
         for thread in self.lanes.shown:
-            parts.append(self.bar('lane', self.begin, self.end, self.lanes.base[thread.name] - BAR - HEAD, HEAD + BAR + 8, more=f' data-name="{escaped(thread.name)}"'))
+            top, name = self.lanes.base[thread.name] - BAR - HEAD, f' data-name="{escaped(thread.name)}"'
+            parts.append(self.bar('lane', self.begin, self.end, top, HEAD + BAR + 8, more=name))
             if thread.name in self.lanes.plot_at:
                 parts.append(self.bar('lane', self.begin, self.end, self.lanes.plot_at[thread.name], PLOT))
         return ''.join(parts)
@@ -341,14 +347,14 @@ class Picture:
                     continue
                 self.drawn[sign] += 1
                 small = '-s' if is_crowded and sign in style.SMALL else ''
-                uses.append(f'<use class="m {mark.look}" href="#{sign}{small}" x="{number(self.scale.x(mark.moment))}" y="{mark.base}"><title>{escaped(mark.said)}</title></use>')
+                x, title = number(self.scale.x(mark.moment)), f'<title>{escaped(mark.said)}</title>'
+                uses.append(f'<use class="m {mark.look}" href="#{sign}{small}" x="{x}" y="{mark.base}">{title}</use>')
             parts.append(f'<g class="M" data-name="{escaped(name)}">{"".join(uses)}</g>')
         return ''.join(parts)
 
     def svg(self) -> str:
         joins = self.joins if self.frame.zooms or len(self.joins) <= JOINS else []
         self.drawn['join'] = len(joins)
-        # no more than the dots of signals explain themselves where there are no lines
         back, signs = self.background(), self.signs()
         explained, high = legend.legend(self.drawn, self.column_width, self.lanes.bottom + 30, LEFT + self.scale.wide + RIGHT)
         wide, tall = number(LEFT + self.scale.wide + RIGHT), self.lanes.bottom + 30 + high
@@ -361,7 +367,8 @@ class Picture:
             f'<title>{escaped(self.heading)}: {escaped(self.under)}</title>',
             f'<style>{style.style(self.frame.theme)}</style>',
             f'<defs>{style.SIGNS}{self.order_forms}<clipPath id="plot">{clip}</clipPath></defs>',
-            f'<rect class="bg" width="100%" height="100%"/><text class="h" x="8" y="20">{escaped(self.heading)}</text><text class="small" x="8" y="35">{escaped(self.under)}</text>',
+            f'<rect class="bg" width="100%" height="100%"/><text class="h" x="8" y="20">{escaped(self.heading)}</text>',
+            f'<text class="small" x="8" y="35">{escaped(self.under)}</text>',
             f'<g clip-path="url(#plot)"><g class="z">{back}</g></g><g id="axis">{self.axis()}</g>',
             f'<g clip-path="url(#plot)"><g class="z">{"".join(self.bars)}</g><g id="joins" class="z">{"".join(joins)}</g>',
             f'<g id="marks">{"".join(self.order_lines)}{signs}</g><g id="labels">{"".join(self.labels)}</g></g>',
@@ -370,10 +377,10 @@ class Picture:
 
 
 class Stack:
-    """Shares that stand on each other, column by column."""
+    """Shares that stand on each other, column by column; `edges` are the places of the columns, `ticks` how many each has."""
 
-    def __init__(self, columns: Columns, edges: list[str], ticks: list[int], base: float, height: float) -> None:
-        self.columns, self.edges, self.ticks, self.base, self.height = columns, edges, ticks, base, height
+    def __init__(self, edges: list[str], ticks: list[int], base: float, height: float) -> None:
+        self.edges, self.ticks, self.base, self.height = edges, ticks, base, height
         self.below = [0] * len(ticks)
 
     def add(self, cells: list[int]) -> str:
@@ -395,7 +402,7 @@ class Stack:
 
     def outline(self, cells: list[int], first: int, after: int) -> str:
         """The tops from left to right, then the bottoms back."""
-        tops = self.steps([(k, self.y(self.below[k] + cells[k], k)) for k in range(first, after)], first)
+        tops = self.steps([(k, self.y(self.below[k] + cells[k], k)) for k in range(first, after)])
         lows = [(k, self.y(self.below[k], k)) for k in range(first, after)]
         back, level = [], None
         for k, y in reversed(lows):
@@ -404,11 +411,11 @@ class Stack:
                 level = y
         return f'M{self.edges[first]} {lows[0][1]}{tops}H{self.edges[after]}{"".join(back)}H{self.edges[first]}Z'
 
-    def steps(self, tops: list[tuple[int, str]], first: int) -> str:
+    def steps(self, tops: list[tuple[int, str]]) -> str:
         parts, level = [], None
         for k, y in tops:
             if y != level:
-                parts.append(f'H{self.edges[k]}' * (k > first) + f'V{y}')
+                parts.append(f'H{self.edges[k]}' * (level is not None) + f'V{y}')
                 level = y
         return ''.join(parts)
 
@@ -418,9 +425,8 @@ class Stacks:
 
     def __init__(self, picture: Picture, columns: Columns, many: int) -> None:
         moments = [picture.begin + k * columns.width for k in range(many)] + [picture.end]
-        self.columns = columns
         self.edges = [number(picture.scale.x(moment)) for moment in moments]
         self.ticks = [end - begin for begin, end in zip(moments, moments[1:])]
 
     def begin(self, base: float, height: float) -> Stack:
-        return Stack(self.columns, self.edges, self.ticks, base, height)
+        return Stack(self.edges, self.ticks, base, height)

@@ -75,6 +75,7 @@ def page(shown: Shown, svg: str, close_ups: Sequence[str], title: str, theme: Th
 
 def fault_page(fault: str) -> str:
     """The page of a file of which there is no picture yet: it looks again."""
-    script = "setTimeout(() => location.reload(), 500)"
+    script = 'setTimeout(() => location.reload(), 500)'
     style = (HERE / 'page.css').read_text(encoding='utf-8')
-    return f'<!doctype html><html lang="en"><head><meta charset="utf-8"><title>mcsim live</title><style>{style}</style></head><body><p id="fault">{escaped(fault)}</p><script>{script}</script></body></html>'
+    head = f'<head><meta charset="utf-8"><title>mcsim live</title><style>{style}</style></head>'
+    return f'<!doctype html><html lang="en">{head}<body><p id="fault">{escaped(fault)}</p><script>{script}</script></body></html>'

@@ -159,7 +159,9 @@ class Reading:
         self.first_set: dict[str, int] = {}
         self.signals: dict[tuple[int, str], collections.deque[UnderWay]] = collections.defaultdict(collections.deque)
         self.arriving: Optional[UnderWay] = None
-        self.refills = {name: Refills(thread.context, thread.start, system.min_budget, system.orders[thread.context.name]) for name, thread in system.threads.items()}
+        self.refills = {
+            name: Refills(thread.context, thread.start, system.min_budget, system.orders[thread.context.name]) for name, thread in system.threads.items()
+        }
         self.count = 0
         self.end = 0
 

@@ -156,9 +156,10 @@ class CloseUps:
             self.recent.clear()
 
     def of(self, finding: Finding) -> Optional[int]:
-        """The number of a close-up in which a finding is seen."""
-        inside = (k for k, (_, scene) in enumerate(self.scenes) if scene.begin <= finding.end <= scene.end)
-        return next(inside, None)
+        """The number of the close-up of a finding, or of the narrowest in which it is seen."""
+        own = (place for place, (other, _) in enumerate(self.scenes) if other == finding)
+        inside = [(scene.end - scene.begin, place) for place, (_, scene) in enumerate(self.scenes) if scene.begin <= finding.end <= scene.end]
+        return next(own, min(inside)[1] if inside else None)
 
     def close(self, horizon: int) -> None:
         for _, scene in self.scenes:

@@ -88,8 +88,9 @@ class Trace(Listener):
         self.put(f'{{"ph":"M","name":"{kind}","pid":{pid},"tid":{tid},"args":{json.dumps(words)}}}')
 
     def slice(self, name: str, category: str, thread: Thread, tid: int, begin: int, end: int, colour: str, words: str) -> None:
-        length = self.at((end - begin) * self.tick)
-        self.put(f'{{"ph":"X","name":"{name}","cat":"{category}","pid":{thread.core},"tid":{tid},"ts":{self.at(begin * self.tick)},"dur":{length},"cname":"{colour}","args":{{{words}}}}}')
+        at, length = self.at(begin * self.tick), self.at((end - begin) * self.tick)
+        where = f'"pid":{thread.core},"tid":{tid},"ts":{at},"dur":{length}'
+        self.put(f'{{"ph":"X","name":"{name}","cat":"{category}",{where},"cname":"{colour}","args":{{{words}}}}}')
 
     def instant(self, name: str, category: str, core: int, thread: Optional[Thread], at: int) -> None:
         scope, tid = ('t', track(thread)) if thread else ('p', WHOLE_CORE)
@@ -149,7 +150,8 @@ class Trace(Listener):
         name, usable = holding.thread.context.name, sum(amount for date, amount in holding.refills if date <= holding.moment)
         if self.usable.get(name) != usable:
             self.usable[name] = usable
-            self.put(f'{{"ph":"C","name":"budget {name}","pid":{holding.thread.core},"tid":{WHOLE_CORE},"ts":{self.at(holding.moment * self.tick)},"args":{{"usable":{usable}}}}}')
+            where = f'"pid":{holding.thread.core},"tid":{WHOLE_CORE},"ts":{self.at(holding.moment * self.tick)}'
+            self.put(f'{{"ph":"C","name":"budget {name}",{where},"args":{{"usable":{usable}}}}}')
 
 
 def main() -> None:

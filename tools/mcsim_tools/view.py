@@ -21,11 +21,12 @@ from .faults import Fault
 from .page import page
 from .reading import read
 from .scale import Clock
-from .scene import Scene, Shown
+from .scene import Shown
 from .source import Told, Words, moment
 from .style import Theme
 
 MOST = 20_000
+WIDTH = 1200
 LANES = 150
 # a close-up of more lanes shows those of the finding's core
 CLOSE_LANES = 40
@@ -52,13 +53,16 @@ def add_looks(words: Words) -> None:
     words.add_argument('--from', dest='begin', type=moment, default=0, metavar='A', help='where the picture begins (default: 0)')
     words.add_argument('--to', dest='end', type=moment, metavar='B', help='where it ends (default: the horizon)')
     words.add_argument('--tick-us', type=microseconds, metavar='N', help='a tick is N microseconds: moments along the edge are in real units')
-    words.add_argument('--budgets', default='auto', metavar='WHOSE', help='threads whose budgets are drawn: all, none, names with commas, or auto: all, where they are few (default)')
+    budgets = 'threads whose budgets are drawn: all, none, names with commas, or auto: all, where they are few (default)'
+    words.add_argument('--budgets', default='auto', metavar='WHOSE', help=budgets)
     words.add_argument('--threads', metavar='NAMES', help='lanes for these threads alone, with commas')
     words.add_argument('--cores', metavar='NUMBERS', help='lanes for these cores alone, with commas')
     words.add_argument('--lanes', type=count, default=LANES, metavar='N', help='threads that have lanes at most (default: %(default)s)')
-    words.add_argument('--most', type=count, default=MOST, metavar='N', help='things that are drawn singly at most; more are drawn by columns (default: %(default)s)')
-    words.add_argument('--width', type=count, default=1200, metavar='PIXELS', help='how wide the window of time is at most (default: %(default)s)')
-    words.add_argument('--theme', type=Theme, choices=list(Theme), default=Theme.AUTO, metavar='LOOK', help='auto, light or dark (default: auto, as the reader has it)')
+    most = 'things that are drawn singly at most; more are drawn by columns (default: %(default)s)'
+    words.add_argument('--most', type=count, default=MOST, metavar='N', help=most)
+    words.add_argument('--width', type=count, default=WIDTH, metavar='PIXELS', help='how wide the window of time is at most (default: %(default)s)')
+    looks = [look.value for look in Theme]
+    words.add_argument('--theme', choices=looks, default=Theme.AUTO.value, help='which colours (default: auto, as the reader has it)')
 
 
 @dataclass(frozen=True)
@@ -88,7 +92,8 @@ def draw(told: Told, words: argparse.Namespace, window: Window, is_page: bool, l
     shown = Shown(system, choice.threads, window.begin, window.end, words.most, plotted)
     reading = read(told, shown)
     shown.close(reading, window.end)
-    name, frame = words.system.stem, Frame(words.width, words.theme, Clock(words.tick_us), is_page)
+    name, theme = words.system.stem, Theme(words.theme)
+    frame = Frame(words.width, theme, Clock(words.tick_us), is_page)
     begin, end = shown.scene.begin, shown.scene.end
     is_whole = (begin, end) == (0, reading.end)
     under = f'{reading.end:,} ticks, {reading.count:,} rows: {shown.summary()}'
@@ -103,7 +108,7 @@ def draw(told: Told, words: argparse.Namespace, window: Window, is_page: bool, l
     if not is_page:
         return picture.svg()
     close_ups = [] if shown.is_single else [close_up(shown, place, frame, name) for place in range(len(shown.close_ups.scenes))]
-    return page(shown, picture.svg(), close_ups, f'{name}: {under}', words.theme, reading.end, live)
+    return page(shown, picture.svg(), close_ups, f'{name}: {under}', theme, reading.end, live)
 
 
 def close_up(shown: Shown, place: int, frame: Frame, name: str) -> str:
@@ -111,7 +116,8 @@ def close_up(shown: Shown, place: int, frame: Frame, name: str) -> str:
     finding, scene = shown.close_ups.scenes[place]
     threads = scene.threads if len(scene.threads) <= CLOSE_LANES else [name for name in scene.threads if shown.system.threads[name].core == finding.core]
     own = lanes.lanes_of(shown.system, threads, ())
-    picture = Picture(shown.system, own, scene.begin, scene.end, frame, name, f'moments {scene.begin:,} to {scene.end:,}, around: {finding.kind} {finding.name}, {finding.said}')
+    under = f'moments {scene.begin:,} to {scene.end:,}, around: {finding.kind} {finding.name}, {finding.said}'
+    picture = Picture(shown.system, own, scene.begin, scene.end, frame, name, under)
     picture.draw_scene(scene, shown.findings)
     return picture.svg()
 

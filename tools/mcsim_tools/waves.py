@@ -35,6 +35,7 @@ FIRST_CODE, CODES = 33, 94
 # the view of GTKWave: formats of waves, and its measures in pixels
 BINARY, DECIMAL, COMMENT = '@28', '@24', '@200'
 ROW, EDGES, WIDE, NAMES, FRAME = 20, 150, 1100, 200, 200
+ROOM = WIDE - NAMES - 200
 
 
 class Wave(NamedTuple):
@@ -187,8 +188,9 @@ def saved_view(system: System, end: int) -> str:
         for wave in (wave for name in names for wave in waves if wave.name == name):
             lines += [DECIMAL if wave.kind == NUMBER else BINARY, f'+{{{wave.label}}} {wave.path}']
     rows = sum(not line.startswith('@') for line in lines)
-    zoom = -math.log2(max(1, end) * FRAME / (WIDE - NAMES - EDGES / 2))
-    head = ['[timestart] 0', f'[size] {WIDE} {min(1000, EDGES + ROW * rows)}', '[pos] -1 -1', f'*{zoom:.6f} -1', '[sst_expanded] 0', f'[signals_width] {NAMES}', '[sst_width] 0']
+    zoom = -math.log2(max(1, end) * FRAME / ROOM)
+    size = f'[size] {WIDE} {min(1000, EDGES + ROW * rows)}'
+    head = ['[timestart] 0', size, '[pos] -1 -1', f'*{zoom:.6f} -1', '[sst_expanded] 0', f'[signals_width] {NAMES}', '[sst_width] 0']
     return '\n'.join([*head, *lines, ''])
 
 

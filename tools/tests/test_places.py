@@ -3,7 +3,7 @@ from __future__ import annotations
 
 import unittest
 
-import worked
+import worked  # puts the tools on the path
 from mcsim_tools.places import line_of
 
 TABLES = b'''version = 1

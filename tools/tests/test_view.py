@@ -4,7 +4,6 @@ from __future__ import annotations
 import argparse
 import collections
 import decimal
-import os
 import pathlib
 import re
 import subprocess
