@@ -1,7 +1,7 @@
 #!/usr/bin/env python3
 """Tells whether tools/trace keeps the rules of the trace event format, which viewers enforce in silence, and shows what rows say.
 
-Over the examples and random systems: each event has the keys of its phase; slices of a track have a length and never overlap; a track has a name; a
+Over the examples and random systems, some with orders and a least budget: each event has the keys of its phase; slices of a track have a length and never overlap; a track has a name; a
 flow has one beginning and one end, in this order and each inside a slice. The ticks of the running slices of a thread are those that the reports
 give, and moments are told in the ticks that were asked for. With --file a trace that is there is tried alone."""
 from __future__ import annotations
@@ -27,7 +27,7 @@ NEEDED = {
     'f': {'name', 'cat', 'id', 'pid', 'tid', 'ts', 'bp'}, 'i': {'name', 'pid', 'tid', 'ts', 's'}, 'C': {'name', 'pid', 'ts', 'args'},
 }
 HORIZONS = (0, 10, 60, 300)
-SYSTEMS = 20
+SYSTEMS = 40
 TICK_NS = 250
 
 Event = Mapping[str, Any]
@@ -105,12 +105,25 @@ def ran_by_reports(program: pathlib.Path, system: bytes, horizon: int) -> dict[s
     return {words[1]: int(words[3]) for words in map(str.split, lines) if words[0] == 'thread' and int(words[3])}
 
 
+def with_orders(rng: random.Random, system: random_systems.System) -> str:
+    """The text of a system with orders: what contexts hold can no longer be read off their configurations."""
+    text = system.text()
+    for _ in range(rng.randint(0, 6) if system.contexts else 0):
+        context = rng.choice(system.contexts)
+        period = rng.randint(2, 20)
+        budget = period if context.budget == context.period else rng.randint(1, period - 1)
+        extra = rng.choice([0, 0, 1, 4]) if budget < period else 0
+        keys = {'at': rng.randint(0, 80), 'core': context.core, 'budget': budget, 'period': period, 'extra_refills': extra}
+        text += ''.join(['[[order]]\n', f'context = "{context.name}"\n', *(f'{key} = {value}\n' for key, value in keys.items())])
+    return (f'min_budget = {rng.choice([2, 3])}\n' if rng.random() < 0.4 else '') + text
+
+
 def try_system(program: pathlib.Path, file: pathlib.Path, horizon: int, count: Count) -> None:
     words = [sys.executable, TOP / 'tools' / 'trace', file, '--horizon', str(horizon), '--tick-ns', str(TICK_NS), '--budgets']
     ran = common.run(words, env={**os.environ, 'MCSIM': str(program), 'PYTHONDONTWRITEBYTECODE': '1'})
     if ran.status:
         if common.run([program, '--horizon', '0'], file.read_bytes()).status == 1:
-            # the program refuses this random system
+            # the program refuses this system, and so the tool does
             return
         count.expect(f'{file.name} to {horizon}: {ran.stderr.decode().strip()}', False)
         return
@@ -139,7 +152,7 @@ def main() -> None:
     with tempfile.TemporaryDirectory() as folder:
         file = pathlib.Path(folder, 'system.toml')
         for _ in range(words.systems):
-            file.write_text(random_systems.system_of(rng).text())
+            file.write_text(with_orders(rng, random_systems.system_of(rng)))
             try_system(program, file, rng.choice(HORIZONS), count)
     count.end()
 
