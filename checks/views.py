@@ -3,17 +3,20 @@
 
 Each system is drawn as a page and opened. Bars, signs and lines that stand in the page are counted, and the ticks of a thread's bars summed, and held
 against the rows, which are read here once more in another way. Then the wheel is turned, the picture is drawn aside, a bar is pointed at, and a
-finding and a thread of the table are chosen: what is drawn stays the same, and the page throws nothing."""
+finding and a thread of the table are chosen: what is drawn stays the same, and the page throws nothing. At last a page of tools/live follows its file."""
 from __future__ import annotations
 
 import collections
+import contextlib
 import os
 import pathlib
 import random
+import subprocess
 import sys
 import tempfile
+import time
 import tomllib
-from collections.abc import Sequence
+from collections.abc import Iterator, Sequence
 from typing import Any, Optional
 
 sys.dont_write_bytecode = True
@@ -182,6 +185,42 @@ def hands(page: Browser, horizon: int) -> list[str]:
     return found + page.faults()
 
 
+# what the live page says: how many bars show a thread that runs, and its fault
+LIVE = "[document.querySelectorAll('g.T rect.running').length, $('fault').hidden ? '' : $('fault').textContent]"
+# so long a machine with much to do may take, which else takes half a second
+FOLLOWS = 30
+
+
+@contextlib.contextmanager
+def live_page(system: pathlib.Path, program: pathlib.Path) -> Iterator[str]:
+    """The address of the live page of a system."""
+    command = [sys.executable, TOP / 'tools' / 'live', system, '--program', program, '--horizon', '12']
+    with subprocess.Popen(command, stdout=subprocess.PIPE, text=True) as running:
+        try:
+            yield running.stdout.readline().strip()
+        finally:
+            running.terminate()
+
+
+def try_live(page: Browser, program: pathlib.Path, folder: pathlib.Path, count: Count) -> None:
+    """A file is saved with another budget, with a fault, and as it was: the page follows each time."""
+    file, text = folder / 'live.toml', (DATA / 'examples' / 'depletes_and_refills.toml').read_text()
+    key = text.splitlines().index('priority = 5') + 1
+    # 5 ticks with 2 in 5 are run in three pieces, with 5 in 5 in one
+    saved = [(text, [3, '']), (text.replace('budget = 2', 'budget = 5'), [1, '']),
+             (text.replace('priority = 5', 'priority = 256'), [1, f'{file}:{key}: out of range at thread 1 priority']), (text, [3, ''])]
+    file.write_text(text)
+    with live_page(file, program) as address:
+        page.open(address)
+        for text, wanted in saved:
+            file.write_text(text)
+            until = time.monotonic() + FOLLOWS
+            while (found := page.value(LIVE)) != wanted and time.monotonic() < until:
+                time.sleep(0.05)
+            count.expect(f'the live page shows {found} where it should show {wanted}', found == wanted)
+    count.expect(f'the live page throws {page.faults()}', not page.faults())
+
+
 class Trial:
     """Systems that are drawn and looked at."""
 
@@ -228,6 +267,7 @@ def main() -> None:
             file = trial.folder / f'random_{number}.toml'
             file.write_text(random_systems.system_of(rng).text())
             trial.look(file, rng.choice(HORIZONS))
+        try_live(page, program, trial.folder, trial.count)
     print(f'{trial.counted} bars and signs were counted')
     trial.count.end()
 
