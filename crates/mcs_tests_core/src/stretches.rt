@@ -81,19 +81,13 @@ fn ends_at(
     system: &System,
     stretches: &[Enough],
 ) -> Result<(), Fail> {
+    let end = moment(40)?;
     let mut state = opened(alloc, system, CoreId(0))?;
     let mut mailbox = Mailbox::new(alloc);
     let mut made = nothing(alloc);
     for stretch in stretches {
         let Enough(most, clock, rows) = *stretch;
-        go_on_some(
-            system,
-            &mut state,
-            &mut mailbox,
-            moment(40)?,
-            most,
-            &mut made,
-        )?;
+        go_on_some(system, &mut state, &mut mailbox, end, most, &mut made)?;
         assert_eq!(rt; state.clock().get(), clock);
         assert_eq!(rt; made.rows.len(), rows);
     }

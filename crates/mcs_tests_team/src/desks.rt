@@ -476,17 +476,21 @@ fn rows_of(desk: &mut Desk, core: usize) -> usize
 #[test]
 fn a_desk_is_finished_by_one_thread(rt: HostRuntime) -> Result<(), Fail> {
     let mut desk = desk(rt.alloc(), RING, 7)?;
+    finishes(&rt, &mut desk)
+}
+
+fn finishes(rt: &impl Abort, desk: &mut Desk) -> Result<(), Fail> {
     assert_eq!(rt; (desk.cores(), desk.horizon().get()), (3, 7));
     if !desk.is_whole() {
         return Err(Fail::from("a whole desk"));
     }
     desk.finish()?;
-    assert!(rt; says(&desk) == (true, true, false));
+    assert!(rt; says(desk) == (true, true, false));
     assert_eq!(rt; desk.cores(), 3);
     // the rows of the whole schedule
-    let many = rows_of(&mut desk, 0)
-        .saturating_add(rows_of(&mut desk, 1))
-        .saturating_add(rows_of(&mut desk, 2));
+    let many = rows_of(desk, 0)
+        .saturating_add(rows_of(desk, 1))
+        .saturating_add(rows_of(desk, 2));
     assert_eq!(rt; many, 27);
     Ok(())
 }
