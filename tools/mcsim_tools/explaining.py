@@ -191,19 +191,22 @@ def not_toml(text: bytes) -> tuple[Optional[Position], list[str]]:
     except UnicodeDecodeError as error:
         before = text[: error.start].decode()
         return Position(before.count('\n') + 1, len(before.rpartition('\n')[2]) + 1), ['the file is no UTF-8 from here on']
-    lost, said = read(plain).lost, reason(plain)
-    return lost, [*(['no TOML from here on: a quote, a bracket or a brace may be open, or a comma lacking'] if lost else []), *([said] if said else [])]
+    lost = read(plain).lost
+    refused, said = refusal(plain)
+    facts = ['no TOML from here on: a quote, a bracket or a brace may be open, or a comma lacking'] if lost and (refused is None or lost <= refused) else []
+    return min(filter(None, (lost, refused)), default=None), [*facts, *said]
 
 
-def reason(text: str) -> Optional[str]:
-    """What Python's reader of TOML has against a text."""
+def refusal(text: str) -> tuple[Optional[Position], list[str]]:
+    """Where Python's reader of TOML refuses a text, and what it says."""
     if tomllib is None:
-        return "Python 3.11 or later has a reader of TOML, which would say more"
+        return None, ['Python 3.11 or later has a reader of TOML, which would say more']
     try:
         tomllib.loads(text)
     except tomllib.TOMLDecodeError as error:
-        return f"Python's reader of TOML says: {error}"
-    return None
+        place = re.search(r'\(at line (\d+), column (\d+)\)$', str(error))
+        return place and Position(int(place[1]), int(place[2])), [f"Python's reader of TOML says: {error}"]
+    return None, []
 
 
 def unknown_key(case: Case) -> Iterator[str]:

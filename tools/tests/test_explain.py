@@ -108,6 +108,12 @@ class Explained(unittest.TestCase):
     def test_an_open_quote_has_its_line(self) -> None:
         self.assertEqual(self.told('version = 1\nnote = [{ name = "n }]\n', 'not TOML at file')[0], 'system.toml:2:18: not TOML at file')
 
+    @unittest.skipIf(sys.version_info < (3, 11), 'Python before 3.11 has no reader of TOML')
+    def test_a_key_that_stands_twice_has_its_line(self) -> None:
+        lines = self.told('version = 1\nversion = 2\n', 'not TOML at file')
+        self.assertEqual(lines[0], 'system.toml:2:12: not TOML at file')
+        self.assertIn('Cannot overwrite a value', lines[3])
+
     def test_bytes_that_are_no_text_have_their_line(self) -> None:
         ended = self.ran(b'version = 1\n# \xff\n', "echo 'mcsim: not TOML at file' >&2; exit 1")
         self.assertEqual(ended.stdout.splitlines()[0], 'system.toml:2:3: not TOML at file')
