@@ -30,7 +30,11 @@ else:
 
 SCHEMA = json.loads((TOP / 'docs' / 'mcsim.schema.json').read_text())
 TABLES = ('context', 'note', 'thread', 'order', 'link')
-BOUND = '#:schema ../../../../docs/mcsim.schema.json'
+# the line with which an example begins, by its folder
+BOUND = {
+    DATA / 'examples': '#:schema ../../../../docs/mcsim.schema.json',
+    TOP / 'examples' / 'systems': '#:schema ../../docs/mcsim.schema.json',
+}
 # a value of each kind
 KINDS = {'boolean': True, 'number': 1.5, 'string': 'x!', 'array': [], 'object': {}}
 MOST_ITEMS = 1024
@@ -139,10 +143,10 @@ class Trial:
 
     def files(self) -> None:
         """What the program accepts is valid, and each example names the schema."""
-        for file in sorted(DATA.glob('*/*.toml')):
+        for file in sorted([*DATA.glob('*/*.toml'), *(TOP / 'examples' / 'systems').glob('*.toml')]):
             text = file.read_text()
-            if file.parent.name == 'examples':
-                self.count.expect(f'{file.name}: its first line is not {BOUND}', text.split('\n', 1)[0] == BOUND)
+            if file.parent in BOUND:
+                self.count.expect(f'{file.name}: its first line is not {BOUND[file.parent]}', text.split('\n', 1)[0] == BOUND[file.parent])
             try:
                 system = tomllib.loads(text)
             except tomllib.TOMLDecodeError:
