@@ -129,9 +129,9 @@ class Case:
         found = number_of(self.root.get(key))
         return self.schema['properties'][key].get('default') if found is None else found
 
-    def properties(self) -> dict[str, Any]:
-        """The keys that the section lists, with what the schema says of them."""
-        section = self.fault.section
+    def properties(self, section: Optional[str] = None) -> dict[str, Any]:
+        """The keys that a section lists, that of the fault where none is given, with what the schema says of them."""
+        section = section or self.fault.section
         listed = self.schema['properties'] if section == 'top' else self.schema['definitions'][section]['properties']
         is_two = self.setting('version') == 2
         return {key: part for key, part in listed.items() if is_two or (section, key) not in OF_VERSION_2}
@@ -214,6 +214,10 @@ def unknown_key(case: Case) -> Iterator[str]:
     for key in case.unknown_keys():
         if (case.fault.section, key) in OF_VERSION_2:
             yield f'{key} is a key of version 2 alone, and this file says version = {case.setting("version")}'
+            continue
+        others = [what for section, what in ROWS.items() if key in case.properties(section)]
+        if others:
+            yield f'{key} is no key of {ROWS[case.fault.section]}, but of {" and of ".join(others)}'
             continue
         yield f'{key} is no key of {ROWS[case.fault.section]}{meant(key, listed)}'
         near = nearest(key, listed)

@@ -48,6 +48,10 @@ class Explained(unittest.TestCase):
         self.assertEqual(lines[0], 'system.toml:5:1: unknown key at context 1 ?')
         self.assertEqual(lines[3], '  mode is a key of version 2 alone, and this file says version = 1')
 
+    def test_a_key_of_another_table_is_told_as_such(self) -> None:
+        lines = self.told(HEAD + '[[thread]]\ncore = 1\n', 'unknown key at thread 1 ?')
+        self.assertIn('  core is no key of a thread, but of a context and of a notification and of an order', lines)
+
     def test_the_range_of_a_core_is_that_of_the_file(self) -> None:
         lines = self.told(HEAD + 'note = [{ name = "n", core = 2 }]\n', 'out of range at note 1 core')
         self.assertEqual(lines[0], 'system.toml:4:30: out of range at note 1 core')
