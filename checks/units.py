@@ -16,7 +16,7 @@ def main() -> None:
     common.asking(__doc__).parse_args()
     count = Count()
     for folder in filter(lambda folder: folder.is_dir(), FOLDERS):
-        found = unittest.TextTestRunner(verbosity=0).run(unittest.TestLoader().discover(str(folder)))
+        found = unittest.TextTestRunner(verbosity=0).run(unittest.TestLoader().discover(str(folder), top_level_dir=str(folder)))
         for test, why in found.skipped:
             count.skip(f'{test}: {why}')
         failed = len(found.failures) + len(found.errors) + len(found.unexpectedSuccesses)
