@@ -21,6 +21,7 @@ from .system import Context, System, Thread
 PENDING, READY, RUNNING, THROTTLED, BLOCKED, DONE = range(6)
 STANDINGS = ('pending', 'ready', 'running', 'throttled', 'blocked', 'done')
 WOKE, HELD, MERGED, LOST = 'woke', 'held', 'merged', 'lost'
+REASONS = {'spent', 'yield', 'wait', 'done', 'preempt', 'order'}
 
 
 class Stood(NamedTuple):
@@ -63,7 +64,7 @@ class Post(NamedTuple):
     """A signal that took effect: who made it where and when, and whom it woke or for whom it is held, where scripts tell."""
 
     note: str
-    badge: str
+    badge: int
     maker: Optional[Thread]
     made: int
     core: int
@@ -78,7 +79,7 @@ class UnderWay(NamedTuple):
     maker: Optional[Thread]
     made: int
     core: int
-    badge: str
+    badge: int
 
 
 class Holding(NamedTuple):
@@ -207,7 +208,7 @@ class Reading:
 
     def stop(self, moment: int, core: int, words: list[str]) -> None:
         account, own, why = self.accounts[words[3]], self.refills[words[3]], words[4]
-        if account.standing != RUNNING:
+        if account.standing != RUNNING or why not in REASONS:
             raise ValueError
         if len(words) == 8:
             standing = THROTTLED
@@ -229,6 +230,8 @@ class Reading:
     def round(self, moment: int, core: int, words: list[str]) -> None:
         account = self.accounts[words[3]]
         begun = moment - int(words[5])
+        if begun < 0:
+            raise ValueError
         activated = begun if account.activated is None else account.activated
         self.listener.round_ended(Round(account.thread, int(words[4]), activated, begun, moment))
         if account.activated_by:
@@ -237,7 +240,7 @@ class Reading:
             account.begin(moment, moment)
 
     def signal(self, moment: int, core: int, words: list[str]) -> None:
-        signal = UnderWay(self.accounts[words[3]].thread, moment, core, words[5])
+        signal = UnderWay(self.accounts[words[3]].thread, moment, core, int(words[5]))
         if self.system.home_of[words[4]] == core:
             self.arriving = signal
         else:
@@ -245,7 +248,7 @@ class Reading:
 
     def arrive(self, moment: int, core: int, words: list[str]) -> None:
         queue = self.signals[int(words[6]), words[3]]
-        self.arriving = queue.popleft() if queue else UnderWay(None, moment, int(words[6]), words[4])
+        self.arriving = queue.popleft() if queue else UnderWay(None, moment, int(words[6]), int(words[4]))
 
     def wake(self, moment: int, core: int, words: list[str]) -> None:
         account, own = self.accounts[words[3]], self.refills[words[3]]
@@ -304,7 +307,7 @@ class Reading:
             self.listener.holds(Holding(self.accounts[name].thread, self.refills[name].list, moment, is_used))
 
     def post(self, note: str, moment: int, thread: Optional[Thread], outcome: str) -> None:
-        maker, made, core, badge = self.arriving or UnderWay(None, moment, self.system.home_of[note], '?')
+        maker, made, core, badge = self.arriving or UnderWay(None, moment, self.system.home_of[note], 0)
         self.arriving = None
         self.listener.posted(Post(note, badge, maker, made, core, moment, thread, outcome))
 

@@ -22,7 +22,7 @@ class Refills:
         return self.is_slice or self.list[0][0] <= moment
 
     def charge(self, ticks: int) -> None:
-        """The first `ticks` dates leave, and come back a period later."""
+        """The first `ticks` dates leave, and come back a period later. A ValueError where the head has not so many: no schedule says so."""
         held = self.list
         if not ticks:
             return
@@ -30,6 +30,8 @@ class Refills:
             held[0][1] = held[0][1] - ticks or self.budget
             return
         date, amount = held[0]
+        if amount < ticks:
+            raise ValueError
         if amount == ticks:
             del held[0]
         else:

@@ -1,8 +1,8 @@
-"""What the tools need of a system's file. The program is what tests a file; this reads one that it accepts."""
+"""What the tools need of a system's file. The program is what tests a file; this reads one that it accepts, and refuses what no tool could draw."""
 from __future__ import annotations
 
-import collections
 import pathlib
+import re
 import tomllib
 from collections.abc import Mapping
 from dataclasses import dataclass, field
@@ -11,6 +11,8 @@ from typing import Any, Optional
 from .faults import Fault, first_line, why
 
 LONGEST = 2**26
+GREATEST = 2**40
+NAME = re.compile(r'[A-Za-z0-9_-]{1,32}')
 Tables = Mapping[str, Any]
 
 
@@ -89,30 +91,50 @@ class System:
         return found
 
 
-def context_of(table: Tables) -> Context:
+def whole(table: Tables, key: str, default: Optional[int] = None, least: int = 0, most: int = GREATEST) -> int:
+    """A whole number of a table."""
+    value = table[key] if default is None else table.get(key, default)
+    if type(value) is not int or not least <= value <= most:
+        raise ValueError(f'{key} is no number of {least} to {most}')
+    return value
+
+
+def name_of(table: Tables) -> str:
+    if not NAME.fullmatch(table['name']):
+        raise ValueError('a name has 1 to 32 characters of A-Z a-z 0-9 _ -')
+    return table['name']
+
+
+def context_of(table: Tables, cores: int) -> Context:
     is_bandwidth = table.get('mode', 'sporadic') == 'bandwidth'
-    return Context(table['name'], table['core'], table['budget'], table['period'], table.get('extra_refills', 0), is_bandwidth)
+    period = whole(table, 'period', least=1)
+    budget = whole(table, 'budget', least=1, most=period)
+    return Context(name_of(table), whole(table, 'core', most=cores - 1), budget, period, whole(table, 'extra_refills', 0), is_bandwidth)
 
 
 def thread_of(number: int, table: Tables, contexts: Mapping[str, Context]) -> Thread:
     items = [item.split() for item in table['script']]
     waits = tuple(dict.fromkeys(item[1] for item in items if item[0] == 'wait'))
     first = waits[0] if items[0][0] == 'wait' else None
-    return Thread(number, table['name'], contexts[table['context']], table['priority'], table.get('start', 0), table.get('deadline', 0), waits, first)
+    start, deadline = whole(table, 'start', 0), whole(table, 'deadline', 0)
+    return Thread(number, name_of(table), contexts[table['context']], whole(table, 'priority'), start, deadline, waits, first)
 
 
 def orders_of(tables: Tables, contexts: Mapping[str, Context]) -> dict[str, list[Order]]:
     orders: dict[str, list[Order]] = {name: [] for name in contexts}
-    for table in sorted(tables.get('order', []), key=lambda table: table['at']):
-        orders[table['context']].append(Order(table['at'], table['budget'], table['period'], table.get('extra_refills', 0)))
+    for table in sorted(tables.get('order', []), key=lambda table: whole(table, 'at')):
+        period = whole(table, 'period', least=1)
+        orders[table['context']].append(Order(table['at'], whole(table, 'budget', least=1, most=period), period, whole(table, 'extra_refills', 0)))
     return orders
 
 
 def system_of(tables: Tables) -> System:
-    contexts = {table['name']: context_of(table) for table in tables.get('context', [])}
+    cores = whole(tables, 'cores', least=1, most=64)
+    contexts = {table['name']: context_of(table, cores) for table in tables.get('context', [])}
     threads = [thread_of(number, table, contexts) for number, table in enumerate(tables.get('thread', []))]
-    home_of = {table['name']: table['core'] for table in tables.get('note', [])}
-    return System(tables['cores'], tables.get('min_budget', 1), contexts, home_of, {thread.name: thread for thread in threads}, orders_of(tables, contexts))
+    home_of = {name_of(table): whole(table, 'core', most=cores - 1) for table in tables.get('note', [])}
+    by_name = {thread.name: thread for thread in threads}
+    return System(cores, whole(tables, 'min_budget', 1), contexts, home_of, by_name, orders_of(tables, contexts))
 
 
 def read_bytes(path: pathlib.Path) -> bytes:
@@ -137,5 +159,7 @@ def parse(path: pathlib.Path, text: bytes) -> System:
         raise Fault(f'{path}: not TOML: {first_line(error)}') from None
     except KeyError as error:
         raise Fault(f'{path}: no system: {error} is missing') from None
-    except (AttributeError, IndexError, TypeError, ValueError, RecursionError):
+    except ValueError as error:
+        raise Fault(f'{path}: no system: {error}') from None
+    except (AttributeError, IndexError, TypeError, RecursionError):
         raise Fault(f'{path}: no system') from None

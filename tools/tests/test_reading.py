@@ -131,7 +131,7 @@ class Signals(unittest.TestCase):
 
     def test_maker_and_thread(self) -> None:
         first = heard(PAIR, PAIR_ROWS, 12)[0].posts[0]
-        self.assertEqual((first.maker.name, first.core, first.thread.name, first.badge), ('D', 1, 'W', '1'))
+        self.assertEqual((first.maker.name, first.core, first.thread.name, first.badge), ('D', 1, 'W', 1))
 
     def test_those_under_way_at_the_horizon(self) -> None:
         self.assertEqual(heard(PAIR, PAIR_ROWS, 4)[0].signals, ['n', 'n'])
@@ -178,6 +178,10 @@ class NoSchedule(unittest.TestCase):
         self.refused('0 0 run A', 'line 1 ')
         self.refused('0 0 release A\n0 0 stop A spent 2 until 5', 'line 2 ')
         self.refused('0 0 release A\n0 0 order a', 'line 2 ')
+        # a reason that there is not, more ticks than the head has, a round that began before all
+        self.refused('0 0 release A\n0 0 run A\n2 0 stop A bored 2', 'line 3 ')
+        self.refused('0 0 release A\n0 0 run A\n3 0 stop A preempt 3', 'line 3 ')
+        self.refused('0 0 release A\n0 0 run A\n2 0 round A 1 3', 'line 3 ')
 
     def test_reports_are_passed_over(self) -> None:
         reports = 'thread A ran 3 rounds 0 least 0 greatest 0 total 0 late 0 spent 1 throttled 3 longest 3\ncore 0 busy 3 idle 3'

@@ -199,7 +199,15 @@ class Tool(unittest.TestCase):
         self.refused('rows.txt: No such file or directory', 'one.toml', '--rows', 'rows.txt', '-o', 'x.svg')
 
     def test_a_file_that_is_no_system(self) -> None:
-        for text, said in (('x = ', 'not TOML: Invalid value (at end of document)'), ('version = 1', "no system: 'cores' is missing"), ('cores = 1\nthread = 3', 'no system')):
+        for text, said in (
+            (ONE.replace('"A"', "'<b>'"), 'no system: a name has 1 to 32 characters of A-Z a-z 0-9 _ -'),
+            (ONE.replace('priority = 5', 'priority = "high"'), 'no system: priority is no number of 0 to 1099511627776'),
+            (ONE.replace('budget = 2', 'budget = 0'), 'no system: budget is no number of 1 to 5'),
+            (ONE.replace('core = 0', 'core = 1'), 'no system: core is no number of 0 to 0'),
+            (ONE.replace('context = "a"', 'context = "b"'), "no system: 'b' is missing"),
+            (ONE.replace('["compute 5"]', '[]'), 'no system'),
+            ('x = ', 'not TOML: Invalid value (at end of document)'), ('version = 1', "no system: 'cores' is missing"), ('cores = 1\nthread = 3', 'no system'),
+        ):
             self.system.write_text(text)
             self.refused(f'one.toml: {said}', 'one.toml', '--rows', '-', '-o', 'x.svg')
 
