@@ -1,0 +1,135 @@
+-- Findings that were worked by hand, of the rows of small systems.
+use Rattle.std.specs.Prelude.{◌≡◌, ℕ, true, false, List, [], ◌∷◌, Some, None, refl}
+use Rattle.mcs_ticks.specs.declared.row.Row.{Row}
+use Rattle.mcs_ticks.specs.declared.row.What.{What}
+use Rattle.mcs_ticks.specs.declared.row.What.TheVariants as row
+use Rattle.mcs_ticks.specs.declared.row.Why.TheVariants as why
+use Rattle.mcs_script.specs.declared.item.Item.{Item}
+use Rattle.mcs_script.specs.declared.item.Item.TheVariants.{Compute, Signal, Wait}
+use Rattle.mcs_control.specs.declared.config.Mode.TheVariants as mode
+use Rattle.mcs_system.specs.declared.part.ThreadPart.{ThreadPart}
+use Rattle.mcs_system.specs.System.{System}
+use Rattle.mcs_verdict.specs.declared.finding.Finding.TheVariants as finding
+use Rattle.mcs_verdict.specs.declared.finding.Finding.{Finding}
+use Rattle.mcs_verdict.specs.declared.finding.Found.{Found}
+use Rattle.mcs_verdict.specs.declared.standing.Stood.{Stood}
+use Rattle.mcs_verdict.specs.Findings.{findings}
+use Rattle.mcs_verdict.specs.Words.{merges}
+
+-- a thread: its context, deadline and script
+abbrev thread : ℕ → ℕ → List Item → ThreadPart
+thread context deadline script =
+    record { name = []; context = context; priority = 5; start = 0; rounds = 0; deadline = deadline; script = script }
+
+-- threads 0 and 1, and one notification; the findings don't depend on contexts but for the cores
+abbrev two : ThreadPart → ThreadPart → System
+two a b =
+    record {
+      cores = 1;
+      delay = 1;
+      call = 1;
+      min_budget = 1;
+      contexts = record { name = []; core = 0; config = record { budget = 1; period = 10; extra = 0 }; mode = mode.Sporadic }
+          ∷ record { name = []; core = 0; config = record { budget = 20; period = 20; extra = 0 }; mode = mode.Sporadic } ∷ [];
+      notes = record { name = []; core = 0 } ∷ [];
+      threads = a ∷ b ∷ [];
+      orders = [];
+      links = [];
+    }
+
+abbrev at : ℕ → What → Row
+at moment what = record { moment = moment; core = 0; what = what }
+
+abbrev found : ℕ → Finding → Found
+found moment what = record { moment = moment; core = 0; finding = what }
+
+-- ready, running, throttled, blocked
+abbrev parts : ℕ → ℕ → ℕ → ℕ → Stood
+parts ready running throttled blocked =
+    record { pending = 0; ready = ready; running = running; throttled = throttled; blocked = blocked; woken = 0; done = 0 }
+
+-- a thread with a deadline of 5 that never runs is overdue once 5 ticks have passed
+abbrev starved : List Row
+starved = at 0 (row.Release 0) ∷ at 0 (row.Release 1) ∷ at 0 (row.Run 1) ∷ []
+
+never_in_time : findings (two (thread 0 5 (Compute 2 ∷ [])) (thread 1 0 (Compute 1000 ∷ []))) 5 starved ≡ found 5 (finding.Overdue 0 5 0 0 (parts 5 0 0 0)) ∷ []
+never_in_time = refl
+
+still_in_time : findings (two (thread 0 5 (Compute 2 ∷ [])) (thread 1 0 (Compute 1000 ∷ []))) 4 starved ≡ []
+still_in_time = refl
+
+-- The clock thread signals; the loop waits first, so its round begins with the word at 2, which was set at 1. A second word is set at 11,
+-- and a signal at 12 is lost.
+abbrev looped : List Row
+looped =
+    at 0 (row.Release 0) ∷ at 0 (row.Release 1) ∷ at 0 (row.Run 0) ∷ at 1 (row.Signal 0 0 1) ∷ at 1 (row.Hold 0 1)
+    ∷ at 1 (row.Stop 0 why.Spent 1 (Some 10)) ∷ at 1 (row.Run 1) ∷ at 2 (row.Got 1 0 1) ∷ at 10 (row.Release 0)
+    ∷ at 10 (row.Stop 1 why.Preempt 9 None) ∷ at 10 (row.Run 0) ∷ at 11 (row.Signal 0 0 1) ∷ at 11 (row.Hold 0 1)
+    ∷ at 12 (row.Signal 0 0 1) ∷ at 12 (row.Hold 0 1) ∷ at 12 (row.Stop 0 why.Spent 1 (Some 20)) ∷ at 12 (row.Run 1)
+    ∷ at 16 (row.Round 1 1 14) ∷ at 17 (row.Got 1 0 1) ∷ []
+
+missed_lost_and_overdue :
+    findings (two (thread 0 0 (Signal 0 1 ∷ [])) (thread 1 6 (Wait 0 ∷ Compute 12 ∷ []))) 20 looped
+    ≡ found 12 (finding.Lost 0 1) ∷ found 16 (finding.Miss 1 1 15 6 1 1 (parts 2 12 0 0)) ∷ found 20 (finding.Overdue 1 6 11 6 (parts 0 3 0 0)) ∷ []
+missed_lost_and_overdue = refl
+
+-- a response of the deadline itself is none too late
+at_the_deadline : findings (two (thread 0 0 (Signal 0 1 ∷ [])) (thread 1 15 (Wait 0 ∷ Compute 12 ∷ []))) 20 looped ≡ found 12 (finding.Lost 0 1) ∷ []
+at_the_deadline = refl
+
+one_tick_above :
+    findings (two (thread 0 0 (Signal 0 1 ∷ [])) (thread 1 14 (Wait 0 ∷ Compute 12 ∷ []))) 20 looped
+    ≡ found 12 (finding.Lost 0 1) ∷ found 16 (finding.Miss 1 1 15 14 1 1 (parts 2 12 0 0)) ∷ []
+one_tick_above = refl
+
+-- a loop that yields is activated by its release, however long its round has waited for it
+abbrev yields : List Row
+yields =
+    at 0 (row.Release 0) ∷ at 0 (row.Run 0) ∷ at 3 (row.Round 0 1 3) ∷ at 3 (row.Stop 0 why.Yield 3 (Some 10)) ∷ at 10 (row.Release 0)
+    ∷ at 10 (row.Run 0) ∷ at 13 (row.Round 0 2 10) ∷ at 13 (row.Stop 0 why.Yield 3 (Some 20)) ∷ []
+
+in_each_period : findings (two (thread 0 5 (Compute 2 ∷ [])) (thread 1 0 (Compute 1 ∷ []))) 19 yields ≡ []
+in_each_period = refl
+
+too_slow_in_each :
+    findings (two (thread 0 2 (Compute 2 ∷ [])) (thread 1 0 (Compute 1 ∷ []))) 19 yields
+    ≡ found 3 (finding.Miss 0 1 3 2 0 0 (parts 0 3 0 0)) ∷ found 13 (finding.Miss 0 2 3 2 10 0 (parts 0 3 7 0)) ∷ []
+too_slow_in_each = refl
+
+-- a woken thread was throttled where `release` is its next row, ready where `run` is, and nobody knows where the rows end
+abbrev woken : List Row → List Row
+woken rest = at 0 (row.Release 1) ∷ at 0 (row.Run 1) ∷ at 1 (row.Stop 1 why.Wait 1 None) ∷ at 5 (row.Wake 1 0 1) ∷ rest
+
+after_release : findings (two (thread 0 0 (Compute 1 ∷ [])) (thread 1 3 (Compute 1 ∷ Wait 0 ∷ Compute 2 ∷ []))) 12 (woken (at 9 (row.Release 1) ∷ []))
+    ≡ found 12 (finding.Overdue 1 3 0 0 (parts 3 1 4 4)) ∷ []
+after_release = refl
+
+-- it waits for ever, or is activated by its wake
+waits_for_ever : findings (two (thread 0 0 (Compute 1 ∷ [])) (thread 1 5 (Wait 0 ∷ Compute 2 ∷ []))) 9
+    (at 0 (row.Release 1) ∷ at 0 (row.Run 1) ∷ at 1 (row.Stop 1 why.Wait 1 None) ∷ [])
+    ≡ found 9 (finding.Never 1 5) ∷ []
+waits_for_ever = refl
+
+woken_in_time : findings (two (thread 0 0 (Compute 1 ∷ [])) (thread 1 5 (Wait 0 ∷ Compute 2 ∷ []))) 9 (woken []) ≡ []
+woken_in_time = refl
+
+-- a word that nobody took for a deadline's time
+abbrev held_for : List Row
+held_for = at 0 (row.Release 1) ∷ at 0 (row.Release 0) ∷ at 0 (row.Run 0) ∷ at 2 (row.Hold 0 1) ∷ []
+
+not_taken : findings (two (thread 0 0 (Compute 100 ∷ [])) (thread 1 5 (Wait 0 ∷ Compute 2 ∷ []))) 7 held_for
+    ≡ found 7 (finding.Overdue 1 5 2 5 (parts 0 0 0 0)) ∷ []
+not_taken = refl
+
+yet_to_be_taken : findings (two (thread 0 0 (Compute 100 ∷ [])) (thread 1 5 (Wait 0 ∷ Compute 2 ∷ []))) 6 held_for ≡ []
+yet_to_be_taken = refl
+
+-- a signal is merged where it adds bits, and lost where it adds none
+merged : merges (two (thread 0 0 (Compute 1 ∷ [])) (thread 1 0 (Compute 1 ∷ []))) (at 1 (row.Hold 0 1) ∷ []) (row.Hold 0 3) ≡ true
+merged = refl
+
+not_merged : merges (two (thread 0 0 (Compute 1 ∷ [])) (thread 1 0 (Compute 1 ∷ []))) (at 1 (row.Hold 0 1) ∷ []) (row.Hold 0 1) ≡ false
+not_merged = refl
+
+first_word : merges (two (thread 0 0 (Compute 1 ∷ [])) (thread 1 0 (Compute 1 ∷ []))) [] (row.Hold 0 1) ≡ false
+first_word = refl

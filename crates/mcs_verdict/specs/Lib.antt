@@ -1,0 +1,10 @@
+pub mod Standing
+pub mod Stood
+pub mod Activation
+pub mod Words
+pub mod Rounds
+pub mod Misses
+pub mod Findings
+pub mod Account
+pub mod Watch
+pub mod laws

@@ -1,0 +1,99 @@
+-- Rounds that missed their deadline or can only end so, and threads that were not activated once.
+use Rattle.std.specs.Prelude.{ℕ, ◌+◌, ◌-◌, Bool, ◌==◌, ◌&&◌, ◌||◌, not, nat_lt, nat_le, if◌then◌else◌, List, length, Option, Some, None, is_some}
+use Rattle.mcs_ticks.specs.declared.row.Row.{Row}
+use Rattle.mcs_system.specs.System.{System, thread_part}
+use Rattle.mcs_verdict.specs.declared.finding.Finding.{Finding}
+use Rattle.mcs_verdict.specs.declared.finding.Finding.TheVariants.{Miss, Overdue, Never}
+use Rattle.mcs_verdict.specs.declared.held.Held.{Held}
+use Rattle.mcs_verdict.specs.declared.standing.Standing.{Standing}
+use Rattle.mcs_verdict.specs.declared.standing.Standing.TheVariants.{Done}
+use Rattle.mcs_verdict.specs.declared.standing.Stood.{Stood}
+use Rattle.mcs_verdict.specs.Standing.{standing_at, telling}
+use Rattle.mcs_verdict.specs.Stood.{stood_in}
+use Rattle.mcs_verdict.specs.Rounds.{first_wait, begun_of, called_of, activated}
+use Rattle.mcs_verdict.specs.Words.{no_word, held_of}
+
+-- a moment of which no row tells is taken to be this one
+abbrev pub or_now : ℕ → Option ℕ → ℕ
+or_now moment None = moment
+or_now moment (Some earlier) = earlier
+
+-- the deadline 0 is none
+abbrev pub is_above : ℕ → ℕ → Bool
+is_above deadline ticks = not (deadline == 0) && nat_lt deadline ticks
+
+abbrev pub is_reached : ℕ → ℕ → Bool
+is_reached deadline ticks = not (deadline == 0) && nat_le deadline ticks
+
+-- a round that ends at this moment missed its deadline where its response from its activation is above it
+abbrev pub missed : ℕ → ℕ → ℕ → ℕ → ℕ → ℕ → Stood → Option Finding
+missed moment thread number deadline begun activated stood =
+    if is_above deadline (moment - activated)
+    then Some (Miss thread number (moment - activated) deadline activated (begun - activated) stood)
+    else None
+
+abbrev pub miss : System → List Row → ℕ → ℕ → ℕ → Option Finding
+miss system past moment thread number =
+    let begun = or_now moment (begun_of system thread past) in
+    missed moment thread number (thread_part system thread).deadline begun
+    (or_now moment (activated system thread past begun moment)) (stood_in thread past begun moment)
+
+-- a round that is not ended at the horizon can only miss its deadline where it was activated at least a deadline ago
+abbrev pub overdue_at : ℕ → ℕ → ℕ → ℕ → Stood → Option ℕ → Option Finding
+overdue_at horizon thread deadline begun stood None = None
+overdue_at horizon thread deadline begun stood (Some activated) =
+    if is_reached deadline (horizon - activated)
+    then Some (Overdue thread deadline activated (begun - activated) stood)
+    else None
+
+-- a word that is held is the activation of the next round that it will begin
+abbrev pub set_at : Held → Option ℕ
+set_at held = if held.word == 0 then None else Some held.since
+
+-- the word for which the thread's script waits first
+abbrev pub word_for : ℕ → Option ℕ → List Row → Held
+word_for notes (Some note) past = held_of notes note past
+word_for notes None past = no_word
+
+abbrev pub first_word : System → ℕ → List Row → Held
+first_word system thread past = word_for (length system.notes) (first_wait (thread_part system thread)) past
+
+-- when a round was activated that is yet to begin: there is none after the last one
+abbrev pub yet_to_begin : Standing → Held → Option ℕ
+yet_to_begin Done held = None
+yet_to_begin _ held = set_at held
+
+-- of a round that is under way, or of one that is yet to begin
+abbrev pub overdue_since : System → List Row → ℕ → ℕ → Option ℕ → Option Finding
+overdue_since system past horizon thread (Some begun) =
+    overdue_at horizon thread (thread_part system thread).deadline begun (stood_in thread past begun horizon)
+    (activated system thread past begun horizon)
+overdue_since system past horizon thread None =
+    overdue_at horizon thread (thread_part system thread).deadline horizon (stood_in thread past horizon horizon)
+    (yet_to_begin (standing_at horizon None (telling thread past)) (first_word system thread past))
+
+abbrev pub overdue : System → List Row → ℕ → ℕ → Option Finding
+overdue system past horizon thread = overdue_since system past horizon thread (begun_of system thread past)
+
+-- whether a round was activated: by a word where the script begins with a wait, else in a tick in which the thread was ready or running
+abbrev pub was_activated : Option ℕ → Option ℕ → Held → Stood → Bool
+was_activated (Some note) called held stood = is_some called || not (held.word == 0)
+was_activated None called held stood = not (stood.ready + stood.running == 0)
+
+-- a thread with a deadline that was not activated once up to the horizon
+abbrev pub never_at : ℕ → ℕ → Bool → Option Finding
+never_at thread deadline once = if not (deadline == 0) && not once then Some (Never thread deadline) else None
+
+abbrev pub never : System → List Row → ℕ → ℕ → Option Finding
+never system past horizon thread =
+    never_at thread (thread_part system thread).deadline
+    (was_activated (first_wait (thread_part system thread)) (called_of system thread past) (first_word system thread past)
+    (stood_in thread past 0 horizon))
+
+abbrev pub first_of : Option Finding → Option Finding → Option Finding
+first_of (Some found) other = Some found
+first_of None other = other
+
+-- what is found of a thread at the horizon
+abbrev pub unended : System → List Row → ℕ → ℕ → Option Finding
+unended system past horizon thread = first_of (overdue system past horizon thread) (never system past horizon thread)

@@ -1,0 +1,318 @@
+ghost use Rattle.std.specs.Prelude.{◌≡◌, ℕ, ◌+◌, ◌<◌, ◌^◌, [], Some, None, max};
+ghost use Rattle.mcs_verdict.specs.Account.{all_kept, account_of, stood_since, total_at, active_since, or_first, told, begins, given, seen_own, activated_since, miss_by, overdue_by, never_by, unended_by};
+ghost use Rattle.mcs_verdict.specs.Activation.{is_active};
+ghost use Rattle.mcs_verdict.specs.Misses.{is_above, is_reached, overdue_at, yet_to_begin, was_activated, first_of};
+ghost use Rattle.mcs_verdict.specs.Rounds.{first_wait};
+
+use crate::held::Held;
+use crate::standing::{settled, standing_after};
+use crate::{Finding, Standing, Stood};
+use mcs_script::Item;
+use mcs_system::ThreadPart;
+use mcs_ticks::{NoteId, ThreadId, Tick, What, Why};
+
+/// What is kept of a thread: how it stands, since when, when its round began and was activated, and how it stood up to `since`, from then on
+/// and in all.
+#[derive(Clone, Copy, Debug, PartialEq, Eq)]
+pub(crate) struct Account {
+    pub deadline: u64,
+    /// The notification on which its script waits first, where it begins with a wait.
+    pub waits: Option<NoteId>,
+    pub standing: Standing,
+    pub since: Tick,
+    pub begun: Option<Tick>,
+    /// When the latest round that a word began was activated.
+    pub called: Option<Tick>,
+    /// When it was first ready or running since its round began.
+    pub active: Option<Tick>,
+    pub stood: Stood,
+    pub total: Stood,
+}
+
+fn first_wait(part: &ThreadPart) -> Option<NoteId>
+    ensures { result ≡ first_wait part.now }
+{
+    match part.script.get(0) {
+        Some(Item::Wait(NoteId(note))) => Some(NoteId(note)),
+        _ => None,
+    }
+}
+
+fn is_above(deadline: u64, ticks: u64) -> bool
+    ensures { result ≡ is_above deadline ticks }
+{
+    deadline != 0 && deadline < ticks
+}
+
+fn is_reached(deadline: u64, ticks: u64) -> bool
+    ensures { result ≡ is_reached deadline ticks }
+{
+    deadline != 0 && deadline <= ticks
+}
+
+fn is_active(standing: Standing) -> bool
+    ensures { result ≡ is_active standing }
+{
+    matches!(standing, Standing::Ready | Standing::Running)
+}
+
+fn later(a: Tick, b: Tick) -> Tick
+    ensures { result ≡ max a b }
+{
+    if a.get() < b.get() { b } else { a }
+}
+
+fn or_first(earlier: Option<Tick>, active: bool, from: Tick, to: Tick) -> Option<Tick>
+    ensures { result ≡ or_first earlier active from to }
+{
+    match earlier {
+        Some(earlier) => Some(earlier),
+        None if active && from.get() < to.get() => Some(from),
+        None => None,
+    }
+}
+
+fn yet_to_begin(standing: Standing, held: &Held) -> Option<Tick>
+    ensures { result ≡ yet_to_begin standing held.now }
+{
+    if standing == Standing::Done || held.word == 0 {
+        None
+    } else {
+        Some(held.since)
+    }
+}
+
+fn was_activated(waits: Option<NoteId>, called: Option<Tick>, held: &Held, stood: &Stood) -> bool
+    ensures { result ≡ was_activated waits called held.now stood.now }
+{
+    match waits {
+        Some(_) => called.is_some() || held.word != 0,
+        None => stood.ready != 0 || stood.running != 0,
+    }
+}
+
+// The round, where at least a deadline has passed since it was activated.
+fn overdue_at(
+    horizon: Tick,
+    thread: ThreadId,
+    deadline: u64,
+    begun: Tick,
+    stood: Stood,
+    activated: Option<Tick>,
+) -> Option<Finding>
+    ensures { result ≡ overdue_at horizon thread deadline begun stood activated }
+{
+    match activated {
+        Some(activated) if is_reached(deadline, horizon.get().saturating_sub(activated.get())) => {
+            Some(Finding::Overdue {
+                thread,
+                deadline,
+                activated,
+                queued: begun.get().saturating_sub(activated.get()),
+                stood,
+            })
+        }
+        _ => None,
+    }
+}
+
+impl Account {
+    // Before the first row, whatever the number of the thread and of notifications.
+    pub(crate) fn new(part: &ThreadPart) -> Self
+        ensures { result ≡ account_of 0 part.now 0 [] }
+    {
+        let waits = first_wait(part);
+        Account {
+            deadline: part.deadline,
+            waits,
+            standing: Standing::Pending,
+            since: Tick::ZERO,
+            begun: match waits {
+                Some(_) => None,
+                None => Some(part.start),
+            },
+            called: None,
+            active: None,
+            stood: Stood::new(),
+            total: Stood::new(),
+        }
+    }
+
+    // How the thread stood since its round began, up to some moment, where `next` is its next telling row.
+    pub(crate) fn stood_since(&self, begun: Option<Tick>, moment: Tick, next: Option<What>) -> Stood
+        ensures { all_kept self.now + moment < 2 ^ 64 → result ≡ stood_since begun moment next self.now }
+    {
+        match begun {
+            None => Stood::new(),
+            Some(begun) => {
+                let from = later(self.since, begun);
+                let mut stood = self.stood;
+                stood.count(
+                    settled(next, self.standing),
+                    moment.get().saturating_sub(from.get()),
+                );
+                stood
+            }
+        }
+    }
+
+    // How the thread stood from moment 0 on, up to some moment, where `next` is its next telling row.
+    pub(crate) fn total_at(&self, moment: Tick, next: Option<What>) -> Stood
+        ensures { all_kept self.now + moment < 2 ^ 64 → result ≡ total_at moment next self.now }
+    {
+        let ticks = moment.get().saturating_sub(self.since.get());
+        let mut stood = self.total;
+        stood.count(settled(next, self.standing), ticks);
+        stood
+    }
+
+    // When it was first ready or running since its round began, up to some moment.
+    fn active_since(&self, begun: Option<Tick>, moment: Tick, next: Option<What>) -> Option<Tick>
+        ensures { result ≡ active_since begun moment next self.now }
+    {
+        match begun {
+            None => None,
+            Some(begun) => or_first(
+                self.active,
+                is_active(settled(next, self.standing)),
+                later(self.since, begun),
+                moment,
+            ),
+        }
+    }
+
+    // When the round was activated that is under way.
+    fn activated_since(&self, moment: Tick) -> Option<Tick>
+        ensures { result ≡ activated_since moment self.now }
+    {
+        match self.waits {
+            Some(_) => self.called,
+            None => self.active_since(self.begun, moment, None),
+        }
+    }
+
+    fn tell(&mut self, moment: Tick, what: &What)
+        ensures { all_kept self.old + moment < 2 ^ 64 → self.new ≡ told moment what.now self.old }
+    {
+        let total = self.total_at(moment, Some(*what));
+        let active = self.active_since(self.begun, moment, Some(*what));
+        self.stood = self.stood_since(self.begun, moment, Some(*what));
+        self.active = active;
+        self.total = total;
+        self.standing = standing_after(*what);
+        self.since = moment;
+    }
+
+    fn begin(&mut self, begun: Option<Tick>)
+        ensures { self.new ≡ begins begun self.old }
+    {
+        self.begun = begun;
+        self.active = None;
+        self.stood = Stood::new();
+    }
+
+    // A word that was set at some moment.
+    fn give(&mut self, moment: Tick, set: Tick)
+        ensures { self.new ≡ given moment set self.old }
+    {
+        if self.waits.is_some() && self.begun.is_none() {
+            self.called = Some(set);
+            self.begin(Some(moment));
+        }
+    }
+
+    // A row of this thread; a word that it takes was set at some moment.
+    pub(crate) fn see(&mut self, set: Tick, moment: Tick, what: &What)
+        ensures { all_kept self.old + moment < 2 ^ 64 → self.new ≡ seen_own set moment what.now self.old }
+    {
+        match *what {
+            What::Stop { why: Why::Done, .. } => {
+                self.tell(moment, what);
+                self.begin(None);
+            }
+            What::Wake { .. } => {
+                self.tell(moment, what);
+                self.give(moment, moment);
+            }
+            What::Got { .. } => self.give(moment, set),
+            What::Round { .. } => {
+                let begun = match self.waits {
+                    Some(_) => None,
+                    None => Some(moment),
+                };
+                self.begin(begun);
+            }
+            _ => self.tell(moment, what),
+        }
+    }
+
+    // The round that ends, if it missed its deadline.
+    pub(crate) fn miss(&self, moment: Tick, thread: ThreadId, number: u64) -> Option<Finding>
+        ensures { all_kept self.now + moment < 2 ^ 64 → result ≡ miss_by moment thread number self.now }
+    {
+        let begun = self.begun.unwrap_or(moment);
+        let activated = self.activated_since(moment).unwrap_or(moment);
+        let response = moment.get().saturating_sub(activated.get());
+        if is_above(self.deadline, response) {
+            Some(Finding::Miss {
+                thread,
+                number,
+                response,
+                deadline: self.deadline,
+                activated,
+                queued: begun.get().saturating_sub(activated.get()),
+                stood: self.stood_since(self.begun, moment, None),
+            })
+        } else {
+            None
+        }
+    }
+
+    // The round that is under way, or yet to begin by a word that is held, if it is overdue at the horizon.
+    fn overdue(&self, horizon: Tick, thread: ThreadId, held: &Held) -> Option<Finding>
+        ensures { all_kept self.now + horizon < 2 ^ 64 → result ≡ overdue_by horizon thread held.now self.now }
+    {
+        match self.begun {
+            Some(begun) => overdue_at(
+                horizon,
+                thread,
+                self.deadline,
+                begun,
+                self.stood_since(self.begun, horizon, None),
+                self.activated_since(horizon),
+            ),
+            None => overdue_at(
+                horizon,
+                thread,
+                self.deadline,
+                horizon,
+                Stood::new(),
+                yet_to_begin(self.standing, held),
+            ),
+        }
+    }
+
+    fn never(&self, horizon: Tick, thread: ThreadId, held: &Held) -> Option<Finding>
+        ensures { all_kept self.now + horizon < 2 ^ 64 → result ≡ never_by horizon thread held.now self.now }
+    {
+        let stood = self.total_at(horizon, None);
+        if self.deadline != 0 && !was_activated(self.waits, self.called, held, &stood) {
+            Some(Finding::Never {
+                thread,
+                deadline: self.deadline,
+            })
+        } else {
+            None
+        }
+    }
+
+    // What is found of the thread at the horizon, where this is the word for which its script waits first.
+    pub(crate) fn unended(&self, horizon: Tick, thread: ThreadId, held: &Held) -> Option<Finding>
+        ensures { all_kept self.now + horizon < 2 ^ 64 → result ≡ unended_by horizon thread held.now self.now }
+    {
+        match self.overdue(horizon, thread, held) {
+            Some(found) => Some(found),
+            None => self.never(horizon, thread, held),
+        }
+    }
+}

@@ -1,0 +1,90 @@
+ghost use Rattle.std.specs.Prelude.{◌≡◌, List, ◌++◌, [], IfOk};
+ghost use Rattle.mcs_ticks.specs.declared.row.Row.{Row as TheRow};
+ghost use Rattle.mcs_system.specs.System.{System as TheSystem};
+ghost use Rattle.mcs_verdict.specs.Findings.{UpTo, InOrder, past_of, found_at, found_in, found_at_end, findings};
+ghost use Rattle.mcs_verdict.specs.Watch.{watch_of};
+
+use crate::{Finding, Found, Watch};
+use mcs_system::{System, SystemParts};
+use mcs_ticks::{CoreId, NoMemory, Row, ThreadId, Tick};
+use std::alloc::Global;
+
+fn keep(
+    found: &mut Vec<Found>,
+    moment: Tick,
+    core: CoreId,
+    finding: Option<Finding>,
+) -> Result<(), NoMemory>
+    ensures { IfOk result (λ _. found.new.items ≡ found.old.items ++ found_at moment core finding) }
+{
+    if let Some(finding) = finding {
+        found.push(Found {
+            moment,
+            core,
+            finding,
+        })?;
+    }
+    Ok(())
+}
+
+fn keep_rows(found: &mut Vec<Found>, watch: &mut Watch, rows: &[Row]) -> Result<(), NoMemory>
+    ensures { (system : TheSystem) (past : List TheRow) → watch.old ≡ watch_of system past → InOrder past rows.now →
+        IfOk result (λ _. (watch.new ≡ watch_of system (past_of past rows.now))
+        × (found.new.items ≡ found.old.items ++ found_in system past rows.now)) }
+{
+    for row in rows {
+        let told = watch.see(row);
+        keep(found, row.moment, row.core, told)?;
+    }
+    Ok(())
+}
+
+fn keep_unended(
+    found: &mut Vec<Found>,
+    watch: &Watch,
+    parts: &SystemParts,
+    horizon: Tick,
+) -> Result<(), NoMemory>
+    ensures { (past : List TheRow) → watch.now ≡ watch_of parts.now past → UpTo horizon past →
+        IfOk result (λ _. found.new.items ≡ found.old.items ++ found_at_end parts.now past horizon 0 parts.now.threads) }
+{
+    for (number, part) in parts.threads.as_slice().iter().enumerate() {
+        let told = watch.unended(horizon, ThreadId(number));
+        keep(found, horizon, parts.core_of_thread(part), told)?;
+    }
+    Ok(())
+}
+
+/// What is found at the horizon, in the order of the threads, where this is kept of all rows. `NoMemory` where a growth was refused.
+pub fn find_unended(
+    alloc: Global,
+    system: &System,
+    watch: &Watch,
+    horizon: Tick,
+) -> Result<Vec<Found>, NoMemory>
+    ensures { (past : List TheRow) → watch.now ≡ watch_of system.now past → UpTo horizon past →
+        IfOk result (λ found. found.items ≡ found_at_end system.now past horizon 0 system.now.threads) }
+{
+    let mut found = Vec::new(alloc);
+    keep_unended(&mut found, watch, system.parts(), horizon)?;
+    Ok(found)
+}
+
+/// All that is found in the rows of a run of the system up to the horizon: each once, in the order of the rows, and then what is found at
+/// the horizon, in the order of the threads. `NoMemory` where a growth was refused.
+pub fn find_all(
+    alloc: Global,
+    system: &System,
+    horizon: Tick,
+    rows: &[Row],
+) -> Result<Vec<Found>, NoMemory>
+    requires in_order { InOrder [] rows.now }
+    requires in_time { UpTo horizon (past_of [] rows.now) }
+    ensures { IfOk result (λ found. found.items ≡ findings system.now horizon rows.now) }
+{
+    let mut watch = Watch::new(alloc, system)?;
+    let mut found = Vec::new(alloc);
+    keep_rows(&mut found, &mut watch, rows)?;
+    keep_unended(&mut found, &watch, system.parts(), horizon)?;
+    Ok(found)
+}

@@ -1,0 +1,17 @@
+//! What a schedule's rows say of its threads and notifications, row by row: rounds that missed their deadline or can only do so, how a
+//! thread stood meanwhile, threads that were never activated, and signals that are lost.
+#![tactic(auto)]
+
+mod account;
+mod all;
+mod finding;
+mod held;
+mod laws;
+mod standing;
+mod watch;
+
+pub use all::{find_all, find_unended};
+pub use finding::{Finding, Found};
+pub use laws::all_ticks_are_counted;
+pub use standing::{Standing, Stood};
+pub use watch::Watch;

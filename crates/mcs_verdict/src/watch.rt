@@ -1,0 +1,254 @@
+ghost use Rattle.std.specs.Prelude.{◌≡◌, ℕ, ◌+◌, ◌<◌, ◌^◌, List, [], ◌∷◌, length, map, Some, IfOk};
+ghost use Rattle.mcs_ticks.specs.declared.row.Row.{Row as TheRow};
+ghost use Rattle.mcs_system.specs.System.{System as TheSystem};
+ghost use Rattle.mcs_system.specs.declared.part.ThreadPart.{ThreadPart as TheThread};
+ghost use Rattle.mcs_system.specs.declared.part.NotePart.{NotePart as TheNote};
+ghost use Rattle.mcs_verdict.specs.Stood.{stood_in};
+ghost use Rattle.mcs_verdict.specs.Misses.{miss, unended, word_for};
+ghost use Rattle.mcs_verdict.specs.Words.{no_word, held_of, leaves, adds, merges};
+ghost use Rattle.mcs_verdict.specs.Findings.{finding, UpTo};
+ghost use Rattle.mcs_verdict.specs.Account.{account_of, set_for, subject};
+ghost use Rattle.mcs_verdict.specs.Watch.{accounts_of, words_of, watch_of};
+
+use crate::account::Account;
+use crate::held::Held;
+use crate::{Finding, Stood};
+use mcs_system::{System, SystemParts};
+use mcs_ticks::{Limits, NoMemory, NoteId, Row, ThreadId, Tick, What};
+use std::alloc::Global;
+use std::marker::Model;
+
+/// What is kept of a schedule's rows so far: an account of each thread, and the word of each notification. A row more takes constant time
+/// and no memory, since all room is taken when the watch is made.
+#[derive(Drop)]
+pub struct Watch {
+    accounts: Vec<Account>,
+    words: Vec<Held>,
+}
+
+impl Model for Watch {
+    ghost use Rattle.mcs_verdict.specs.Watch.{Watch};
+
+    ghost Value = { Watch };
+
+    ghost view = { λ a. record { accounts = a.accounts.items; words = a.words.items } };
+}
+
+fn subject(what: &What) -> Option<ThreadId>
+    ensures { result ≡ subject what.now }
+{
+    match *what {
+        What::Release { thread }
+        | What::Run { thread }
+        | What::Stop { thread, .. }
+        | What::Wake { thread, .. }
+        | What::Got { thread, .. }
+        | What::Round { thread, .. } => Some(thread),
+        _ => None,
+    }
+}
+
+// When the word was set that this row says is taken.
+fn set_for(words: &[Held], what: &What) -> Tick
+    ensures { (parts : List TheNote) (past : List TheRow) → words.now ≡ words_of 0 parts past →
+        result ≡ set_for (length parts) past what.now }
+{
+    match *what {
+        What::Got { note, .. } => word_at(words, note).since,
+        _ => Tick::ZERO,
+    }
+}
+
+// The word of a notification, 0 where there is none.
+fn word_at(words: &[Held], note: NoteId) -> Held
+    ensures { (parts : List TheNote) (past : List TheRow) → words.now ≡ words_of 0 parts past →
+        result ≡ held_of (length parts) note past }
+{
+    if note.0 < words.len() {
+        words[note.0]
+    } else {
+        Held::new()
+    }
+}
+
+// The word for which a script waits first.
+fn word_for(words: &[Held], waits: Option<NoteId>) -> Held
+    ensures { (parts : List TheNote) (past : List TheRow) → words.now ≡ words_of 0 parts past →
+        result ≡ word_for (length parts) waits past }
+{
+    match waits {
+        Some(note) => word_at(words, note),
+        None => Held::new(),
+    }
+}
+
+// `set` is when the word was set that the row says is taken.
+fn tell_accounts(accounts: &mut [Account], set: Tick, row: &Row)
+    ensures { (notes : ℕ) (parts : List TheThread) (past : List TheRow) → accounts.old ≡ accounts_of notes 0 parts past →
+        set ≡ set_for notes past row.now.what → UpTo row.now.moment past →
+        accounts.new ≡ accounts_of notes 0 parts (row.now ∷ past) }
+{
+    if let Some(thread) = subject(&row.what) {
+        if thread.0 < accounts.len() {
+            // so that no count is above 2^64 - 1
+            prove!(row.moment.get() <= Limits::TICK);
+            accounts[thread.0].see(set, row.moment, &row.what);
+        }
+    }
+}
+
+fn tell_words(words: &mut [Held], row: &Row)
+    ensures { (parts : List TheNote) (past : List TheRow) → words.old ≡ words_of 0 parts past →
+        words.new ≡ words_of 0 parts (row.now ∷ past) }
+{
+    match row.what {
+        What::Hold { note, word } => {
+            if note.0 < words.len() {
+                words[note.0].hold(row.moment, word);
+            }
+        }
+        What::Got { note, .. } => {
+            if note.0 < words.len() {
+                words[note.0].take();
+            }
+        }
+        _ => {}
+    }
+}
+
+fn is_lost(words: &[Held], note: NoteId, word: u32) -> bool
+    ensures { (parts : List TheNote) (past : List TheRow) → words.now ≡ words_of 0 parts past →
+        result ≡ leaves (held_of (length parts) note past).word word }
+{
+    word_at(words, note).word == word
+}
+
+fn adds(before: u32, word: u32) -> bool
+    ensures { result ≡ adds before word }
+{
+    before != 0 && before != word
+}
+
+fn is_merged(words: &[Held], note: NoteId, word: u32) -> bool
+    ensures { (parts : List TheNote) (past : List TheRow) → words.now ≡ words_of 0 parts past →
+        result ≡ adds (held_of (length parts) note past).word word }
+{
+    adds(word_at(words, note).word, word)
+}
+
+fn miss(accounts: &[Account], moment: Tick, thread: ThreadId, number: u64) -> Option<Finding>
+    ensures { (system : TheSystem) (past : List TheRow) → accounts.now ≡ accounts_of (length system.notes) 0 system.threads past →
+        UpTo moment past → result ≡ miss system past moment thread number }
+{
+    if thread.0 < accounts.len() {
+        // so that no count is above 2^64 - 1
+        prove!(moment.get() <= Limits::TICK);
+        accounts[thread.0].miss(moment, thread, number)
+    } else {
+        None
+    }
+}
+
+fn opened_accounts(alloc: Global, parts: &SystemParts) -> Result<Vec<Account>, NoMemory>
+    ensures { IfOk result (λ accounts. accounts.items ≡ map (λ part. account_of 0 part 0 []) parts.now.threads) }
+{
+    let accounts = parts
+        .threads
+        .as_slice()
+        .iter()
+        .map(|part| Account::new(part))
+        .collect(alloc)?;
+    Ok(accounts)
+}
+
+fn opened_words(alloc: Global, parts: &SystemParts) -> Result<Vec<Held>, NoMemory>
+    ensures { IfOk result (λ words. words.items ≡ map (λ part. no_word) parts.now.notes) }
+{
+    let words = parts
+        .notes
+        .as_slice()
+        .iter()
+        .map(|_| Held::new())
+        .collect(alloc)?;
+    Ok(words)
+}
+
+impl Watch {
+    /// What is kept before the first row of a run of the system. `NoMemory` where a growth was refused.
+    pub fn new(alloc: Global, system: &System) -> Result<Self, NoMemory>
+        ensures { IfOk result (λ watch. watch ≡ watch_of system.now []) }
+    {
+        let parts = system.parts();
+        Ok(Watch {
+            accounts: opened_accounts(alloc, parts)?,
+            words: opened_words(alloc, parts)?,
+        })
+    }
+
+    fn find(&self, row: &Row) -> Option<Finding>
+        ensures { (system : TheSystem) (past : List TheRow) → self.now ≡ watch_of system past → UpTo row.now.moment past →
+            result ≡ finding system past row.now.moment row.now.what }
+    {
+        match row.what {
+            What::Round { thread, number, .. } => {
+                miss(self.accounts.as_slice(), row.moment, thread, number)
+            }
+            What::Hold { note, word } if is_lost(self.words.as_slice(), note, word) => {
+                Some(Finding::Lost { note, word })
+            }
+            _ => None,
+        }
+    }
+
+    /// One row more, in constant time and without memory: what it tells.
+    pub fn see(&mut self, row: &Row) -> Option<Finding>
+        ensures kept { (system : TheSystem) (past : List TheRow) → self.old ≡ watch_of system past → UpTo row.now.moment past →
+            self.new ≡ watch_of system (row.now ∷ past) }
+        ensures found { (system : TheSystem) (past : List TheRow) → self.old ≡ watch_of system past → UpTo row.now.moment past →
+            result ≡ finding system past row.now.moment row.now.what }
+    {
+        let found = self.find(row);
+        let set = set_for(self.words.as_slice(), &row.what);
+        tell_accounts(self.accounts.as_mut_slice(), set, row);
+        tell_words(self.words.as_mut_slice(), row);
+        found
+    }
+
+    /// Whether the row, which is yet to be seen, merges a signal with those that set the word.
+    pub fn merges(&self, row: &Row) -> bool
+        ensures { (system : TheSystem) (past : List TheRow) → self.now ≡ watch_of system past →
+            result ≡ merges system past row.now.what }
+    {
+        match row.what {
+            What::Hold { note, word } => is_merged(self.words.as_slice(), note, word),
+            _ => false,
+        }
+    }
+
+    /// What is found of the thread at the horizon, in constant time: that a round of it is overdue, or that none was ever activated.
+    pub fn unended(&self, horizon: Tick, thread: ThreadId) -> Option<Finding>
+        ensures { (system : TheSystem) (past : List TheRow) → self.now ≡ watch_of system past → UpTo horizon past →
+            result ≡ unended system past horizon thread }
+    {
+        if thread.0 < self.accounts.len() {
+            // so that no count is above 2^64 - 1
+            prove!(horizon.get() <= Limits::TICK);
+            let account = &self.accounts[thread.0];
+            let held = word_for(self.words.as_slice(), account.waits);
+            account.unended(horizon, thread, &held)
+        } else {
+            None
+        }
+    }
+
+    /// How the thread stood in the ticks before a moment, in constant time.
+    pub fn stood(&self, moment: Tick, thread: ThreadId) -> Stood
+        requires { thread < length self.now.accounts }
+        ensures { (system : TheSystem) (past : List TheRow) → self.now ≡ watch_of system past → UpTo moment past →
+            result ≡ stood_in thread past 0 moment }
+    {
+        // so that no count is above 2^64 - 1
+        prove!(moment.get() <= Limits::TICK);
+        self.accounts[thread.0].total_at(moment, None)
+    }
+}
