@@ -52,6 +52,7 @@ CHECKS = (
     Check('units', tries_program=False),
     Check('library'),
     Check('theorems', tries_program=False),
+    Check('believe', tries_program=False),
     Check('faults'),
     Check('manual'),
     Check('mended'),
