@@ -19,7 +19,9 @@ from common import TOP, Count, Ran
 
 PROGRAM = './mcsim'
 LEFT_OUT = '..'
-GUIDES = [TOP / 'docs' / name for name in ('KERNEL.md', 'LEFT_OUT.md', 'MODELLING.md')]
+# a block that writes files is run elsewhere
+WRITES = ' -o '
+GUIDES = [TOP / 'docs' / name for name in ('KERNEL.md', 'LEFT_OUT.md', 'MODELLING.md', 'WAYS_IN.md')]
 # pages with blocks beside those that a command wrote
 SHOW_OTHERS = (pathlib.Path('README.md'), pathlib.Path('examples', 'README.md'))
 
@@ -48,7 +50,7 @@ def is_shown(block: str, written: Sequence[str]) -> bool:
 
 def runs_a_system(block: str) -> bool:
     """Whether a block of commands runs the program with a file, or with a text in the block."""
-    return PROGRAM in block and ('.toml' in block or '<<' in block)
+    return PROGRAM in block and ('.toml' in block or '<<' in block) and WRITES not in block
 
 
 def try_page(program: pathlib.Path, page: pathlib.Path, count: Count) -> None:

@@ -37,12 +37,22 @@ def moment(text: str) -> int:
     return int(text)
 
 
-class Words(argparse.ArgumentParser):
+class BareWords(argparse.ArgumentParser):
     """The words of a tool; what is wrong with them is one line."""
 
     def __init__(self, doc: Optional[str]) -> None:
         super().__init__(prog=pathlib.Path(sys.argv[0]).stem, description=doc, formatter_class=argparse.RawDescriptionHelpFormatter)
         version.add_to(self)
+
+    def error(self, message: str) -> None:
+        raise Fault(message)
+
+
+class Words(BareWords):
+    """The words of a tool that shows a schedule."""
+
+    def __init__(self, doc: Optional[str]) -> None:
+        super().__init__(doc)
         self.add_argument('system', type=pathlib.Path, metavar='SYSTEM', help='the file of the system')
         self.add_argument('--horizon', type=moment, metavar='N', help=f'the last moment of the run (default: {HORIZON}; of rows: that of the last one)')
         self.add_argument('--program', default=default_program(), metavar='PATH', help='the program to run (default: %(default)s)')
@@ -50,9 +60,6 @@ class Words(argparse.ArgumentParser):
     def takes_rows(self) -> Words:
         self.add_argument('--rows', metavar='FILE', help='reads the schedule of SYSTEM from FILE, - for standard input, and runs nothing')
         return self
-
-    def error(self, message: str) -> None:
-        raise Fault(message)
 
 
 @dataclass(frozen=True)

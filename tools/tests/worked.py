@@ -1,13 +1,18 @@
 """Small systems and schedules that were worked out by hand, for the tests."""
 from __future__ import annotations
 
+import contextlib
+import io
 import pathlib
 import sys
 import tomllib
-from typing import Optional
+from collections.abc import Callable
+from typing import NamedTuple, Optional
+from unittest import mock
 
 TOOLS = pathlib.Path(__file__).resolve().parent.parent
 sys.path.insert(0, str(TOOLS))
+from mcsim_tools import faults
 from mcsim_tools import system as systems
 from mcsim_tools.reading import Holding, Listener, Post, Reading, Round, Stood, read
 from mcsim_tools.source import Told
@@ -144,3 +149,19 @@ class Heard(Listener):
 def heard(text: str, rows: str, horizon: Optional[int], hears: tuple[str, ...] = ()) -> tuple[Heard, Reading]:
     listener = Heard(hears)
     return listener, read(told(text, rows, horizon), listener)
+
+
+class Ended(NamedTuple):
+    """What a tool came to."""
+
+    status: int
+    stdout: str
+    stderr: str
+
+
+def ran(name: str, main: Callable[[], None], *words: object) -> Ended:
+    """Runs a tool with these words, within this process."""
+    out, said = io.StringIO(), io.StringIO()
+    with mock.patch.object(sys, 'argv', [name, *map(str, words)]), contextlib.redirect_stdout(out), contextlib.redirect_stderr(said):
+        status = faults.guarded(main)
+    return Ended(status, out.getvalue(), said.getvalue())
