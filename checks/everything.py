@@ -47,6 +47,7 @@ CHECKS = (
     Check('traces'),
     Check('views'),
     Check('bandwidth'),
+    Check('analyses'),
     Check('refused_runs'),
     Check('early', tries_program=False),
     Check('units', tries_program=False),

@@ -1,0 +1,381 @@
+"""tasks TASKS.csv [-o FILE] [--analyse]
+tasks --random N --utilisation U --seed S [-o FILE] [--analyse]
+
+Makes a system's file for mcsim of a list of periodic tasks: a CSV whose first line names its columns, `name`, `work` and `period`, and where they are
+wanted `deadline` (default: the period), `offset` (0), `priority` (the greatest runs first) and `core` (0). Times are ticks. Without priorities those
+of the shortest period are the greatest (rate monotonic); `--priorities deadline` takes the shortest deadline.
+
+A task is a thread with a budget of its work in its period, so that its context is its clock, and its script computes the work. With --clocks each has a
+clock on a core of its own and waits for it, as on a board; each wait costs a call. Both forms agree with the analysis to the tick.
+
+--analyse runs the system and writes a CSV: for each task the bound of response-time analysis (none where its core is asked for more than it has), the
+greatest response seen, counted from its release, and their ratio. A job that had not ended at the horizon counts with its age. Without --horizon the
+run is as long as the answer needs: one busy stretch where all tasks of a core begin together, else until the schedule repeats.
+
+--random makes a list by UUniFast; the same words give the same list, and --list writes it as CSV."""
+from __future__ import annotations
+
+import argparse
+import csv
+import io
+import math
+import pathlib
+import random
+import re
+from collections.abc import Callable, Iterable, Sequence
+from dataclasses import dataclass, replace
+from typing import Any, Optional
+
+from . import analysis, named, output, source, system, writing
+from .analysis import Demand
+from .faults import Fault
+from .reading import Listener, Reading, Round
+from .source import BareWords
+
+COLUMNS = ('name', 'work', 'period', 'deadline', 'offset', 'priority', 'core')
+REQUIRED = COLUMNS[:3]
+LONGEST = 2**40
+MOST_PRIORITY = 255
+MOST_CORES = 64
+MOST_TASKS = 4096
+# the farthest horizon that is taken unasked
+FAR = 10**7
+CALL = DELAY = 1
+ANALYSED = ('name', 'core', 'priority', 'work', 'period', 'deadline', 'bound', 'seen', 'ratio')
+
+
+@dataclass(frozen=True)
+class Task:
+    """A periodic task, in ticks."""
+
+    name: str
+    work: int
+    period: int
+    deadline: int
+    offset: int = 0
+    priority: Optional[int] = None
+    core: int = 0
+
+
+# ---- lists of tasks
+
+
+class List:
+    """The text of a list; faults name a line of it."""
+
+    def __init__(self, path: pathlib.Path) -> None:
+        self.path = path
+        try:
+            text = system.read_bytes(path).decode('utf-8-sig')
+        except UnicodeDecodeError:
+            raise Fault(f'{path}: not UTF-8') from None
+        self.rows = csv.reader(io.StringIO(text, newline=''), skipinitialspace=True)
+        self.columns: list[str] = []
+
+    def fault(self, text: str) -> Fault:
+        return Fault(f'{self.path}:{max(1, self.rows.line_num)}: {text}')
+
+    def tasks(self) -> list[Task]:
+        found: dict[str, Task] = {}
+        try:
+            self.take_columns(next(self.rows, []))
+            for row in self.rows:
+                if not any(cell.strip() for cell in row):
+                    continue
+                task = self.task(row)
+                if task.name in found:
+                    raise self.fault(f'the name {task.name} is used twice')
+                found[task.name] = task
+        except csv.Error as error:
+            raise self.fault(f'not CSV: {error}') from None
+        if not found:
+            raise Fault(f'{self.path}: there is no task')
+        return list(found.values())
+
+    def take_columns(self, row: Sequence[str]) -> None:
+        self.columns = [cell.strip() for cell in row]
+        for column in self.columns:
+            if column not in COLUMNS:
+                raise self.fault(f'the column {column!r} is none of {", ".join(COLUMNS)}')
+        if missing := [column for column in REQUIRED if column not in self.columns]:
+            raise self.fault(f'the column {missing[0]} is missing: the first line names the columns')
+        if len(set(self.columns)) < len(self.columns):
+            raise self.fault('a column is there twice')
+
+    def task(self, row: Sequence[str]) -> Task:
+        if len(row) != len(self.columns):
+            raise self.fault(f'{len(row)} cells for {len(self.columns)} columns')
+        cells = {column: cell.strip() for column, cell in zip(self.columns, row)}
+        name = cells['name']
+        if not named.NAME.fullmatch(name):
+            raise self.fault(f'the name {name!r} is none of mcsim, which has {named.NAMES}')
+
+        def number(column: str, least: int, most: int, default: int) -> int:
+            text = cells.get(column, '')
+            if not text and column not in REQUIRED:
+                return default
+            if not text.isascii() or not text.isdigit() or not least <= int(text) <= most:
+                raise self.fault(f'{column} {text!r} of {name} is no number of {least} to {most}')
+            return int(text)
+
+        period = number('period', 1, LONGEST, 0)
+        work = number('work', 1, LONGEST, 0)
+        if work > period:
+            raise self.fault(f'work {work} of {name} is above its period {period}')
+        priority = number('priority', 0, MOST_PRIORITY, -1)
+        return Task(name, work, period, number('deadline', 1, LONGEST, period), number('offset', 0, LONGEST, 0),
+                    None if priority < 0 else priority, number('core', 0, MOST_CORES - 1, 0))
+
+
+def uunifast(count: int, total: float, rng: random.Random) -> Iterable[float]:
+    """Shares that sum to the total, all such lists alike likely (Bini and Buttazzo)."""
+    for left in range(count - 1, 0, -1):
+        rest = total * rng.random() ** (1 / left)
+        yield total - rest
+        total = rest
+    yield total
+
+
+def random_tasks(count: int, total: float, seed: int, periods: tuple[int, int]) -> list[Task]:
+    """Tasks with periods that are alike likely by their logarithm. Work is rounded down, to one tick at least."""
+    rng = random.Random(seed)
+    least, most = periods
+    tasks = []
+    for place, share in enumerate(uunifast(count, total, rng), 1):
+        period = min(most, int(math.exp(rng.uniform(math.log(least), math.log(most + 1)))))
+        tasks.append(Task(f't{place}', max(1, int(share * period)), period, period))
+    return tasks
+
+
+def with_priorities(tasks: Sequence[Task], order: Optional[str]) -> list[Task]:
+    """Each with a priority: that of the list, or by an order, those of a core apart from each other."""
+    given = [task for task in tasks if task.priority is not None]
+    if order == 'given' or order is None and given:
+        without = next((task for task in tasks if task.priority is None), None)
+        if without:
+            raise Fault(f'{without.name} has no priority: give one to each task, or --priorities rate or deadline')
+        return list(tasks)
+    key: Callable[[Task], int] = (lambda task: task.deadline) if order == 'deadline' else (lambda task: task.period)
+    ranked: dict[str, int] = {}
+    for core in {task.core for task in tasks}:
+        own = sorted((task for task in tasks if task.core == core), key=key, reverse=True)
+        if len(own) > MOST_PRIORITY:
+            raise Fault(f'{len(own)} tasks of core {core} want a priority each, of 1 to {MOST_PRIORITY}')
+        # of two alike the first of the list is the greater
+        own.sort(key=lambda task: (-key(task), -tasks.index(task)))
+        ranked |= {task.name: rank for rank, task in enumerate(own, 1)}
+    return [replace(task, priority=ranked[task.name]) for task in tasks]
+
+
+def list_text(tasks: Sequence[Task]) -> str:
+    text = io.StringIO()
+    table = csv.writer(text, lineterminator='\n')
+    table.writerow(COLUMNS)
+    for task in tasks:
+        table.writerow([task.name, task.work, task.period, task.deadline, task.offset, '' if task.priority is None else task.priority, task.core])
+    return text.getvalue()
+
+
+# ---- systems of tasks
+
+
+@dataclass(frozen=True)
+class Form:
+    """How tasks become threads: with a clock each, or with their contexts as clocks."""
+
+    tasks: Sequence[Task]
+    has_clocks: bool
+
+    def __post_init__(self) -> None:
+        if not self.has_clocks:
+            return
+        if self.board + len(self.tasks) > MOST_CORES:
+            raise Fault(f'{len(self.tasks)} tasks with a clock each and {self.board} cores want {self.board + len(self.tasks)} cores, of at most {MOST_CORES}')
+        for task in self.tasks:
+            if task.work + CALL > task.period:
+                raise Fault(f'work {task.work} of {task.name} and a call are above its period {task.period}')
+
+    @property
+    def board(self) -> int:
+        return max(task.core for task in self.tasks) + 1
+
+    @property
+    def first(self) -> int:
+        """When a task of offset 0 is first released: once all threads wait for their clocks, and what that cost has come back."""
+        return max(task.period for task in self.tasks) + CALL + DELAY if self.has_clocks else 0
+
+    def demand(self, task: Task) -> Demand:
+        return Demand(task.work, task.work + CALL if self.has_clocks else task.work, task.period)
+
+    def above(self, task: Task) -> list[Demand]:
+        return [self.demand(other) for other in self.tasks if other is not task and other.core == task.core and other.priority >= task.priority]
+
+    def bound(self, task: Task) -> Optional[int]:
+        return analysis.bound(self.demand(task), self.above(task))
+
+    def tables(self) -> dict[str, Any]:
+        contexts = [{'name': task.name, 'core': task.core, 'budget': self.demand(task).cost, 'period': task.period} for task in self.tasks]
+        threads = [self.thread(task) for task in self.tasks]
+        tables: dict[str, Any] = {'version': 2, 'cores': self.board, 'delay': DELAY}
+        if not self.has_clocks:
+            return {**tables, 'context': contexts, 'thread': threads}
+        names = {task.name for task in self.tasks}
+        for place, task in enumerate(self.tasks):
+            clock = f'clock{place + 1}'
+            while clock in names:
+                clock += '_'
+            contexts.append({'name': clock, 'core': self.board + place, 'budget': CALL, 'period': task.period})
+            start = self.first - CALL - DELAY + task.offset
+            threads.append({'name': clock, 'context': clock, 'priority': 1, 'start': start, 'script': [f'signal {task.name} 1']})
+        notes = [{'name': task.name, 'core': task.core} for task in self.tasks]
+        return {**tables, 'cores': self.board + len(self.tasks), 'call': CALL, 'context': contexts, 'note': notes, 'thread': threads}
+
+    def thread(self, task: Task) -> dict[str, Any]:
+        thread: dict[str, Any] = {'name': task.name, 'context': task.name, 'priority': task.priority, 'deadline': task.deadline}
+        if self.has_clocks:
+            return {**thread, 'script': [f'wait {task.name}', f'compute {task.work}']}
+        if task.offset:
+            thread['start'] = task.offset
+        return {**thread, 'script': [f'compute {task.work}']}
+
+    def horizon(self) -> int:
+        """How long a run tells the greatest responses."""
+        longest = max(self.first + task.offset for task in self.tasks)
+        needed = longest + max(self.of_core(core) for core in sorted({task.core for task in self.tasks}))
+        if needed > FAR:
+            raise Fault(f'the answer needs {needed} ticks: --horizon N says how long the run is to be')
+        return needed
+
+    def of_core(self, core: int) -> int:
+        own = [task for task in self.tasks if task.core == core]
+        stretch = analysis.busy_stretch([self.demand(task) for task in own])
+        longest = max(task.period for task in own)
+        if stretch is None:
+            return 10 * longest
+        if len({task.offset for task in own}) == 1:
+            return stretch + CALL
+        return longest + 2 * math.lcm(*(task.period for task in own))
+
+
+class Seen(Listener):
+    """The greatest response of each task, from its release on."""
+
+    def __init__(self, form: Form) -> None:
+        self.form = form
+        self.tasks = {task.name: task for task in form.tasks}
+        self.greatest = dict.fromkeys(self.tasks, 0)
+        self.ended = dict.fromkeys(self.tasks, 0)
+
+    def saw(self, name: str, response: int) -> None:
+        self.greatest[name] = max(self.greatest[name], response)
+
+    def round_ended(self, ended: Round) -> None:
+        task = self.tasks.get(ended.thread.name)
+        if task is None:
+            return
+        self.ended[task.name] = ended.number
+        self.saw(task.name, ended.response if self.form.has_clocks else ended.end - task.offset - (ended.number - 1) * task.period)
+
+    def round_open(self, open_round: Round) -> None:
+        if self.form.has_clocks and open_round.thread.name in self.tasks:
+            self.saw(open_round.thread.name, open_round.response)
+
+    def close(self, horizon: int) -> None:
+        """Jobs that had not ended: where a context is the clock, rows tell of no release while the thread is late."""
+        for name, task in self.tasks.items():
+            if not self.form.has_clocks:
+                self.saw(name, horizon - task.offset - self.ended[name] * task.period)
+
+
+def seen(form: Form, program: str, horizon: int) -> dict[str, int]:
+    """The greatest responses of a run."""
+    text = writing.system_text(form.tables()).encode()
+    path = pathlib.Path('the system of the tasks')
+    listener = Seen(form)
+    running = source.Run(program, path, text, ['--horizon', str(horizon)])
+    try:
+        lines = running.lines()
+        Reading(system.parse(path, text), listener).read(lines, horizon)
+    finally:
+        running.end()
+    listener.close(horizon)
+    return listener.greatest
+
+
+def analysed(form: Form, found: dict[str, int]) -> list[list[object]]:
+    """For each task the bound, what was seen, and their ratio."""
+    rows: list[list[object]] = []
+    for task in form.tasks:
+        most, greatest = form.bound(task), found[task.name]
+        ratio = 'none' if most is None else f'{greatest / most:.3f}'
+        rows.append([task.name, task.core, task.priority, task.work, task.period, task.deadline, 'none' if most is None else most, greatest, ratio])
+    return rows
+
+
+# ---- words
+
+
+def share(text: str) -> float:
+    try:
+        number = float(text)
+    except ValueError:
+        number = 0.0
+    if not 0 < number <= 1:
+        raise argparse.ArgumentTypeError(f'{text!r} is no utilisation above 0, of at most 1')
+    return number
+
+
+def count(text: str) -> int:
+    if not text.isascii() or not text.isdigit() or not 1 <= int(text) <= MOST_PRIORITY:
+        raise argparse.ArgumentTypeError(f'{text!r} is no number of tasks, of 1 to {MOST_PRIORITY}')
+    return int(text)
+
+
+def periods(text: str) -> tuple[int, int]:
+    found = re.fullmatch(r'([0-9]+):([0-9]+)', text)
+    if not found or not 1 <= int(found[1]) <= int(found[2]) <= LONGEST:
+        raise argparse.ArgumentTypeError(f'{text!r} is no range A:B of periods')
+    return int(found[1]), int(found[2])
+
+
+def tasks_of(asked: argparse.Namespace) -> list[Task]:
+    if (asked.tasks is None) == (asked.random is None):
+        raise Fault('one of TASKS.csv and --random N is wanted')
+    if asked.tasks:
+        return with_priorities(List(asked.tasks).tasks(), asked.priorities)
+    return with_priorities(random_tasks(asked.random, asked.utilisation, asked.seed, asked.periods), asked.priorities)
+
+
+def main() -> None:
+    words = BareWords(__doc__)
+    words.add_argument('tasks', nargs='?', type=pathlib.Path, metavar='TASKS.csv', help='the list of tasks')
+    words.add_argument('--priorities', choices=('given', 'rate', 'deadline'), help='whose: of the list, or by the shortest period or deadline')
+    words.add_argument('--clocks', action='store_true', help='gives each task a clock for which it waits')
+    words.add_argument('--random', type=count, metavar='N', help='makes a list of N tasks')
+    words.add_argument('--utilisation', type=share, default=0.7, metavar='U', help='what they ask of a core together (default: %(default)s)')
+    words.add_argument('--seed', type=int, default=1, metavar='S', help='the seed of the list (default: %(default)s)')
+    words.add_argument('--periods', type=periods, default=(10, 1000), metavar='A:B', help='their periods (default: 10:1000)')
+    words.add_argument('--list', action='store_true', help='writes the list of tasks, and no system')
+    words.add_argument('--analyse', action='store_true', help='writes the analysis beside what is seen; the system goes to -o FILE alone')
+    words.add_argument('--horizon', type=source.moment, metavar='N', help='the last moment of the run of --analyse')
+    words.add_argument('--program', default=source.default_program(), metavar='PATH', help='the program to run (default: %(default)s)')
+    words.add_argument('-o', '--output', type=pathlib.Path, metavar='FILE', help='where the system goes (default: standard output)')
+    asked = words.parse_args()
+    tasks = tasks_of(asked)
+    if asked.list:
+        if asked.analyse:
+            raise Fault('--list and --analyse write to the same place')
+        with output.written(asked.output) as file:
+            file.write(list_text(tasks))
+        return
+    form, comments = Form(tasks, asked.clocks), {}
+    rows: list[list[object]] = []
+    if asked.analyse:
+        rows = analysed(form, seen(form, asked.program, form.horizon() if asked.horizon is None else asked.horizon))
+        comments = {('thread', place): [f'response at most {row[6]}, seen {row[7]}'] for place, row in enumerate(rows)}
+    if asked.output or not asked.analyse:
+        with output.written(asked.output) as file:
+            file.write(writing.system_text(form.tables(), [f'{len(tasks)} periodic tasks.'], comments))
+    if asked.analyse:
+        with output.written(None) as out:
+            csv.writer(out, lineterminator='\n').writerows([ANALYSED, *rows])
