@@ -48,6 +48,7 @@ CHECKS = (
     Check('views'),
     Check('bandwidth'),
     Check('analyses'),
+    Check('engines'),
     Check('refused_runs'),
     Check('early', tries_program=False),
     Check('units', tries_program=False),
