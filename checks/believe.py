@@ -15,6 +15,7 @@ import heapq
 import pathlib
 import re
 import sys
+import textwrap
 from collections.abc import Iterable, Iterator, Sequence
 from typing import NamedTuple
 
@@ -25,6 +26,8 @@ from common import TOP, Count
 
 PAGE = TOP / 'docs' / 'BELIEVE.md'
 CRATES = TOP / 'crates'
+# of a line that is written
+WIDTH = 140
 # constructors of the toolchain's library that are written small
 SMALL_CONSTRUCTORS = {'zero', 'suc', 'pos', 'negsuc', 'true', 'false', 'no_members', 'member', 'no_items', 'item'}
 
@@ -45,6 +48,7 @@ class Root(NamedTuple):
     clauses: tuple[Clause, ...]
 
 
+# another headline is a line more here, and its marks on the page
 ROOTS = (
     Root('headline', (
         Clause('mcs_team/src/together.rt', 'simulate', 'headline', ('Headline',)),
@@ -61,7 +65,11 @@ ROOTS = (
         Clause('mcs_team/src/to_sink.rt', 'schedule_to', 'given', ('Given',)),
         Clause('mcs_team/src/to_sink.rt', 'schedule_to', 'fault', ('IsFlowFault',)),
     )),
-    Root('bytes', (Clause('mcs_cli/src/streams.rt', 'run', 'run', ('IsRun',)),)),
+    Root('bytes', (
+        Clause('mcs_cli/src/streams.rt', 'run', 'run', ('IsRun',)),
+        Clause('mcs_cli/src/streams.rt', 'run', 'source_blamed', ()),
+        Clause('mcs_cli/src/streams.rt', 'run', 'target_blamed', ()),
+    )),
 )
 
 
@@ -490,8 +498,8 @@ def comment_of(definition: Definition) -> tuple[str, ...]:
     said = SAYS.get(definition.place.file, {}).get(definition.place.name)
     if said is None:
         return definition.comment
-    lead = '///' if definition.place.file.endswith('.rt') else ' ' * indent_of(definition.lines[0]) + '--'
-    return (f'{lead} {said}',)
+    lead = '/// ' if definition.place.file.endswith('.rt') else ' ' * indent_of(definition.lines[0]) + '-- '
+    return tuple(textwrap.wrap(said, WIDTH, initial_indent=lead, subsequent_indent=lead))
 
 
 def text_of(piece: Sequence[Definition]) -> str:
@@ -499,11 +507,9 @@ def text_of(piece: Sequence[Definition]) -> str:
     parts: list[str] = []
     modules: tuple[str, ...] = ()
     for definition in piece:
-        for depth, module in enumerate(definition.modules):
-            if definition.modules[:depth + 1] != modules[:depth + 1]:
-                parts.append(module)
+        opened = [module for depth, module in enumerate(definition.modules) if definition.modules[:depth + 1] != modules[:depth + 1]]
         modules = definition.modules
-        parts.append('\n'.join((*comment_of(definition), *definition.lines)))
+        parts.append('\n'.join((*opened, *comment_of(definition), *definition.lines)))
     return '\n\n'.join(parts)
 
 
@@ -529,6 +535,28 @@ def head_of(file: str) -> str:
     return '\n' + '\n'.join(lines) + '\n'
 
 
+def is_source(place: Place) -> bool:
+    """Whether this is a type or a trait of src/, which contracts and specs/ see by its own name."""
+    return place.file.endswith('.rt')
+
+
+def prefixes_of(file: str, piece: Sequence[Definition]) -> Iterator[str]:
+    """What the prefixes mean that a piece uses."""
+    code = '\n'.join(line for definition in piece for line in definition.lines)
+    for prefix, meant in names_in(read(file)).prefixes.items() if file.endswith('.antt') else ():
+        if re.search(rf'(?<![\w.]){prefix}\.\w', code):
+            where, _, kind = meant.partition(' ')
+            yield f'`{prefix}.` is before ' + (f'a form of `{kind}`' if kind else f'a name of `{where}`')
+
+
+def twins_of(file: str, piece: Sequence[Definition], found: Iterable[Place]) -> Iterator[str]:
+    """Which of several definitions of one name a piece cites from another file."""
+    cited = {place for definition in piece for place in definition.cites if place.file != file}
+    for place in sorted(cited, key=lambda place: place.name):
+        if any(other.name == place.name and other.file != place.file and is_source(other) == is_source(place) for other in found):
+            yield f'`{place.name}` is that of `{place.file}`'
+
+
 def contracts_text(root: Root) -> str:
     """The clauses with which a part begins, as they stand."""
     said: dict[str, list[str]] = {}
@@ -540,7 +568,7 @@ def contracts_text(root: Root) -> str:
     return '\n\n'.join('\n'.join((f'// {call}', *parts)) for call, parts in said.items())
 
 
-def region_of(root: Root, pieces: Sequence[Sequence[Definition]], words: Iterable[str]) -> str:
+def region_of(root: Root, pieces: Sequence[Sequence[Definition]], words: Iterable[str], known: Iterable[Place]) -> str:
     """What the script writes between the marks of a part."""
     definitions = [definition for piece in pieces for definition in piece]
     files = {definition.place.file for definition in definitions}
@@ -553,6 +581,9 @@ def region_of(root: Root, pieces: Sequence[Sequence[Definition]], words: Iterabl
         language = 'rust' if file.endswith('.rt') else ''
         head = '' if file in told else head_of(file)
         told.add(file)
+        notes = [*prefixes_of(file, piece), *twins_of(file, piece, known)]
+        if notes:
+            head += '\n' + '\n'.join(textwrap.wrap(f'Here {", ".join(notes)}.', WIDTH, break_on_hyphens=False)) + '\n'
         text += f'\n### [{file}](../crates/{file})\n{head}\n```{language}\n{text_of(piece)}\n```\n'
     return text + f'\n### The contracts\n\n```\n{contracts_text(root)}\n```\n'
 
@@ -623,7 +654,7 @@ def main() -> None:
         count.expect(f'definitions of the part {root.mark} cite each other in a circle', sum(map(len, pieces)) == len(found))
         words = set().union(*(words for _, words in begins), *(definition.words for definition in found.values())) - said
         check_lines(found.values(), count)
-        region = region_of(root, pieces, words)
+        region = region_of(root, pieces, words, {*seen, *found})
         if asked.write:
             page = page.replace(mark(root, 'begins') + (region_in(page, root) or ''), mark(root, 'begins') + region)
         compare(page, root, region, found.values(), count)

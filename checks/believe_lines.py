@@ -130,6 +130,8 @@ SAYS = {
     'mcs_laws/specs/Slices.antt': {
         'charge_in': 'the charge that a row of a schedule tells of the context, where the row lies in these moments',
         'charges_in': 'the charges that the rows of a schedule tell of the context, in these moments',
+        'IsOneSlice': 'from one full slice to the next: the slice is full before the first of these moments, their charges use it up just once, and after the last '
+        'of them it is full again. No order for the context comes before the last of these moments; at that one an order comes after the charge, and may',
     },
     'mcs_window/specs/Views.antt': {
         'views_in': 'all contexts, in file order, each as its core has it',
@@ -273,7 +275,7 @@ WORDS = {
     'max': 'the greater of two numbers',
     'bit_or': 'bits of either number',
     '◌==◌': 'whether two numbers are equal, computed',
-    'nat_eq': 'the same',
+    'nat_eq': 'whether two numbers are equal, computed',
     'nat_lt': 'whether the first number is less, computed',
     'nat_le': 'whether the first number is at most the second, computed',
     '◌&&◌': 'both, computed',
