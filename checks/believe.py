@@ -170,7 +170,8 @@ TYPED = re.compile(r'[({]((?:\w+ )+): ')
 # these bind a name from their end on
 LATER = (re.compile(r'(\w+) ←[^\n]*'), re.compile(r'\blet (\w+).*?\bin\b', re.S))
 LAMBDA = re.compile(r'λ ([^.]*)\. ?')
-FIELD_SET = re.compile(r'(?<=[{;])\s*(\w+) = ')
+# fields that are set, and texts, cite nothing
+SILENT = re.compile(r'(?<=[{;])\s*(\w+) = |"[^"]*"')
 
 
 def is_small(name: str) -> bool:
@@ -199,7 +200,7 @@ def cited_in(chunk: str, bound: set[str], names: Names) -> tuple[set[Place], set
     """What a text cites, apart from the names that are bound in it."""
     places: set[Place] = set()
     words: set[str] = set()
-    text = FIELD_SET.sub(' ', chunk)
+    text = SILENT.sub(' ', chunk)
     later: dict[str, int] = {}
     binding = set()
     for found in (found for binder in LATER for found in binder.finditer(text)):
