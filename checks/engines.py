@@ -39,24 +39,26 @@ class Trial:
 
     def __init__(self, folder: pathlib.Path, program: pathlib.Path, checker: pathlib.Path, combinations: int) -> None:
         self.folder, self.count = folder, combinations
-        self.environment = {**os.environ, 'MCSIM': str(program), 'MCSCHECK': str(checker), 'PYTHONDONTWRITEBYTECODE': '1'}
+        # engines that are set up inherit these
+        os.environ.update({'MCSIM': str(program), 'MCSCHECK': str(checker), 'PYTHONDONTWRITEBYTECODE': '1'})
         self.words = [str(SYSTEM), '--set', f'delay=1:{combinations}', '--horizon', '60']
         began = time.monotonic()
         self.local = self.sweep(*self.words, '--jobs', '2').stdout
-        self.seconds = {'local jobs': time.monotonic() - began}
+        print(f'local jobs: {combinations} combinations, {time.monotonic() - began:.1f} s', flush=True)
 
     def sweep(self, *words: str) -> common.Ran:
-        return common.run([sys.executable, TOP / 'tools' / 'sweep', *words], seconds=SECONDS, env=self.environment)
+        return common.run([sys.executable, TOP / 'tools' / 'sweep', *words], seconds=SECONDS)
 
     def run(self, name: str, engine: Callable[[pathlib.Path], Sequence[str]], count: Count) -> None:
         """Emits, runs an engine's command in the folder, and collects."""
         there = self.folder / name.replace(' ', '_')
         emitted = self.sweep(*self.words, '--emit', str(there))
         began = time.monotonic()
-        ran = common.run(engine(there), seconds=SECONDS, cwd=there, env=self.environment)
-        self.seconds[name] = time.monotonic() - began
+        ran = common.run(engine(there), seconds=SECONDS, cwd=there)
+        seconds = time.monotonic() - began
         collected = self.sweep('--collect', str(there))
         good = collected.status == 0 and collected.stdout == self.local
+        print(f'{name}: {self.count} combinations, {seconds:.1f} s', flush=True)
         count.expect(f'{name}: {emitted.stderr + ran.stderr[-500:] + collected.stderr}', good)
 
 
@@ -233,7 +235,6 @@ def try_set_up(trial: Trial, only: Sequence[str], count: Count) -> None:
 
     def array() -> None:
         with slurm(place('slurm')):
-            trial.environment['SLURM_CONF'] = os.environ['SLURM_CONF']
             trial.run('slurm', by_slurm(trial.count), count)
 
     def workers() -> None:
@@ -270,7 +271,6 @@ def main() -> None:
             try_set_up(trial, words.only or ('parallel', 'slurm', 'dask'), count)
         else:
             try_what_is_there(trial, words.dask, count)
-    print(', '.join(f'{engine} {seconds:.1f} s' for engine, seconds in trial.seconds.items()))
     count.end()
 
 
