@@ -19,11 +19,14 @@ from common import TOP, Count, Ran
 
 PROGRAM = './mcsim'
 LEFT_OUT = '..'
+# a tool that runs the program by itself
+ANALYSES = ' --analyse'
+SOURCES = ('.toml', '.csv', '<<', '--random')
 # a block that writes files is run elsewhere
 WRITES = ' -o '
 GUIDES = [TOP / 'docs' / name for name in ('KERNEL.md', 'LEFT_OUT.md', 'MODELLING.md', 'WAYS_IN.md')]
 # pages with blocks beside those that a command wrote
-SHOW_OTHERS = (pathlib.Path('README.md'), pathlib.Path('examples', 'README.md'))
+SHOW_OTHERS = (pathlib.Path('README.md'), pathlib.Path('examples', 'README.md'), pathlib.Path('docs', 'WAYS_IN.md'))
 
 
 def are_in(lines: Iterable[str], others: Iterable[str]) -> bool:
@@ -50,7 +53,8 @@ def is_shown(block: str, written: Sequence[str]) -> bool:
 
 def runs_a_system(block: str) -> bool:
     """Whether a block of commands runs the program with a file, or with a text in the block."""
-    return PROGRAM in block and ('.toml' in block or '<<' in block) and WRITES not in block
+    runs = PROGRAM in block or ANALYSES in block
+    return runs and any(source in block for source in SOURCES) and WRITES not in block
 
 
 def try_page(program: pathlib.Path, page: pathlib.Path, count: Count) -> None:
