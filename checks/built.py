@@ -5,7 +5,7 @@ bin/SOURCES has the toolchain's line and, for each file, the digest of what it i
 it. A digest that is not that of the sources is a failure, and so is a program or a library that was built here and has other bytes than the one in
 bin/, a sum in bin/README.md that is not that of the file, and a text in bin/HELP that the program does not give.
 
---renew takes the program that the gate built (./test, or ./mcsim --prove), and the library, which it builds where it is not there (rt lib). It refuses
+--renew takes the program that the gate built (./test, or ./mcsim --prove), and the library, which it builds where it is not there (archive.py). It refuses
 those that are older than a source."""
 from __future__ import annotations
 
@@ -176,8 +176,8 @@ def build_library(artefact: Artefact) -> None:
         return
     if shutil.which('rt') is None:
         refuse(f'there is no {artefact.here.relative_to(TOP)} of these sources, and the command rt, which builds it, is not on PATH')
-    if subprocess.run(['rt', 'lib'], cwd=artefact.here.parent.parent, stdin=subprocess.DEVNULL).returncode:
-        refuse(f'rt lib in crates/{artefact.crate} did not build the library')
+    if subprocess.run([sys.executable, str(pathlib.Path(__file__).with_name('archive.py'))], stdin=subprocess.DEVNULL).returncode:
+        refuse('archive.py did not build the library')
 
 
 def look_before_renewing() -> None:

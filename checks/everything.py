@@ -133,10 +133,10 @@ def build_library(began: float) -> Tally:
         return Tally()
     LIBRARY.unlink(missing_ok=True)
     how = {'stdin': subprocess.DEVNULL, 'stdout': subprocess.PIPE, 'stderr': subprocess.STDOUT, 'text': True, 'errors': 'replace'}
-    ran = subprocess.run(['rt', 'lib'], cwd=LIBRARY.parent.parent, **how)
+    ran = subprocess.run([sys.executable, str(HERE / 'archive.py')], **how)
     built = ran.returncode == 0 and LIBRARY.is_file()
     stamp(LIBRARY, began)
-    say(f'built {LIBRARY.relative_to(TOP)}' if built else f'{ran.stdout}failed: rt lib did not build {LIBRARY.relative_to(TOP)}')
+    say(f'built {LIBRARY.relative_to(TOP)}' if built else f'{ran.stdout}failed: archive.py did not build {LIBRARY.relative_to(TOP)}')
     return Tally(passed=int(built), failed=int(not built))
 
 

@@ -30,7 +30,6 @@ SAYS = '#!/bin/sh\n[ "$1" = --help ] && echo help && exit\necho {name} "$@"\ntes
 # gives its line, and makes of `try` what a program does that prints its words and its input; where the horizon is 900 it writes too much
 RT = """case "$*" in
     --version) echo kit 1 ;;
-    lib) mkdir -p out; echo archive >out/libmcs_c.a ;;
     *'--horizon 900'* | *--horizon=900*)
         printf "the end of the program's standard output:\\n| 70 0 run A\\n| 70 0 stop A\\n| 71 0 r\\nchecked: no-answer: too much\\nrun=no-answer proved=no\\n" >&2
         exit 6 ;;
@@ -39,6 +38,12 @@ RT = """case "$*" in
 esac"""
 
 
+# in place of the script that builds the library
+ARCHIVE_PY = """import pathlib
+file = pathlib.Path(__file__).parents[1] / 'crates/mcs_c/out/libmcs_c.a'
+file.parent.mkdir(exist_ok=True)
+file.write_text('archive\\n')
+"""
 PROGRAM, ARCHIVE = SAYS.format(name='gate'), 'archive\n'
 # the files of which each is built
 BELOW = ('crates.txt', 'crates/mcs_cli/src/asked/words.rt', 'crates/mcs_cli/src/lib.rt', 'crates/mcs_ticks/src/lib.rt', 'crates/mcsim/src/main.rt')
@@ -62,6 +67,7 @@ class InFolder(unittest.TestCase):
         shutil.copytree(TOP / 'launcher', self.top / 'launcher')
         for script in ('common.py', 'built.py'):
             shutil.copy(CHECKS / script, self.top / 'checks')
+        self.write('checks/archive.py', ARCHIVE_PY)
         for tool in TOOLS:
             (self.tools / tool).symlink_to(shutil.which(tool))
         (self.tools / 'python3').symlink_to(sys.executable)
