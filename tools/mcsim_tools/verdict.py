@@ -23,14 +23,19 @@ COUNTED = {'miss': 'missed', 'lost': 'lost', 'overdue': 'overdue', 'never': 'nev
 NOTHING, FOUND = 0, 5
 
 
+# the verdict by the tools' own reading of the rows, of which no contract speaks
+OF_ROWS = pathlib.Path(__file__).with_name('verdict_of_rows')
+
+
 def default_checker(program: str) -> Optional[str]:
-    """mcscheck: what MCSCHECK names, or that beside mcsim, or the repository's, or that on the PATH."""
+    """mcscheck: what MCSCHECK names, or that beside mcsim, or the repository's, or that on the PATH; where there is none, the reading of rows."""
     if named_one := os.environ.get('MCSCHECK'):
         return named_one
     found = shutil.which(program)
     places = [pathlib.Path(found).resolve().parent / 'mcscheck'] if found else []
     places.append(pathlib.Path(__file__).resolve().parents[2] / 'mcscheck')
-    return next((str(place) for place in places if place.is_file()), None) or shutil.which('mcscheck')
+    there = next((str(place) for place in places if place.is_file()), None) or shutil.which('mcscheck')
+    return there or (str(OF_ROWS) if OF_ROWS.is_file() else None)
 
 
 @dataclass(frozen=True)
@@ -78,7 +83,8 @@ class Programs:
     def check(self, text: bytes, horizon: int) -> tuple[int, list[str], str]:
         """The status of mcscheck, its lines, and what it says on standard error."""
         try:
-            ended = subprocess.run([self.checker, '--horizon', str(horizon)], input=text, capture_output=True, check=False)
+            environment = {**os.environ, 'MCSIM': self.program}
+            ended = subprocess.run([self.checker, '--horizon', str(horizon)], input=text, capture_output=True, env=environment, check=False)
         except OSError as error:
             raise why(self.checker, error) from None
         return ended.returncode, ended.stdout.decode(errors='replace').splitlines(), ended.stderr.decode(errors='replace')
