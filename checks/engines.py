@@ -258,6 +258,8 @@ def asked() -> argparse.Namespace:
 
 def main() -> None:
     words = asked()
+    # what was started is stopped too
+    signal.signal(signal.SIGTERM, lambda *_: sys.exit(128 + signal.SIGTERM))
     program, count = common.built_program(words.program), Count()
     checker = words.checker or next(filter(common.is_program, (program.parent / 'mcscheck', TOP / 'crates' / 'mcscheck' / 'out' / 'mcscheck')), None)
     if checker is None:
