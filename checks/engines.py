@@ -263,7 +263,7 @@ def main() -> None:
     program, count = common.built_program(words.program), Count()
     checker = words.checker or next(filter(common.is_program, (program.parent / 'mcscheck', TOP / 'crates' / 'mcscheck' / 'out' / 'mcscheck')), None)
     if checker is None:
-        print('mcscheck is not there: the tools' own reading of rows gives the verdicts', flush=True)
+        print('mcscheck is not there: the reading of rows of the tools gives the verdicts', flush=True)
         checker = STAND_IN
     with tempfile.TemporaryDirectory() as name:
         trial = Trial(pathlib.Path(name).resolve(), program, checker.resolve(), words.combinations or (100 if words.set_up else 20))
