@@ -1,9 +1,9 @@
 #!/usr/bin/env python3
 """Tells in some seconds what the gate (rt ci) refuses before it proves anything, and which edits cannot be applied.
 
-That is a layout that is not that of rt fmt, a file that no check reads, an operator under another name. An edit, whether the gate tries it or not,
-cannot be applied where its text does not stand once. And the launcher mcsim is asked for the crates that it proves: they are those on which the
-program stands. Each finding has a line, and each crate counts as one try. It needs the command rt; without it all of it is skipped."""
+That is a layout that is not that of rt fmt, a file that no check reads, a module without a file, an operator under another name. An edit, whether the
+gate tries it or not, cannot be applied where its text does not stand once. And the launcher mcsim is asked for the crates that it proves: they are
+those on which the program stands. Each finding has a line, and each crate counts as one try. It needs the command rt; without it all of it is skipped."""
 from __future__ import annotations
 
 import glob
@@ -85,8 +85,16 @@ class Looks:
             if texts is None:
                 yield f'{os.path.basename(edit)}: {why}'
 
+    def modules(self, crate: object) -> Iterator[str]:
+        for file in glob.glob(f'{crate.folder}/**/*.antt', recursive=True):
+            # Lib.antt lists what stands beside it, and any other file what stands in the folder of its name
+            folder = os.path.dirname(file) if os.path.basename(file) == 'Lib.antt' else file.removesuffix('.antt')
+            with open(file) as text:
+                names = re.findall(r'^(?:pub )?mod (\w+)$', text.read(), re.M)
+            yield from (f'{os.path.relpath(file, crate.folder)} names {name}, which has no file' for name in names if not os.path.exists(f'{folder}/{name}.antt'))
+
     def findings(self, crate: object) -> list[str]:
-        return [found for look in (self.files, self.texts, self.layout, self.edits) for found in look(crate)]
+        return [found for look in (self.files, self.texts, self.layout, self.modules, self.edits) for found in look(crate)]
 
 
 def launched() -> list[str] | None:
