@@ -5,6 +5,8 @@ the file, and the fault a few facts, from the file itself and from docs/mcsim.sc
 from __future__ import annotations
 
 import difflib
+import json
+import pathlib
 import re
 from collections.abc import Callable, Iterable, Iterator
 from dataclasses import dataclass
@@ -17,6 +19,9 @@ try:
 except ImportError:
     tomllib = None
 
+TOOLS = pathlib.Path(__file__).resolve().parent.parent
+# in the repository, and as it is installed
+SCHEMAS = (TOOLS.parent / 'docs' / 'mcsim.schema.json', TOOLS.parents[2] / 'share' / 'mcsim' / 'mcsim.schema.json')
 LINE = re.compile(
     r'mcsim: (?P<kind>.+?) at (?P<section>file|top|context|note|thread|order|link)'
     r'(?: (?P<row>\d+))?(?: (?P<key>[a-z_]+|\?))?(?: item (?P<item>\d+))?'
@@ -51,6 +56,12 @@ def fault_of(line: str) -> Optional[Fault]:
     """The fault that a line of the program tells, or None where it tells another thing."""
     found = LINE.fullmatch(line.strip())
     return found and Fault(found['kind'], found['section'], int(found['row'] or 0), found['key'], int(found['item'] or 0))
+
+
+def schema_of_files() -> Optional[dict[str, Any]]:
+    """The schema of systems' files, where it is to be had."""
+    found = next((path for path in SCHEMAS if path.is_file()), None)
+    return found and json.loads(found.read_text())
 
 
 def nearest(word: str, known: Iterable[str]) -> Optional[str]:
@@ -207,6 +218,15 @@ def refusal(text: str) -> tuple[Optional[Position], list[str]]:
         place = re.search(r'\(at line (\d+), column (\d+)\)$', str(error))
         return place and Position(int(place[1]), int(place[2])), [f"Python's reader of TOML says: {error}"]
     return None, []
+
+
+def line_of(text: bytes, said: str) -> Optional[int]:
+    """The line of the place that a line of the program tells, from 1; None where it cannot be told."""
+    fault, schema = fault_of(f'mcsim: {said}'), schema_of_files()
+    if fault is None or schema is None:
+        return None
+    position = not_toml(text)[0] if fault.kind == 'not TOML' else Case(fault, read(text.decode(errors='replace')).root, schema).position()
+    return position.line if position else None
 
 
 def unknown_key(case: Case) -> Iterator[str]:

@@ -15,7 +15,7 @@ from collections.abc import Iterator, Sequence
 from dataclasses import dataclass
 from typing import Optional
 
-from . import places, system, version
+from . import explaining, system, version
 from .faults import Fault, first_line, why
 from .system import System
 
@@ -101,7 +101,7 @@ class Run:
         said = said.removeprefix('mcsim: ')
         if not said:
             return Fault(f'{self.path}: the program ended with status {status}')
-        line = places.line_of(self.text, said)
+        line = explaining.line_of(self.text, said)
         return Fault(f'{self.path}:{line}: {said}' if line else f'{self.path}: {said}')
 
     def end(self) -> None:

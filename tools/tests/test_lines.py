@@ -4,7 +4,7 @@ from __future__ import annotations
 import unittest
 
 import worked  # puts the tools on the path
-from mcsim_tools.places import line_of
+from mcsim_tools.explaining import line_of
 
 TABLES = b'''version = 1
 cores = 0  # top
@@ -39,17 +39,20 @@ class Lines(unittest.TestCase):
         self.assertEqual(line_of(TABLES, 'out of range at top cores'), 2)
         self.assertEqual(line_of(TABLES, 'missing key at context 1 core'), 4)
         self.assertEqual(line_of(TABLES, 'control: zero budget at context 1 budget'), 6)
-        self.assertEqual(line_of(TABLES, 'bad item: bad number at thread 1 script item 2'), 10)
-        self.assertEqual(line_of(TABLES, 'unknown key at thread 2 ?'), 13)
+        self.assertEqual(line_of(TABLES, 'bad item: bad number at thread 1 script item 2'), 11)
+        self.assertEqual(line_of(TABLES, 'unknown key at thread 2 ?'), 15)
 
     def test_of_inline_tables(self) -> None:
         self.assertEqual(line_of(INLINE, 'unknown name at context 2 name'), 4)
         self.assertEqual(line_of(INLINE, 'unknown key at thread 1 ?'), 6)
         self.assertEqual(line_of(INLINE, 'out of range at thread 2 priority'), 8)
 
+    def test_of_a_text_that_is_no_toml(self) -> None:
+        self.assertEqual(line_of(b'cores = 1\ndelay =\n', 'not TOML at file'), 2)
+
     def test_what_has_no_line(self) -> None:
-        for fault in ('not TOML at file', 'missing key at top delay', 'too many at thread', 'no memory', 'unknown key at thread 9 ?', 'unknown key at top ?'):
-            self.assertIsNone(line_of(INLINE, fault), fault)
+        for fault in ('no memory', 'missing key at order 9 core'):
+            self.assertIsNone(line_of(TABLES, fault), fault)
 
 
 if __name__ == '__main__':
