@@ -70,6 +70,8 @@ ROOTS = (
         Clause('mcs_cli/src/streams.rt', 'run', 'source_blamed', ()),
         Clause('mcs_cli/src/streams.rt', 'run', 'target_blamed', ()),
     )),
+    # (its one clause has no name)
+    Root('verdict', (Clause('mcs_verdict/src/all.rt', 'find_all', '', ('findings',)),)),
 )
 
 
@@ -398,7 +400,7 @@ def contract_of(clause: Clause) -> tuple[str, list[str]]:
     if not found:
         return '', []
     head, *parts = re.split(r'^ *(?=(?:ensures|requires)\b)', found[1], flags=re.M)
-    return head, [part.rstrip() for part in parts if part.startswith(('requires', f'ensures {clause.clause} '))]
+    return head, [part.rstrip() for part in parts if part.startswith(('requires', f'ensures {clause.clause}'.rstrip() + ' '))]
 
 
 def begin_with(clause: Clause, count: Count) -> tuple[set[Place], set[str]]:

@@ -252,6 +252,32 @@ SAYS = {
     'mcs_cli/specs/Run.antt': {
         'IsRun': 'what a run does: all of the output for the bytes that were read; or it fails, and tells why',
     },
+    'mcs_verdict/specs/Findings.antt': {
+        'found_at': 'the finding of a row, with its moment and its core, where it has one',
+    },
+    'mcs_verdict/specs/Words.antt': {
+        'no_word': 'a word that nothing has set',
+        'lost': 'what a signal tells that was held: that it is lost, where the word was what it is',
+    },
+    'mcs_verdict/specs/Misses.antt': {
+        'is_reached': 'whether so many ticks are a deadline or more; the deadline 0 is none',
+        'miss': "what a `round` row tells: a miss, where the response from the round's activation is above the thread's deadline",
+        'first_word': "the word for which the thread's script waits first",
+        'overdue': 'what is found at the horizon of the round that is under way, or of one that is activated and yet to begin',
+        'never': 'what is found at the horizon of a thread that was not activated once',
+        'first_of': 'the first of two findings, if there is one',
+    },
+    'mcs_verdict/specs/Rounds.antt': {
+        'waited_on': 'the notification on which an item waits, if it is a wait',
+        'begun_of': 'when the round of a thread of the system that is under way began, if one is',
+        'called_of': 'when the latest round of a thread of the system that a word began was activated, if there was one',
+    },
+    'mcs_verdict/specs/Standing.antt': {
+        'settled': 'a standing, where what comes next tells more of a thread that was woken',
+    },
+    'mcs_verdict/specs/Stood.antt': {
+        'no_ticks': 'no tick in any standing',
+    },
 }
 
 # by name, as the library writes it
