@@ -139,6 +139,10 @@ class Explained(unittest.TestCase):
         ended = self.ran(HEAD.encode(), "echo 'mcsim: read failed' >&2; exit 3")
         self.assertEqual((ended.returncode, ended.stdout, ended.stderr), (3, '', 'explain: mcsim: read failed\n'))
 
+    def test_a_file_that_is_not_there(self) -> None:
+        ended = self.ran(HEAD.encode(), 'exit 0', 'other.toml')
+        self.assertEqual((ended.returncode, ended.stdout, ended.stderr), (2, '', 'explain: other.toml: No such file or directory\n'))
+
     def test_a_program_that_is_not_there(self) -> None:
         ended = self.ran(HEAD.encode(), 'exit 0', '--program', './none', 'system.toml')
         self.assertEqual((ended.returncode, ended.stderr), (2, 'explain: ./none: No such file or directory\n'))
