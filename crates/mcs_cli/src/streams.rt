@@ -46,7 +46,7 @@ pub fn run<H: Threads + Wait + Sync, S: Source, T: Target, G: Gate + Sync>(
 }
 
 /// Reads a file to its end, and loads the system that it describes.
-fn read_system<S: Source>(alloc: Global, source: &mut S) -> Result<System, RunFault>
+pub fn read_system<S: Source>(alloc: Global, source: &mut S) -> Result<System, RunFault>
     requires { S.has_failed source.old ≡ false }
     ensures ok { IfOk result
         (IsRead (S.remaining source.old) (S.remaining source.new) (S.given source.old) (S.given source.new)) }
@@ -269,7 +269,7 @@ fn put_last(text: &mut Vec<u8>, system: &System, reports: &Reports) -> Result<()
 }
 
 /// Writes the whole text, and flushes the target.
-fn write_text<T: Target>(target: &mut T, text: &[u8]) -> Result<(), RunFault>
+pub fn write_text<T: Target>(target: &mut T, text: &[u8]) -> Result<(), RunFault>
     requires { T.has_failed target.old ≡ false }
     ensures ok { OnOk result (Appends (T.contents target.old) (T.contents target.new) text.now) }
     ensures working { OnOk result (T.has_failed target.new ≡ false) }
@@ -284,7 +284,7 @@ fn write_text<T: Target>(target: &mut T, text: &[u8]) -> Result<(), RunFault>
 }
 
 /// Writes all bytes, or a first part of them.
-pub(crate) fn write_bytes<T: Target>(target: &mut T, bytes: &[u8]) -> Result<(), RunFault>
+pub fn write_bytes<T: Target>(target: &mut T, bytes: &[u8]) -> Result<(), RunFault>
     ensures ok { OnOk result (Appends (T.contents target.old) (T.contents target.new) bytes.now) }
     ensures working { OnOk result (T.has_failed target.new ≡ T.has_failed target.old) }
     ensures prefix { OnErr result (AppendsPrefix (T.contents target.old) (T.contents target.new) bytes.now) }

@@ -65,8 +65,8 @@ fn command_line<'a>(alloc: Global) -> Result<Command<'a>, AllocError>
     line.arg(show(alloc))
 }
 
-/// `FILE`.
-fn file<'a>(alloc: Global) -> Arg<'a>
+/// The argument `FILE`: the file of the system.
+pub fn file<'a>(alloc: Global) -> Arg<'a>
     ensures rule { rule_of result ≡ file_rule }
     ensures fits { FitsChain result }
 {
@@ -76,7 +76,7 @@ fn file<'a>(alloc: Global) -> Arg<'a>
 }
 
 /// An option whose value is a number from `least` to `most`.
-fn number<'a>(
+pub fn number<'a>(
     alloc: Global,
     name: &'a str,
     value: &'a str,
@@ -135,7 +135,8 @@ fn options_of(alloc: Global, matches: &ArgMatches<'_>) -> Result<Options, AllocE
     })
 }
 
-fn file_of(alloc: Global, matches: &ArgMatches<'_>) -> Result<Option<String>, AllocError>
+/// The name of the file, where the words have one. `AllocError` where there was no memory for it.
+pub fn file_of(alloc: Global, matches: &ArgMatches<'_>) -> Result<Option<String>, AllocError>
     ensures { IfOk result
         (λ file. option_map string_bytes file ≡ first_of (codes "FILE") (rows_of (found_of matches.now))) }
 {
@@ -146,7 +147,7 @@ fn file_of(alloc: Global, matches: &ArgMatches<'_>) -> Result<Option<String>, Al
 }
 
 /// The number that an option has.
-fn number_of(matches: &ArgMatches<'_>, id: &str, least: u64, most: u64) -> u64
+pub fn number_of(matches: &ArgMatches<'_>, id: &str, least: u64, most: u64) -> u64
     requires { HasNumber id.now least most (rows_of (found_of matches.now)) }
     ensures value { result ≡ number_of id.now (rows_of (found_of matches.now)) }
     ensures in_range { (least ≤ result) × (result ≤ most) }
@@ -171,7 +172,8 @@ fn show_named(word: &str) -> Show
     }
 }
 
-fn fault_of(alloc: Global, error: &Error) -> WordsFault
+/// Why clap refuses the words: its text, or that there was no memory.
+pub fn fault_of(alloc: Global, error: &Error) -> WordsFault
     ensures { FaultOf (kind_of error.now) result }
 {
     let Ok(text) = error.to_string(alloc) else {

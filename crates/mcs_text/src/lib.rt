@@ -10,7 +10,8 @@ mod page;
 mod report;
 mod row;
 
-pub use names::Names;
+pub use line::{append_number, append_word};
+pub use names::{Names, context_name, note_name, thread_name};
 pub use page::Page;
-pub use report::put_reports;
+pub use report::{append_counts, put_reports};
 pub use row::put_row;

@@ -6,7 +6,7 @@ use itoa::Buffer;
 use mcs_ticks::NoMemory;
 
 /// Appends a space and a word.
-pub(crate) fn append_word(text: &mut Vec<u8>, word: &str) -> Result<(), NoMemory>
+pub fn append_word(text: &mut Vec<u8>, word: &str) -> Result<(), NoMemory>
     ensures ok { OnOk result (text.new.items ≡ text.old.items ++ 32 ∷ word.now) }
     ensures kept { StartsWith text.new.items text.old.items }
 {
@@ -16,7 +16,7 @@ pub(crate) fn append_word(text: &mut Vec<u8>, word: &str) -> Result<(), NoMemory
 }
 
 /// Appends a space and a number.
-pub(crate) fn append_number(text: &mut Vec<u8>, number: u64) -> Result<(), NoMemory>
+pub fn append_number(text: &mut Vec<u8>, number: u64) -> Result<(), NoMemory>
     ensures ok { OnOk result (text.new.items ≡ text.old.items ++ 32 ∷ decimal number) }
     ensures kept { StartsWith text.new.items text.old.items }
 {
@@ -25,7 +25,7 @@ pub(crate) fn append_number(text: &mut Vec<u8>, number: u64) -> Result<(), NoMem
 }
 
 /// Appends a word and a number, each after a space.
-pub(crate) fn append_counted(text: &mut Vec<u8>, word: &str, number: u64) -> Result<(), NoMemory>
+pub fn append_counted(text: &mut Vec<u8>, word: &str, number: u64) -> Result<(), NoMemory>
     ensures ok { OnOk result (text.new.items ≡ text.old.items ++ after (word.now ∷ decimal number ∷ [])) }
     ensures kept { StartsWith text.new.items text.old.items }
 {

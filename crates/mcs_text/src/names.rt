@@ -133,7 +133,7 @@ fn write_listed(bytes: &mut [u8], at: usize, names: &[Name], place: usize) -> us
 }
 
 /// The name of a thread, or the empty text where the system has no such thread.
-pub(crate) fn thread_name(system: &System, thread: ThreadId) -> &str
+pub fn thread_name(system: &System, thread: ThreadId) -> &str
     ensures name { result.now ≡ thread_name_of system.now thread }
     ensures short { length result.now ≤ 32 }
 {
@@ -143,8 +143,8 @@ pub(crate) fn thread_name(system: &System, thread: ThreadId) -> &str
     }
 }
 
-// The name of a notification, or the empty text where the system has no such notification.
-fn note_name(system: &System, note: NoteId) -> &str
+/// The name of a notification, or the empty text where the system has no such notification.
+pub fn note_name(system: &System, note: NoteId) -> &str
     ensures name { result.now ≡ note_name_of system.now note }
     ensures short { length result.now ≤ 32 }
 {
@@ -154,8 +154,8 @@ fn note_name(system: &System, note: NoteId) -> &str
     }
 }
 
-// The name of a scheduling context, or the empty text where the system has no such context.
-fn context_name(system: &System, context: ContextId) -> &str
+/// The name of a scheduling context, or the empty text where the system has no such context.
+pub fn context_name(system: &System, context: ContextId) -> &str
     ensures name { result.now ≡ context_name_of system.now context }
     ensures short { length result.now ≤ 32 }
 {

@@ -69,8 +69,8 @@ fn append_core(text: &mut Vec<u8>, core: usize, report: &CoreReport) -> Result<(
     Ok(())
 }
 
-/// Appends words, each with its number.
-fn append_counts(text: &mut Vec<u8>, counts: &[(&str, u64)]) -> Result<(), NoMemory>
+/// Appends words, each with its number, each after a space.
+pub fn append_counts(text: &mut Vec<u8>, counts: &[(&str, u64)]) -> Result<(), NoMemory>
     ensures ok { OnOk result
         (text.new.items ≡ text.old.items ++ after (flat_map (λ c. c.0.now ∷ decimal c.1 ∷ []) counts.now)) }
     ensures kept { StartsWith text.new.items text.old.items }
