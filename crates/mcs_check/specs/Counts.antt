@@ -11,22 +11,28 @@ no_counts = record { missed = 0; overdue = 0; lost = 0; never = 0; merged = 0; a
 abbrev pub one_more : ℕ → ℕ
 one_more n = min (n + 1) (2 ^ 64 - 1)
 
--- what is told of a finding, if there is one: all but a lost signal of a notification at which this is allowed
-abbrev pub told_of : List Bool → Option Finding → Option Finding
-told_of allowed (Some (Lost note word)) = if get_or allowed note false then None else Some (Lost note word)
-told_of allowed found = found
+-- a lost signal of a notification at which this is allowed
+abbrev pub is_allowed : List Bool → Finding → Bool
+is_allowed allowed (Lost note word) = get_or allowed note false
+is_allowed allowed _ = false
 
--- and what is counted
+-- what is told of a finding, if there is one
+abbrev pub told_of : List Bool → Option Finding → Option Finding
+told_of allowed None = None
+told_of allowed (Some finding) = if is_allowed allowed finding then None else Some finding
+
+-- one finding more
+abbrev pub added : Finding → Counts → Counts
+added (Miss thread number response deadline activated queued stood) counts = record counts { missed = one_more counts.missed }
+added (Overdue thread deadline activated queued stood) counts = record counts { overdue = one_more counts.overdue }
+added (Lost note word) counts = record counts { lost = one_more counts.lost }
+added (Never thread deadline) counts = record counts { never = one_more counts.never }
+
+-- one that is told, or allowed
 abbrev pub taken : List Bool → Option Finding → Counts → Counts
 taken allowed None counts = counts
-taken allowed (Some (Miss thread number response deadline activated queued stood)) counts =
-    record counts { missed = one_more counts.missed }
-taken allowed (Some (Overdue thread deadline activated queued stood)) counts =
-    record counts { overdue = one_more counts.overdue }
-taken allowed (Some (Lost note word)) counts =
-    if get_or allowed note false then record counts { allowed = one_more counts.allowed }
-    else record counts { lost = one_more counts.lost }
-taken allowed (Some (Never thread deadline)) counts = record counts { never = one_more counts.never }
+taken allowed (Some finding) counts =
+    if is_allowed allowed finding then record counts { allowed = one_more counts.allowed } else added finding counts
 
 -- so many hints more
 abbrev pub with_hints : ℕ → Counts → Counts

@@ -1,5 +1,5 @@
 -- What is told of what was found, and how much of each kind there is.
-use Rattle.std.specs.Prelude.{ℕ, ◌+◌, ◌-◌, ◌^◌, min, Bool, true, false, ◌&&◌, not, if◌then◌else◌, List, [], ◌∷◌, ◌++◌, length, filter, flat_map, get_or, Option, Some, None, is_some}
+use Rattle.std.specs.Prelude.{ℕ, ◌+◌, ◌-◌, ◌^◌, min, Bool, true, false, not, if◌then◌else◌, List, [], ◌∷◌, ◌++◌, count_by, filter, flat_map, cond}
 use Rattle.mcs_ticks.specs.declared.row.Row.{Row}
 use Rattle.mcs_system.specs.System.{System}
 use Rattle.mcs_verdict.specs.declared.finding.Finding.{Finding}
@@ -7,12 +7,12 @@ use Rattle.mcs_verdict.specs.declared.finding.Finding.TheVariants.{Miss, Overdue
 use Rattle.mcs_verdict.specs.declared.finding.Found.{Found}
 use Rattle.mcs_verdict.specs.Words.{merges}
 use Rattle.mcs_check.specs.declared.counts.Counts.{Counts}
-use Rattle.mcs_check.specs.Counts.{told_of}
+use Rattle.mcs_check.specs.Counts.{is_allowed}
 use Rattle.mcs_check.specs.Lines.{found_text}
 
 -- all but lost signals of notifications at which this is allowed
 abbrev pub told : List Bool → List Found → List Found
-told allowed found = filter (λ f. is_some (told_of allowed (Some f.finding))) found
+told allowed found = filter (λ f. not (is_allowed allowed f.finding)) found
 
 -- their lines
 abbrev pub found_lines : System → List Bool → List Found → List ℕ
@@ -30,18 +30,17 @@ abbrev pub is_never : Finding → Bool
 is_never (Never thread deadline) = true
 is_never _ = false
 
--- a lost signal where this is allowed, or where it is not
-abbrev pub is_lost : List Bool → Bool → Finding → Bool
-is_lost allowed here (Lost note word) = if get_or allowed note false then here else not here
-is_lost allowed here _ = false
+abbrev pub is_lost : Finding → Bool
+is_lost (Lost note word) = true
+is_lost _ = false
 
 -- as many as 64 bits hold
 abbrev pub capped : ℕ → ℕ
 capped n = min n (2 ^ 64 - 1)
 
--- so many more that are of a kind
+-- so many, and those of a list that are of a kind
 abbrev pub more : (Finding → Bool) → List Found → ℕ → ℕ
-more is found n = capped (n + length (filter (λ f. is f.finding) found))
+more is found n = capped (n + count_by (λ f. is f.finding) found)
 
 -- how many signals these rows merge
 abbrev pub merged_in : System → List Row → List Row → ℕ
@@ -51,11 +50,11 @@ merged_in system past (r ∷ rows) = (if merges system past r.what then 1 else 0
 -- all this is counted too
 abbrev pub counts_with : List Bool → List Found → ℕ → ℕ → Counts → Counts
 counts_with allowed found merged hints counts = record {
-  missed = more is_miss found counts.missed;
-  overdue = more is_overdue found counts.overdue;
-  lost = more (is_lost allowed false) found counts.lost;
-  never = more is_never found counts.never;
+  missed = more is_miss (told allowed found) counts.missed;
+  overdue = more is_overdue (told allowed found) counts.overdue;
+  lost = more is_lost (told allowed found) counts.lost;
+  never = more is_never (told allowed found) counts.never;
   merged = capped (counts.merged + merged);
-  allowed = more (is_lost allowed true) found counts.allowed;
+  allowed = more (is_allowed allowed) found counts.allowed;
   hints = capped (counts.hints + hints);
 }

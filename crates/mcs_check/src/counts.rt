@@ -1,7 +1,6 @@
-ghost use Rattle.std.specs.Prelude.{◌≡◌, get_or, false};
-ghost use Rattle.mcs_check.specs.Counts.{is_clean, no_counts, one_more, taken, told_of, with_hints};
+ghost use Rattle.std.specs.Prelude.{◌≡◌};
+ghost use Rattle.mcs_check.specs.Counts.{added, is_allowed, is_clean, no_counts, one_more, taken, told_of, with_hints};
 
-use mcs_ticks::NoteId;
 use mcs_verdict::Finding;
 
 /// How much was found, by kind. Each number is exact up to 2^64 - 1, where it stays.
@@ -53,24 +52,33 @@ impl Counts {
         self.hints = self.hints.saturating_add(many as u64);
     }
 
+    /// A finding more.
+    fn add(&mut self, finding: &Finding)
+        ensures { self.new ≡ added finding.now self.old }
+    {
+        match finding {
+            Finding::Miss { .. } => self.missed = self.missed.saturating_add(1),
+            Finding::Overdue { .. } => self.overdue = self.overdue.saturating_add(1),
+            Finding::Lost { .. } => self.lost = self.lost.saturating_add(1),
+            Finding::Never { .. } => self.never = self.never.saturating_add(1),
+        }
+    }
+
     /// What was found, if anything, is counted, and given back where it is to be told: where it is no lost signal of a notification at
     /// which this is allowed.
     pub(crate) fn take(&mut self, allowed: &[bool], found: Option<Finding>) -> Option<Finding>
         ensures told { result ≡ told_of allowed.now found }
         ensures counted { self.new ≡ taken allowed.now found self.old }
     {
-        match found {
-            Some(Finding::Lost { note, .. }) if is_allowed(allowed, note) => {
-                self.allowed = self.allowed.saturating_add(1);
-                return None;
-            }
-            Some(Finding::Lost { .. }) => self.lost = self.lost.saturating_add(1),
-            Some(Finding::Miss { .. }) => self.missed = self.missed.saturating_add(1),
-            Some(Finding::Overdue { .. }) => self.overdue = self.overdue.saturating_add(1),
-            Some(Finding::Never { .. }) => self.never = self.never.saturating_add(1),
-            None => {}
+        let Some(finding) = found else {
+            return None;
+        };
+        if is_allowed(allowed, &finding) {
+            self.allowed = self.allowed.saturating_add(1);
+            return None;
         }
-        found
+        self.add(&finding);
+        Some(finding)
     }
 
     /// Whether nothing was found; where hints count, no hint either.
@@ -85,12 +93,12 @@ impl Counts {
     }
 }
 
-/// Whether lost signals of the notification are allowed.
-fn is_allowed(allowed: &[bool], note: NoteId) -> bool
-    ensures { result ≡ get_or allowed.now note false }
+/// Whether it is a lost signal of a notification at which this is allowed.
+fn is_allowed(allowed: &[bool], finding: &Finding) -> bool
+    ensures { result ≡ is_allowed allowed.now finding.now }
 {
-    match allowed.get(note.0) {
-        Some(flag) => *flag,
-        None => false,
+    match *finding {
+        Finding::Lost { note, .. } => allowed.get(note.0).copied().unwrap_or(false),
+        _ => false,
     }
 }

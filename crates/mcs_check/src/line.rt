@@ -2,14 +2,14 @@
 ghost use Rattle.std.specs.Prelude.{◌≡◌, ◌++◌, ◌∷◌, [], OnOk, OnErr, decimal};
 ghost use Rattle.std.specs.Io.{StartsWith};
 ghost use Rattle.mcs_text.specs.Text.{after};
-ghost use Rattle.mcs_check.specs.Lines.{counts_text, found_text, found_words, hint_text, late_words};
+ghost use Rattle.mcs_check.specs.Lines.{counts_text, found_text, found_words, hint_text, hint_words, late_words};
 
 use crate::Counts;
 use itoa::Buffer;
 use mcs_hints::Hint;
 use mcs_system::System;
 use mcs_text::{append_counts, append_number, append_word, context_name, note_name, thread_name};
-use mcs_ticks::NoMemory;
+use mcs_ticks::{NoMemory, Tick};
 use mcs_verdict::{Finding, Found, Stood};
 
 /// Appends the line of a finding: `<moment> <core>` and what was found, with the names that the system has. After a refusal the text is
@@ -52,7 +52,7 @@ fn append_finding(text: &mut Vec<u8>, system: &System, finding: &Finding) -> Res
     ensures ok { OnOk result (text.new.items ≡ text.old.items ++ after (found_words system.now finding.now)) }
     ensures kept { StartsWith text.new.items text.old.items }
 {
-    match finding {
+    match *finding {
         Finding::Miss {
             thread,
             number,
@@ -62,10 +62,10 @@ fn append_finding(text: &mut Vec<u8>, system: &System, finding: &Finding) -> Res
             queued,
             stood,
         } => {
-            append_named(text, "miss", thread_name(system, *thread))?;
-            append_number(text, *number)?;
-            append_number(text, *response)?;
-            append_late(text, *deadline, activated.get(), *queued, stood)
+            append_named(text, "miss", thread_name(system, thread))?;
+            append_number(text, number)?;
+            append_number(text, response)?;
+            append_late(text, deadline, activated, queued, &stood)
         }
         Finding::Overdue {
             thread,
@@ -74,16 +74,16 @@ fn append_finding(text: &mut Vec<u8>, system: &System, finding: &Finding) -> Res
             queued,
             stood,
         } => {
-            append_named(text, "overdue", thread_name(system, *thread))?;
-            append_late(text, *deadline, activated.get(), *queued, stood)
+            append_named(text, "overdue", thread_name(system, thread))?;
+            append_late(text, deadline, activated, queued, &stood)
         }
         Finding::Lost { note, word } => {
-            append_named(text, "lost", note_name(system, *note))?;
-            append_number(text, u64::from(*word))
+            append_named(text, "lost", note_name(system, note))?;
+            append_number(text, u64::from(word))
         }
         Finding::Never { thread, deadline } => {
-            append_named(text, "never", thread_name(system, *thread))?;
-            append_counts(text, &[("deadline", *deadline)])
+            append_named(text, "never", thread_name(system, thread))?;
+            append_counts(text, &[("deadline", deadline)])
         }
     }
 }
@@ -101,7 +101,7 @@ fn append_named(text: &mut Vec<u8>, word: &str, name: &str) -> Result<(), NoMemo
 fn append_late(
     text: &mut Vec<u8>,
     deadline: u64,
-    activated: u64,
+    activated: Tick,
     queued: u64,
     stood: &Stood,
 ) -> Result<(), NoMemory>
@@ -111,7 +111,7 @@ fn append_late(
 {
     let numbers = [
         ("deadline", deadline),
-        ("activated", activated),
+        ("activated", activated.get()),
         ("queued", queued),
         ("ready", stood.ready),
         ("running", stood.running),
@@ -172,20 +172,28 @@ fn append_hint(text: &mut Vec<u8>, system: &System, hint: &Hint) -> Result<(), N
     ensures kept { StartsWith text.new.items text.old.items }
 {
     text.extend_from_slice(b"hint")?;
-    match hint {
-        Hint::Unsignalled { note } => {
-            append_named(text, "note", note_name(system, *note))?;
-            append_word(text, "is waited on and no script signals it")?;
-        }
-        Hint::Unbound { context } => {
-            append_named(text, "context", context_name(system, *context))?;
-            append_word(text, "has no thread")?;
-        }
-        Hint::Overcommitted { core, millionths } => {
-            append_counts(text, &[("core", core.0 as u64), ("grants", *millionths)])?;
-            append_word(text, "of 1000000")?;
-        }
-    }
+    append_reason(text, system, hint)?;
     text.push(b'\n')?;
     Ok(())
+}
+
+/// Appends what the hint is of, and what it says.
+fn append_reason(text: &mut Vec<u8>, system: &System, hint: &Hint) -> Result<(), NoMemory>
+    ensures ok { OnOk result (text.new.items ≡ text.old.items ++ after (hint_words system.now hint.now)) }
+    ensures kept { StartsWith text.new.items text.old.items }
+{
+    match *hint {
+        Hint::Unsignalled { note } => {
+            append_named(text, "note", note_name(system, note))?;
+            append_word(text, "is waited on and no script signals it")
+        }
+        Hint::Unbound { context } => {
+            append_named(text, "context", context_name(system, context))?;
+            append_word(text, "has no thread")
+        }
+        Hint::Overcommitted { core, millionths } => {
+            append_counts(text, &[("core", core.0 as u64), ("grants", millionths)])?;
+            append_word(text, "of 1000000")
+        }
+    }
 }
