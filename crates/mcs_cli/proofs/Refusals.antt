@@ -10,14 +10,14 @@ use Rattle.mcs_cli.specs.declared.asked.WordsFault.{WordsFault}
 use Rattle.mcs_cli.specs.declared.asked.WordsFault.TheVariants as fault
 use Rattle.std.specs.Prelude.{List}
 
-is_memory : (k : ErrorKind) (f : WordsFault) → FaultOf k f → k ≡ kind.OutOfMemory → f ≡ fault.NoMemory
+pub is_memory : (k : ErrorKind) (f : WordsFault) → FaultOf k f → k ≡ kind.OutOfMemory → f ≡ fault.NoMemory
 is_memory k fault.NoMemory is memory = refl
 is_memory k (fault.Help text) is memory =
     let bad : kind.DisplayHelp ≡ kind.OutOfMemory = sym is ∙ memory in
     cc
 is_memory k (fault.Words text) is memory = absurd (is.1 memory)
 
-is_fault : (kinds : Kinds) (e : Error) (f : WordsFault) → FaultOf (kind_of e) f → HasKind kinds e → IsFaultOf kinds f
+pub is_fault : (kinds : Kinds) (e : Error) (f : WordsFault) → FaultOf (kind_of e) f → HasKind kinds e → IsFaultOf kinds f
 is_fault kinds e fault.NoMemory is has = search rules
 is_fault kinds e (fault.Help text) is (inl memory) =
     let bad : kind.DisplayHelp ≡ kind.OutOfMemory = sym is ∙ memory in
