@@ -1,0 +1,3 @@
+mod Cases
+pub mod Lines
+pub mod Refusals

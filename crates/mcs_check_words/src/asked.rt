@@ -1,0 +1,21 @@
+ghost use Rattle.std.specs.Prelude.{◌≤◌, ◌^◌};
+
+use mcs_ticks::Tick;
+
+/// What the words of the command line ask for.
+#[derive(Debug, Drop)]
+pub struct Options {
+    /// The name of the system's file, or None for standard input.
+    pub file: Option<String>,
+    /// The last moment of the run, at most 2^40.
+    pub horizon: Tick,
+    /// How many workers may run cores at the same time, 1 to 64.
+    pub workers: usize,
+    /// The notifications of which lost signals are allowed, in the order of the words. No system is known yet, so a name may
+    /// be one that no notification has.
+    pub allowed: Vec<String>,
+    /// Hints count as found, too.
+    pub strict: bool,
+    ghost horizon_in_range: { horizon ≤ 2 ^ 40 },
+    ghost workers_in_range: { (1 ≤ workers) × (workers ≤ 64) },
+}

@@ -1,0 +1,111 @@
+use mcs_check_words::{WordsFault, options};
+use std::alloc::{AllocError, Global};
+use std::test::Fail;
+
+/// What words are answered: the file, the horizon, the workers, the names that are allowed and whether hints count, or the
+/// status and the text of their fault.
+fn answer(alloc: Global, words: &[String]) -> Result<String, AllocError> {
+    match options(alloc, words) {
+        Ok(options) => {
+            let file = options.file.as_ref().map_or("", |name| name.as_str());
+            let horizon = options.horizon.get();
+            let workers = options.workers;
+            let allowed = &options.allowed;
+            let strict = options.strict;
+            format!(in alloc; "{file} {horizon} {workers} {allowed:?} {strict}")
+        }
+        Err(fault) => refusal(alloc, &fault),
+    }
+}
+
+fn refusal(alloc: Global, fault: &WordsFault) -> Result<String, AllocError> {
+    let status = fault.status();
+    match fault {
+        WordsFault::Words(text) | WordsFault::Help(text) => format!(in alloc; "{status} {text}"),
+        WordsFault::NoMemory => format!(in alloc; "{status} no memory"),
+    }
+}
+
+/// What the words of a line, with a space between two of them, are answered.
+fn answer_to(alloc: Global, line: &str) -> Result<String, AllocError> {
+    let mut words = Vec::new(alloc);
+    for word in line.split_whitespace() {
+        words.push(String::from_str(alloc, word)?)?;
+    }
+    answer(alloc, words.as_slice())
+}
+
+static TAKEN: [(&str, &str); 5] = [
+    ("", " 1000 1 [] false"),
+    (
+        "--allow-lost irq in.toml --horizon=1099511627776 --strict --allow-lost=timer --workers 64",
+        "in.toml 1099511627776 64 [\"irq\", \"timer\"] true",
+    ),
+    (
+        "--strict --horizon 0 --allow-lost b --allow-lost a --allow-lost b -- -",
+        "- 0 1 [\"b\", \"a\", \"b\"] true",
+    ),
+    ("--allow-lost= --horizon +7", " 7 1 [\"\"] false"),
+    ("--allow-lost x,y in.toml", "in.toml 1000 1 [\"x,y\"] false"),
+];
+
+#[test]
+fn words_are_taken(rt: HostRuntime) -> Result<(), Fail> {
+    for (line, want) in TAKEN.as_slice() {
+        let found = answer_to(rt.alloc(), line)?;
+        assert_eq!(rt; found.as_str(), *want, "{line}");
+    }
+    Ok(())
+}
+
+// Each line is not understood, and its text says what is wrong.
+static REFUSED: [(&str, &str); 11] = [
+    ("--workers 65", "65"),
+    ("--workers 0", "0"),
+    ("--horizon 1099511627777", "1099511627777"),
+    ("--horizon -1", "-1"),
+    ("--horizon=1 --horizon=2", "--horizon"),
+    ("--allow-lost", "--allow-lost"),
+    ("--allow-lost --strict", "--allow-lost"),
+    ("--strict --strict", "--strict"),
+    ("--strict=true", "true"),
+    ("--show both", "--show"),
+    ("one two", "two"),
+];
+
+#[test]
+fn other_words_are_refused(rt: HostRuntime) -> Result<(), Fail> {
+    for (line, part) in REFUSED.as_slice() {
+        let found = answer_to(rt.alloc(), line)?;
+        assert!(rt; found.as_str().starts_with("2 error: "), "{line}: {found}");
+        assert!(rt; found.as_str().contains(*part), "{line}: {found}");
+    }
+    Ok(())
+}
+
+static HELP: [&str; 12] = [
+    "Tells which deadlines a system misses, which signals are lost, and what never happens",
+    "Usage: mcscheck [OPTIONS] [FILE]",
+    "--horizon <N>",
+    "0 to 2^40 [default: 1000]",
+    "--workers <W>",
+    "1 to 64 [default: 1]",
+    "--allow-lost <NOTE>",
+    "--strict",
+    "mcscheck system.toml --horizon 100000",
+    "Exit status:",
+    "0  nothing is found, or this help",
+    "5  something is found",
+];
+
+#[test]
+fn help_is_given(rt: HostRuntime) -> Result<(), Fail> {
+    for line in ["--help", "-h", "in.toml --help"] {
+        let found = answer_to(rt.alloc(), line)?;
+        assert!(rt; found.as_str().starts_with("0 "), "{line}: {found}");
+        for part in HELP.as_slice() {
+            assert!(rt; found.as_str().contains(*part), "{part}: {found}");
+        }
+    }
+    Ok(())
+}
