@@ -1,0 +1,5 @@
+pub mod Numbers
+pub mod Marks
+pub mod Bounds
+pub mod Grants
+pub mod Worked

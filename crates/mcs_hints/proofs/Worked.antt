@@ -1,0 +1,88 @@
+-- Hints that were worked by hand.
+use Rattle.std.specs.Prelude.{◌≡◌, ℕ, List, [], ◌∷◌, refl}
+use Rattle.mcs_script.specs.declared.item.Item.{Item}
+use Rattle.mcs_script.specs.declared.item.Item.TheVariants.{Compute, Signal, Wait}
+use Rattle.mcs_control.specs.declared.config.Mode.TheVariants as mode
+use Rattle.mcs_system.specs.declared.part.ContextPart.{ContextPart}
+use Rattle.mcs_system.specs.declared.part.ThreadPart.{ThreadPart}
+use Rattle.mcs_system.specs.System.{System}
+use Rattle.mcs_hints.specs.declared.hint.Hint.TheVariants.{Unsignalled, Unbound, Overcommitted}
+use Rattle.mcs_hints.specs.Hints.{hints_of}
+use Rattle.mcs_hints.specs.Cores.{granted}
+
+abbrev context : ℕ → ℕ → ℕ → ContextPart
+context core budget period =
+    record { name = []; core = core; config = record { budget = budget; period = period; extra = 0 }; mode = mode.Sporadic }
+
+abbrev thread : ℕ → List Item → ThreadPart
+thread context script =
+    record { name = []; context = context; priority = 5; start = 0; rounds = 0; deadline = 0; script = script }
+
+-- two cores, and two notifications
+abbrev system : List ContextPart → List ThreadPart → System
+system contexts threads =
+    record {
+      cores = 2;
+      delay = 1;
+      call = 1;
+      min_budget = 1;
+      contexts = contexts;
+      notes = record { name = []; core = 0 } ∷ record { name = []; core = 0 } ∷ [];
+      threads = threads;
+      orders = [];
+      links = [];
+    }
+
+abbrev one : List ContextPart
+one = context 0 1 10 ∷ []
+
+-- who waits for what nobody signals waits for ever
+unsignalled : hints_of (system one (thread 0 (Wait 1 ∷ Compute 1 ∷ []) ∷ [])) ≡ Unsignalled 1 ∷ []
+unsignalled = refl
+
+-- a thread of another core may be the one that signals it, or the thread itself
+signalled : hints_of (system (context 0 1 10 ∷ context 1 1 10 ∷ []) (thread 0 (Wait 1 ∷ Compute 1 ∷ []) ∷ thread 1 (Signal 1 1 ∷ []) ∷ [])) ≡ []
+signalled = refl
+
+-- a signal of another notification is none of this
+other_is_signalled : hints_of (system one (thread 0 (Wait 1 ∷ Signal 0 1 ∷ []) ∷ [])) ≡ Unsignalled 1 ∷ []
+other_is_signalled = refl
+
+-- nobody waits, so that nobody signals is no hint
+unused : hints_of (system one (thread 0 (Compute 1 ∷ []) ∷ [])) ≡ []
+unused = refl
+
+without_thread : hints_of (system (context 0 1 10 ∷ context 0 1 10 ∷ []) (thread 0 (Compute 1 ∷ []) ∷ [])) ≡ Unbound 1 ∷ []
+without_thread = refl
+
+-- 3/10 and 8/10 of core 1
+abbrev three_and_eight : List ContextPart
+three_and_eight = context 1 3 10 ∷ context 1 8 10 ∷ []
+
+too_much : hints_of (system three_and_eight (thread 0 (Compute 1 ∷ []) ∷ thread 1 (Compute 1 ∷ []) ∷ [])) ≡ Overcommitted 1 1100000 ∷ []
+too_much = refl
+
+-- what a context without a thread is granted, nobody uses
+unused_share : hints_of (system three_and_eight (thread 0 (Compute 1 ∷ []) ∷ [])) ≡ Unbound 1 ∷ []
+unused_share = refl
+
+-- all of a core's time may be granted
+just_enough : hints_of (system (context 1 2 10 ∷ context 1 8 10 ∷ []) (thread 0 (Compute 1 ∷ []) ∷ thread 1 (Compute 1 ∷ []) ∷ [])) ≡ []
+just_enough = refl
+
+-- each core by itself
+on_two_cores : hints_of (system (context 0 3 10 ∷ context 1 8 10 ∷ []) (thread 0 (Compute 1 ∷ []) ∷ thread 1 (Compute 1 ∷ []) ∷ [])) ≡ []
+on_two_cores = refl
+
+-- round robin takes what is left
+beside_round_robin : hints_of (system (context 1 10 10 ∷ context 1 8 10 ∷ []) (thread 0 (Compute 1 ∷ []) ∷ thread 1 (Compute 1 ∷ []) ∷ [])) ≡ []
+beside_round_robin = refl
+
+-- each share is rounded down
+rounded_down : granted (system (context 0 1 3 ∷ context 0 2 3 ∷ []) (thread 0 (Compute 1 ∷ []) ∷ thread 1 (Compute 1 ∷ []) ∷ [])) 0 ≡ 999999
+rounded_down = refl
+
+-- all three kinds, in their order
+all_kinds : hints_of (system (context 0 1 10 ∷ context 1 8 10 ∷ context 1 3 10 ∷ context 0 1 1 ∷ []) (thread 1 (Wait 0 ∷ Wait 1 ∷ Compute 1 ∷ []) ∷ thread 2 (Signal 1 1 ∷ []) ∷ []))
+    ≡ Unsignalled 0 ∷ Unbound 0 ∷ Unbound 3 ∷ Overcommitted 1 1100000 ∷ []
+all_kinds = refl

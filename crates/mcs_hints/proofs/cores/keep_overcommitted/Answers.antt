@@ -1,0 +1,8 @@
+use Rattle.mcs_hints.specs.Cores.{overcommitted}
+use Rattle.mcs_hints.proofs.Numbers.{kept_more}
+use Rattle.mcs_hints.proofs.cores.keep_overcommitted.Goals as goal
+
+pub loop-core-preserved : goal.loop-core-preserved
+loop-core-preserved c =
+    kept_more (overcommitted c.args.system.now) c.loop-core.core c.overcommitted.result c.args.hints.now.items c.loop-core.hints.items c.keep.new.hints.items
+    c.loop-core.invariant c.in_ok-keep.ensures c.overcommitted.ensures

@@ -1,0 +1,27 @@
+ghost use Rattle.std.specs.Prelude.{◌≡◌, IfOk};
+ghost use Rattle.mcs_hints.specs.Hints.{hints_of};
+
+use crate::Hint;
+use crate::contexts::{bind_contexts, keep_unbound};
+use crate::cores::keep_overcommitted;
+use crate::notes::{keep_unsignalled, mark_notes};
+use crate::shares::shares;
+use mcs_system::System;
+use mcs_ticks::NoMemory;
+use std::alloc::Global;
+
+/// The hints of a system, whatever the horizon: first of notifications, then of contexts, then of cores, each by number. It takes time
+/// linear in the items of the scripts, and in the contexts for each core. `NoMemory` where a growth was refused.
+pub fn hints(alloc: Global, system: &System) -> Result<Vec<Hint>, NoMemory>
+    ensures { IfOk result (λ hints. hints.items ≡ hints_of system.now) }
+{
+    let parts = system.parts();
+    let marks = mark_notes(alloc, parts)?;
+    let bounds = bind_contexts(alloc, parts)?;
+    let shares = shares(alloc, system, bounds.as_slice())?;
+    let mut hints = Vec::new(alloc);
+    keep_unsignalled(&mut hints, marks.as_slice())?;
+    keep_unbound(&mut hints, bounds.as_slice())?;
+    keep_overcommitted(&mut hints, system, shares.as_slice())?;
+    Ok(hints)
+}

@@ -1,0 +1,106 @@
+ghost use Rattle.std.specs.Prelude.{◌≡◌, ℕ, ◌++◌, List, [], ◌∷◌, length, IfOk};
+ghost use Rattle.std.specs.List.{filter_map};
+ghost use Rattle.mcs_script.specs.declared.item.Item.{Item as TheItem};
+ghost use Rattle.mcs_hints.specs.Numbers.{numbers};
+ghost use Rattle.mcs_hints.specs.Notes.{items_of, unsignalled};
+ghost use Rattle.mcs_hints.specs.stored.Marks.{waits_with, signals_with, unsignalled_by, marks_of};
+
+use crate::Hint;
+use crate::keep::keep;
+use mcs_script::{Item, Script};
+use mcs_system::{SystemParts, ThreadPart};
+use mcs_ticks::{NoMemory, NoteId};
+use std::alloc::Global;
+
+/// What scripts do with a notification.
+#[derive(Clone, Copy)]
+pub(crate) struct Mark {
+    waits: bool,
+    signals: bool,
+}
+
+impl Mark {
+    const NONE: Mark = Mark {
+        waits: false,
+        signals: false,
+    };
+
+    // A script waits on it.
+    fn wait(&mut self)
+        ensures { self.new ≡ waits_with self.old }
+    {
+        self.waits = true;
+    }
+
+    // A script signals it.
+    fn signal(&mut self)
+        ensures { self.new ≡ signals_with self.old }
+    {
+        self.signals = true;
+    }
+
+    fn unsignalled(self, note: NoteId) -> Option<Hint>
+        ensures { result ≡ unsignalled_by note self }
+    {
+        if self.waits && !self.signals {
+            Some(Hint::Unsignalled { note })
+        } else {
+            None
+        }
+    }
+}
+
+fn mark_item(marks: &mut [Mark], item: Item)
+    ensures { (notes : ℕ) (items : List TheItem) → marks.old ≡ marks_of notes items → marks.new ≡ marks_of notes (items ++ item ∷ []) }
+{
+    match item {
+        Item::Wait(note) => {
+            if note.0 < marks.len() {
+                marks[note.0].wait();
+            }
+        }
+        Item::Signal(note, _) => {
+            if note.0 < marks.len() {
+                marks[note.0].signal();
+            }
+        }
+        _ => {}
+    }
+}
+
+fn mark_script(marks: &mut [Mark], script: &Script)
+    ensures { (notes : ℕ) (items : List TheItem) → marks.old ≡ marks_of notes items → marks.new ≡ marks_of notes (items ++ script.now) }
+{
+    for number in 0..script.len() {
+        if let Some(item) = script.get(number) {
+            mark_item(marks, item);
+        }
+    }
+}
+
+fn mark_threads(marks: &mut [Mark], threads: &[ThreadPart])
+    ensures { (notes : ℕ) → marks.old ≡ marks_of notes [] → marks.new ≡ marks_of notes (items_of threads.now) }
+{
+    for thread in threads {
+        mark_script(marks, &thread.script);
+    }
+}
+
+// In one pass over all items.
+pub(crate) fn mark_notes(alloc: Global, parts: &SystemParts) -> Result<Vec<Mark>, NoMemory>
+    ensures { IfOk result (λ marks. marks.items ≡ marks_of (length parts.now.notes) (items_of parts.now.threads)) }
+{
+    let mut marks = vec![in alloc; Mark::NONE; parts.notes.len()]?;
+    mark_threads(marks.as_mut_slice(), parts.threads.as_slice());
+    Ok(marks)
+}
+
+pub(crate) fn keep_unsignalled(hints: &mut Vec<Hint>, marks: &[Mark]) -> Result<(), NoMemory>
+    ensures { (notes : ℕ) (items : List TheItem) → marks.now ≡ marks_of notes items →
+        IfOk result (λ _. hints.new.items ≡ hints.old.items ++ filter_map (unsignalled items) (numbers notes)) }
+{
+    for (note, mark) in marks.iter().enumerate() {
+        keep(hints, mark.unsignalled(NoteId(note)))?;
+    }
+    Ok(())
+}
