@@ -1,3 +1,8 @@
 mod Told
 mod Sums
 mod Words
+mod Rows
+mod Finders
+mod Names
+mod Results
+mod Texts

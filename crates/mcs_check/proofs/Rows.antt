@@ -3,14 +3,10 @@ use Rattle.std.proofs.Common.{◌≡◌, ◌∙◌, ◌++◌, ◌∷◌, [], ℕ
 use Rattle.mcs_ticks.specs.declared.row.Row.{Row}
 use Rattle.mcs_ticks.specs.Given.{Given, GivenUntil, GivenSome}
 use Rattle.mcs_verdict.specs.Findings.{InOrder, UpTo, past_of}
+use Rattle.mcs_check.specs.stored.Rows.{lines_of}
 use Rattle.mcs_cli.specs.Devices.{AppendsPrefix}
 use Rattle.mcs_cli.specs.Flow.{AppendsBefore}
 use Rattle.mcs_cli.proofs.Flow.{before-longer, before-none, before-then, prefix-before, prefix-longer, prefix-then}
-
--- the lines of rows, each after those before it
-abbrev pub lines_of : (List Row → Row → List ℕ) → List Row → List Row → List ℕ
-lines_of line past [] = []
-lines_of line past (r ∷ rows) = line past r ++ lines_of line (r ∷ past) rows
 
 pub lines_of-append : (line : List Row → Row → List ℕ) (past xs ys : List Row)
     → lines_of line past (xs ++ ys) ≡ lines_of line past xs ++ lines_of line (past_of past xs) ys

@@ -1,5 +1,7 @@
 //! The notifications at which lost signals are allowed.
 ghost use Rattle.std.specs.Prelude.{◌≡◌, map, IfOk, OnOk, OnErr, IfErr, IfSome, IsSome, None, option_map, string_bytes};
+ghost use Rattle.std.specs.List.{list_any};
+ghost use Rattle.std.specs.Str.{bytes_eq};
 ghost use Rattle.mcs_check.specs.Allowed.{IsUnknownFault, first_unknown, flags_of, is_known, is_named, nearer, nearest_of};
 
 use crate::CheckFault;
@@ -18,10 +20,10 @@ pub(crate) fn flags_of(
 ) -> Result<Vec<bool>, NoMemory>
     ensures { IfOk result (λ flags. flags.items ≡ flags_of (map (λ name. string_bytes name) names.now) parts.now.notes) }
 {
-    let mut flags = Vec::new(alloc);
-    for part in parts.notes.as_slice() {
-        flags.push(is_named(names, part.name.as_str()))?;
-    }
+    let notes = parts.notes.as_slice().iter();
+    let flags = notes
+        .map(|part| is_named(names, part.name.as_str()))
+        .collect(alloc)?;
     Ok(flags)
 }
 
@@ -29,24 +31,21 @@ pub(crate) fn flags_of(
 fn is_named(names: &[String], name: &str) -> bool
     ensures { result ≡ is_named (map (λ name. string_bytes name) names.now) name.now }
 {
-    for other in names {
-        if other.as_str() == name {
-            return true;
-        }
-    }
-    false
+    is_among(names, name)
+}
+
+fn is_among(names: &[String], name: &str) -> bool
+    ensures { result ≡ list_any (λ other. bytes_eq (string_bytes other) name.now) names.now }
+{
+    names.iter().any(|other| other.as_str() == name)
 }
 
 /// Whether a notification has this name.
 fn is_known(parts: &SystemParts, name: &str) -> bool
     ensures { result ≡ is_known parts.now.notes name.now }
 {
-    for part in parts.notes.as_slice() {
-        if part.name.as_str() == name {
-            return true;
-        }
-    }
-    false
+    let notes = parts.notes.as_slice();
+    notes.iter().any(|part| part.name.as_str() == name)
 }
 
 /// Refuses the first of the names that no notification has.
@@ -115,7 +114,7 @@ fn nearer<'a>(
     near: Option<&'a str>,
     other: &'a str,
 ) -> Result<&'a str, AllocError>
-    ensures { IfOk result (λ r. r.now ≡ nearer name.now (option_map (λ n. n.now) near) other.now) }
+    ensures { IfOk result (λ r. r.now ≡ nearer name.now (option_map (λ n. n.now) near.entry) other.now) }
 {
     let Some(near) = near else {
         return Ok(other);

@@ -2,17 +2,17 @@
 #![tactic(auto)]
 
 mod allowed;
-mod check;
 mod counts;
 mod fault;
 mod finder;
 mod line;
 mod progress;
 mod rest;
+mod run;
 mod seen;
 
-pub use check::{check, check_with};
 pub use counts::Counts;
 pub use fault::CheckFault;
 pub use line::{put_counts, put_found, put_hint};
 pub use progress::{Progress, Quiet};
+pub use run::{check, check_with};

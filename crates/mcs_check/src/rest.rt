@@ -11,49 +11,41 @@ ghost use Rattle.mcs_check.specs.stored.Rows.{counts_found};
 
 use crate::Counts;
 use crate::line::{put_counts, put_found, put_hint};
+use crate::seen::Seen;
 use mcs_hints::{Hint, hints};
 use mcs_system::System;
 use mcs_ticks::{NoMemory, Tick};
-use mcs_verdict::{Found, Watch, find_unended};
+use mcs_verdict::{Found, find_unended};
 use std::alloc::Global;
-
-/// What is kept after the last row.
-#[derive(Drop)]
-pub(crate) struct RowsFound {
-    pub(crate) watch: Watch,
-    pub(crate) counts: Counts,
-    /// The lines that are not written yet.
-    pub(crate) text: Vec<u8>,
-}
 
 /// Puts what is found at the horizon behind the text, then the hints and the counts.
 pub(crate) fn put_rest(
     alloc: Global,
-    found: &mut RowsFound,
+    seen: &mut Seen,
     system: &System,
     allowed: &[bool],
     horizon: Tick,
 ) -> Result<(), NoMemory>
-    ensures text { (past : List TheRow) → found.old.watch ≡ watch_of system.now past → UpTo horizon past →
-        OnOk result (found.new.text.items ≡ found.old.text.items
+    ensures text { (past : List TheRow) → seen.old.watch ≡ watch_of system.now past → UpTo horizon past →
+        OnOk result (seen.new.text.items ≡ seen.old.text.items
         ++ found_lines system.now allowed.now (found_at_end system.now past horizon 0 system.now.threads)
-        ++ flat_map (hint_text system.now) (hints_of system.now) ++ counts_text found.new.counts) }
-    ensures counts { (past : List TheRow) → found.old.watch ≡ watch_of system.now past → UpTo horizon past →
-        OnOk result (found.new.counts ≡ with_hints (length (hints_of system.now))
-        (counts_found allowed.now (found_at_end system.now past horizon 0 system.now.threads) found.old.counts)) }
+        ++ flat_map (hint_text system.now) (hints_of system.now) ++ counts_text seen.new.counts) }
+    ensures counts { (past : List TheRow) → seen.old.watch ≡ watch_of system.now past → UpTo horizon past →
+        OnOk result (seen.new.counts ≡ with_hints (length (hints_of system.now))
+        (counts_found allowed.now (found_at_end system.now past horizon 0 system.now.threads) seen.old.counts)) }
 {
-    let unended = find_unended(alloc, system, &found.watch, horizon)?;
+    let unended = find_unended(alloc, system, &seen.watch, horizon)?;
     let hints = hints(alloc, system)?;
     put_all(
-        &mut found.text,
-        &mut found.counts,
+        &mut seen.text,
+        &mut seen.counts,
         system,
         allowed,
         unended.as_slice(),
     )?;
-    put_hints(&mut found.text, system, hints.as_slice())?;
-    found.counts.hint(hints.len());
-    put_counts(&mut found.text, &found.counts)
+    put_hints(&mut seen.text, system, hints.as_slice())?;
+    seen.counts.hint(hints.len());
+    put_counts(&mut seen.text, &seen.counts)
 }
 
 /// Counts what was found, and puts its lines behind the text.

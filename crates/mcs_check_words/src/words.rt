@@ -6,7 +6,7 @@ ghost use Rattle.mcs_check_words.specs.CommandLine.{HasValues, IsAnswer, IsComma
 
 use crate::Options;
 use clap::{Arg, ArgAction, ArgMatches, Command, Error};
-use mcs_cli::{WordsFault, fault_of, file, file_of, number, number_of};
+use mcs_cli::{WordsFault, fault_of, file_argument, file_of, number_argument, number_of};
 use mcs_ticks::Tick;
 use std::alloc::{AllocError, Global};
 
@@ -48,17 +48,17 @@ fn matches_of<'a>(alloc: Global, words: &'a [String]) -> Result<ArgMatches<'a>, 
 fn command_line<'a>(alloc: Global) -> Result<Command<'a>, AllocError>
     ensures { IfOk result IsCommandLine }
 {
-    let horizon = number(alloc, "horizon", "N", "1000", 0, 1 << 40).help(
+    let horizon = number_argument(alloc, "horizon", "N", "1000", 0, 1 << 40).help(
         "The last moment of the run, 0 to 2^40",
     );
-    let workers = number(alloc, "workers", "W", "1", 1, 64).help(
+    let workers = number_argument(alloc, "workers", "W", "1", 1, 64).help(
         "How many workers may run cores, 1 to 64",
     );
     let bare = Command::new(alloc, "mcscheck")
         .no_binary_name(true)
         .about(ABOUT)
         .after_help(AFTER);
-    let line = bare.arg(file(alloc))?.arg(horizon)?.arg(workers)?;
+    let line = bare.arg(file_argument(alloc))?.arg(horizon)?.arg(workers)?;
     line.arg(allow_lost(alloc))?.arg(strict(alloc))
 }
 

@@ -19,6 +19,11 @@ told_line system moment core (Some found) = found_text system (record { moment =
 abbrev pub failed_after : Bool → Bool → Bool
 failed_after is_out_of_memory before = if is_out_of_memory then before else true
 
+-- the lines of rows, each after those before it
+abbrev pub lines_of : (List Row → Row → List ℕ) → List Row → List Row → List ℕ
+lines_of line past [] = []
+lines_of line past (r ∷ rows) = line past r ++ lines_of line (r ∷ past) rows
+
 module _ (system : System) (allowed : List Bool) where
   -- of a row that comes after these
   abbrev pub told_at : List Row → Row → List ℕ
@@ -31,8 +36,7 @@ module _ (system : System) (allowed : List Bool) where
 
   -- of these rows, each after those before it
   abbrev pub lines_in : List Row → List Row → List ℕ
-  lines_in past [] = []
-  lines_in past (r ∷ rows) = told_at past r ++ lines_in (r ∷ past) rows
+  lines_in past rows = lines_of told_at past rows
 
   abbrev pub counts_in : List Row → List Row → Counts → Counts
   counts_in past [] counts = counts

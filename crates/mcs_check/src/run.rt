@@ -2,7 +2,7 @@ ghost use Rattle.std.specs.Prelude.{◌≡◌, ◌++◌, [], ℕ, Bool, List, Op
 ghost use Rattle.std.specs.Arc.{arc_value};
 ghost use Rattle.std.specs.Io.KnownBytes.{Appends};
 ghost use Rattle.mcs_core.specs.Clock.{schedule};
-ghost use Rattle.mcs_verdict.specs.Findings.{past_of};
+ghost use Rattle.mcs_verdict.specs.Findings.{UpTo, past_of};
 ghost use Rattle.mcs_verdict.specs.Watch.{watch_of};
 ghost use Rattle.mcs_cli.specs.Flow.{AppendsBefore, IsWriteFault};
 ghost use Rattle.mcs_cli.specs.declared.fault.RunFault.TheVariants as fault;
@@ -13,7 +13,7 @@ ghost use Rattle.mcs_check.specs.stored.Rows.{counts_in, lines_in};
 
 use crate::allowed::{flags_of, refuse_unknown};
 use crate::finder::{Finder, Lines};
-use crate::rest::{RowsFound, put_rest};
+use crate::rest::put_rest;
 use crate::seen::Seen;
 use crate::{CheckFault, Counts, Progress};
 use mcs_check_words::Options;
@@ -116,31 +116,32 @@ fn write_findings<H: Threads + Wait + Sync, T: Target, P: Progress>(
         return Err(RunFault::Sim(SimFault::NoMemory));
     };
     let allowed = allowed.as_slice();
-    let mut found = find_rows(rt, alloc, target, &system, allowed, options, progress)?;
-    if put_rest(alloc, &mut found, &system, allowed, options.horizon).is_err() {
+    let mut seen = find_rows(rt, alloc, target, &system, allowed, options, progress)?;
+    if put_rest(alloc, &mut seen, &system, allowed, options.horizon).is_err() {
         return Err(RunFault::Sim(SimFault::NoMemory));
     }
-    write_text(target, found.text.as_slice())?;
-    Ok(found.counts)
+    write_text(target, seen.text.as_slice())?;
+    Ok(seen.counts)
 }
 
 /// Finds what the rows of a system's schedule tell, and writes its lines as the rows come, but for the last ones.
-fn find_rows<H: Threads + Wait + Sync, T: Target, P: Progress>(
+fn find_rows<'s, H: Threads + Wait + Sync, T: Target, P: Progress>(
     rt: &H,
     alloc: Global,
     target: &mut T,
-    system: &Arc<System>,
-    allowed: &[bool],
+    system: &'s Arc<System>,
+    allowed: &'s [bool],
     options: &Options,
     progress: &mut P,
-) -> Result<RowsFound, RunFault>
+) -> Result<Seen, RunFault>
     requires { T.has_failed target.old ≡ false }
-    ensures ok { IfOk result (λ found. AppendsBefore (T.contents target.old) (T.contents target.new)
-        (lines_in (arc_value system.now) allowed.now [] (schedule (arc_value system.now) options.now.horizon)) found.text.items) }
-    ensures watch { IfOk result (λ found. found.watch
+    ensures ok { IfOk result (λ seen. AppendsBefore (T.contents target.old) (T.contents target.new)
+        (lines_in (arc_value system.now) allowed.now [] (schedule (arc_value system.now) options.now.horizon)) seen.text.items) }
+    ensures watch { IfOk result (λ seen. seen.watch
         ≡ watch_of (arc_value system.now) (past_of [] (schedule (arc_value system.now) options.now.horizon))) }
-    ensures counts { IfOk result (λ found. found.counts
+    ensures counts { IfOk result (λ seen. seen.counts
         ≡ counts_in (arc_value system.now) allowed.now [] (schedule (arc_value system.now) options.now.horizon) no_counts) }
+    ensures in_time { UpTo options.now.horizon (past_of [] (schedule (arc_value system.now) options.now.horizon)) }
     ensures working { OnOk result (T.has_failed target.new ≡ false) }
     ensures fault { IfErr result
         (IsWriteFault (T.contents target.old) (T.contents target.new) (T.has_failed target.new)
@@ -154,20 +155,16 @@ fn find_rows<H: Threads + Wait + Sync, T: Target, P: Progress>(
     let Ok(watch) = Watch::new(alloc, system) else {
         return Err(RunFault::Sim(SimFault::NoMemory));
     };
-    let seen = Seen {
-        system,
-        allowed,
+    let mut seen = Seen {
         watch,
         counts: Counts::new(),
+        text: Vec::new(alloc),
     };
-    let mut finder = Finder::new(Lines::new(target, Vec::new(alloc)), seen, progress);
+    let mut finder = Finder::new(Lines::new(target), system, allowed, &mut seen, progress);
     let (horizon, workers) = (options.horizon, options.workers);
-    let result = schedule_to(rt, alloc, shared, horizon, workers, &Open, &mut finder);
-    let is_out_of_memory = finder.lines.is_out_of_memory;
-    let found = finder.end();
-    match result {
-        Ok(()) => Ok(found),
-        Err(FlowFault::Sink) if !is_out_of_memory => Err(RunFault::Write),
+    match schedule_to(rt, alloc, shared, horizon, workers, &Open, &mut finder) {
+        Ok(()) => Ok(seen),
+        Err(FlowFault::Sink) if !finder.lines.is_out_of_memory => Err(RunFault::Write),
         Err(_) => Err(RunFault::Sim(SimFault::NoMemory)),
     }
 }
