@@ -40,9 +40,13 @@ one = context 0 1 10 ∷ []
 unsignalled : hints_of (system one (thread 0 (Wait 1 ∷ Compute 1 ∷ []) ∷ [])) ≡ Unsignalled 1 ∷ []
 unsignalled = refl
 
--- a thread of another core may be the one that signals it, or the thread itself
+-- a thread of another core may be the one that signals it
 signalled : hints_of (system (context 0 1 10 ∷ context 1 1 10 ∷ []) (thread 0 (Wait 1 ∷ Compute 1 ∷ []) ∷ thread 1 (Signal 1 1 ∷ []) ∷ [])) ≡ []
 signalled = refl
+
+-- and so may the thread itself
+signalled_by_itself : hints_of (system one (thread 0 (Wait 1 ∷ Signal 1 1 ∷ []) ∷ [])) ≡ []
+signalled_by_itself = refl
 
 -- a signal of another notification is none of this
 other_is_signalled : hints_of (system one (thread 0 (Wait 1 ∷ Signal 0 1 ∷ []) ∷ [])) ≡ Unsignalled 1 ∷ []
@@ -74,7 +78,7 @@ just_enough = refl
 on_two_cores : hints_of (system (context 0 3 10 ∷ context 1 8 10 ∷ []) (thread 0 (Compute 1 ∷ []) ∷ thread 1 (Compute 1 ∷ []) ∷ [])) ≡ []
 on_two_cores = refl
 
--- round robin takes what is left
+-- a round robin context's slice is no part of its core's time
 beside_round_robin : hints_of (system (context 1 10 10 ∷ context 1 8 10 ∷ []) (thread 0 (Compute 1 ∷ []) ∷ thread 1 (Compute 1 ∷ []) ∷ [])) ≡ []
 beside_round_robin = refl
 

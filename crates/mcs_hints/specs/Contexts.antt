@@ -21,7 +21,7 @@ unbound threads context = if is_bound threads context then None else Some (Unbou
 abbrev pub millionths : Config → ℕ
 millionths config = config.budget * 1000000 / config.period
 
--- round robin takes what time is left, so it is granted none
+-- a round robin context's budget is a slice, and no part of its core's time
 abbrev pub share_by : Kind → Config → ℕ
 share_by RoundRobin config = 0
 share_by Sporadic config = millionths config
