@@ -113,6 +113,15 @@ def built_program(given: pathlib.Path | None) -> pathlib.Path:
     return found.resolve()
 
 
+def beside(program: pathlib.Path, name: str) -> pathlib.Path:
+    """Another program of this repository: the one beside a program, or else the one that was built here, or that of bin/."""
+    places = (program.parent / name, TOP / 'crates' / name / 'out' / name, SHIPPED.parent / name)
+    found = next(filter(is_program, places), None)
+    if found is None:
+        stop(f'there is no program {name} beside {program}, and none in crates/{name}/out or in bin')
+    return found.resolve()
+
+
 class Ran(NamedTuple):
     """What a run came to."""
 

@@ -44,6 +44,7 @@ CHECKS = (
     Check('stress', words=('--systems', '2000')),
     Check('schema'),
     Check('waves', tries_program=False),
+    Check('verdicts'),
     Check('traces'),
     Check('views'),
     Check('bandwidth'),
