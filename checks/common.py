@@ -17,8 +17,17 @@ from typing import NamedTuple, NoReturn, Union
 
 TOP = pathlib.Path(__file__).resolve().parent.parent
 DATA = TOP / 'crates' / 'mcs_corpus' / 'data'
+# the programs that come with the repository, the simulator first
+PROGRAMS = ('mcsim', 'mcscheck')
+
+
+def built_of(name: str) -> pathlib.Path:
+    """Where the gate leaves a program."""
+    return TOP / 'crates' / name / 'out' / name
+
+
 # the program as the gate leaves it, and the one that comes with the repository
-BUILT = TOP / 'crates' / 'mcsim' / 'out' / 'mcsim'
+BUILT = built_of('mcsim')
 SHIPPED = TOP / 'bin' / 'mcsim'
 # the library for C, the same way
 LIBRARY = TOP / 'crates' / 'mcs_c' / 'out' / 'libmcs_c.a'
@@ -115,7 +124,7 @@ def built_program(given: pathlib.Path | None) -> pathlib.Path:
 
 def beside(program: pathlib.Path, name: str) -> pathlib.Path:
     """Another program of this repository: the one beside a program, or else the one that was built here, or that of bin/."""
-    places = (program.parent / name, TOP / 'crates' / name / 'out' / name, SHIPPED.parent / name)
+    places = (program.parent / name, built_of(name), SHIPPED.parent / name)
     found = next(filter(is_program, places), None)
     if found is None:
         stop(f'there is no program {name} beside {program}, and none in crates/{name}/out or in bin')
