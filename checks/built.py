@@ -49,7 +49,7 @@ class Artefact(NamedTuple):
 
 
 PROGRAM = Artefact('mcsim', 'mcsim')
-# a program or a library that comes along has one line here, and one in launcher/installed
+# a library that comes along has one entry here, a program one in PROGRAMS of common.py, and each has lines in launcher/installed
 ARTEFACTS = (PROGRAM, *(Artefact(name, name) for name in common.PROGRAMS if name != PROGRAM.file), Artefact('mcs_c', 'libmcs_c.a'))
 
 

@@ -57,6 +57,7 @@ CHECKS = (
     Check('theorems', tries_program=False),
     Check('believe', tries_program=False),
     Check('faults'),
+    Check('checker'),
     Check('manual'),
     Check('mended'),
     Check('pages'),

@@ -14,6 +14,7 @@ from unittest import mock
 CHECKS = pathlib.Path(__file__).resolve().parent.parent
 sys.path.insert(0, str(CHECKS))
 import bandwidth
+import checker
 import common
 import faults
 import manual
@@ -37,9 +38,10 @@ class WrongPrograms(unittest.TestCase):
         self.program = pathlib.Path(folder.name, 'program')
 
     def tally(self, script: str, program: str, *words: str) -> common.Tally:
-        """What a script counts of a program that is these lines of the shell; its status has to agree."""
-        self.program.write_text(f'#!/bin/sh\n{program}\n')
-        self.program.chmod(0o755)
+        """What a script counts of programs that are these lines of the shell; its status has to agree."""
+        for file in (self.program, self.program.with_name('mcscheck')):
+            file.write_text(f'#!/bin/sh\n{program}\n')
+            file.chmod(0o755)
         command = [sys.executable, str(CHECKS / f'{script}.py'), '--program', str(self.program), *words]
         ran = subprocess.run(command, capture_output=True, text=True, env={**os.environ, 'TMPDIR': str(self.program.parent)})
         found = common.tally_of(ran.stdout.splitlines()[-1])
@@ -48,6 +50,15 @@ class WrongPrograms(unittest.TestCase):
 
     def test_a_program_that_says_nothing_answers_no_fault(self) -> None:
         self.assertEqual(self.tally('faults', 'exit 0'), (0, 16, 0))
+
+    def test_a_checker_that_says_nothing_has_nothing_of_its_page(self) -> None:
+        # all but a system, and a terminal, of which nothing is to be said
+        found = self.tally('checker', 'exit 0')
+        self.assertLessEqual(found.passed, 1)
+        self.assertGreater(found.failed, 30)
+
+    def test_a_checker_that_complains_on_a_short_run_fails(self) -> None:
+        self.assertEqual(self.tally('checker', 'echo "mcscheck: 1 of 2" >&2').passed, 0)
 
     def test_a_program_that_says_nothing_has_no_manual(self) -> None:
         self.assertGreater(self.tally('manual', 'exit 0').failed, 4)
@@ -142,8 +153,20 @@ class Rules(unittest.TestCase):
             self.assertFalse(items[-1].startswith('wait'))
 
     def test_the_options_of_a_help(self) -> None:
-        text = 'Options:\n  -h, --help  Help\n      --workers <W>  Threads, 1 to 64\n                     [default: 1]\n\nRest'
-        self.assertEqual(manual.options_of_help(text), {'help': (None, None, None), 'workers': ('W', '1', '1 to 64')})
+        text = 'Options:\n  -h, --help  Help\n      --workers <W>  Threads, 1 to 64\n                     [default: 1]\n      --allow-lost <NOTE>  Lost\n\nRest'
+        wanted = {'help': (None, None, None), 'workers': ('W', '1', '1 to 64'), 'allow-lost': ('NOTE', None, None)}
+        self.assertEqual(manual.options_of_help(text), wanted)
+
+    def test_a_line_of_a_manual_may_be_two(self) -> None:
+        self.assertEqual(manual.written_in('$ mcsim x\na b\n  c d   (one line)\ne\n'), ('mcsim x', 'a b c d\ne\n'))
+
+    def test_progress_goes_on_and_is_wiped(self) -> None:
+        first, second = '\rmcscheck: 5 of 90\x1b[K', '\rmcscheck: 60 of 90\x1b[K'
+        self.assertTrue(checker.is_progress(f'{first}{second}\r\x1b[K', 90))
+        self.assertTrue(checker.is_progress(f'{first}\r\x1b[Ksaid\r\n', 90, 'said\r\n'))
+        for text in ('', first, f'{second}{first}\r\x1b[K', f'{first}\r\x1b[Kmore', f'{first}{first}\r\x1b[K'):
+            self.assertFalse(checker.is_progress(text, 90))
+        self.assertFalse(checker.is_progress(f'{first}\r\x1b[K', 91))
 
     def test_waves_that_are_read_back(self) -> None:
         dump = '$scope module core0 $end\n$var string 1 ! runs $end\n$upscope $end\n$dumpvars\ns- !\n$end\n#3\nsA !\n#5\ns- !\n'
