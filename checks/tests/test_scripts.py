@@ -130,7 +130,7 @@ class Rules(unittest.TestCase):
         self.assertEqual(case.differs(common.Ran(1, b'x', b'said\n')), 'standard output, status')
 
     def test_a_run_without_memory_gives_a_first_part(self) -> None:
-        kind = refused_runs.Kind('one', [], b'', 0, b'lines', b'')
+        kind = refused_runs.Kind('mcsim', 'one', [], b'', 0, b'lines', b'')
         without = (4, b'li', b'mcsim: no memory\n')
         self.assertTrue(kind.is_cut_well(Answer(*without, b'sr')))
         # only a thread's start was refused
