@@ -36,7 +36,7 @@ NOTES = EMPTY + b'note = [{ name = "tick", core = 0 }, { name = "tock", core = 0
 # so little that a text of this many bytes has no room
 SPACE, LARGE = 48 * 2**20, 40 * 2**20
 WIPED = '\r\x1b[K'
-# the horizon with which the search for a long run begins, and ends
+# the horizons with which the search for a long run begins, and ends
 SHORT, FAR = 2**21, 2**31
 
 
@@ -151,23 +151,30 @@ def is_progress(text: str, horizon: int, after: str = '') -> bool:
     return bool(whole) and moments == sorted(set(moments)) and moments[-1] <= horizon
 
 
+def long_run(program: pathlib.Path, file: pathlib.Path, target: pathlib.Path) -> tuple[int, int, str]:
+    """A horizon to which a run shows how far it is, its status, and what the terminal shows; the last of those that were tried where none does."""
+    horizon = SHORT
+    while True:
+        with open(target, 'wb') as device:
+            status, text = on_terminal(program, file, horizon, device)
+        if WIPED in text or horizon >= FAR:
+            return horizon, status, text
+        horizon *= 2
+
+
 def try_progress(program: pathlib.Path, folder: pathlib.Path, count: Count) -> None:
     file, out = folder / 'long.toml', folder / 'out'
     file.write_text(performance.crowd(1, 8))
     with open(out, 'wb') as target:
         count.expect('a short run shows something', on_terminal(program, file, 1000, target) == (0, ''))
-    horizon, status, text = SHORT, 0, ''
-    # until a run takes more than a second
-    while horizon < FAR and not text:
-        horizon *= 2
-        with open(out, 'wb') as target:
-            status, text = on_terminal(program, file, horizon, target)
-    shown, wanted = f'{text[:60]!r}..{text[-60:]!r}', (CLEAN % 0).encode()
-    count.expect(f'progress up to {horizon}: {shown}', status == 0 and is_progress(text, horizon) and out.read_bytes() == wanted)
-    with open('/dev/full', 'wb') as target:
-        status, text = on_terminal(program, file, horizon, target)
-    count.expect(f'progress of a run that cannot write: {text[-80:]!r}', status == 3 and is_progress(text, horizon, 'mcscheck: write failed\r\n'))
-    count.expect('a pipe sees progress', common.run([program, file, '--horizon', str(horizon)]) == Ran(0, wanted, b''))
+    horizon, status, text = long_run(program, file, out)
+    wanted = (CLEAN % 0).encode()
+    good = status == 0 and is_progress(text, horizon) and out.read_bytes() == wanted
+    count.expect(f'progress up to {horizon}: {text[:60]!r}..{text[-60:]!r}', good)
+    horizon, status, text = long_run(program, file, pathlib.Path('/dev/full'))
+    good = status == 3 and is_progress(text, horizon, 'mcscheck: write failed\r\n')
+    count.expect(f'progress up to {horizon} of a run that cannot write: {text[-80:]!r}', good)
+    count.expect('a pipe sees progress', common.run([program, file, '--horizon', str(2 * horizon)]) == Ran(0, wanted, b''))
 
 
 def main() -> None:
