@@ -3,24 +3,29 @@
 
 On one core it is to take at most 1.3 times what `mcsim --show reports` takes, and on several at most what `mcsim --show both` does, both with as many
 workers. Of each run the least of several tries counts, the programs by turns; some systems have deadlines that each round meets, or misses. Nothing
-else should run meanwhile. The count of the last line is of systems: one passes that is within its aim."""
+else should run meanwhile. With --instructions millions of them are counted by valgrind in place of seconds, between two horizons of a fiftieth and
+a hundredth, whatever else runs. The count of the last line is of systems: one passes that is within its aim."""
 from __future__ import annotations
 
 import pathlib
+import re
 import sys
 import tempfile
-from collections.abc import Callable
+from collections.abc import Callable, Sequence
 from typing import NamedTuple
 
 sys.dont_write_bytecode = True
 import common
 import costs
 import performance
-from common import Count
+from common import Count, Word
 from measured import Cost, run_measured
 from performance import cells, crowd
 
-HEAD = ['System', 'Horizon', 'Workers', 'Check: s', 'MB', 'Reports: s', 'MB', 'Both: s', 'MB', 'To reports', 'To both', 'Aim']
+HEAD = ['System', 'Horizon', 'Workers', 'Check: %s', 'MB', 'Reports: %s', 'MB', 'Both: %s', 'MB', 'To reports', 'To both', 'Aim']
+COUNTING = ('valgrind', '--tool=callgrind', '--callgrind-out-file=/dev/null')
+# the parts of a horizon between which instructions are counted
+PARTS = (50, 100)
 # at most so many times reports, on one core, or both, on several
 OF_REPORTS, OF_BOTH = 1.3, 1.0
 # what is not measured counts as so many seconds
@@ -75,15 +80,33 @@ def least(costs_found: list[Cost]) -> Cost:
     return min(costs_found, key=lambda cost: cost.of_processor)
 
 
+def instructions(command: Sequence[Word], case: Case, scale: int) -> int:
+    """How many a run takes, to a part of its horizon."""
+    words = [*COUNTING, *command, '--horizon', str(case.horizon // scale)]
+    ran = common.run(words, seconds=10 * common.SECONDS)
+    found = re.search(rb'Collected : (\d+)', ran.stderr)
+    if ran.status not in FOUND or found is None:
+        common.stop(f'{case.name}: valgrind ended with status {ran.status}: {ran.stderr.decode(errors="replace")[-200:]}')
+    return int(found[1])
+
+
+def counted(command: Sequence[Word], case: Case) -> Cost:
+    """The millions of instructions between two parts of the horizon, or of the whole run where that is 0; no memory is told."""
+    many = [instructions(command, case, scale) for scale in PARTS[:1 + (case.horizon > 0)]]
+    return Cost(0, (many[0] - sum(many[1:])) / 1e6, 0, 0)
+
+
 class Measuring:
     """The programs, and how they are tried."""
 
-    def __init__(self, simulator: pathlib.Path, tries: int, scale: int) -> None:
+    def __init__(self, simulator: pathlib.Path, tries: int, scale: int, counts: bool) -> None:
         checker = common.beside(simulator, 'mcscheck')
         self.commands = [[checker], [simulator, '--show', 'reports'], [simulator, '--show', 'both']]
-        self.tries, self.scale = tries, scale
+        self.tries, self.scale, self.counts = tries, scale, counts
 
     def costs(self, case: Case, file: pathlib.Path) -> list[Cost]:
+        if self.counts:
+            return [counted([*command, file, '--workers', str(case.workers)], case) for command in self.commands]
         words = [file, '--horizon', str(case.horizon // self.scale), '--workers', str(case.workers)]
         turns = [[run_measured([*command, *words]) for command in self.commands] for _ in range(self.tries)]
         for cost in (cost for turn in turns for cost in turn):
@@ -107,11 +130,12 @@ def main() -> None:
     parser = common.asking_program(__doc__)
     parser.add_argument('--tries', type=int, default=5, help='how often each is run (default 5)')
     parser.add_argument('--quick', action='store_true', help='a tenth of each horizon')
+    parser.add_argument('--instructions', action='store_true', help='counts instructions by valgrind')
     parser.add_argument('--case', action='append', metavar='WORD', help='only the systems whose name begins with this; may be given several times')
     words = parser.parse_args()
-    measuring = Measuring(common.built_program(words.program), words.tries, 10 if words.quick else 1)
-    count = Count()
-    print('\n'.join(performance.headed(HEAD, ())), flush=True)
+    measuring = Measuring(common.built_program(words.program), words.tries, 10 if words.quick else 1, words.instructions)
+    count, unit = Count(), '10^6' if words.instructions else 's'
+    print('\n'.join(performance.headed([name.replace('%s', unit) for name in HEAD], ())), flush=True)
     with tempfile.TemporaryDirectory() as folder:
         for case in CASES:
             if not words.case or case.name.startswith(tuple(words.case)):
