@@ -70,7 +70,8 @@ def kinds_of_simulator() -> Iterator[Kind]:
 def kinds_of_checker() -> Iterator[Kind]:
     system, words, written = checker.example()
     for workers in ('1', '2'):
-        yield Kind('mcscheck', f'the example of FORMAT, {workers} workers', [*words, '--workers', workers, '--allow-lost', 'fire'], system, 5, written, b'')
+        asked = [*words, '--workers', workers, '--allow-lost', 'fire']
+        yield Kind('mcscheck', f'the example of FORMAT, {workers} workers', asked, system, 5, written, b'')
     near = checker.unknown('tik', 'the nearest is tick')
     yield Kind('mcscheck', 'an unknown name', ['--allow-lost', 'fire', '--allow-lost', 'tik'], system, 2, b'', near)
 
