@@ -29,6 +29,9 @@ def built_of(name: str) -> pathlib.Path:
 # the program as the gate leaves it, and the one that comes with the repository
 BUILT = built_of('mcsim')
 SHIPPED = TOP / 'bin' / 'mcsim'
+# mcscheck, the same way
+BUILT_CHECKER = TOP / 'crates' / 'mcscheck' / 'out' / 'mcscheck'
+SHIPPED_CHECKER = TOP / 'bin' / 'mcscheck'
 # the library for C, the same way
 LIBRARY = TOP / 'crates' / 'mcs_c' / 'out' / 'libmcs_c.a'
 SHIPPED_LIBRARY = TOP / 'bin' / 'libmcs_c.a'
@@ -129,6 +132,11 @@ def beside(program: pathlib.Path, name: str) -> pathlib.Path:
     if found is None:
         stop(f'there is no program {name} beside {program}, and none in crates/{name}/out or in bin')
     return found.resolve()
+
+
+def checker_of(program: pathlib.Path) -> pathlib.Path | None:
+    """mcscheck: that which stands beside the program that is tried, or the one that was built here or comes with the repository."""
+    return next(filter(is_program, (program.with_name('mcscheck'), BUILT_CHECKER, SHIPPED_CHECKER)), None)
 
 
 class Ran(NamedTuple):
