@@ -1,9 +1,10 @@
 #!/usr/bin/env python3
-"""Tells whether the pages show what the built program writes: those of examples/, README.md and the guides of docs/. Each of their commands that runs
-a system is run, at the top of the repository.
+"""Tells whether the pages show what the built programs write: those of examples/, README.md and the guides of docs/. Each of their commands that runs
+a system is run, at the top of the repository. mcscheck is that beside the program that is tried, or the repository's; where there is none, its commands
+are skipped.
 
 The lines of a block that follows a command are lines of its output, in order; a page may leave lines out, and marks that by a line of two dots.
-Each command ends with status 0 and says nothing on standard error."""
+Each command says nothing on standard error, and ends with status 0, or with 5 where its verdict is that something was found."""
 from __future__ import annotations
 
 import os
@@ -18,15 +19,21 @@ import common
 from common import TOP, Count, Ran
 
 PROGRAM = './mcsim'
+CHECKER = './mcscheck'
 LEFT_OUT = '..'
-# a tool that runs the program by itself
+# tools that run a program by themselves: the first mcsim, the second mcscheck
 ANALYSES = ' --analyse'
+LEAST = ' --least '
+# the status of a verdict that is not clean, and the lines by which it is told
+FOUND = 5
+COUNTS = re.compile(r'missed (\d+) overdue (\d+) lost (\d+) never (\d+) .*hints (\d+)')
+NONE_WILL_DO = re.compile(r'.*: under none of .*')
 SOURCES = ('.toml', '.csv', '<<', '--random')
 # a block that writes files is run elsewhere
 WRITES = ' -o '
-GUIDES = [TOP / 'docs' / name for name in ('KERNEL.md', 'LEFT_OUT.md', 'MODELLING.md', 'WAYS_IN.md')]
+GUIDES = [TOP / 'docs' / name for name in ('CI.md', 'KERNEL.md', 'LEFT_OUT.md', 'MODELLING.md', 'SWEEPS.md', 'WAYS_IN.md')]
 # pages with blocks beside those that a command wrote
-SHOW_OTHERS = (pathlib.Path('README.md'), pathlib.Path('examples', 'README.md'), pathlib.Path('docs', 'WAYS_IN.md'))
+SHOW_OTHERS = (pathlib.Path('README.md'), pathlib.Path('examples', 'README.md'), pathlib.Path('docs', 'CI.md'), pathlib.Path('docs', 'WAYS_IN.md'))
 
 
 def are_in(lines: Iterable[str], others: Iterable[str]) -> bool:
@@ -41,8 +48,26 @@ def blocks_in(text: str) -> list[tuple[str, str]]:
 
 
 def ran(program: pathlib.Path, block: str) -> Ran:
-    """What a block of commands comes to, with this program in place of ./mcsim, and for the tools."""
-    return common.run(['sh', '-c', block.replace(PROGRAM, shlex.quote(str(program)))], cwd=TOP, env={**os.environ, 'MCSIM': str(program)})
+    """What a block of commands comes to, with this program in place of ./mcsim, its mcscheck in place of ./mcscheck, and both for the tools."""
+    block, environment = block.replace(PROGRAM, shlex.quote(str(program))), {**os.environ, 'MCSIM': str(program)}
+    if checker := common.checker_of(program):
+        block = block.replace(CHECKER, shlex.quote(str(checker)))
+        environment['MCSCHECK'] = str(checker)
+    return common.run(['sh', '-c', block], cwd=TOP, env=environment)
+
+
+def gives_a_verdict(block: str) -> bool:
+    return CHECKER in block or LEAST in block
+
+
+def status_of(block: str, written: Sequence[str]) -> int:
+    """The status with which a block is to end: that of its verdict, where no other command ends it."""
+    last = block.rpartition('|')[2]
+    if not gives_a_verdict(last) or 'echo ' in last or not written:
+        return 0
+    counts = COUNTS.fullmatch(written[-1])
+    found = sum(int(count) for count in counts.groups()[:None if '--strict' in block else -1]) if counts else 0
+    return FOUND if found or NONE_WILL_DO.fullmatch(written[-1]) else 0
 
 
 def is_shown(block: str, written: Sequence[str]) -> bool:
@@ -52,21 +77,25 @@ def is_shown(block: str, written: Sequence[str]) -> bool:
 
 
 def runs_a_system(block: str) -> bool:
-    """Whether a block of commands runs the program with a file, or with a text in the block."""
-    runs = PROGRAM in block or ANALYSES in block
+    """Whether a block of commands runs a program with a file, or with a text in the block."""
+    runs = PROGRAM in block or ANALYSES in block or gives_a_verdict(block)
     return runs and any(source in block for source in SOURCES) and WRITES not in block
 
 
 def try_page(program: pathlib.Path, page: pathlib.Path, count: Count) -> None:
     """Tries a page. On those that show other blocks too, only one that follows a command directly is its output."""
-    name = page.relative_to(TOP)
+    name, has_checker = page.relative_to(TOP), common.checker_of(program) is not None
     shows_others = name in SHOW_OTHERS
     written: list[str] | None = None if shows_others else []
     for kind, block in blocks_in(page.read_text()):
-        if kind == 'sh' and runs_a_system(block):
+        if kind == 'sh' and runs_a_system(block) and gives_a_verdict(block) and not has_checker:
+            count.skip(f'{name}: mcscheck is not there: {block.strip()}')
+            written = None
+        elif kind == 'sh' and runs_a_system(block):
             status, stdout, stderr = ran(program, block)
-            count.expect(f'{name}: {block.strip()}: status {status}, {stderr.decode().strip()}', status == 0 and not stderr)
             written = stdout.decode().splitlines()
+            is_good = status == status_of(block, written) and not stderr
+            count.expect(f'{name}: {block.strip()}: status {status}, {stderr.decode().strip()}', is_good)
         elif kind == '' and written is not None:
             count.expect(f'{name}: a block that its command did not write: {block.splitlines()[:1]}', is_shown(block, written))
             written = None if shows_others else written
