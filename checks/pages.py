@@ -24,6 +24,8 @@ LEFT_OUT = '..'
 # tools that run a program by themselves: the first mcsim, the second mcscheck
 ANALYSES = ' --analyse'
 LEAST = ' --least '
+# a search for a least value makes some hundred runs
+SECONDS = 600
 # the status of a verdict that is not clean, and the lines by which it is told
 FOUND = 5
 COUNTS = re.compile(r'missed (\d+) overdue (\d+) lost (\d+) never (\d+) .*hints (\d+)')
@@ -53,7 +55,7 @@ def ran(program: pathlib.Path, block: str) -> Ran:
     if checker := common.checker_of(program):
         block = block.replace(CHECKER, shlex.quote(str(checker)))
         environment['MCSCHECK'] = str(checker)
-    return common.run(['sh', '-c', block], cwd=TOP, env=environment)
+    return common.run(['sh', '-c', block], seconds=SECONDS, cwd=TOP, env=environment)
 
 
 def gives_a_verdict(block: str) -> bool:
