@@ -4,7 +4,10 @@ a system is run, at the top of the repository. mcscheck is that beside the progr
 are skipped.
 
 The lines of a block that follows a command are lines of its output, in order; a page may leave lines out, and marks that by a line of two dots.
-Each command says nothing on standard error, and ends with status 0, or with 5 where its verdict is that something was found."""
+Each command says nothing on standard error, and ends with status 0, or with 5 where its verdict is that something was found.
+
+The jobs of pipelines on docs/CI.md are YAML, and the lines of their scripts are run in a shell with an empty environment, for a system in which all is
+well and for one in which a deadline is missed."""
 from __future__ import annotations
 
 import os
@@ -12,9 +15,14 @@ import pathlib
 import re
 import shlex
 import sys
-from collections.abc import Iterable, Sequence
+import tempfile
+from collections.abc import Iterable, Iterator, Sequence
 
 sys.dont_write_bytecode = True
+try:
+    import yaml
+except ImportError:
+    yaml = None
 import common
 from common import TOP, Count, Ran
 
@@ -29,6 +37,8 @@ SECONDS = 600
 # the status of a verdict that is not clean, and the lines by which it is told
 FOUND = 5
 COUNTS = re.compile(r'missed (\d+) overdue (\d+) lost (\d+) never (\d+) .*hints (\d+)')
+# a block that ends with the status of any of its verdicts
+EXITS = 'exit $status'
 NONE_WILL_DO = re.compile(r'.*: under none of .*')
 SOURCES = ('.toml', '.csv', '<<', '--random')
 # a block that writes files is run elsewhere
@@ -64,12 +74,16 @@ def gives_a_verdict(block: str) -> bool:
 
 def status_of(block: str, written: Sequence[str]) -> int:
     """The status with which a block is to end: that of its verdict, where no other command ends it."""
-    last = block.rpartition('|')[2]
-    if not gives_a_verdict(last) or 'echo ' in last or not written:
-        return 0
-    counts = COUNTS.fullmatch(written[-1])
-    found = sum(int(count) for count in counts.groups()[:None if '--strict' in block else -1]) if counts else 0
-    return FOUND if found or NONE_WILL_DO.fullmatch(written[-1]) else 0
+    if EXITS in block:
+        return FOUND if any(is_found(line, block) for line in written) else 0
+    return FOUND if gives_a_verdict(block.rpartition('|')[2]) and written and is_found(written[-1], block) else 0
+
+
+def is_found(line: str, block: str) -> bool:
+    """Whether a line is the last one of a verdict that is not clean."""
+    if counts := COUNTS.fullmatch(line):
+        return any(int(count) for count in counts.groups()[:None if '--strict' in block else -1])
+    return NONE_WILL_DO.fullmatch(line) is not None
 
 
 def is_shown(block: str, written: Sequence[str]) -> bool:
@@ -105,11 +119,59 @@ def try_page(program: pathlib.Path, page: pathlib.Path, count: Count) -> None:
             written = None
 
 
+# ---- jobs of pipelines
+
+
+JOBS = TOP / 'docs' / 'CI.md'
+# what a job gets from elsewhere
+FETCHES = ('apt-get ', 'git clone ')
+GOOD, BAD = (common.DATA / 'examples' / f'{name}.toml' for name in ('refills_enough', 'refills_too_few'))
+
+
+def script_lines(job: object) -> Iterator[str]:
+    """The lines that a job gives to a shell."""
+    if isinstance(job, dict):
+        for key, value in job.items():
+            if key in ('run', 'script', 'before_script'):
+                yield from [value] if isinstance(value, str) else value
+            else:
+                yield from script_lines(value)
+    elif isinstance(job, list):
+        for part in job:
+            yield from script_lines(part)
+
+
+def ran_in_a_job(program: pathlib.Path, checker: pathlib.Path, line: str, system: pathlib.Path) -> Ran:
+    """What a line comes to where a checkout of the repository is mcsim, a copy of the checker ci/mcscheck, and a system system.toml."""
+    with tempfile.TemporaryDirectory() as place:
+        folder = pathlib.Path(place)
+        links = {'mcsim/tools': TOP / 'tools', 'mcsim/mcsim': program, 'mcsim/mcscheck': checker, 'ci/mcscheck': checker, 'system.toml': system}
+        for name, target in links.items():
+            (folder / name).parent.mkdir(exist_ok=True)
+            (folder / name).symlink_to(target)
+        path = f'{pathlib.Path(sys.executable).parent}:/usr/bin:/bin'
+        return common.run(['sh', '-ec', line], seconds=SECONDS, cwd=folder, env={'PATH': path, 'MCSIM': str(program), 'PYTHONDONTWRITEBYTECODE': '1'})
+
+
+def try_jobs(program: pathlib.Path, count: Count) -> None:
+    checker = common.checker_of(program)
+    if yaml is None or checker is None:
+        count.skip(f'{JOBS.relative_to(TOP)}: jobs: {"mcscheck" if yaml else "the package yaml of Python"} is not there')
+        return
+    for block in (block for kind, block in blocks_in(JOBS.read_text()) if kind == 'yaml'):
+        lines = list(script_lines(yaml.safe_load(block)))
+        count.expect(f'{JOBS.relative_to(TOP)}: a job without a verdict: {lines}', any('mcscheck system.toml' in line for line in lines))
+        for line in (line for line in lines if not line.startswith(FETCHES)):
+            ends = [ran_in_a_job(program, checker, line, system).status for system in (GOOD, BAD)]
+            count.expect(f'{JOBS.relative_to(TOP)}: {line}: status {ends}', ends == ([0, FOUND] if 'mcscheck' in line else [0, 0]))
+
+
 def main() -> None:
     program = common.built_program(common.asking_program(__doc__).parse_args().program)
     count = Count()
     for page in (*sorted((TOP / 'examples').glob('*.md')), TOP / 'README.md', *GUIDES):
         try_page(program, page, count)
+    try_jobs(program, count)
     count.end()
 
 
