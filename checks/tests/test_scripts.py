@@ -67,8 +67,8 @@ class WrongPrograms(unittest.TestCase):
         self.assertGreater(self.tally('pages', 'exit 0').failed, 4)
 
     def test_a_program_that_complains_writes_no_page(self) -> None:
-        # two commands of the pages run a tool alone
-        self.assertLessEqual(self.tally('pages', 'echo wrong >&2').passed, 2)
+        # two commands of the pages run a tool alone; three jobs have a form, and one of them draws what the program says, which is nothing
+        self.assertLessEqual(self.tally('pages', 'echo wrong >&2').passed, 6)
 
     def test_a_program_that_says_nothing_draws_no_picture(self) -> None:
         self.assertGreater(self.tally('pictures', 'exit 0').failed, 4)
@@ -123,6 +123,22 @@ class Rules(unittest.TestCase):
         self.assertFalse(pages.are_in(['c', 'a'], ['a', 'b', 'c']))
         self.assertFalse(pages.are_in(['a', 'a'], ['a', 'b']))
         self.assertFalse(pages.is_shown('..\n', ['a']))
+
+    def test_a_block_ends_with_the_status_of_its_verdict(self) -> None:
+        clean, hints, late = (f'missed {late} overdue 0 lost 0 never 0 merged 1 allowed 1 hints {hints}' for late, hints in ((0, 0), (0, 1), (1, 0)))
+        for block, last, status in (
+            ('./mcscheck one.toml', clean, 0), ('./mcscheck one.toml', hints, 0), ('./mcscheck one.toml --strict', hints, 5), ('./mcscheck one.toml', late, 5),
+            ('sed s/1/2/ one.toml | ./mcscheck', late, 5), ('./mcscheck one.toml | tail -n 1', late, 0), ('./mcsim one.toml', late, 0),
+            ('tools/sweep one.toml --least call=1:2', 'call: under none of 1 to 2 nothing is found', 5),
+            ('tools/sweep one.toml --least call=1:2', 'call 1: the least of 1 to 2 under which nothing is found', 0),
+        ):
+            self.assertEqual(pages.status_of(block, ['first', last]), status, (block, last))
+        self.assertEqual(pages.status_of('./mcscheck one.toml || status=$?\nexit $status', [late, clean]), 5)
+
+    def test_the_lines_of_a_job_are_those_for_a_shell(self) -> None:
+        job = {'name': 'one', 'steps': [{'uses': 'other'}, {'run': 'a'}, {'name': 'two', 'run': 'b'}]}
+        self.assertEqual(list(pages.script_lines({'jobs': job})), ['a', 'b'])
+        self.assertEqual(list(pages.script_lines({'job': {'before_script': ['a'], 'script': ['b', 'c'], 'image': 'd'}})), ['a', 'b', 'c'])
 
     def test_a_case_names_what_differs(self) -> None:
         case = faults.Case('one', [], b'', faults.NOTHING, faults.exactly(b'said\n'), 3)

@@ -22,6 +22,8 @@ KINDS = ('missed', 'lost', 'overdue', 'never')
 COUNTED = {'miss': 'missed', 'lost': 'lost', 'overdue': 'overdue', 'never': 'never'}
 # the statuses of mcscheck: nothing found, or something; those between are faults of a system or a run
 NOTHING, FOUND = 0, 5
+# the line of counts
+LAST = 'missed '
 
 
 def default_checker(program: str) -> Optional[str]:
@@ -86,7 +88,10 @@ class Programs:
         said = ended.stderr.decode(errors='replace')
         if not NOTHING <= ended.returncode <= FOUND:
             raise Fault(f'{self.checker} ended with status {ended.returncode}: {first_line(said)}')
-        return ended.returncode, ended.stdout.decode(errors='replace').splitlines(), said
+        lines = ended.stdout.decode(errors='replace').splitlines()
+        if ended.returncode in (NOTHING, FOUND) and not (lines and lines[-1].startswith(LAST)):
+            raise Fault(f'{self.checker} gave no verdict')
+        return ended.returncode, lines, said
 
     def greatest(self, text: bytes, system: System, horizon: int) -> dict[str, int]:
         listener = Greatest(system)

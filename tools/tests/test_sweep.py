@@ -227,8 +227,13 @@ class Checker(unittest.TestCase):
             self.assertEqual([verdict.default_checker(name) for name in (program, str(self.folder / 'link'))], [beside, beside])
 
     def test_system_and_horizon_are_handed_over(self) -> None:
-        checker = self.program('mcscheck', 'echo "$*"; cat; exit 5')
-        self.assertEqual(Programs('mcsim', checker).check(b'version = 2\n', 7), (5, ['--horizon 7', 'version = 2'], ''))
+        checker = self.program('mcscheck', f'echo "$*"; cat; echo {COUNTS}; exit 5')
+        self.assertEqual(Programs('mcsim', checker).check(b'version = 2\n', 7), (5, ['--horizon 7', 'version = 2', COUNTS], ''))
+
+    def test_one_that_gives_no_verdict_stops_a_sweep(self) -> None:
+        for text in ('exit 0', 'echo wrong; exit 5'):
+            with self.assertRaisesRegex(Fault, 'mcscheck gave no verdict'):
+                Programs('mcsim', self.program('mcscheck', text)).check(b'', 7)
 
     def test_one_that_does_not_run_stops_a_sweep(self) -> None:
         checker = self.program('mcscheck', 'echo "mcscheck: no rt" >&2; exit 127')
