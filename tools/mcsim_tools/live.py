@@ -187,11 +187,12 @@ def main() -> None:
     except OSError as error:
         raise why(f'{HOST}:{asked.port}', error) from None
     threading.Thread(target=watch.follow, daemon=True).start()
-    print(f'http://{HOST}:{server.server_port}', flush=True)
-    if watch.state.fault:
-        print(watch.state.fault, file=sys.stderr, flush=True)
     try:
+        # whoever has read the address may interrupt it at once
         with server, contextlib.suppress(KeyboardInterrupt):
+            print(f'http://{HOST}:{server.server_port}', flush=True)
+            if watch.state.fault:
+                print(watch.state.fault, file=sys.stderr, flush=True)
             server.serve_forever()
     finally:
         watch.ends.set()
