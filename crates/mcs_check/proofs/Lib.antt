@@ -6,3 +6,4 @@ mod Finders
 mod Names
 mod Results
 mod Texts
+mod Unknown

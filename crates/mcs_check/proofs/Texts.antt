@@ -45,3 +45,22 @@ module _ (names : List (List ℕ)) (system : System) (horizon : ℕ) where
       (sums-found flags ends (counts_in system flags [] rows no_counts) (rows-within system flags [] rows no_counts none-within)
       ∙ ap (λ c. counts_with flags ends 0 0 c) (sums-rows system flags [] rows no_counts none-within))
       ∙ sym (sums-all flags (found_in system [] rows) ends (merged_in system [] rows) (length (hints_of system)) no_counts)
+
+  -- what stands behind the lines of rows, with the flags, the system and the counts that the code has
+  pub behind : (text before : List ℕ) (allowed : List Bool) (own : System) (counts : Counts) → allowed ≡ flags → own ≡ system → counts ≡ counts_of names system horizon
+      → text ≡ before ++ found_lines own allowed (found_at_end own (past_of [] (schedule system horizon)) horizon 0 own.threads)
+      ++ flat_map (hint_text own) (hints_of own) ++ counts_text counts
+      → text ≡ before ++ rest_text names system horizon (counts_of names system horizon)
+  behind text before allowed own counts flags_are system_is counts_are put =
+      let mine = rw (flags_are, system_is, counts_are) at put in
+      let ends = found_lines system flags (found_at_end system (past_of [] (schedule system horizon)) horizon 0 system.threads) in
+      let hinted = flat_map (hint_text system) (hints_of system) in
+      let counted = counts_text (counts_of names system horizon) in
+      mine ∙ ap (λ l. l ++ counted) (append_assoc before ends hinted) ∙ append_assoc before (ends ++ hinted) counted
+
+  -- and how much is counted
+  pub counts-put : (allowed : List Bool) (own : System) (kept counts : Counts) → allowed ≡ flags → own ≡ system
+      → kept ≡ counts_in system flags [] (schedule system horizon) no_counts
+      → counts ≡ with_hints (length (hints_of own)) (counts_found allowed (found_at_end own (past_of [] (schedule system horizon)) horizon 0 own.threads) kept)
+      → counts ≡ counts_of names system horizon
+  counts-put allowed own kept counts flags_are system_is kept_are put = rw (flags_are, system_is, kept_are) at put ∙ counts-are

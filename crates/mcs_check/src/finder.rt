@@ -91,8 +91,8 @@ impl<'t, 's, 'k, 'p, T: Target, P: Progress> Finder<'t, 's, 'k, 'p, T, P> {
         progress: &'p mut P,
     ) -> Self
         ensures lines { result.lines ≡ lines.entry }
-        ensures system { result.system ≡ system }
-        ensures allowed { result.allowed ≡ allowed }
+        ensures system { result.system ≡ system.entry }
+        ensures allowed { result.allowed ≡ allowed.entry }
         ensures seen { result.seen.ghost_name ≡ seen.entry.ghost_name }
         ensures seen_now { result.seen.now ≡ seen.old }
     {

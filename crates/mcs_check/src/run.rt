@@ -9,7 +9,7 @@ ghost use Rattle.mcs_cli.specs.declared.fault.RunFault.TheVariants as fault;
 ghost use Rattle.mcs_check.specs.Check.{IsCheck, check_text, counts_of, names_of};
 ghost use Rattle.mcs_check.specs.Counts.{no_counts};
 ghost use Rattle.mcs_check.specs.declared.fault.CheckFault.TheVariants.{Run};
-ghost use Rattle.mcs_check.specs.stored.Rows.{counts_in, lines_in};
+ghost use Rattle.mcs_check.specs.stored.Rows.{counts_in, lines_in, refusal};
 
 use crate::allowed::{flags_of, refuse_unknown};
 use crate::finder::{Finder, Lines};
@@ -162,9 +162,21 @@ fn find_rows<'s, H: Threads + Wait + Sync, T: Target, P: Progress>(
     };
     let mut finder = Finder::new(Lines::new(target), system, allowed, &mut seen, progress);
     let (horizon, workers) = (options.horizon, options.workers);
-    match schedule_to(rt, alloc, shared, horizon, workers, &Open, &mut finder) {
+    let result = schedule_to(rt, alloc, shared, horizon, workers, &Open, &mut finder);
+    match result {
         Ok(()) => Ok(seen),
-        Err(FlowFault::Sink) if !finder.lines.is_out_of_memory => Err(RunFault::Write),
-        Err(_) => Err(RunFault::Sim(SimFault::NoMemory)),
+        Err(FlowFault::NoMemory) => Err(RunFault::Sim(SimFault::NoMemory)),
+        Err(FlowFault::Sink) => Err(refusal(finder.lines.is_out_of_memory)),
+    }
+}
+
+/// Why a line was refused.
+fn refusal(is_out_of_memory: bool) -> RunFault
+    ensures { result ≡ refusal is_out_of_memory }
+{
+    if is_out_of_memory {
+        RunFault::Sim(SimFault::NoMemory)
+    } else {
+        RunFault::Write
     }
 }

@@ -6,6 +6,9 @@ use Rattle.mcs_verdict.specs.declared.finding.Finding.{Finding}
 use Rattle.mcs_verdict.specs.declared.finding.Found.{Found}
 use Rattle.mcs_verdict.specs.Findings.{finding}
 use Rattle.mcs_verdict.specs.Words.{merges}
+use Rattle.mcs_cli.specs.declared.fault.RunFault.{RunFault}
+use Rattle.mcs_cli.specs.declared.fault.RunFault.TheVariants as fault
+use Rattle.mcs_team.specs.declared.fault.SimFault.TheVariants.{NoMemory}
 use Rattle.mcs_check.specs.declared.counts.Counts.{Counts}
 use Rattle.mcs_check.specs.Counts.{one_more, taken, told_of}
 use Rattle.mcs_check.specs.Lines.{found_text}
@@ -18,6 +21,10 @@ told_line system moment core (Some found) = found_text system (record { moment =
 -- whether a target has failed, where a line was refused
 abbrev pub failed_after : Bool → Bool → Bool
 failed_after is_out_of_memory before = if is_out_of_memory then before else true
+
+-- and why it was
+abbrev pub refusal : Bool → RunFault
+refusal is_out_of_memory = if is_out_of_memory then fault.Sim NoMemory else fault.Write
 
 -- the lines of rows, each after those before it
 abbrev pub lines_of : (List Row → Row → List ℕ) → List Row → List Row → List ℕ
