@@ -5,7 +5,7 @@ ghost use Rattle.mcs_text.specs.Text.{after};
 use itoa::Buffer;
 use mcs_ticks::NoMemory;
 
-/// Appends a space and a word.
+/// Appends a space and a word. After a refusal a first part of them may stand behind the text.
 pub fn append_word(text: &mut Vec<u8>, word: &str) -> Result<(), NoMemory>
     ensures ok { OnOk result (text.new.items ≡ text.old.items ++ 32 ∷ word.now) }
     ensures kept { StartsWith text.new.items text.old.items }
@@ -15,7 +15,7 @@ pub fn append_word(text: &mut Vec<u8>, word: &str) -> Result<(), NoMemory>
     Ok(())
 }
 
-/// Appends a space and a number.
+/// Appends a space and a number in decimal digits. After a refusal a first part of them may stand behind the text.
 pub fn append_number(text: &mut Vec<u8>, number: u64) -> Result<(), NoMemory>
     ensures ok { OnOk result (text.new.items ≡ text.old.items ++ 32 ∷ decimal number) }
     ensures kept { StartsWith text.new.items text.old.items }
@@ -24,7 +24,7 @@ pub fn append_number(text: &mut Vec<u8>, number: u64) -> Result<(), NoMemory>
     append_word(text, buffer.format(number))
 }
 
-/// Appends a word and a number, each after a space.
+/// Appends a word and a number, each after a space. After a refusal a first part of them may stand behind the text.
 pub fn append_counted(text: &mut Vec<u8>, word: &str, number: u64) -> Result<(), NoMemory>
     ensures ok { OnOk result (text.new.items ≡ text.old.items ++ after (word.now ∷ decimal number ∷ [])) }
     ensures kept { StartsWith text.new.items text.old.items }

@@ -69,7 +69,7 @@ fn append_core(text: &mut Vec<u8>, core: usize, report: &CoreReport) -> Result<(
     Ok(())
 }
 
-/// Appends words, each with its number, each after a space.
+/// Appends words, each with its number, each after a space. After a refusal a first part of them may stand behind the text.
 pub fn append_counts(text: &mut Vec<u8>, counts: &[(&str, u64)]) -> Result<(), NoMemory>
     ensures ok { OnOk result
         (text.new.items ≡ text.old.items ++ after (flat_map (λ c. c.0.now ∷ decimal c.1 ∷ []) counts.now)) }
