@@ -1,5 +1,5 @@
 -- What is found by what is kept is what the rows tell.
-use Rattle.std.proofs.Common.{◌≡◌, ℕ, ◌+◌, ◌-◌, ◌≤◌, ◌<◌, ◌^◌, Bool, true, cond, nat_le, List, [], ◌∷◌, get_or, length, Option, Some, None, refl, sym, ap, ◌∙◌, arith}
+use Rattle.std.proofs.Common.{◌≡◌, ℕ, ◌+◌, ◌-◌, ◌≤◌, ◌<◌, ◌^◌, Bool, true, false, cond, nat_le, nat_lt, List, [], ◌∷◌, get_or, length, Option, Some, None, refl, sym, ap, ◌∙◌, arith}
 use Rattle.std.proofs.lemmas.Bool.Decides.{nat_tests}
 use Rattle.std.proofs.lemmas.List.{get_or_past}
 use Rattle.mcs_ticks.specs.declared.row.Row.{Row}
@@ -8,32 +8,24 @@ use Rattle.mcs_system.specs.System.{System, no_thread, thread_part}
 use Rattle.mcs_verdict.specs.declared.account.Account.{Account}
 use Rattle.mcs_verdict.specs.declared.finding.Finding.{Finding}
 use Rattle.mcs_verdict.specs.declared.held.Held.{Held}
+use Rattle.mcs_verdict.specs.declared.job.Job.{Job}
 use Rattle.mcs_verdict.specs.declared.standing.Standing.{Standing}
-use Rattle.mcs_verdict.specs.declared.standing.Standing.TheVariants.{Pending, Ready, Running, Throttled, Blocked, Woken, Done}
 use Rattle.mcs_verdict.specs.declared.standing.Stood.{Stood}
 use Rattle.mcs_verdict.specs.Standing.{standing_after, settled, standing_at, telling}
+use Rattle.mcs_verdict.specs.Activation.{first_active}
 use Rattle.mcs_verdict.specs.Stood.{stood_in}
 use Rattle.mcs_verdict.specs.Rounds.{first_wait, begun, begun_of, called_of, activated_by, activated}
-use Rattle.mcs_verdict.specs.Misses.{or_now, missed, miss, overdue_at, yet_to_begin, word_for, first_word, overdue_since, overdue, was_activated, never_at, never, first_of, unended}
+use Rattle.mcs_verdict.specs.Jobs.{preemptions_of, or_now, ended, job, job_known}
+use Rattle.mcs_verdict.specs.Misses.{missed, miss, overdue_at, yet_to_begin, word_for, first_word, overdue_since, overdue, was_activated, never_at, never, first_of, unended}
 use Rattle.mcs_verdict.specs.Findings.{UpTo}
-use Rattle.mcs_verdict.specs.Account.{all_kept, kept, standing_of, since_of, account_of, stood_since, active_since, total_at, miss_by, overdue_from, overdue_by, never_by, unended_by}
+use Rattle.mcs_verdict.specs.Account.{all_kept, kept, standing_of, since_of, account_of, stood_since, active_since, total_at, job_by, miss_by, overdue_from, overdue_by, never_by, unended_by}
 use Rattle.mcs_verdict.specs.Watch.{accounts_of}
-use Rattle.mcs_verdict.proofs.Accounts.{none_passed, none_active, since-kept, active-kept, total-kept}
+use Rattle.mcs_verdict.proofs.Accounts.{none_passed, none_active, unsettled, since-now, active-now, total-now}
 use Rattle.mcs_verdict.proofs.Watches.{since-up_to, account_kept, kept_small, length-accounts}
 
 -- a thread of the system, by what is kept of it
 abbrev pub account_at : System → ℕ → List Row → Account
 account_at system thread past = account_of (length system.notes) (thread_part system thread) thread past
-
--- where no row follows, a standing is as it was told
-unsettled : (s : Standing) → settled None s ≡ s
-unsettled Pending = refl
-unsettled Ready = refl
-unsettled Running = refl
-unsettled Throttled = refl
-unsettled Blocked = refl
-unsettled Woken = refl
-unsettled Done = refl
 
 -- how the thread stands at last is what its latest telling row says
 pub stands : (past : List Row) (thread horizon : ℕ) → UpTo horizon past → standing_at horizon None (telling thread past) ≡ standing_of (telling thread past)
@@ -45,43 +37,40 @@ stands past thread horizon up = by (telling thread past) (since-up_to thread hor
         let e : nat_le r.moment horizon ≡ true = grind (arith, nat_tests) in
         ap (λ b. cond b (settled None (standing_after r.what)) (standing_at horizon (Some r.what) rows)) e ∙ unsettled (standing_after r.what)
 
--- the miss of a round that ends
-miss_kept : (system : System) (thread moment number : ℕ) (past : List Row) → UpTo moment past
-    → miss_by moment thread number (account_at system thread past) ≡ miss system past moment thread number
-miss_kept system thread moment number past up = by (begun_of system thread past)
+-- the round that ends
+job_kept : (system : System) (thread moment number : ℕ) (past : List Row) → UpTo moment past
+    → job_by moment thread number (account_at system thread past) ≡ job system past moment thread number
+job_kept system thread moment number past up = by (begun_of system thread past)
   where
-    deadline : ℕ
-    deadline = (thread_part system thread).deadline
+    part : ThreadPart
+    part = thread_part system thread
+
+    standing : Standing
+    standing = standing_of (telling thread past)
+
+    -- of a round that began then, and how often it was preempted
+    keeps : Option ℕ → Account
+    keeps began = kept part.deadline (first_wait part) began (called_of system thread past) (preemptions_of system thread past) (telling thread past)
+
+    tells : ℕ → Option ℕ → Stood → Job
+    tells begun active stood =
+        ended moment thread number begun (or_now moment (activated_by (first_wait part) (called_of system thread past) active))
+        (preemptions_of system thread past) stood
 
     by : (began : Option ℕ)
-        → missed moment thread number deadline (or_now moment began)
-        (or_now moment
-        (activated_by (first_wait (thread_part system thread)) (called_of system thread past)
-        (active_since began moment None (kept deadline (first_wait (thread_part system thread)) began (called_of system thread past) (telling thread past)))))
-        (stood_since began moment None (kept deadline (first_wait (thread_part system thread)) began (called_of system thread past) (telling thread past)))
-        ≡ missed moment thread number deadline (or_now moment began) (or_now moment (activated system thread past (or_now moment began) moment))
-        (stood_in thread past (or_now moment began) moment)
+        → tells (or_now moment began) (active_since began moment standing (keeps began)) (stood_since began moment standing (keeps began))
+        ≡ tells (or_now moment began) (first_active thread past (or_now moment began) moment) (stood_in thread past (or_now moment began) moment)
     by None =
-        ap
-        (λ stood. missed moment thread number deadline moment
-        (or_now moment (activated_by (first_wait (thread_part system thread)) (called_of system thread past) None)) stood)
-        (sym (none_passed None (telling thread past) moment (moment - moment) (omega arith)))
-        ∙ ap
-        (λ active. missed moment thread number deadline moment
-        (or_now moment (activated_by (first_wait (thread_part system thread)) (called_of system thread past) active)) (stood_in thread past moment moment))
+        ap (tells moment None) (sym (none_passed None (telling thread past) moment (moment - moment) (omega arith)))
+        ∙ ap (λ active. tells moment active (stood_in thread past moment moment))
         (sym (none_active None (telling thread past) moment (moment - moment) (omega arith)))
     by (Some from) =
-        ap
-        (λ stood. missed moment thread number deadline from
-        (or_now moment
-        (activated_by (first_wait (thread_part system thread)) (called_of system thread past)
-        (active_since (Some from) moment None (kept deadline (first_wait (thread_part system thread)) (Some from) (called_of system thread past) (telling thread past)))))
-        stood)
-        (since-kept deadline (first_wait (thread_part system thread)) from (called_of system thread past) moment None (telling thread past) (since-up_to thread moment past up))
-        ∙ ap
-        (λ active. missed moment thread number deadline from
-        (or_now moment (activated_by (first_wait (thread_part system thread)) (called_of system thread past) active)) (stood_in thread past from moment))
-        (active-kept deadline (first_wait (thread_part system thread)) from (called_of system thread past) moment None (telling thread past) (since-up_to thread moment past up))
+        ap (tells from (active_since (Some from) moment standing (keeps (Some from))))
+        (since-now part.deadline (first_wait part) from (called_of system thread past) (preemptions_of system thread past) moment (telling thread past)
+        (since-up_to thread moment past up))
+        ∙ ap (λ active. tells from active (stood_in thread past from moment))
+        (active-now part.deadline (first_wait part) from (called_of system thread past) (preemptions_of system thread past) moment (telling thread past)
+        (since-up_to thread moment past up))
 
 -- what is overdue
 overdue_kept : (system : System) (thread horizon : ℕ) (past : List Row) → UpTo horizon past
@@ -93,7 +82,7 @@ overdue_kept system thread horizon past up = by (begun_of system thread past)
 
     by : (began : Option ℕ)
         → overdue_from horizon thread (first_word system thread past) began
-        (kept deadline (first_wait (thread_part system thread)) began (called_of system thread past) (telling thread past))
+        (kept deadline (first_wait (thread_part system thread)) began (called_of system thread past) (preemptions_of system thread past) (telling thread past))
         ≡ overdue_since system past horizon thread began
     by None =
         ap
@@ -106,12 +95,12 @@ overdue_kept system thread horizon past up = by (begun_of system thread past)
         ap
         (λ stood. overdue_at horizon thread deadline from stood
         (activated_by (first_wait (thread_part system thread)) (called_of system thread past)
-        (active_since (Some from) horizon None (kept deadline (first_wait (thread_part system thread)) (Some from) (called_of system thread past) (telling thread past)))))
-        (since-kept deadline (first_wait (thread_part system thread)) from (called_of system thread past) horizon None (telling thread past) (since-up_to thread horizon past up))
+        (active_since (Some from) horizon (standing_of (telling thread past)) (kept deadline (first_wait (thread_part system thread)) (Some from) (called_of system thread past) (preemptions_of system thread past) (telling thread past)))))
+        (since-now deadline (first_wait (thread_part system thread)) from (called_of system thread past) (preemptions_of system thread past) horizon (telling thread past) (since-up_to thread horizon past up))
         ∙ ap
         (λ active. overdue_at horizon thread deadline from (stood_in thread past from horizon)
         (activated_by (first_wait (thread_part system thread)) (called_of system thread past) active))
-        (active-kept deadline (first_wait (thread_part system thread)) from (called_of system thread past) horizon None (telling thread past) (since-up_to thread horizon past up))
+        (active-now deadline (first_wait (thread_part system thread)) from (called_of system thread past) (preemptions_of system thread past) horizon (telling thread past) (since-up_to thread horizon past up))
 
 -- what was never activated
 never_kept : (system : System) (thread horizon : ℕ) (past : List Row) → UpTo horizon past
@@ -119,7 +108,7 @@ never_kept : (system : System) (thread horizon : ℕ) (past : List Row) → UpTo
 never_kept system thread horizon past up =
     let part = thread_part system thread in
     ap (λ stood. never_at thread part.deadline (was_activated (first_wait part) (called_of system thread past) (first_word system thread past) stood))
-    (total-kept part.deadline (first_wait part) (begun_of system thread past) (called_of system thread past) horizon None (telling thread past) (since-up_to thread horizon past up))
+    (total-now part.deadline (first_wait part) (begun_of system thread past) (called_of system thread past) (preemptions_of system thread past) horizon (telling thread past) (since-up_to thread horizon past up))
 
 unended_kept : (system : System) (thread horizon : ℕ) (past : List Row) → UpTo horizon past
     → unended_by horizon thread (first_word system thread past) (account_at system thread past) ≡ unended system past horizon thread
@@ -153,6 +142,16 @@ few system past accounts place m d e has it up small =
     omega (arith, s, k)
 
 -- the round of a thread that the system has
+job_found : (system : System) (past : List Row) (accounts : List Account) (moment place thread number : ℕ) (d : Account) (found : Job)
+    → place ≡ thread → accounts ≡ accounts_of (length system.notes) 0 system.threads past → UpTo moment past → moment ≤ 2 ^ 42 → place < length accounts
+    → d ≡ get_or accounts place d
+    → (all_kept d + moment < 2 ^ 64 → found ≡ job_by moment thread number d)
+    → found ≡ job system past moment thread number
+job_found system past accounts moment place thread number d found same e up small has it is =
+    is (few system past accounts place moment d e has it up small)
+    ∙ ap (job_by moment thread number) (account_is system past accounts place thread d same e has it)
+    ∙ job_kept system thread moment number past up
+
 pub miss_found : (system : System) (past : List Row) (accounts : List Account) (moment place thread number : ℕ) (d : Account) (found : Option Finding)
     → place ≡ thread → accounts ≡ accounts_of (length system.notes) 0 system.threads past → UpTo moment past → moment ≤ 2 ^ 42 → place < length accounts
     → d ≡ get_or accounts place d
@@ -161,7 +160,31 @@ pub miss_found : (system : System) (past : List Row) (accounts : List Account) (
 miss_found system past accounts moment place thread number d found same e up small has it is =
     is (few system past accounts place moment d e has it up small)
     ∙ ap (miss_by moment thread number) (account_is system past accounts place thread d same e has it)
-    ∙ miss_kept system thread moment number past up
+    ∙ ap (missed (thread_part system thread).deadline) (job_kept system thread moment number past up)
+
+-- whether the system has the thread
+known : (system : System) (past : List Row) (accounts : List Account) → accounts ≡ accounts_of (length system.notes) 0 system.threads past
+    → length accounts ≡ length system.threads
+known system past accounts e = ap length e ∙ length-accounts (length system.notes) 0 system.threads past
+
+pub job_told : (system : System) (past : List Row) (accounts : List Account) (moment place thread number : ℕ) (d : Account) (found : Job)
+    → place ≡ thread → accounts ≡ accounts_of (length system.notes) 0 system.threads past → UpTo moment past → moment ≤ 2 ^ 42 → place < length accounts
+    → d ≡ get_or accounts place d
+    → (all_kept d + moment < 2 ^ 64 → found ≡ job_by moment thread number d)
+    → Some found ≡ job_known system past moment thread number
+job_told system past accounts moment place thread number d found same e up small has it is =
+    let l = known system past accounts e in
+    let b : nat_lt thread (length system.threads) ≡ true = grind (arith, nat_tests) in
+    ap Some (job_found system past accounts moment place thread number d found same e up small has it is)
+    ∙ sym (ap (λ b. cond b (Some (job system past moment thread number)) None) b)
+
+pub job_unknown : (system : System) (past : List Row) (accounts : List Account) (moment place thread number : ℕ)
+    → place ≡ thread → accounts ≡ accounts_of (length system.notes) 0 system.threads past → length accounts ≤ place
+    → None ≡ job_known system past moment thread number
+job_unknown system past accounts moment place thread number same e has =
+    let l = known system past accounts e in
+    let b : nat_lt thread (length system.threads) ≡ false = grind (arith, nat_tests) in
+    sym (ap (λ b. cond b (Some (job system past moment thread number)) None) b)
 
 pub unended_found : (system : System) (past : List Row) (accounts : List Account) (horizon place thread : ℕ) (d : Account) (held : Held) (found : Option Finding)
     → place ≡ thread → accounts ≡ accounts_of (length system.notes) 0 system.threads past → UpTo horizon past → horizon ≤ 2 ^ 42 → place < length accounts
@@ -180,9 +203,8 @@ unended_found system past accounts horizon place thread d held found same e up s
 no_deadline : (threads : List ThreadPart) (thread : ℕ) → length threads ≤ thread → (get_or threads thread no_thread).deadline ≡ 0
 no_deadline threads thread h = ap (λ (part : ThreadPart). part.deadline) (get_or_past threads thread no_thread h)
 
-none_missed : (moment thread number deadline begun activated : ℕ) (stood : Stood) → deadline ≡ 0
-    → missed moment thread number deadline begun activated stood ≡ None
-none_missed moment thread number deadline begun activated stood e = ap (λ d. missed moment thread number d begun activated stood) e
+none_missed : (deadline : ℕ) (job : Job) → deadline ≡ 0 → missed deadline job ≡ None
+none_missed deadline job e = ap (λ d. missed d job) e
 
 none_overdue : (horizon thread deadline begun : ℕ) (stood : Stood) (activated : Option ℕ) → deadline ≡ 0
     → overdue_at horizon thread deadline begun stood activated ≡ None
@@ -198,7 +220,7 @@ pub miss_unknown : (system : System) (past : List Row) (accounts : List Account)
 miss_unknown system past accounts moment thread number e has =
     let l = length-accounts (length system.notes) 0 system.threads past in
     let m : length accounts ≡ length (accounts_of (length system.notes) 0 system.threads past) = ap length e in
-    sym (none_missed moment thread number (thread_part system thread).deadline _ _ _ (no_deadline system.threads thread (omega (arith, l, m))))
+    sym (none_missed (thread_part system thread).deadline (job system past moment thread number) (no_deadline system.threads thread (omega (arith, l, m))))
 
 none_since : (system : System) (past : List Row) (horizon thread : ℕ) (began : Option ℕ) → (thread_part system thread).deadline ≡ 0
     → overdue_since system past horizon thread began ≡ None
@@ -220,10 +242,10 @@ unended_unknown system past accounts horizon thread e has =
 pub stood_found : (system : System) (past : List Row) (accounts : List Account) (moment place thread : ℕ) (d : Account) (stood : Stood)
     → place ≡ thread → accounts ≡ accounts_of (length system.notes) 0 system.threads past → UpTo moment past → moment ≤ 2 ^ 42 → place < length accounts
     → d ≡ get_or accounts place d
-    → (all_kept d + moment < 2 ^ 64 → stood ≡ total_at moment None d)
+    → (all_kept d + moment < 2 ^ 64 → stood ≡ total_at moment d.standing d)
     → stood ≡ stood_in thread past 0 moment
 stood_found system past accounts moment place thread d stood same e up small has it is =
     let part = thread_part system thread in
     is (few system past accounts place moment d e has it up small)
-    ∙ ap (total_at moment None) (account_is system past accounts place thread d same e has it)
-    ∙ total-kept part.deadline (first_wait part) (begun_of system thread past) (called_of system thread past) moment None (telling thread past) (since-up_to thread moment past up)
+    ∙ ap (λ (d : Account). total_at moment d.standing d) (account_is system past accounts place thread d same e has it)
+    ∙ total-now part.deadline (first_wait part) (begun_of system thread past) (called_of system thread past) (preemptions_of system thread past) moment (telling thread past) (since-up_to thread moment past up)

@@ -3,6 +3,7 @@ use Rattle.std.proofs.Common.{◌≡◌, ℕ, suc, zero, ◌+◌, ◌-◌, ◌�
 use Rattle.std.proofs.lemmas.Bool.Decides.{nat_tests}
 use Rattle.mcs_ticks.specs.declared.row.Row.{Row}
 use Rattle.mcs_ticks.specs.declared.row.What.{What}
+use Rattle.mcs_ticks.specs.declared.row.What.TheVariants as row
 use Rattle.mcs_system.specs.declared.part.ThreadPart.{ThreadPart}
 use Rattle.mcs_system.specs.System.{System, no_thread}
 use Rattle.mcs_verdict.specs.declared.account.Account.{Account}
@@ -15,7 +16,7 @@ use Rattle.mcs_verdict.specs.Account.{since_of, stood_of, all_kept, account_of, 
 use Rattle.mcs_verdict.specs.Watch.{Watch, accounts_of, words_of, watch_of}
 use Rattle.mcs_verdict.proofs.Counts.{all-stood_for}
 use Rattle.mcs_verdict.proofs.Accounts.{same, own}
-use Rattle.mcs_verdict.proofs.Words.{words_opened}
+use Rattle.mcs_verdict.proofs.Words.{says_none, words_opened, words_unsaid}
 
 -- the latest telling row is of no later moment than all rows
 pub since-up_to : (thread m : ℕ) (past : List Row) → UpTo m past → since_of (telling thread past) ≤ m
@@ -152,6 +153,11 @@ pub accounts_opened : (notes n : ℕ) (parts : List ThreadPart) → map (λ part
 accounts_opened notes n [] = refl
 accounts_opened notes n (part ∷ parts) = ap (λ accounts. account_of notes part n [] ∷ accounts) (accounts_opened notes (suc n) parts)
 
+-- a watch is its accounts and words
+both : (a : List Account) (w : List Held) (b : List Account) (v : List Held) → a ≡ b → w ≡ v
+    → let x : Watch = record { accounts = a; words = w } in let y : Watch = record { accounts = b; words = v } in x ≡ y
+both a w b v e f = ap (λ a. record { accounts = a; words = w }) e ∙ ap (λ w. record { accounts = b; words = w }) f
+
 -- what is kept at first
 pub watch_opened : (system parts : System) (accounts : List Account) (words : List Held) → parts ≡ system
     → accounts ≡ map (λ part. account_of 0 part 0 []) parts.threads → words ≡ map (λ part. no_word) parts.notes
@@ -165,7 +171,25 @@ watch_opened system parts accounts words same a w =
     w ∙ words_opened 0 parts.notes ∙ ap (λ (parts : System). words_of 0 parts.notes []) same
     in
     both accounts words (accounts_of notes 0 system.threads []) (words_of 0 system.notes []) a' w'
-  where
-    both : (a : List Account) (w : List Held) (b : List Account) (v : List Held) → a ≡ b → w ≡ v
-        → let x : Watch = record { accounts = a; words = w } in let y : Watch = record { accounts = b; words = v } in x ≡ y
-    both a w b v e f = ap (λ a. record { accounts = a; words = w }) e ∙ ap (λ w. record { accounts = b; words = w }) f
+
+-- a row by which no word is taken
+pub sets_none : (notes : ℕ) (past : List Row) (what : What) → ((t n w : ℕ) → what ≡ row.Got t n w → ⊥) → 0 ≡ set_for notes past what
+sets_none notes past (row.Release x) got = refl
+sets_none notes past (row.Run x) got = refl
+sets_none notes past (row.Stop x cause charged until) got = refl
+sets_none notes past (row.Signal x note badge) got = refl
+sets_none notes past (row.Arrive note badge maker) got = refl
+sets_none notes past (row.Wake x note word) got = refl
+sets_none notes past (row.Hold note word) got = refl
+sets_none notes past (row.Got x note word) got = absurd (got x note word refl)
+sets_none notes past (row.Round x number response) got = refl
+sets_none notes past (row.Order context) got = refl
+
+-- what is kept after a row that is about no word
+pub watch_told : (system : System) (r : Row) (past : List Row) (accounts : List Account) (words : List Held)
+    → ((n w : ℕ) → r.what ≡ row.Hold n w → ⊥) → ((t n w : ℕ) → r.what ≡ row.Got t n w → ⊥)
+    → accounts ≡ accounts_of (length system.notes) 0 system.threads (r ∷ past) → words ≡ words_of 0 system.notes past
+    → record { accounts = accounts; words = words } ≡ watch_of system (r ∷ past)
+watch_told system r past accounts words hold got a w =
+    let w' : words ≡ words_of 0 system.notes (r ∷ past) = w ∙ sym (words_unsaid 0 system.notes r past (says_none r.what hold got)) in
+    both accounts words (accounts_of (length system.notes) 0 system.threads (r ∷ past)) (words_of 0 system.notes (r ∷ past)) a w'

@@ -12,7 +12,9 @@ use Rattle.mcs_system.specs.System.{System}
 use Rattle.mcs_verdict.specs.declared.finding.Finding.TheVariants as finding
 use Rattle.mcs_verdict.specs.declared.finding.Finding.{Finding}
 use Rattle.mcs_verdict.specs.declared.finding.Found.{Found}
+use Rattle.mcs_verdict.specs.declared.job.Job.{Job}
 use Rattle.mcs_verdict.specs.declared.standing.Stood.{Stood}
+use Rattle.mcs_verdict.specs.Jobs.{jobs_in}
 use Rattle.mcs_verdict.specs.Findings.{findings}
 use Rattle.mcs_verdict.specs.Words.{merges}
 
@@ -133,3 +135,51 @@ not_merged = refl
 
 first_word : merges (two (thread 0 0 (Compute 1 ∷ [])) (thread 1 0 (Compute 1 ∷ []))) [] (row.Hold 0 1) ≡ false
 first_word = refl
+
+-- a round that ended: its thread, number, activation, beginning, end, response, wait in line, preemptions and parts
+abbrev job : ℕ → ℕ → ℕ → ℕ → ℕ → ℕ → ℕ → ℕ → Stood → Job
+job thread number activated begun ended response queued preemptions stood =
+    record {
+      thread = thread;
+      number = number;
+      activated = activated;
+      begun = begun;
+      ended = ended;
+      response = response;
+      queued = queued;
+      preemptions = preemptions;
+      stood = stood;
+    }
+
+preempted_once : jobs_in (two (thread 0 0 (Signal 0 1 ∷ [])) (thread 1 6 (Wait 0 ∷ Compute 12 ∷ []))) [] looped ≡ job 1 1 1 2 16 15 1 1 (parts 2 12 0 0) ∷ []
+preempted_once = refl
+
+-- Of a loop that waits first, a preemption before the word is taken belongs to no round, at the moment of its beginning too; one at that
+-- moment after the word is taken does; one after the round's end does not.
+abbrev preempts : List Row
+preempts =
+    at 0 (row.Release 1) ∷ at 0 (row.Run 1) ∷ at 1 (row.Stop 1 why.Preempt 1 None) ∷ at 4 (row.Hold 0 1) ∷ at 5 (row.Run 1)
+    ∷ at 5 (row.Stop 1 why.Preempt 0 None) ∷ at 5 (row.Run 1) ∷ at 5 (row.Got 1 0 1) ∷ at 5 (row.Stop 1 why.Preempt 0 None)
+    ∷ at 6 (row.Run 1) ∷ at 8 (row.Round 1 1 3) ∷ at 8 (row.Stop 1 why.Preempt 2 None) ∷ at 9 (row.Hold 0 2) ∷ at 10 (row.Run 1)
+    ∷ at 10 (row.Got 1 0 2) ∷ at 12 (row.Round 1 2 2) ∷ []
+
+preempted_in_the_first : jobs_in (two (thread 0 0 (Signal 0 1 ∷ [])) (thread 1 0 (Wait 0 ∷ Compute 2 ∷ []))) [] preempts
+    ≡ job 1 1 4 5 8 4 1 1 (parts 1 2 0 0) ∷ job 1 2 9 10 12 3 1 0 (parts 0 2 0 0) ∷ []
+preempted_in_the_first = refl
+
+-- Of a loop that begins where the round before ended, such a preemption belongs to the next round. A stop of another cause is none, and the
+-- preemption of another thread is not counted.
+abbrev spends : List Row
+spends =
+    at 0 (row.Release 0) ∷ at 0 (row.Release 1) ∷ at 0 (row.Run 0) ∷ at 2 (row.Stop 0 why.Spent 2 (Some 10)) ∷ at 2 (row.Run 1)
+    ∷ at 10 (row.Release 0) ∷ at 10 (row.Stop 1 why.Preempt 8 None) ∷ at 10 (row.Run 0) ∷ at 11 (row.Round 0 1 11)
+    ∷ at 11 (row.Stop 0 why.Preempt 1 None) ∷ at 11 (row.Run 1) ∷ at 12 (row.Stop 1 why.Yield 9 (Some 20)) ∷ at 12 (row.Run 0)
+    ∷ at 14 (row.Stop 0 why.Preempt 3 (Some 21)) ∷ at 21 (row.Release 0) ∷ at 21 (row.Run 0) ∷ at 22 (row.Round 0 2 11) ∷ []
+
+preempted_in_the_second : jobs_in (two (thread 0 0 (Compute 3 ∷ [])) (thread 1 0 (Compute 100 ∷ []))) [] spends
+    ≡ job 0 1 0 0 11 11 0 0 (parts 0 3 8 0) ∷ job 0 2 11 11 22 11 0 2 (parts 1 3 7 0) ∷ []
+preempted_in_the_second = refl
+
+-- a thread that the system does not have has no rounds
+of_no_thread : jobs_in (two (thread 0 0 (Compute 3 ∷ [])) (thread 1 0 (Compute 100 ∷ []))) [] (at 4 (row.Round 2 1 4) ∷ []) ≡ []
+of_no_thread = refl

@@ -3,6 +3,7 @@ pub mod Stood
 pub mod Activation
 pub mod Words
 pub mod Rounds
+pub mod Jobs
 pub mod Misses
 pub mod Findings
 pub mod Account

@@ -5,18 +5,15 @@ use Rattle.mcs_system.specs.System.{System, thread_part}
 use Rattle.mcs_verdict.specs.declared.finding.Finding.{Finding}
 use Rattle.mcs_verdict.specs.declared.finding.Finding.TheVariants.{Miss, Overdue, Never}
 use Rattle.mcs_verdict.specs.declared.held.Held.{Held}
+use Rattle.mcs_verdict.specs.declared.job.Job.{Job}
 use Rattle.mcs_verdict.specs.declared.standing.Standing.{Standing}
 use Rattle.mcs_verdict.specs.declared.standing.Standing.TheVariants.{Done}
 use Rattle.mcs_verdict.specs.declared.standing.Stood.{Stood}
 use Rattle.mcs_verdict.specs.Standing.{standing_at, telling}
 use Rattle.mcs_verdict.specs.Stood.{stood_in}
 use Rattle.mcs_verdict.specs.Rounds.{first_wait, begun_of, called_of, activated}
+use Rattle.mcs_verdict.specs.Jobs.{job}
 use Rattle.mcs_verdict.specs.Words.{no_word, held_of}
-
--- a moment of which no row tells is taken to be this one
-abbrev pub or_now : ℕ → Option ℕ → ℕ
-or_now moment None = moment
-or_now moment (Some earlier) = earlier
 
 -- the deadline 0 is none
 abbrev pub is_above : ℕ → ℕ → Bool
@@ -25,18 +22,15 @@ is_above deadline ticks = not (deadline == 0) && nat_lt deadline ticks
 abbrev pub is_reached : ℕ → ℕ → Bool
 is_reached deadline ticks = not (deadline == 0) && nat_le deadline ticks
 
--- a round that ends at this moment missed its deadline where its response from its activation is above it
-abbrev pub missed : ℕ → ℕ → ℕ → ℕ → ℕ → ℕ → Stood → Option Finding
-missed moment thread number deadline begun activated stood =
-    if is_above deadline (moment - activated)
-    then Some (Miss thread number (moment - activated) deadline activated (begun - activated) stood)
+-- a round that ended missed its deadline where its response from its activation is above it
+abbrev pub missed : ℕ → Job → Option Finding
+missed deadline job =
+    if is_above deadline job.response
+    then Some (Miss job.thread job.number job.response deadline job.activated job.queued job.stood)
     else None
 
 abbrev pub miss : System → List Row → ℕ → ℕ → ℕ → Option Finding
-miss system past moment thread number =
-    let begun = or_now moment (begun_of system thread past) in
-    missed moment thread number (thread_part system thread).deadline begun
-    (or_now moment (activated system thread past begun moment)) (stood_in thread past begun moment)
+miss system past moment thread number = missed (thread_part system thread).deadline (job system past moment thread number)
 
 -- a round that is not ended at the horizon can only miss its deadline where it was activated at least a deadline ago
 abbrev pub overdue_at : ℕ → ℕ → ℕ → ℕ → Stood → Option ℕ → Option Finding

@@ -1,12 +1,12 @@
 ghost use Rattle.std.specs.Prelude.{◌≡◌, ℕ, ◌+◌, ◌<◌, ◌^◌, [], Some, None, max};
-ghost use Rattle.mcs_verdict.specs.Account.{all_kept, account_of, stood_since, total_at, active_since, or_first, told, begins, given, seen_own, activated_since, miss_by, overdue_by, never_by, unended_by};
+ghost use Rattle.mcs_verdict.specs.Account.{all_kept, account_of, stood_since, total_at, active_since, or_first, passed, told_from, begins, ends, preempted, given, turned, seen_own, activated_since, job_by, miss_by, overdue_by, never_by, unended_by};
 ghost use Rattle.mcs_verdict.specs.Activation.{is_active};
-ghost use Rattle.mcs_verdict.specs.Misses.{is_above, is_reached, overdue_at, yet_to_begin, was_activated, first_of};
+ghost use Rattle.mcs_verdict.specs.Misses.{is_above, missed, is_reached, overdue_at, yet_to_begin, was_activated, first_of};
 ghost use Rattle.mcs_verdict.specs.Rounds.{first_wait};
 
 use crate::held::Held;
 use crate::standing::{settled, standing_after};
-use crate::{Finding, Standing, Stood};
+use crate::{Finding, Job, Standing, Stood};
 use mcs_script::Item;
 use mcs_system::ThreadPart;
 use mcs_ticks::{NoteId, ThreadId, Tick, What, Why};
@@ -25,6 +25,8 @@ pub(crate) struct Account {
     pub called: Option<Tick>,
     /// When it was first ready or running since its round began.
     pub active: Option<Tick>,
+    /// How often it was preempted since its round began, 0 where none is under way.
+    pub preemptions: u64,
     pub stood: Stood,
     pub total: Stood,
 }
@@ -72,6 +74,15 @@ fn or_first(earlier: Option<Tick>, active: bool, from: Tick, to: Tick) -> Option
     }
 }
 
+// The same, kept where the earlier tick is.
+fn note_first(earlier: &mut Option<Tick>, active: bool, from: Tick, to: Tick)
+    ensures { earlier.new ≡ or_first earlier.old active from to }
+{
+    if earlier.is_none() && active && from.get() < to.get() {
+        *earlier = Some(from);
+    }
+}
+
 fn yet_to_begin(standing: Standing, held: &Held) -> Option<Tick>
     ensures { result ≡ yet_to_begin standing held.now }
 {
@@ -116,6 +127,25 @@ fn overdue_at(
     }
 }
 
+// The job, where its response from its activation is above the deadline.
+fn missed(deadline: u64, job: &Job) -> Option<Finding>
+    ensures { result ≡ missed deadline job.now }
+{
+    if is_above(deadline, job.response) {
+        Some(Finding::Miss {
+            thread: job.thread,
+            number: job.number,
+            response: job.response,
+            deadline,
+            activated: job.activated,
+            queued: job.queued,
+            stood: job.stood,
+        })
+    } else {
+        None
+    }
+}
+
 impl Account {
     // Before the first row, whatever the number of the thread and of notifications.
     pub(crate) fn new(part: &ThreadPart) -> Self
@@ -133,48 +163,46 @@ impl Account {
             },
             called: None,
             active: None,
+            preemptions: 0,
             stood: Stood::new(),
             total: Stood::new(),
         }
     }
 
-    // How the thread stood since its round began, up to some moment, where `next` is its next telling row.
-    pub(crate) fn stood_since(&self, begun: Option<Tick>, moment: Tick, next: Option<What>) -> Stood
-        ensures { all_kept self.now + moment < 2 ^ 64 → result ≡ stood_since begun moment next self.now }
+    // How the thread stood since its round began, up to some moment, where no row tells of it since `since`.
+    fn stood_since(&self, begun: Option<Tick>, moment: Tick) -> Stood
+        ensures { all_kept self.now + moment < 2 ^ 64 → result ≡ stood_since begun moment self.now.standing self.now }
     {
         match begun {
-            None => Stood::new(),
+            None => self.stood,
             Some(begun) => {
                 let from = later(self.since, begun);
                 let mut stood = self.stood;
-                stood.count(
-                    settled(next, self.standing),
-                    moment.get().saturating_sub(from.get()),
-                );
+                stood.count(self.standing, moment.get().saturating_sub(from.get()));
                 stood
             }
         }
     }
 
-    // How the thread stood from moment 0 on, up to some moment, where `next` is its next telling row.
-    pub(crate) fn total_at(&self, moment: Tick, next: Option<What>) -> Stood
-        ensures { all_kept self.now + moment < 2 ^ 64 → result ≡ total_at moment next self.now }
+    // How the thread stood from moment 0 on, up to some moment, where no row tells of it since `since`.
+    pub(crate) fn total_at(&self, moment: Tick) -> Stood
+        ensures { all_kept self.now + moment < 2 ^ 64 → result ≡ total_at moment self.now.standing self.now }
     {
         let ticks = moment.get().saturating_sub(self.since.get());
         let mut stood = self.total;
-        stood.count(settled(next, self.standing), ticks);
+        stood.count(self.standing, ticks);
         stood
     }
 
-    // When it was first ready or running since its round began, up to some moment.
-    fn active_since(&self, begun: Option<Tick>, moment: Tick, next: Option<What>) -> Option<Tick>
-        ensures { result ≡ active_since begun moment next self.now }
+    // When it was first ready or running since its round began, up to some moment, where no row tells of it since `since`.
+    fn active_since(&self, begun: Option<Tick>, moment: Tick) -> Option<Tick>
+        ensures { result ≡ active_since begun moment self.now.standing self.now }
     {
         match begun {
-            None => None,
+            None => self.active,
             Some(begun) => or_first(
                 self.active,
-                is_active(settled(next, self.standing)),
+                is_active(self.standing),
                 later(self.since, begun),
                 moment,
             ),
@@ -187,19 +215,30 @@ impl Account {
     {
         match self.waits {
             Some(_) => self.called,
-            None => self.active_since(self.begun, moment, None),
+            None => self.active_since(self.begun, moment),
         }
     }
 
-    fn tell(&mut self, moment: Tick, what: &What)
-        ensures { all_kept self.old + moment < 2 ^ 64 → self.new ≡ told moment what.now self.old }
+    // The ticks up to some moment, in which the thread stood so, are of the round that is under way.
+    fn pass(&mut self, moment: Tick, standing: Standing)
+        ensures { all_kept self.old + moment < 2 ^ 64 → self.new ≡ passed moment standing self.old }
     {
-        let total = self.total_at(moment, Some(*what));
-        let active = self.active_since(self.begun, moment, Some(*what));
-        self.stood = self.stood_since(self.begun, moment, Some(*what));
-        self.active = active;
-        self.total = total;
-        self.standing = standing_after(*what);
+        if let Some(begun) = self.begun {
+            let from = later(self.since, begun);
+            note_first(&mut self.active, is_active(standing), from, moment);
+            self.stood
+                .count(standing, moment.get().saturating_sub(from.get()));
+        }
+    }
+
+    // A row that says how the thread stands from now on, which stood so until now.
+    fn tell(&mut self, standing: Standing, moment: Tick, what: &What)
+        ensures { all_kept self.old + moment < 2 ^ 64 → self.new ≡ told_from standing moment what.now self.old }
+    {
+        let ticks = moment.get().saturating_sub(self.since.get());
+        self.pass(moment, standing);
+        self.total.count(standing, ticks);
+        self.standing = standing_after(what);
         self.since = moment;
     }
 
@@ -221,28 +260,74 @@ impl Account {
         }
     }
 
+    // The round that was under way ended.
+    fn end(&mut self, begun: Option<Tick>)
+        ensures { self.new ≡ ends begun self.old }
+    {
+        self.begin(begun);
+        self.preemptions = 0;
+    }
+
+    // Another thread took the processor.
+    fn preempt(&mut self)
+        ensures { self.new ≡ preempted self.old }
+    {
+        if self.begun.is_some() {
+            self.preemptions = self.preemptions.saturating_add(1);
+        }
+    }
+
+    // What a telling row begins or ends.
+    fn turn(&mut self, moment: Tick, what: &What)
+        ensures { self.new ≡ turned moment what.now self.old }
+    {
+        match *what {
+            What::Stop { why: Why::Done, .. } => self.end(None),
+            What::Stop {
+                why: Why::Preempt,
+                ..
+            } => self.preempt(),
+            What::Wake { .. } => self.give(moment, moment),
+            _ => {}
+        }
+    }
+
     // A row of this thread; a word that it takes was set at some moment.
     pub(crate) fn see(&mut self, set: Tick, moment: Tick, what: &What)
         ensures { all_kept self.old + moment < 2 ^ 64 → self.new ≡ seen_own set moment what.now self.old }
     {
         match *what {
-            What::Stop { why: Why::Done, .. } => {
-                self.tell(moment, what);
-                self.begin(None);
-            }
-            What::Wake { .. } => {
-                self.tell(moment, what);
-                self.give(moment, moment);
-            }
             What::Got { .. } => self.give(moment, set),
             What::Round { .. } => {
                 let begun = match self.waits {
                     Some(_) => None,
                     None => Some(moment),
                 };
-                self.begin(begun);
+                self.end(begun);
             }
-            _ => self.tell(moment, what),
+            _ => {
+                self.tell(settled(what, self.standing), moment, what);
+                self.turn(moment, what);
+            }
+        }
+    }
+
+    // The round that ends.
+    pub(crate) fn job(&self, moment: Tick, thread: ThreadId, number: u64) -> Job
+        ensures { all_kept self.now + moment < 2 ^ 64 → result ≡ job_by moment thread number self.now }
+    {
+        let begun = self.begun.unwrap_or(moment);
+        let activated = self.activated_since(moment).unwrap_or(moment);
+        Job {
+            thread,
+            number,
+            activated,
+            begun,
+            ended: moment,
+            response: moment.get().saturating_sub(activated.get()),
+            queued: begun.get().saturating_sub(activated.get()),
+            preemptions: self.preemptions,
+            stood: self.stood_since(self.begun, moment),
         }
     }
 
@@ -250,19 +335,10 @@ impl Account {
     pub(crate) fn miss(&self, moment: Tick, thread: ThreadId, number: u64) -> Option<Finding>
         ensures { all_kept self.now + moment < 2 ^ 64 → result ≡ miss_by moment thread number self.now }
     {
-        let begun = self.begun.unwrap_or(moment);
         let activated = self.activated_since(moment).unwrap_or(moment);
-        let response = moment.get().saturating_sub(activated.get());
-        if is_above(self.deadline, response) {
-            Some(Finding::Miss {
-                thread,
-                number,
-                response,
-                deadline: self.deadline,
-                activated,
-                queued: begun.get().saturating_sub(activated.get()),
-                stood: self.stood_since(self.begun, moment, None),
-            })
+        // so that the parts of a round that is in time need not be counted
+        if is_above(self.deadline, moment.get().saturating_sub(activated.get())) {
+            missed(self.deadline, &self.job(moment, thread, number))
         } else {
             None
         }
@@ -278,7 +354,7 @@ impl Account {
                 thread,
                 self.deadline,
                 begun,
-                self.stood_since(self.begun, horizon, None),
+                self.stood_since(self.begun, horizon),
                 self.activated_since(horizon),
             ),
             None => overdue_at(
@@ -295,7 +371,7 @@ impl Account {
     fn never(&self, horizon: Tick, thread: ThreadId, held: &Held) -> Option<Finding>
         ensures { all_kept self.now + horizon < 2 ^ 64 → result ≡ never_by horizon thread held.now self.now }
     {
-        let stood = self.total_at(horizon, None);
+        let stood = self.total_at(horizon);
         if self.deadline != 0 && !was_activated(self.waits, self.called, held, &stood) {
             Some(Finding::Never {
                 thread,

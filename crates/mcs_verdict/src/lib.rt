@@ -6,12 +6,14 @@ mod account;
 mod all;
 mod finding;
 mod held;
+mod job;
 mod laws;
 mod standing;
 mod watch;
 
 pub use all::{find_all, find_unended};
 pub use finding::{Finding, Found};
+pub use job::Job;
 pub use laws::all_ticks_are_counted;
 pub use standing::{Standing, Stood};
 pub use watch::Watch;

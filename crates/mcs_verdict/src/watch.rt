@@ -4,6 +4,7 @@ ghost use Rattle.mcs_system.specs.System.{System as TheSystem};
 ghost use Rattle.mcs_system.specs.declared.part.ThreadPart.{ThreadPart as TheThread};
 ghost use Rattle.mcs_system.specs.declared.part.NotePart.{NotePart as TheNote};
 ghost use Rattle.mcs_verdict.specs.Stood.{stood_in};
+ghost use Rattle.mcs_verdict.specs.Jobs.{job_known, job_of};
 ghost use Rattle.mcs_verdict.specs.Misses.{miss, unended, word_for};
 ghost use Rattle.mcs_verdict.specs.Words.{no_word, held_of, leaves, adds, merges};
 ghost use Rattle.mcs_verdict.specs.Findings.{finding, UpTo};
@@ -12,7 +13,7 @@ ghost use Rattle.mcs_verdict.specs.Watch.{accounts_of, words_of, watch_of};
 
 use crate::account::Account;
 use crate::held::Held;
-use crate::{Finding, Stood};
+use crate::{Finding, Job, Stood};
 use mcs_system::{System, SystemParts};
 use mcs_ticks::{Limits, NoMemory, NoteId, Row, ThreadId, Tick, What};
 use std::alloc::Global;
@@ -149,6 +150,19 @@ fn miss(accounts: &[Account], moment: Tick, thread: ThreadId, number: u64) -> Op
     }
 }
 
+fn job(accounts: &[Account], moment: Tick, thread: ThreadId, number: u64) -> Option<Job>
+    ensures { (system : TheSystem) (past : List TheRow) → accounts.now ≡ accounts_of (length system.notes) 0 system.threads past →
+        UpTo moment past → result ≡ job_known system past moment thread number }
+{
+    if thread.0 < accounts.len() {
+        // so that no count is above 2^64 - 1
+        prove!(moment.get() <= Limits::TICK);
+        Some(accounts[thread.0].job(moment, thread, number))
+    } else {
+        None
+    }
+}
+
 fn opened_accounts(alloc: Global, parts: &SystemParts) -> Result<Vec<Account>, NoMemory>
     ensures { IfOk result (λ accounts. accounts.items ≡ map (λ part. account_of 0 part 0 []) parts.now.threads) }
 {
@@ -200,8 +214,9 @@ impl Watch {
         }
     }
 
-    /// One row more, in constant time and without memory: what it tells.
-    pub fn see(&mut self, row: &Row) -> Option<Finding>
+    // The same of any row. It stands apart, so that rows that only tell how a thread stands, which are most, make no room for a finding.
+    #[inline(never)]
+    fn see_any(&mut self, row: &Row) -> Option<Finding>
         ensures kept { (system : TheSystem) (past : List TheRow) → self.old ≡ watch_of system past → UpTo row.now.moment past →
             self.new ≡ watch_of system (row.now ∷ past) }
         ensures found { (system : TheSystem) (past : List TheRow) → self.old ≡ watch_of system past → UpTo row.now.moment past →
@@ -212,6 +227,35 @@ impl Watch {
         tell_accounts(self.accounts.as_mut_slice(), set, row);
         tell_words(self.words.as_mut_slice(), row);
         found
+    }
+
+    /// One row more, in constant time and without memory: what it tells.
+    #[inline(always)]
+    pub fn see(&mut self, row: &Row) -> Option<Finding>
+        ensures kept { (system : TheSystem) (past : List TheRow) → self.old ≡ watch_of system past → UpTo row.now.moment past →
+            self.new ≡ watch_of system (row.now ∷ past) }
+        ensures found { (system : TheSystem) (past : List TheRow) → self.old ≡ watch_of system past → UpTo row.now.moment past →
+            result ≡ finding system past row.now.moment row.now.what }
+    {
+        // others tell nothing, and change no word
+        if let What::Round { .. } | What::Hold { .. } | What::Got { .. } = row.what {
+            return self.see_any(row);
+        }
+        tell_accounts(self.accounts.as_mut_slice(), Tick::ZERO, row);
+        None
+    }
+
+    /// The round that the row, which is yet to be seen, ends, if it is one of a thread of the system.
+    pub fn job(&self, row: &Row) -> Option<Job>
+        ensures { (system : TheSystem) (past : List TheRow) → self.now ≡ watch_of system past → UpTo row.now.moment past →
+            result ≡ job_of system past row.now.moment row.now.what }
+    {
+        match row.what {
+            What::Round { thread, number, .. } => {
+                job(self.accounts.as_slice(), row.moment, thread, number)
+            }
+            _ => None,
+        }
     }
 
     /// Whether the row, which is yet to be seen, merges a signal with those that set the word.
@@ -249,6 +293,6 @@ impl Watch {
     {
         // so that no count is above 2^64 - 1
         prove!(moment.get() <= Limits::TICK);
-        self.accounts[thread.0].total_at(moment, None)
+        self.accounts[thread.0].total_at(moment)
     }
 }

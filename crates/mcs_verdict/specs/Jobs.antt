@@ -1,0 +1,80 @@
+-- Rounds that ended, as jobs: what a round was, by the rows before its end.
+use Rattle.std.specs.Prelude.{ℕ, ◌+◌, ◌-◌, ◌^◌, min, ◌==◌, nat_lt, if◌then◌else◌, List, [], ◌∷◌, ◌++◌, length, Option, Some, None, option_to_list}
+use Rattle.mcs_ticks.specs.declared.row.Row.{Row}
+use Rattle.mcs_ticks.specs.declared.row.What.{What}
+use Rattle.mcs_ticks.specs.declared.row.What.TheVariants as row
+use Rattle.mcs_ticks.specs.declared.row.Why.TheVariants as why
+use Rattle.mcs_system.specs.System.{System, thread_part}
+use Rattle.mcs_verdict.specs.declared.job.Job.{Job}
+use Rattle.mcs_verdict.specs.declared.standing.Stood.{Stood}
+use Rattle.mcs_verdict.specs.Stood.{stood_in}
+use Rattle.mcs_verdict.specs.Rounds.{first_wait, begun, begun_of, activated}
+
+-- one more, or as many as 64 bits hold
+abbrev pub one_more : ℕ → ℕ
+one_more n = min (n + 1) (2 ^ 64 - 1)
+
+-- a preemption counts where a round is under way
+abbrev pub with_preemption : Option ℕ → ℕ → ℕ
+with_preemption None n = n
+with_preemption (Some begun) n = one_more n
+
+-- what this row makes of how often the round under way was preempted; a round that ends leaves 0 to the next
+abbrev pub preemptions_after : ℕ → Option ℕ → What → ℕ → ℕ
+preemptions_after thread begun (row.Round x number response) n = if x == thread then 0 else n
+preemptions_after thread begun (row.Stop x why.Done charged until) n = if x == thread then 0 else n
+preemptions_after thread begun (row.Stop x why.Preempt charged until) n = if x == thread then with_preemption begun n else n
+preemptions_after thread begun _ n = n
+
+-- how often the round of the thread that is under way was preempted, 0 where none is
+abbrev pub preemptions : Option ℕ → ℕ → ℕ → List Row → ℕ
+preemptions waits start thread [] = 0
+preemptions waits start thread (r ∷ past) =
+    preemptions_after thread (begun waits start thread past) r.what (preemptions waits start thread past)
+
+abbrev pub preemptions_of : System → ℕ → List Row → ℕ
+preemptions_of system thread past =
+    let part = thread_part system thread in
+    preemptions (first_wait part) part.start thread past
+
+-- a moment of which no row tells is taken to be this one
+abbrev pub or_now : ℕ → Option ℕ → ℕ
+or_now moment None = moment
+or_now moment (Some earlier) = earlier
+
+-- a round that ends at this moment
+abbrev pub ended : ℕ → ℕ → ℕ → ℕ → ℕ → ℕ → Stood → Job
+ended moment thread number begun activated preemptions stood =
+    record {
+      thread = thread;
+      number = number;
+      activated = activated;
+      begun = begun;
+      ended = moment;
+      response = moment - activated;
+      queued = begun - activated;
+      preemptions = preemptions;
+      stood = stood;
+    }
+
+-- as the rows before its end tell
+abbrev pub job : System → List Row → ℕ → ℕ → ℕ → Job
+job system past moment thread number =
+    let begun = or_now moment (begun_of system thread past) in
+    ended moment thread number begun (or_now moment (activated system thread past begun moment))
+    (preemptions_of system thread past) (stood_in thread past begun moment)
+
+-- of a thread that the system has
+abbrev pub job_known : System → List Row → ℕ → ℕ → ℕ → Option Job
+job_known system past moment thread number =
+    if nat_lt thread (length system.threads) then Some (job system past moment thread number) else None
+
+-- the round that a row after these ends
+abbrev pub job_of : System → List Row → ℕ → What → Option Job
+job_of system past moment (row.Round thread number response) = job_known system past moment thread number
+job_of system past moment _ = None
+
+-- the rounds that these rows end, each by the rows before it
+abbrev pub jobs_in : System → List Row → List Row → List Job
+jobs_in system past [] = []
+jobs_in system past (r ∷ rows) = option_to_list (job_of system past r.moment r.what) ++ jobs_in system (r ∷ past) rows
