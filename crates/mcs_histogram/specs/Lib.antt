@@ -1,0 +1,5 @@
+pub mod Buckets
+pub mod Percentile
+pub mod Histogram
+pub mod laws
+pub mod stored
