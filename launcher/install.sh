@@ -61,6 +61,9 @@ plan() {
         if [ -d "$top/$source" ]; then
             (cd "$top/$source" && find . -type f ! -path '*/tests/*' ! -path '*/__pycache__/*' ! -name '.*' | sort) |
                 while read -r file; do echo "$source/${file#./} $place/${file#./}"; done
+        elif [ "$source" = mcsim ] && [ -z "$(source_of "$link")" ]; then
+            # the program that the link would run is left out, and its own line says so
+            continue
         elif [ -n "$(source_of "$source")" ]; then
             echo "$source $place $link"
         else

@@ -15,7 +15,7 @@ prove() {
     : >"$began" || exit 1
     trap 'rm -f "$began" "${said:-}"; exit 130' INT TERM HUP
     say 'proving the crates; a first time this may take half an hour or more'
-    libraries "$main" | (cd "$top/crates" && xargs -P 4 -I{} sh -c 'cd {} && rt lib >/dev/null 2>&1 && echo "mcsim: {} is proved" >&2')
+    libraries "$main" | (cd "$top/crates" && xargs -P 4 -I{} sh -c 'cd {} && rt lib >/dev/null 2>&1 && echo "$0: {} is proved" >&2' "$main")
     said=$(mktemp) || exit 1
     (cd "$crate" && exec rt run -- --help </dev/null >/dev/null 2>"$said")
     status=$?

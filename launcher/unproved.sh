@@ -23,7 +23,7 @@ run_unproved() {
     for word; do
         shift
         case $before in
-            --horizon | --workers | --show) value=yes ;;
+            --horizon | --workers | --show | --allow-lost) value=yes ;;
             *) value= ;;
         esac
         before=$word
@@ -66,11 +66,11 @@ has_met_limit() {
 }
 
 # Where the program wrote more than rt takes, rt hands out nothing of it, and tells the last lines. The rows before the moment of these are the
-# schedule up to an earlier horizon, so that is run.
+# schedule up to an earlier horizon, so that is run. What another program than mcsim wrote is no such rows.
 show_first_part() {
     last=$(sed -n 's/^| \([0-9][0-9]*\) [0-9].*/\1/p' "$room/said" | tail -n 2 | head -n 1)
     do="./$main --prove proves and builds the program, which has no such limit"
-    if [ "${last:-0}" -gt 0 ] && (attempt_until "$((last - 1))" "$@"); then
+    if [ "$main" = mcsim ] && [ "${last:-0}" -gt 0 ] && (attempt_until "$((last - 1))" "$@"); then
         say "rt takes a megabyte at most of what unproved sources write, so these rows end at moment $((last - 1)); $do"
     else
         say "rt ran the sources as far as it does, and hands out nothing of what they wrote; $do"

@@ -1,0 +1,142 @@
+-- What a finder has told and counted after rows.
+use Rattle.std.proofs.Common.{◌≡◌, ◌∙◌, ◌++◌, ◌∷◌, [], ℕ, Bool, true, false, List, Option, refl, ap, sym, subst}
+use Rattle.mcs_ticks.specs.declared.row.Row.{Row}
+use Rattle.mcs_ticks.specs.Given.{Given, GivenUntil, GivenSome}
+use Rattle.mcs_system.specs.System.{System}
+use Rattle.mcs_verdict.specs.Findings.{InOrder, UpTo, past_of}
+use Rattle.mcs_verdict.specs.Watch.{watch_of}
+use Rattle.mcs_cli.specs.Devices.{AppendsPrefix}
+use Rattle.mcs_cli.specs.Flow.{AppendsBefore, TakesLine}
+use Rattle.mcs_check.specs.declared.counts.Counts.{Counts}
+use Rattle.mcs_check.specs.declared.finder.Finder.{Finder}
+use Rattle.mcs_check.specs.Counts.{no_counts}
+use Rattle.mcs_check.specs.stored.Rows.{counted_at, counts_in, failed_after, lines_in, told_at}
+use Rattle.mcs_check.proofs.Rows.{given-tells, some-tells, until-tells}
+
+-- what is counted of rows so far, the latest first
+abbrev counts_so_far : System → List Bool → List Row → Counts
+counts_so_far system allowed [] = no_counts
+counts_so_far system allowed (r ∷ past) = counted_at system allowed past r (counts_so_far system allowed past)
+
+counts-so-far : (system : System) (allowed : List Bool) (past rows : List Row)
+    → counts_so_far system allowed (past_of past rows) ≡ counts_in system allowed past rows (counts_so_far system allowed past)
+counts-so-far system allowed past [] = refl
+counts-so-far system allowed past (r ∷ rows) = counts-so-far system allowed (r ∷ past) rows
+
+-- a target's bytes and whether it has failed
+module _ {W P : Type 0} (contents : W → Option (List ℕ)) (failed : W → Bool) where
+  abbrev pub Takes : Finder W P → Row → Bool → Finder W P → Type 0
+  Takes before row taken after =
+      (after.lines.target.ghost_name ≡ before.lines.target.ghost_name)
+      × (after.seen.ghost_name ≡ before.seen.ghost_name)
+      × (after.system ≡ before.system)
+      × (after.allowed ≡ before.allowed)
+      × (taken ≡ true → failed after.lines.target.now ≡ failed before.lines.target.now)
+      × (taken ≡ false → failed after.lines.target.now ≡ failed_after after.lines.is_out_of_memory (failed before.lines.target.now))
+      × ((past : List Row) → before.seen.now.watch ≡ watch_of before.system.now past → UpTo row.moment past →
+      (after.seen.now.watch ≡ watch_of before.system.now (row ∷ past))
+      × (after.seen.now.counts ≡ counted_at before.system.now before.allowed.now past row before.seen.now.counts)
+      × TakesLine (contents before.lines.target.now) (contents after.lines.target.now) before.seen.now.text.items after.seen.now.text.items
+      (told_at before.system.now before.allowed.now past row) taken)
+
+  -- before the first row
+  module _ (first : Finder W P) where
+    abbrev system : System
+    system = first.system.now
+
+    abbrev allowed : List Bool
+    allowed = first.allowed.now
+
+    -- after these rows the sink is still over the same target and system, and has looked at each of them
+    pub record IsAfter (past : List Row) (f : Finder W P) : Type 0 where
+      pub target_is : f.lines.target.ghost_name ≡ first.lines.target.ghost_name
+      pub seen_is : f.seen.ghost_name ≡ first.seen.ghost_name
+      pub system_is : f.system ≡ first.system
+      pub allowed_is : f.allowed ≡ first.allowed
+      pub working : failed f.lines.target.now ≡ failed first.lines.target.now
+      pub watch_is : f.seen.now.watch ≡ watch_of system past
+      pub counts_are : f.seen.now.counts ≡ counts_so_far system allowed past
+
+    -- and then it has refused one
+    pub record HasRefused (f : Finder W P) : Type 0 where
+      pub target_is : f.lines.target.ghost_name ≡ first.lines.target.ghost_name
+      pub failed_is : failed f.lines.target.now ≡ failed_after f.lines.is_out_of_memory (failed first.lines.target.now)
+
+    said : (past : List Row) (s t : Finder W P) (row : Row) (taken : Bool) → IsAfter past s → UpTo row.moment past → Takes s row taken t →
+        (t.seen.now.watch ≡ watch_of system (row ∷ past))
+        × (t.seen.now.counts ≡ counted_at system allowed past row s.seen.now.counts)
+        × TakesLine (contents s.lines.target.now) (contents t.lines.target.now) s.seen.now.text.items t.seen.now.text.items (told_at system allowed past row) taken
+    said past s t row taken k up takes =
+        let e : s.system.now ≡ system = ap (λ b. b.now) k.system_is in
+        let a : s.allowed.now ≡ allowed = ap (λ b. b.now) k.allowed_is in
+        let told = takes.6 past (subst (λ sys. s.seen.now.watch ≡ watch_of sys past) (sym e) k.watch_is) up in
+        let by_system = subst (λ sys. (t.seen.now.watch ≡ watch_of sys (row ∷ past))
+        × (t.seen.now.counts ≡ counted_at sys s.allowed.now past row s.seen.now.counts)
+        × TakesLine (contents s.lines.target.now) (contents t.lines.target.now) s.seen.now.text.items t.seen.now.text.items (told_at sys s.allowed.now past row) taken) e told in
+        subst (λ flags. (t.seen.now.watch ≡ watch_of system (row ∷ past))
+        × (t.seen.now.counts ≡ counted_at system flags past row s.seen.now.counts)
+        × TakesLine (contents s.lines.target.now) (contents t.lines.target.now) s.seen.now.text.items t.seen.now.text.items (told_at system flags past row) taken) a by_system
+
+    step : (past : List Row) (s t : Finder W P) (row : Row) → IsAfter past s → UpTo row.moment past → Takes s row true t →
+        IsAfter (row ∷ past) t
+        × AppendsBefore (contents s.lines.target.now) (contents t.lines.target.now) (s.seen.now.text.items ++ told_at system allowed past row) t.seen.now.text.items
+    step past s t row k up takes =
+        let told = said past s t row true k up takes in (
+          record {
+            target_is = takes.0 ∙ k.target_is;
+            seen_is = takes.1 ∙ k.seen_is;
+            system_is = takes.2 ∙ k.system_is;
+            allowed_is = takes.3 ∙ k.allowed_is;
+            working = takes.4 refl ∙ k.working;
+            watch_is = told.0;
+            counts_are = told.1 ∙ ap (counted_at system allowed past row) k.counts_are;
+          },
+          told.2,
+        )
+
+    refuse : (past : List Row) (s t : Finder W P) (row : Row) → IsAfter past s → UpTo row.moment past → Takes s row false t →
+        HasRefused t
+        × AppendsPrefix (contents s.lines.target.now) (contents t.lines.target.now) (s.seen.now.text.items ++ told_at system allowed past row)
+    refuse past s t row k up takes =
+        let told = said past s t row false k up takes in (
+          record { target_is = takes.0 ∙ k.target_is; failed_is = takes.5 refl ∙ ap (failed_after t.lines.is_out_of_memory) k.working },
+          told.2,
+        )
+
+    -- nothing waits and nothing is counted at first
+    module _ (last : Finder W P) (rows : List Row) (order : InOrder [] rows)
+        (empty : first.seen.now.text.items ≡ []) (watch_is : first.seen.now.watch ≡ watch_of system []) (none : first.seen.now.counts ≡ no_counts) where
+      begun : first.seen.now.counts ≡ counts_so_far system allowed []
+      begun = none
+
+      abbrev before-rows : IsAfter [] first
+      before-rows = record { target_is = refl; seen_is = refl; system_is = refl; allowed_is = refl; working = refl; watch_is = watch_is; counts_are = begun }
+
+      text-is : first.seen.now.text.items ++ lines_in system allowed [] rows ≡ lines_in system allowed [] rows
+      text-is = ap (λ l. l ++ lines_in system allowed [] rows) empty
+
+      pub rows-given : Given Takes first rows last →
+          IsAfter (past_of [] rows) last × (last.seen.now.counts ≡ counts_in system allowed [] rows no_counts)
+          × AppendsBefore (contents first.lines.target.now) (contents last.lines.target.now) (lines_in system allowed [] rows) last.seen.now.text.items
+      rows-given given =
+          let ended = given-tells Takes (λ f. contents f.lines.target.now) (λ f. f.seen.now.text.items) (told_at system allowed) IsAfter HasRefused step refuse
+          [] first last rows before-rows order given in (
+            ended.0,
+            ended.0.counts_are ∙ counts-so-far system allowed [] rows,
+            subst (λ l. AppendsBefore (contents first.lines.target.now) (contents last.lines.target.now) l last.seen.now.text.items) text-is ended.1,
+          )
+
+      pub rows-until : GivenUntil Takes first rows last →
+          HasRefused last × AppendsPrefix (contents first.lines.target.now) (contents last.lines.target.now) (lines_in system allowed [] rows)
+      rows-until given =
+          let ended = until-tells Takes (λ f. contents f.lines.target.now) (λ f. f.seen.now.text.items) (told_at system allowed) IsAfter HasRefused step refuse
+          [] first last rows before-rows order given in
+          (ended.0, subst (AppendsPrefix (contents first.lines.target.now) (contents last.lines.target.now)) text-is ended.1)
+
+      pub rows-some : GivenSome Takes first rows last →
+          ((past : List Row) × IsAfter past last)
+          × AppendsPrefix (contents first.lines.target.now) (contents last.lines.target.now) (lines_in system allowed [] rows)
+      rows-some given =
+          let ended = some-tells Takes (λ f. contents f.lines.target.now) (λ f. f.seen.now.text.items) (told_at system allowed) IsAfter HasRefused step refuse
+          [] first last rows before-rows order given in
+          (ended.0, subst (AppendsPrefix (contents first.lines.target.now) (contents last.lines.target.now)) text-is ended.1)

@@ -1,0 +1,10 @@
+mod Told
+mod Sums
+mod Words
+mod Rows
+mod Finders
+mod Names
+mod Results
+mod Texts
+mod Unknown
+mod Worked

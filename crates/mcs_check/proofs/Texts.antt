@@ -1,0 +1,66 @@
+-- The text of a check: what rows tell, and then the rest.
+use Rattle.std.proofs.Common.{◌≡◌, ◌∙◌, ◌++◌, [], ℕ, Bool, List, length, flat_map, ap, sym, append_assoc}
+use Rattle.mcs_system.specs.System.{System}
+use Rattle.mcs_core.specs.Clock.{schedule}
+use Rattle.mcs_verdict.specs.Findings.{found_at_end, found_in, past_of}
+use Rattle.mcs_hints.specs.Hints.{hints_of}
+use Rattle.mcs_check.specs.declared.counts.Counts.{Counts}
+use Rattle.mcs_check.specs.Allowed.{flags_of}
+use Rattle.mcs_check.specs.Check.{check_text, counts_of, found_of}
+use Rattle.mcs_check.specs.Counts.{no_counts, with_hints}
+use Rattle.mcs_check.specs.Lines.{counts_text, hint_text}
+use Rattle.mcs_check.specs.Told.{counts_with, found_lines, merged_in}
+use Rattle.mcs_check.specs.stored.Rows.{counts_found, counts_in, lines_in}
+use Rattle.mcs_check.proofs.Told.{lines-append, lines-are}
+use Rattle.mcs_check.proofs.Sums.{none-within, rows-within, sums-all, sums-found, sums-rows}
+
+-- what is told after the last row
+abbrev pub rest_text : List (List ℕ) → System → ℕ → Counts → List ℕ
+rest_text names system horizon counts =
+    found_lines system (flags_of names system.notes) (found_at_end system (past_of [] (schedule system horizon)) horizon 0 system.threads)
+    ++ flat_map (hint_text system) (hints_of system) ++ counts_text counts
+
+module _ (names : List (List ℕ)) (system : System) (horizon : ℕ) where
+  abbrev flags : List Bool
+  flags = flags_of names system.notes
+
+  pub text-is : lines_in system flags [] (schedule system horizon) ++ rest_text names system horizon (counts_of names system horizon) ≡ check_text names system horizon
+  text-is =
+      let rows = found_in system [] (schedule system horizon) in
+      let ends = found_at_end system (past_of [] (schedule system horizon)) horizon 0 system.threads in
+      let hinted = flat_map (hint_text system) (hints_of system) in
+      let counted = counts_text (counts_of names system horizon) in
+      ap (λ l. l ++ (found_lines system flags ends ++ hinted ++ counted)) (lines-are system flags [] (schedule system horizon))
+      ∙ sym (append_assoc (found_lines system flags rows) (found_lines system flags ends ++ hinted) counted)
+      ∙ ap (λ l. l ++ counted) (sym (append_assoc (found_lines system flags rows) (found_lines system flags ends) hinted)
+      ∙ ap (λ l. l ++ hinted) (sym (lines-append system flags rows ends)))
+
+  pub counts-are : with_hints (length (hints_of system))
+      (counts_found flags (found_at_end system (past_of [] (schedule system horizon)) horizon 0 system.threads)
+      (counts_in system flags [] (schedule system horizon) no_counts)) ≡ counts_of names system horizon
+  counts-are =
+      let rows = schedule system horizon in
+      let ends = found_at_end system (past_of [] rows) horizon 0 system.threads in
+      ap (with_hints (length (hints_of system)))
+      (sums-found flags ends (counts_in system flags [] rows no_counts) (rows-within system flags [] rows no_counts none-within)
+      ∙ ap (λ c. counts_with flags ends 0 0 c) (sums-rows system flags [] rows no_counts none-within))
+      ∙ sym (sums-all flags (found_in system [] rows) ends (merged_in system [] rows) (length (hints_of system)) no_counts)
+
+  -- what stands behind the lines of rows, with the flags, the system and the counts that the code has
+  pub behind : (text before : List ℕ) (allowed : List Bool) (own : System) (counts : Counts) → allowed ≡ flags → own ≡ system → counts ≡ counts_of names system horizon
+      → text ≡ before ++ found_lines own allowed (found_at_end own (past_of [] (schedule system horizon)) horizon 0 own.threads)
+      ++ flat_map (hint_text own) (hints_of own) ++ counts_text counts
+      → text ≡ before ++ rest_text names system horizon (counts_of names system horizon)
+  behind text before allowed own counts flags_are system_is counts_are put =
+      let mine = rw (flags_are, system_is, counts_are) at put in
+      let ends = found_lines system flags (found_at_end system (past_of [] (schedule system horizon)) horizon 0 system.threads) in
+      let hinted = flat_map (hint_text system) (hints_of system) in
+      let counted = counts_text (counts_of names system horizon) in
+      mine ∙ ap (λ l. l ++ counted) (append_assoc before ends hinted) ∙ append_assoc before (ends ++ hinted) counted
+
+  -- and how much is counted
+  pub counts-put : (allowed : List Bool) (own : System) (kept counts : Counts) → allowed ≡ flags → own ≡ system
+      → kept ≡ counts_in system flags [] (schedule system horizon) no_counts
+      → counts ≡ with_hints (length (hints_of own)) (counts_found allowed (found_at_end own (past_of [] (schedule system horizon)) horizon 0 own.threads) kept)
+      → counts ≡ counts_of names system horizon
+  counts-put allowed own kept counts flags_are system_is kept_are put = rw (flags_are, system_is, kept_are) at put ∙ counts-are

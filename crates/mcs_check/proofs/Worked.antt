@@ -1,0 +1,127 @@
+-- What is written of what is found, worked by hand.
+use Rattle.std.specs.Prelude.{◌≡◌, ◌++◌, ℕ, Bool, true, false, List, [], ◌∷◌, Some, None, codes, refl}
+use Rattle.std.specs.Fmt.{digits}
+use Rattle.mcs_script.specs.declared.item.Item.TheVariants.{Compute}
+use Rattle.mcs_control.specs.declared.config.Mode.TheVariants as mode
+use Rattle.mcs_system.specs.declared.part.NotePart.{NotePart}
+use Rattle.mcs_system.specs.declared.part.ThreadPart.{ThreadPart}
+use Rattle.mcs_system.specs.System.{System}
+use Rattle.mcs_hints.specs.declared.hint.Hint.TheVariants.{Unsignalled, Unbound, Overcommitted}
+use Rattle.mcs_verdict.specs.declared.finding.Finding.{Finding}
+use Rattle.mcs_verdict.specs.declared.finding.Finding.TheVariants.{Miss, Overdue, Lost, Never}
+use Rattle.mcs_verdict.specs.declared.finding.Found.{Found}
+use Rattle.mcs_verdict.specs.declared.standing.Stood.{Stood}
+use Rattle.mcs_check.specs.Allowed.{first_unknown, flags_of, nearest_of}
+use Rattle.mcs_check.specs.Check.{check_text}
+use Rattle.mcs_check.specs.Counts.{is_clean, no_counts}
+use Rattle.mcs_check.specs.Lines.{found_text, hint_text}
+use Rattle.mcs_check.specs.Told.{counts_with, found_lines}
+
+abbrev note : List ℕ → NotePart
+note name = record { name = name; core = 0 }
+
+abbrev thread : ℕ → ThreadPart
+thread deadline =
+    record { name = codes "A"; context = 0; priority = 5; start = 0; rounds = 1; deadline = deadline; script = Compute 5 ∷ [] }
+
+-- a thread that computes for 5 ticks, of which it gets 2 in 5; nobody uses the notifications
+system : ℕ → System
+system deadline =
+    record {
+      cores = 1;
+      delay = 1;
+      call = 1;
+      min_budget = 1;
+      contexts = record { name = codes "a"; core = 0; config = record { budget = 2; period = 5; extra = 0 }; mode = mode.Sporadic } ∷ [];
+      notes = note (codes "tick") ∷ note (codes "tock") ∷ [];
+      threads = thread deadline ∷ [];
+      orders = [];
+      links = [];
+    }
+
+-- ready, running, throttled, blocked, woken
+abbrev parts : ℕ → ℕ → ℕ → ℕ → ℕ → Stood
+parts ready running throttled blocked woken =
+    record { pending = 0; ready = ready; running = running; throttled = throttled; blocked = blocked; woken = woken; done = 0 }
+
+abbrev found : ℕ → ℕ → Finding → Found
+found moment core finding = record { moment = moment; core = core; finding = finding }
+
+-- The round runs in [0, 2), [5, 7) and [10, 11): with a deadline of 10 it misses it by one tick ..
+whole_text : check_text [] (system 10) 20
+    ≡ codes "11 0 miss A 1 11 deadline 10 activated 0 queued 0 ready 0 running 5 throttled 6 blocked 0 woken 0\n"
+    ++ codes "missed 1 overdue 0 lost 0 never 0 merged 0 allowed 0 hints 0\n"
+unfolding system digits
+whole_text = refl
+
+-- .. and with one of 11 it is in time
+in_time : check_text [] (system 11) 20 ≡ codes "missed 0 overdue 0 lost 0 never 0 merged 0 allowed 0 hints 0\n"
+unfolding system digits
+in_time = refl
+
+-- at horizon 10 it is not ended, its deadline ago
+not_ended : check_text [] (system 10) 10
+    ≡ codes "10 0 overdue A deadline 10 activated 0 queued 0 ready 0 running 4 throttled 6 blocked 0 woken 0\n"
+    ++ codes "missed 0 overdue 1 lost 0 never 0 merged 0 allowed 0 hints 0\n"
+unfolding system digits
+not_ended = refl
+
+lost_line : found_text (system 0) (found 12 3 (Lost 1 6)) ≡ codes "12 3 lost tock 6\n"
+unfolding system digits
+lost_line = refl
+
+never_line : found_text (system 0) (found 40 0 (Never 0 7)) ≡ codes "40 0 never A deadline 7\n"
+unfolding system digits
+never_line = refl
+
+-- a round that was activated 4 ticks before it began, and whose thread waits for a signal or was woken
+queued_line : found_text (system 0) (found 50 1 (Overdue 0 7 30 4 (parts 1 2 3 9 1)))
+    ≡ codes "50 1 overdue A deadline 7 activated 30 queued 4 ready 1 running 2 throttled 3 blocked 9 woken 1\n"
+unfolding system digits
+queued_line = refl
+
+unsignalled_line : hint_text (system 0) (Unsignalled 0) ≡ codes "hint note tick is waited on and no script signals it\n"
+unfolding system
+unsignalled_line = refl
+
+unbound_line : hint_text (system 0) (Unbound 0) ≡ codes "hint context a has no thread\n"
+unfolding system
+unbound_line = refl
+
+overcommitted_line : hint_text (system 0) (Overcommitted 2 1000001) ≡ codes "hint core 2 grants 1000001 of 1000000\n"
+unfolding system digits
+overcommitted_line = refl
+
+-- Of two lost signals that of `tick` is allowed: it has no line, and is counted apart.
+abbrev two_lost : List Found
+two_lost = found 5 0 (Lost 0 1) ∷ found 6 0 (Lost 1 1) ∷ []
+
+abbrev flags : List (List ℕ) → List Bool
+flags names = flags_of names (note (codes "tick") ∷ note (codes "tock") ∷ [])
+
+one_is_told : found_lines (system 0) (flags (codes "tick" ∷ [])) two_lost ≡ codes "6 0 lost tock 1\n"
+unfolding system digits
+one_is_told = refl
+
+one_is_allowed : counts_with (flags (codes "tick" ∷ [])) two_lost 0 0 no_counts ≡ record no_counts { lost = 1; allowed = 1 }
+one_is_allowed = refl
+
+-- merged signals and hints are no findings, but hints may be asked to count
+merged_is_clean : is_clean true (record no_counts { merged = 3; allowed = 2 }) ≡ true
+merged_is_clean = refl
+
+hints_may_count : is_clean true (record no_counts { hints = 1 }) ≡ false
+hints_may_count = refl
+
+hints_are_none : is_clean false (record no_counts { hints = 1 }) ≡ true
+hints_are_none = refl
+
+-- The first name that no notification has; among none, none is the nearest.
+known : first_unknown (note (codes "tick") ∷ note (codes "tock") ∷ []) (codes "tock" ∷ codes "tick" ∷ []) ≡ None
+known = refl
+
+unknown : first_unknown (note (codes "tick") ∷ note (codes "tock") ∷ []) (codes "tock" ∷ codes "tack" ∷ codes "tuck" ∷ []) ≡ Some (codes "tack")
+unknown = refl
+
+none_near : nearest_of [] (codes "tick") ≡ None
+none_near = refl

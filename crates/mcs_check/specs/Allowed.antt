@@ -1,0 +1,51 @@
+-- The notifications at which lost signals are allowed, by name, and what is said of a name that none has.
+use Rattle.std.specs.Prelude.{ℕ, ◌≡◌, Bool, not, nat_lt, nat_eq, if◌then◌else◌, List, [], ◌∷◌, length, map, find, Option, Some, None, option_map, string_bytes, ⊤}
+use Rattle.std.specs.List.{list_any}
+use Rattle.std.specs.Str.{bytes_eq, chars}
+use Rattle.strsim.specs.Edits.{levenshtein_row}
+use Rattle.mcs_system.specs.declared.part.NotePart.{NotePart}
+use Rattle.mcs_cli.specs.declared.fault.RunFault.{RunFault}
+use Rattle.mcs_cli.specs.declared.fault.RunFault.TheVariants as run
+use Rattle.mcs_check.specs.declared.fault.CheckFault.{CheckFault}
+use Rattle.mcs_check.specs.declared.fault.CheckFault.TheVariants.{Run, Unknown}
+
+-- the name is among these
+abbrev pub is_named : List (List ℕ) → List ℕ → Bool
+is_named names name = list_any (λ other. bytes_eq other name) names
+
+-- of each notification whether its name is among these
+abbrev pub flags_of : List (List ℕ) → List NotePart → List Bool
+flags_of names notes = map (λ part. is_named names part.name) notes
+
+-- a notification has the name
+abbrev pub is_known : List NotePart → List ℕ → Bool
+is_known notes name = list_any (λ part. bytes_eq part.name name) notes
+
+-- the first of the names that no notification has
+abbrev pub first_unknown : List NotePart → List (List ℕ) → Option (List ℕ)
+first_unknown notes names = find (λ name. not (is_known notes name)) names
+
+-- in how many characters two names differ: the least count of insertions, deletions and changes
+abbrev pub distance : List ℕ → List ℕ → ℕ
+distance name other = levenshtein_row nat_eq (chars name) (chars other) (length (chars other))
+
+-- the nearer one of two names, the first where both are as near
+abbrev pub nearer : List ℕ → Option (List ℕ) → List ℕ → List ℕ
+nearer name None other = other
+nearer name (Some near) other = if nat_lt (distance name other) (distance name near) then other else near
+
+-- the nearest one of a name and of those of these notifications
+abbrev pub nearest_from : List ℕ → Option (List ℕ) → List NotePart → Option (List ℕ)
+nearest_from name near [] = near
+nearest_from name near (part ∷ parts) = nearest_from name (Some (nearer name near part.name)) parts
+
+-- the nearest one of these notifications' names, if there is one
+abbrev pub nearest_of : List NotePart → List ℕ → Option (List ℕ)
+nearest_of notes name = nearest_from name None notes
+
+-- the fault of a name that no notification has, or that there was no memory for its text
+abbrev pub IsUnknownFault : List NotePart → List ℕ → CheckFault → Type 0
+IsUnknownFault notes name (Unknown given nearest) =
+    (string_bytes given ≡ name) × (option_map string_bytes nearest ≡ nearest_of notes name)
+IsUnknownFault notes name (Run (run.Sim f)) = ⊤
+IsUnknownFault notes name _ = ⊥

@@ -1,0 +1,78 @@
+-- What a check reads and writes.
+use Rattle.std.specs.Prelude.{Result, Ok, Err, Option, Some, None, ◌≡◌, ◌≢◌, ◌⊎◌, List, [], ℕ, Bool, true, ◌++◌, length, map, flat_map, string_bytes}
+use Rattle.std.specs.Io.KnownBytes.{Appends, Keeps}
+use Rattle.mcs_system.specs.System.{System}
+use Rattle.mcs_core.specs.Clock.{schedule}
+use Rattle.mcs_load.specs.Memory.{no_memory}
+use Rattle.mcs_hints.specs.Hints.{hints_of}
+use Rattle.mcs_verdict.specs.declared.finding.Found.{Found}
+use Rattle.mcs_verdict.specs.Findings.{findings}
+use Rattle.mcs_cli.specs.Devices.{AppendsPrefix}
+use Rattle.mcs_cli.specs.Run.{IsFaultOfInput, IsRead, IsTooLong}
+use Rattle.mcs_cli.specs.declared.fault.RunFault.TheVariants as run
+use Rattle.mcs_check_words.specs.declared.asked.Options.{Options}
+use Rattle.mcs_check.specs.declared.counts.Counts.{Counts}
+use Rattle.mcs_check.specs.declared.fault.CheckFault.{CheckFault}
+use Rattle.mcs_check.specs.declared.fault.CheckFault.TheVariants.{Run, Unknown}
+use Rattle.mcs_check.specs.Allowed.{IsUnknownFault, first_unknown, flags_of}
+use Rattle.mcs_check.specs.Counts.{no_counts}
+use Rattle.mcs_check.specs.Lines.{counts_text, hint_text}
+use Rattle.mcs_check.specs.Told.{counts_with, found_lines, merged_in}
+
+-- what is found in the schedule of the one clock over all cores
+abbrev pub found_of : System → ℕ → List Found
+found_of system horizon = findings system horizon (schedule system horizon)
+
+module _ (names : List (List ℕ)) (system : System) (horizon : ℕ) where
+  -- how much is found, where these notifications may lose signals
+  abbrev pub counts_of : Counts
+  counts_of =
+      counts_with (flags_of names system.notes) (found_of system horizon)
+      (merged_in system [] (schedule system horizon)) (length (hints_of system)) no_counts
+
+  -- the lines of what is found, of hints, and of counts
+  abbrev pub check_text : List ℕ
+  check_text =
+      found_lines system (flags_of names system.notes) (found_of system horizon)
+      ++ flat_map (hint_text system) (hints_of system) ++ counts_text counts_of
+
+-- the notifications at which lost signals are allowed, by the names that were asked for
+abbrev pub names_of : Options → List (List ℕ)
+names_of options = map (λ name. string_bytes name) options.allowed.items
+
+-- the bytes that a source knows before and after the check, and how many it has given by then; whether it has failed
+module _ (read_old read_new : Option (List ℕ)) (given_old given_new : ℕ) (read_failed : Bool) where
+  -- the bytes that a target knows before and after the check, whether it has failed, and what is asked for
+  module _ (write_old write_new : Option (List ℕ)) (write_failed : Bool) (options : Options) where
+    -- the names that are asked for are known, and what was written is what is found for the bytes that were read, and nothing else
+    abbrev pub IsDone : Counts → Type 0
+    IsDone counts = (system : System) × IsRead read_old read_new given_old given_new system
+        × (first_unknown system.notes (names_of options) ≡ None)
+        × Appends write_old write_new (check_text (names_of options) system options.horizon)
+        × (counts ≡ counts_of (names_of options) system options.horizon)
+
+    -- what was written is a first part of that
+    abbrev pub IsBegun : Type 0
+    IsBegun = (system : System) × IsRead read_old read_new given_old given_new system
+        × AppendsPrefix write_old write_new (check_text (names_of options) system options.horizon)
+
+    -- a name that is asked for is not known: the first of them, and the nearest that is
+    abbrev pub IsUnknown : CheckFault → Type 0
+    IsUnknown fault = (system : System) × IsRead read_old read_new given_old given_new system
+        × (name : List ℕ) × (first_unknown system.notes (names_of options) ≡ Some name)
+        × IsUnknownFault system.notes name fault
+
+    -- The file is to blame before anything else, then a name, and in both cases nothing is written. A device is blamed only where it has failed.
+    abbrev pub IsFault : CheckFault → Type 0
+    IsFault (Run run.Read) =
+        Keeps write_old write_new × ((read_failed ≡ true) ⊎ IsTooLong read_old read_new given_old given_new)
+    IsFault (Run (run.Load f)) =
+        Keeps write_old write_new × (f ≢ no_memory → IsFaultOfInput read_old read_new given_old given_new f)
+    IsFault (Run (run.Sim f)) = IsBegun
+    IsFault (Run run.Write) = (write_failed ≡ true) × IsBegun
+    IsFault (Unknown name nearest) = Keeps write_old write_new × IsUnknown (Unknown name nearest)
+
+    -- what a check has read and written by its answer
+    abbrev pub IsCheck : Result Counts CheckFault → Type 0
+    IsCheck (Ok counts) = IsDone counts
+    IsCheck (Err f) = IsFault f

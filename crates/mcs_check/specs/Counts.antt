@@ -1,0 +1,45 @@
+-- How much was found, by kind.
+use Rattle.std.specs.Prelude.{ℕ, ◌+◌, ◌-◌, ◌^◌, min, Bool, false, ◌==◌, ◌&&◌, ◌||◌, not, if◌then◌else◌, List, get_or, Option, Some, None}
+use Rattle.mcs_verdict.specs.declared.finding.Finding.{Finding}
+use Rattle.mcs_verdict.specs.declared.finding.Finding.TheVariants.{Miss, Overdue, Lost, Never}
+use Rattle.mcs_check.specs.declared.counts.Counts.{Counts}
+
+-- nothing was found
+abbrev pub no_counts : Counts
+no_counts = record { missed = 0; overdue = 0; lost = 0; never = 0; merged = 0; allowed = 0; hints = 0 }
+
+-- one more, or as many as 64 bits hold
+abbrev pub one_more : ℕ → ℕ
+one_more n = min (n + 1) (2 ^ 64 - 1)
+
+-- a lost signal of a notification at which this is allowed
+abbrev pub is_allowed : List Bool → Finding → Bool
+is_allowed allowed (Lost note word) = get_or allowed note false
+is_allowed allowed _ = false
+
+-- what is told of a finding, if there is one
+abbrev pub told_of : List Bool → Option Finding → Option Finding
+told_of allowed None = None
+told_of allowed (Some finding) = if is_allowed allowed finding then None else Some finding
+
+-- one finding more
+abbrev pub added : Finding → Counts → Counts
+added (Miss thread number response deadline activated queued stood) counts = record counts { missed = one_more counts.missed }
+added (Overdue thread deadline activated queued stood) counts = record counts { overdue = one_more counts.overdue }
+added (Lost note word) counts = record counts { lost = one_more counts.lost }
+added (Never thread deadline) counts = record counts { never = one_more counts.never }
+
+-- one that is told, or allowed
+abbrev pub taken : List Bool → Option Finding → Counts → Counts
+taken allowed None counts = counts
+taken allowed (Some finding) counts =
+    if is_allowed allowed finding then record counts { allowed = one_more counts.allowed } else added finding counts
+
+-- so many hints more
+abbrev pub with_hints : ℕ → Counts → Counts
+with_hints many counts = record counts { hints = min (counts.hints + many) (2 ^ 64 - 1) }
+
+-- nothing was missed, overdue, lost or never; where hints count, there is none either
+abbrev pub is_clean : Bool → Counts → Bool
+is_clean strict counts =
+    counts.missed == 0 && counts.overdue == 0 && counts.lost == 0 && counts.never == 0 && (not strict || counts.hints == 0)

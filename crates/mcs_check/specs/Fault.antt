@@ -1,0 +1,25 @@
+-- The lines of the faults of a check, and its exit statuses.
+use Rattle.std.specs.Prelude.{ℕ, List, ◌++◌, Option, Some, None, codes, string_bytes}
+use Rattle.std.specs.Fmt.{debug_str, ◌++?◌}
+use Rattle.mcs_load.specs.Text.{load_fault_text}
+use Rattle.mcs_cli.specs.declared.fault.RunFault.TheVariants as run
+use Rattle.mcs_cli.specs.Status.{status_of_run}
+use Rattle.mcs_check.specs.declared.fault.CheckFault.{CheckFault}
+use Rattle.mcs_check.specs.declared.fault.CheckFault.TheVariants.{Run, Unknown}
+
+-- without the line feed: a name that was asked for stands as Rust writes a text, so that it has no line feed of its own
+abbrev pub check_fault_text : CheckFault → Option (List ℕ)
+check_fault_text (Run run.Read) = Some (codes "mcscheck: read failed")
+check_fault_text (Run (run.Load fault)) = Some (codes "mcscheck: " ++ load_fault_text fault)
+check_fault_text (Run (run.Sim fault)) = Some (codes "mcscheck: no memory")
+check_fault_text (Run run.Write) = Some (codes "mcscheck: write failed")
+check_fault_text (Unknown name (Some near)) =
+    Some (codes "mcscheck: --allow-lost: no notification is called ") ++? debug_str (string_bytes name)
+    ++? Some (codes ": the nearest is " ++ string_bytes near)
+check_fault_text (Unknown name None) =
+    Some (codes "mcscheck: --allow-lost: no notification is called ") ++? debug_str (string_bytes name) ++? Some (codes ": there is none")
+
+-- a name that is asked for and not there is to blame on the words
+abbrev pub status_of : CheckFault → ℕ
+status_of (Run fault) = status_of_run fault
+status_of (Unknown name nearest) = 2

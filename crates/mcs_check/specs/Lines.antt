@@ -1,0 +1,48 @@
+-- The lines of what is found in a schedule.
+use Rattle.std.specs.Prelude.{ℕ, List, [], ◌∷◌, ◌++◌, codes, decimal}
+use Rattle.mcs_system.specs.System.{System}
+use Rattle.mcs_text.specs.Text.{context_name, counted, line, note_name, thread_name}
+use Rattle.mcs_hints.specs.declared.hint.Hint.{Hint}
+use Rattle.mcs_hints.specs.declared.hint.Hint.TheVariants.{Unsignalled, Unbound, Overcommitted}
+use Rattle.mcs_verdict.specs.declared.finding.Finding.{Finding}
+use Rattle.mcs_verdict.specs.declared.finding.Finding.TheVariants.{Miss, Overdue, Lost, Never}
+use Rattle.mcs_verdict.specs.declared.finding.Found.{Found}
+use Rattle.mcs_verdict.specs.declared.standing.Stood.{Stood}
+use Rattle.mcs_check.specs.declared.counts.Counts.{Counts}
+
+-- a round's deadline, when it was activated, and its parts: how long it was queued, and how long the thread stood in each way since it began
+abbrev pub late_words : ℕ → ℕ → ℕ → Stood → List (List ℕ)
+late_words deadline activated queued stood =
+    counted ((codes "deadline", deadline) ∷ (codes "activated", activated) ∷ (codes "queued", queued)
+    ∷ (codes "ready", stood.ready) ∷ (codes "running", stood.running) ∷ (codes "throttled", stood.throttled)
+    ∷ (codes "blocked", stood.blocked) ∷ (codes "woken", stood.woken) ∷ [])
+
+-- what was found, and its numbers
+abbrev pub found_words : System → Finding → List (List ℕ)
+found_words system (Miss thread number response deadline activated queued stood) =
+    codes "miss" ∷ thread_name system thread ∷ decimal number ∷ decimal response ∷ late_words deadline activated queued stood
+found_words system (Overdue thread deadline activated queued stood) =
+    codes "overdue" ∷ thread_name system thread ∷ late_words deadline activated queued stood
+found_words system (Lost note word) = codes "lost" ∷ note_name system note ∷ decimal word ∷ []
+found_words system (Never thread deadline) = codes "never" ∷ thread_name system thread ∷ counted ((codes "deadline", deadline) ∷ [])
+
+-- the line of a finding: its moment, its core and what was found
+abbrev pub found_text : System → Found → List ℕ
+found_text system found = line (decimal found.moment) (decimal found.core ∷ found_words system found.finding)
+
+-- the line of counts
+abbrev pub counts_text : Counts → List ℕ
+counts_text counts =
+    line (codes "missed") (decimal counts.missed ∷ counted ((codes "overdue", counts.overdue) ∷ (codes "lost", counts.lost)
+    ∷ (codes "never", counts.never) ∷ (codes "merged", counts.merged) ∷ (codes "allowed", counts.allowed) ∷ (codes "hints", counts.hints) ∷ []))
+
+-- what a hint is of, and what it says
+abbrev pub hint_words : System → Hint → List (List ℕ)
+hint_words system (Unsignalled note) = codes "note" ∷ note_name system note ∷ codes "is waited on and no script signals it" ∷ []
+hint_words system (Unbound context) = codes "context" ∷ context_name system context ∷ codes "has no thread" ∷ []
+hint_words system (Overcommitted core millionths) =
+    counted ((codes "core", core) ∷ (codes "grants", millionths) ∷ []) ++ codes "of 1000000" ∷ []
+
+-- the line of a hint
+abbrev pub hint_text : System → Hint → List ℕ
+hint_text system hint = line (codes "hint") (hint_words system hint)

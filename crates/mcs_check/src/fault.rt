@@ -1,0 +1,70 @@
+ghost use Rattle.std.specs.Prelude.{◌≡◌};
+ghost use Rattle.mcs_check.specs.Fault.{check_fault_text, status_of};
+ghost use Rattle.mcs_check.specs.declared.fault.CheckFault.TheVariants.{Run};
+
+use mcs_cli::RunFault;
+use mcs_team::SimFault;
+use std::fmt;
+
+/// Why a check did not end well. Its text is the line that the program writes to standard error.
+#[derive(Debug, PartialEq, Eq, Drop)]
+pub enum CheckFault {
+    /// The source failed, its text is no system, there was no memory, or the target failed.
+    Run(RunFault),
+    /// Lost signals are allowed at a notification that the system has not.
+    Unknown {
+        /// The name that was asked for.
+        name: String,
+        /// The first of the notifications whose names are nearest, or None where there is no notification.
+        nearest: Option<String>,
+    },
+}
+
+impl fmt::Display for CheckFault {
+    ghost output = { check_fault_text };
+
+    fn fmt<W: fmt::Write>(&self, f: &mut fmt::Formatter<W>) -> fmt::Result {
+        match self {
+            CheckFault::Run(RunFault::Read) => f.write_str("mcscheck: read failed"),
+            CheckFault::Run(RunFault::Load(fault)) => write!(f, "mcscheck: {fault}"),
+            CheckFault::Run(RunFault::Sim(SimFault::NoMemory)) => f.write_str(
+                "mcscheck: no memory",
+            ),
+            CheckFault::Run(RunFault::Write) => f.write_str("mcscheck: write failed"),
+            CheckFault::Unknown {
+                name,
+                nearest: Some(near),
+            } => write!(
+                f,
+                "mcscheck: --allow-lost: no notification is called {name:?}: the nearest is {near}"
+            ),
+            CheckFault::Unknown {
+                name,
+                nearest: None,
+            } => write!(
+                f,
+                "mcscheck: --allow-lost: no notification is called {name:?}: there is none"
+            ),
+        }
+    }
+}
+
+impl CheckFault {
+    /// The exit status of the program: 2 for a notification that is not there, else that of the run's fault.
+    pub fn status(&self) -> u8
+        ensures { result ≡ status_of self.now }
+    {
+        match self {
+            CheckFault::Run(fault) => fault.status(),
+            CheckFault::Unknown { .. } => 2,
+        }
+    }
+}
+
+impl From<RunFault> for CheckFault {
+    ghost from_gives = { λ fault result. result ≡ Run fault };
+
+    fn from(fault: RunFault) -> Self {
+        CheckFault::Run(fault)
+    }
+}

@@ -1,0 +1,162 @@
+//! The sink that finds what the rows of a schedule tell, and writes its lines.
+ghost use Rattle.std.specs.Prelude.{◌≡◌, ◌∷◌, List, true, false, is_ok, OnOk, OnErr};
+ghost use Rattle.mcs_ticks.specs.declared.row.Row.{Row as TheRow};
+ghost use Rattle.mcs_verdict.specs.Findings.{UpTo};
+ghost use Rattle.mcs_verdict.specs.Watch.{watch_of};
+ghost use Rattle.mcs_cli.specs.Flow.{TakesLine};
+ghost use Rattle.mcs_check.specs.Lines.{found_text};
+ghost use Rattle.mcs_check.specs.stored.Rows.{counted_at, failed_after, told_at};
+
+use crate::Progress;
+use crate::line::put_found;
+use crate::seen::Seen;
+use mcs_cli::{Target, write_bytes};
+use mcs_system::System;
+use mcs_ticks::{Refused, Row, Sink};
+use mcs_verdict::Found;
+
+/// Lines are written in pieces of at most this many bytes and one line more.
+const FULL: usize = 65_536;
+
+/// How many rows pass before it is told again how far the run is.
+const STRIDE: u32 = 4_096;
+
+/// A target for lines: the first one is written at once, and later ones in pieces that grow.
+#[derive(Drop)]
+pub(crate) struct Lines<'t, T: Target> {
+    target: &'t mut T,
+    /// So many bytes of lines are written, 1 to those of a full piece.
+    limit: usize,
+    /// Whether a line was refused since there was no memory for it, and not by the target.
+    pub(crate) is_out_of_memory: bool,
+}
+
+impl<'t, T: Target> Lines<'t, T> {
+    pub(crate) fn new(target: &'t mut T) -> Lines<'t, T>
+        ensures target { result.target.ghost_name ≡ target.entry.ghost_name }
+        ensures target_now { result.target.now ≡ target.old }
+    {
+        Lines {
+            target,
+            limit: 1,
+            is_out_of_memory: false,
+        }
+    }
+
+    /// One line more, behind a text that waits.
+    fn put<P: Progress>(
+        &mut self,
+        text: &mut Vec<u8>,
+        system: &System,
+        found: &Found,
+        progress: &mut P,
+    ) -> Result<(), Refused>
+        ensures target { self.new.target.ghost_name ≡ self.old.target.ghost_name }
+        ensures line { TakesLine (T.contents self.old.target.now) (T.contents self.new.target.now) text.old.items text.new.items
+            (found_text system.now found.now) (is_ok result) }
+        ensures working { OnOk result (T.has_failed self.new.target.now ≡ T.has_failed self.old.target.now) }
+        ensures refused { OnErr result
+            (T.has_failed self.new.target.now ≡ failed_after self.new.is_out_of_memory (T.has_failed self.old.target.now)) }
+    {
+        if put_found(text, system, found).is_err() {
+            self.is_out_of_memory = true;
+            return Err(Refused);
+        }
+        if text.len() < self.limit {
+            return Ok(());
+        }
+        progress.wipe();
+        if write_bytes(self.target, text.as_slice()).is_err() {
+            self.is_out_of_memory = false;
+            return Err(Refused);
+        }
+        text.clear();
+        self.limit = self.limit.saturating_mul(2).min(FULL);
+        Ok(())
+    }
+}
+
+/// Looks at each row as it comes, and tells what is found.
+#[derive(Drop)]
+pub(crate) struct Finder<'t, 's, 'k, 'p, T: Target, P: Progress> {
+    pub(crate) lines: Lines<'t, T>,
+    system: &'s System,
+    /// Of each notification whether lost signals are allowed.
+    allowed: &'s [bool],
+    seen: &'k mut Seen,
+    pub(crate) progress: &'p mut P,
+    /// The rows since it was last told how far the run is.
+    rows: u32,
+}
+
+impl<'t, 's, 'k, 'p, T: Target, P: Progress> Finder<'t, 's, 'k, 'p, T, P> {
+    pub(crate) fn new(
+        lines: Lines<'t, T>,
+        system: &'s System,
+        allowed: &'s [bool],
+        seen: &'k mut Seen,
+        progress: &'p mut P,
+    ) -> Self
+        ensures lines { result.lines ≡ lines.entry }
+        ensures system { result.system ≡ system.entry }
+        ensures allowed { result.allowed ≡ allowed.entry }
+        ensures seen { result.seen.ghost_name ≡ seen.entry.ghost_name }
+        ensures seen_now { result.seen.now ≡ seen.old }
+    {
+        Finder {
+            lines,
+            system,
+            allowed,
+            seen,
+            progress,
+            rows: 0,
+        }
+    }
+
+    /// Tells now and then how far the run is.
+    #[inline(always)]
+    fn pass(&mut self, row: &Row)
+        ensures lines { self.new.lines ≡ self.old.lines }
+        ensures system { self.new.system ≡ self.old.system }
+        ensures allowed { self.new.allowed ≡ self.old.allowed }
+        ensures seen { self.new.seen.ghost_name ≡ self.old.seen.ghost_name }
+        ensures seen_now { self.new.seen.now ≡ self.old.seen.now }
+    {
+        self.rows = self.rows.saturating_add(1);
+        if self.rows >= STRIDE {
+            self.rows = 0;
+            self.progress.passed(row.moment);
+        }
+    }
+}
+
+impl<T: Target, P: Progress> Sink for Finder<'_, '_, '_, '_, T, P> {
+    ghost takes = { λ before row taken after.
+        (after.lines.target.ghost_name ≡ before.lines.target.ghost_name)
+        × (after.seen.ghost_name ≡ before.seen.ghost_name)
+        × (after.system ≡ before.system)
+        × (after.allowed ≡ before.allowed)
+        × (taken ≡ true → T.has_failed after.lines.target.now ≡ T.has_failed before.lines.target.now)
+        × (taken ≡ false → T.has_failed after.lines.target.now
+        ≡ failed_after after.lines.is_out_of_memory (T.has_failed before.lines.target.now))
+        × ((past : List TheRow) → before.seen.now.watch ≡ watch_of before.system.now past → UpTo row.moment past →
+        (after.seen.now.watch ≡ watch_of before.system.now (row ∷ past))
+        × (after.seen.now.counts ≡ counted_at before.system.now before.allowed.now past row before.seen.now.counts)
+        × TakesLine (T.contents before.lines.target.now) (T.contents after.lines.target.now) before.seen.now.text.items
+        after.seen.now.text.items (told_at before.system.now before.allowed.now past row) taken) };
+
+    #[inline(always)]
+    fn row(&mut self, row: &Row) -> Result<(), Refused> {
+        self.pass(row);
+        let Some(finding) = self.seen.see(self.allowed, row) else {
+            return Ok(());
+        };
+        let found = Found {
+            moment: row.moment,
+            core: row.core,
+            finding,
+        };
+        self.lines
+            .put(&mut self.seen.text, self.system, &found, self.progress)
+    }
+}

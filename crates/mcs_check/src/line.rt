@@ -1,0 +1,199 @@
+//! The lines of what is found, and of counts.
+ghost use Rattle.std.specs.Prelude.{◌≡◌, ◌++◌, ◌∷◌, [], OnOk, OnErr, decimal};
+ghost use Rattle.std.specs.Io.{StartsWith};
+ghost use Rattle.mcs_text.specs.Text.{after};
+ghost use Rattle.mcs_check.specs.Lines.{counts_text, found_text, found_words, hint_text, hint_words, late_words};
+
+use crate::Counts;
+use itoa::Buffer;
+use mcs_hints::Hint;
+use mcs_system::System;
+use mcs_text::{append_counts, append_number, append_word, context_name, note_name, thread_name};
+use mcs_ticks::{NoMemory, Tick};
+use mcs_verdict::{Finding, Found, Stood};
+
+/// Appends the line of a finding: `<moment> <core>` and what was found, with the names that the system has. After a refusal the text is
+/// as it was.
+pub fn put_found(text: &mut Vec<u8>, system: &System, found: &Found) -> Result<(), NoMemory>
+    ensures ok { OnOk result (text.new.items ≡ text.old.items ++ found_text system.now found.now) }
+    ensures err { OnErr result (text.new.items ≡ text.old.items) }
+{
+    let start = text.len();
+    let result = append_found(text, system, found);
+    if result.is_err() {
+        text.truncate(start);
+    }
+    result
+}
+
+fn append_found(text: &mut Vec<u8>, system: &System, found: &Found) -> Result<(), NoMemory>
+    ensures ok { OnOk result (text.new.items ≡ text.old.items ++ found_text system.now found.now) }
+    ensures kept { StartsWith text.new.items text.old.items }
+{
+    append_digits(text, found.moment.get())?;
+    append_number(text, found.core.0 as u64)?;
+    append_finding(text, system, &found.finding)?;
+    text.push(b'\n')?;
+    Ok(())
+}
+
+/// Appends a number, with no space before it.
+fn append_digits(text: &mut Vec<u8>, number: u64) -> Result<(), NoMemory>
+    ensures ok { OnOk result (text.new.items ≡ text.old.items ++ decimal number) }
+    ensures kept { StartsWith text.new.items text.old.items }
+{
+    let mut buffer = Buffer::new();
+    text.extend_from_slice(buffer.format(number).as_bytes())?;
+    Ok(())
+}
+
+/// Appends what was found.
+fn append_finding(text: &mut Vec<u8>, system: &System, finding: &Finding) -> Result<(), NoMemory>
+    ensures ok { OnOk result (text.new.items ≡ text.old.items ++ after (found_words system.now finding.now)) }
+    ensures kept { StartsWith text.new.items text.old.items }
+{
+    match *finding {
+        Finding::Miss {
+            thread,
+            number,
+            response,
+            deadline,
+            activated,
+            queued,
+            stood,
+        } => {
+            append_named(text, "miss", thread_name(system, thread))?;
+            append_number(text, number)?;
+            append_number(text, response)?;
+            append_late(text, deadline, activated, queued, &stood)
+        }
+        Finding::Overdue {
+            thread,
+            deadline,
+            activated,
+            queued,
+            stood,
+        } => {
+            append_named(text, "overdue", thread_name(system, thread))?;
+            append_late(text, deadline, activated, queued, &stood)
+        }
+        Finding::Lost { note, word } => {
+            append_named(text, "lost", note_name(system, note))?;
+            append_number(text, u64::from(word))
+        }
+        Finding::Never { thread, deadline } => {
+            append_named(text, "never", thread_name(system, thread))?;
+            append_counts(text, &[("deadline", deadline)])
+        }
+    }
+}
+
+/// Appends a word and a name.
+fn append_named(text: &mut Vec<u8>, word: &str, name: &str) -> Result<(), NoMemory>
+    ensures ok { OnOk result (text.new.items ≡ text.old.items ++ after (word.now ∷ name.now ∷ [])) }
+    ensures kept { StartsWith text.new.items text.old.items }
+{
+    append_word(text, word)?;
+    append_word(text, name)
+}
+
+/// Appends the deadline of a round, when it was activated, and its parts.
+fn append_late(
+    text: &mut Vec<u8>,
+    deadline: u64,
+    activated: Tick,
+    queued: u64,
+    stood: &Stood,
+) -> Result<(), NoMemory>
+    ensures ok { OnOk result
+        (text.new.items ≡ text.old.items ++ after (late_words deadline activated queued stood.now)) }
+    ensures kept { StartsWith text.new.items text.old.items }
+{
+    let numbers = [
+        ("deadline", deadline),
+        ("activated", activated.get()),
+        ("queued", queued),
+        ("ready", stood.ready),
+        ("running", stood.running),
+        ("throttled", stood.throttled),
+        ("blocked", stood.blocked),
+        ("woken", stood.woken),
+    ];
+    append_counts(text, &numbers)
+}
+
+/// Appends the line of counts. After a refusal the text is as it was.
+pub fn put_counts(text: &mut Vec<u8>, counts: &Counts) -> Result<(), NoMemory>
+    ensures ok { OnOk result (text.new.items ≡ text.old.items ++ counts_text counts.now) }
+    ensures err { OnErr result (text.new.items ≡ text.old.items) }
+{
+    let start = text.len();
+    let result = append_totals(text, counts);
+    if result.is_err() {
+        text.truncate(start);
+    }
+    result
+}
+
+fn append_totals(text: &mut Vec<u8>, counts: &Counts) -> Result<(), NoMemory>
+    ensures ok { OnOk result (text.new.items ≡ text.old.items ++ counts_text counts.now) }
+    ensures kept { StartsWith text.new.items text.old.items }
+{
+    let numbers = [
+        ("overdue", counts.overdue),
+        ("lost", counts.lost),
+        ("never", counts.never),
+        ("merged", counts.merged),
+        ("allowed", counts.allowed),
+        ("hints", counts.hints),
+    ];
+    text.extend_from_slice(b"missed")?;
+    append_number(text, counts.missed)?;
+    append_counts(text, &numbers)?;
+    text.push(b'\n')?;
+    Ok(())
+}
+
+/// Appends the line of a hint. After a refusal the text is as it was.
+pub fn put_hint(text: &mut Vec<u8>, system: &System, hint: &Hint) -> Result<(), NoMemory>
+    ensures ok { OnOk result (text.new.items ≡ text.old.items ++ hint_text system.now hint.now) }
+    ensures err { OnErr result (text.new.items ≡ text.old.items) }
+{
+    let start = text.len();
+    let result = append_hint(text, system, hint);
+    if result.is_err() {
+        text.truncate(start);
+    }
+    result
+}
+
+fn append_hint(text: &mut Vec<u8>, system: &System, hint: &Hint) -> Result<(), NoMemory>
+    ensures ok { OnOk result (text.new.items ≡ text.old.items ++ hint_text system.now hint.now) }
+    ensures kept { StartsWith text.new.items text.old.items }
+{
+    text.extend_from_slice(b"hint")?;
+    append_reason(text, system, hint)?;
+    text.push(b'\n')?;
+    Ok(())
+}
+
+/// Appends what the hint is of, and what it says.
+fn append_reason(text: &mut Vec<u8>, system: &System, hint: &Hint) -> Result<(), NoMemory>
+    ensures ok { OnOk result (text.new.items ≡ text.old.items ++ after (hint_words system.now hint.now)) }
+    ensures kept { StartsWith text.new.items text.old.items }
+{
+    match *hint {
+        Hint::Unsignalled { note } => {
+            append_named(text, "note", note_name(system, note))?;
+            append_word(text, "is waited on and no script signals it")
+        }
+        Hint::Unbound { context } => {
+            append_named(text, "context", context_name(system, context))?;
+            append_word(text, "has no thread")
+        }
+        Hint::Overcommitted { core, millionths } => {
+            append_counts(text, &[("core", core.0 as u64), ("grants", millionths)])?;
+            append_word(text, "of 1000000")
+        }
+    }
+}

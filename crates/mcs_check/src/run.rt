@@ -1,0 +1,184 @@
+ghost use Rattle.std.specs.Prelude.{◌≡◌, ◌++◌, [], ℕ, Bool, List, Option, None, Err, true, false, map, string_bytes, IfOk, IfErr, IfSome, OnOk, OnErr};
+ghost use Rattle.std.specs.Arc.{arc_value};
+ghost use Rattle.std.specs.Io.KnownBytes.{Appends};
+ghost use Rattle.mcs_core.specs.Clock.{schedule};
+ghost use Rattle.mcs_verdict.specs.Findings.{UpTo, past_of};
+ghost use Rattle.mcs_verdict.specs.Watch.{watch_of};
+ghost use Rattle.mcs_cli.specs.Flow.{AppendsBefore, IsWriteFault};
+ghost use Rattle.mcs_cli.specs.declared.fault.RunFault.TheVariants as fault;
+ghost use Rattle.mcs_check.specs.Check.{IsCheck, check_text, counts_of, names_of};
+ghost use Rattle.mcs_check.specs.Counts.{no_counts};
+ghost use Rattle.mcs_check.specs.declared.fault.CheckFault.TheVariants.{Run};
+ghost use Rattle.mcs_check.specs.stored.Rows.{counts_in, lines_in, refusal};
+
+use crate::allowed::{flags_of, refuse_unknown};
+use crate::finder::{Finder, Lines};
+use crate::rest::put_rest;
+use crate::seen::Seen;
+use crate::{CheckFault, Counts, Progress};
+use mcs_check_words::Options;
+use mcs_cli::{FromRead, Open, RunFault, Source, Target, read_system, write_text};
+use mcs_system::System;
+use mcs_team::{FlowFault, SimFault, schedule_to};
+use mcs_verdict::Watch;
+use mcs_verdict_laws::schedules_are_in_order;
+use std::alloc::Global;
+use std::fs::File;
+use std::rt::Files;
+use std::sync::{Arc, Wait};
+use std::thread::Threads;
+
+/// Checks the file that the options name, or the input where they name none. A file that is not opened has failed. No contract knows the
+/// bytes of a file: what is written is what is found for some text.
+pub fn check_with<H: Files + Threads + Wait + Sync, S: Source, T: Target, P: Progress>(
+    rt: &H,
+    alloc: Global,
+    input: &mut S,
+    output: &mut T,
+    options: &Options,
+    progress: &mut P,
+) -> Result<Counts, CheckFault>
+    requires reads { S.has_failed input.old ≡ false }
+    requires writes { T.has_failed output.old ≡ false }
+    ensures input { options.now.file ≡ None
+        → IsCheck (S.remaining input.old) (S.remaining input.new) (S.given input.old) (S.given input.new) (S.has_failed input.new)
+        (T.contents output.old) (T.contents output.new) (T.has_failed output.new) options.now result }
+    ensures file { IfSome options.now.file
+        (λ _. (old new : Option (List ℕ)) × (given : ℕ) × (failed : Bool)
+        × IsCheck old new 0 given failed (T.contents output.old) (T.contents output.new) (T.has_failed output.new) options.now result) }
+    ensures source_blamed { S.has_failed input.new ≡ true → result ≡ Err (Run fault.Read) }
+    ensures target_blamed { T.has_failed output.new ≡ true → result ≡ Err (Run fault.Write) }
+    ensures kept { IfSome options.now.file (λ _. input.new ≡ input.old) }
+{
+    match &options.file {
+        Some(name) => match File::open(rt, name.as_str()) {
+            Ok(file) => check(
+                rt,
+                alloc,
+                &mut FromRead::new(file),
+                output,
+                options,
+                progress,
+            ),
+            Err(_) => Err(CheckFault::Run(RunFault::Read)),
+        },
+        None => check(rt, alloc, input, output, options, progress),
+    }
+}
+
+/// Reads a file to its end, simulates the system that it describes by as many workers as the options say, and writes what is found in its
+/// schedule: lines of rows as the rows come, then what is found at the horizon, hints, and how much was found, which it answers. For every
+/// number of workers the same bytes are written. Neither device may have failed before, and one is blamed only where it has failed since.
+/// After `Read`, `Load` and `Unknown` nothing was written, and after `Sim` and `Write` a first part of that.
+pub fn check<H: Threads + Wait + Sync, S: Source, T: Target, P: Progress>(
+    rt: &H,
+    alloc: Global,
+    source: &mut S,
+    target: &mut T,
+    options: &Options,
+    progress: &mut P,
+) -> Result<Counts, CheckFault>
+    requires reads { S.has_failed source.old ≡ false }
+    requires writes { T.has_failed target.old ≡ false }
+    ensures check { IsCheck (S.remaining source.old) (S.remaining source.new) (S.given source.old) (S.given source.new)
+        (S.has_failed source.new) (T.contents target.old) (T.contents target.new) (T.has_failed target.new) options.now result }
+    ensures source_blamed { S.has_failed source.new ≡ true → result ≡ Err (Run fault.Read) }
+    ensures target_blamed { T.has_failed target.new ≡ true → result ≡ Err (Run fault.Write) }
+{
+    let system = read_system(alloc, source)?;
+    refuse_unknown(alloc, system.parts(), options.allowed.as_slice())?;
+    let counts = write_findings(rt, alloc, target, system, options, progress)?;
+    Ok(counts)
+}
+
+/// Simulates a system, and writes what is found.
+fn write_findings<H: Threads + Wait + Sync, T: Target, P: Progress>(
+    rt: &H,
+    alloc: Global,
+    target: &mut T,
+    system: System,
+    options: &Options,
+    progress: &mut P,
+) -> Result<Counts, RunFault>
+    requires { T.has_failed target.old ≡ false }
+    ensures ok { OnOk result
+        (Appends (T.contents target.old) (T.contents target.new) (check_text (names_of options.now) system options.now.horizon)) }
+    ensures counted { IfOk result (λ counts. counts ≡ counts_of (names_of options.now) system options.now.horizon) }
+    ensures working { OnOk result (T.has_failed target.new ≡ false) }
+    ensures fault { IfErr result
+        (IsWriteFault (T.contents target.old) (T.contents target.new) (T.has_failed target.new)
+        (check_text (names_of options.now) system options.now.horizon)) }
+{
+    let Ok(system) = Arc::new(alloc, system) else {
+        return Err(RunFault::Sim(SimFault::NoMemory));
+    };
+    let Ok(allowed) = flags_of(alloc, system.parts(), options.allowed.as_slice()) else {
+        return Err(RunFault::Sim(SimFault::NoMemory));
+    };
+    let allowed = allowed.as_slice();
+    let found = find_rows(rt, alloc, target, &system, allowed, options, progress);
+    progress.wipe();
+    let mut seen = found?;
+    if put_rest(alloc, &mut seen, &system, allowed, options.horizon).is_err() {
+        return Err(RunFault::Sim(SimFault::NoMemory));
+    }
+    write_text(target, seen.text.as_slice())?;
+    Ok(seen.counts)
+}
+
+/// Finds what the rows of a system's schedule tell, and writes its lines as the rows come, but for the last ones.
+fn find_rows<'s, H: Threads + Wait + Sync, T: Target, P: Progress>(
+    rt: &H,
+    alloc: Global,
+    target: &mut T,
+    system: &'s Arc<System>,
+    allowed: &'s [bool],
+    options: &Options,
+    progress: &mut P,
+) -> Result<Seen, RunFault>
+    requires { T.has_failed target.old ≡ false }
+    ensures ok { IfOk result (λ seen. AppendsBefore (T.contents target.old) (T.contents target.new)
+        (lines_in (arc_value system.now) allowed.now [] (schedule (arc_value system.now) options.now.horizon)) seen.text.items) }
+    ensures watch { IfOk result (λ seen. seen.watch
+        ≡ watch_of (arc_value system.now) (past_of [] (schedule (arc_value system.now) options.now.horizon))) }
+    ensures counts { IfOk result (λ seen. seen.counts
+        ≡ counts_in (arc_value system.now) allowed.now [] (schedule (arc_value system.now) options.now.horizon) no_counts) }
+    ensures in_time { UpTo options.now.horizon (past_of [] (schedule (arc_value system.now) options.now.horizon)) }
+    ensures working { OnOk result (T.has_failed target.new ≡ false) }
+    ensures fault { IfErr result
+        (IsWriteFault (T.contents target.old) (T.contents target.new) (T.has_failed target.new)
+        (lines_in (arc_value system.now) allowed.now [] (schedule (arc_value system.now) options.now.horizon))) }
+{
+    schedules_are_in_order();
+    let _parts = system.parts();
+    let Ok(shared) = Arc::try_clone(system) else {
+        return Err(RunFault::Sim(SimFault::NoMemory));
+    };
+    let Ok(watch) = Watch::new(alloc, system) else {
+        return Err(RunFault::Sim(SimFault::NoMemory));
+    };
+    let mut seen = Seen {
+        watch,
+        counts: Counts::new(),
+        text: Vec::new(alloc),
+    };
+    let mut finder = Finder::new(Lines::new(target), system, allowed, &mut seen, progress);
+    let (horizon, workers) = (options.horizon, options.workers);
+    let result = schedule_to(rt, alloc, shared, horizon, workers, &Open, &mut finder);
+    match result {
+        Ok(()) => Ok(seen),
+        Err(FlowFault::NoMemory) => Err(RunFault::Sim(SimFault::NoMemory)),
+        Err(FlowFault::Sink) => Err(refusal(finder.lines.is_out_of_memory)),
+    }
+}
+
+/// Why a line was refused.
+fn refusal(is_out_of_memory: bool) -> RunFault
+    ensures { result ≡ refusal is_out_of_memory }
+{
+    if is_out_of_memory {
+        RunFault::Sim(SimFault::NoMemory)
+    } else {
+        RunFault::Write
+    }
+}

@@ -1,0 +1,28 @@
+# Completions of mcscheck for bash.
+_mcscheck() {
+    local word=${COMP_WORDS[COMP_CWORD]} before=${COMP_WORDS[COMP_CWORD - 1]}
+    # --horizon=5 is three words to bash
+    if [[ $word == = ]]; then
+        word=
+    elif [[ $before == = ]]; then
+        before=${COMP_WORDS[COMP_CWORD - 2]}
+    fi
+    case $before in
+        --horizon | --workers | --allow-lost)
+            COMPREPLY=()
+            return
+            ;;
+        --install | --uninstall)
+            compopt -o filenames
+            mapfile -t COMPREPLY < <(compgen -d -- "$word")
+            return
+            ;;
+    esac
+    if [[ $word == -* ]]; then
+        mapfile -t COMPREPLY < <(compgen -W '--horizon --workers --allow-lost --strict --help --version --install --uninstall --prove' -- "$word")
+    else
+        compopt -o filenames
+        mapfile -t COMPREPLY < <(compgen -f -X '!*.toml' -- "$word"; compgen -d -- "$word")
+    fi
+}
+complete -F _mcscheck mcscheck

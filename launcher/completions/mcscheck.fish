@@ -1,0 +1,12 @@
+# Completions of mcscheck for fish.
+complete -c mcscheck -f
+complete -c mcscheck -s h -l help -d 'print the help'
+complete -c mcscheck -l horizon -x -d 'the last moment of the run, 0 to 2^40'
+complete -c mcscheck -l workers -x -d 'how many workers may run cores, 1 to 64'
+complete -c mcscheck -l allow-lost -x -d 'lost signals of this notification are no finding'
+complete -c mcscheck -l strict -d 'hints count as found'
+complete -c mcscheck -l version -d 'say what runs, and of which sources it was built'
+complete -c mcscheck -l install -d 'install below PREFIX'
+complete -c mcscheck -l uninstall -d 'take away what was installed below PREFIX'
+complete -c mcscheck -l prove -d 'prove and build the program'
+complete -c mcscheck -k -a "(__fish_complete_path (commandline -ct) | string match -r '.*(?:\.toml|/)(?:\t.*)?\$')"
