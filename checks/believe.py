@@ -72,6 +72,11 @@ ROOTS = (
     )),
     # (its one clause has no name)
     Root('verdict', (Clause('mcs_verdict/src/all.rt', 'find_all', '', ('findings',)),)),
+    Root('check', (
+        Clause('mcs_check/src/run.rt', 'check', 'check', ('IsCheck',)),
+        Clause('mcs_check/src/run.rt', 'check', 'source_blamed', ()),
+        Clause('mcs_check/src/run.rt', 'check', 'target_blamed', ()),
+    )),
 )
 
 

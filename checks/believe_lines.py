@@ -258,6 +258,7 @@ SAYS = {
     'mcs_verdict/specs/Words.antt': {
         'no_word': 'a word that nothing has set',
         'lost': 'what a signal tells that was held: that it is lost, where the word was what it is',
+        'merges': 'whether a row tells of a signal that is merged',
     },
     'mcs_verdict/specs/Misses.antt': {
         'is_reached': 'whether so many ticks are a deadline or more; the deadline 0 is none',
@@ -266,6 +267,9 @@ SAYS = {
         'overdue': 'what is found at the horizon of the round that is under way, or of one that is activated and yet to begin',
         'never': 'what is found at the horizon of a thread that was not activated once',
         'first_of': 'the first of two findings, if there is one',
+    },
+    'mcs_verdict/specs/Jobs.antt': {
+        'preemptions_of': 'how often the round of a thread of the system that is under way was preempted, 0 where none is',
     },
     'mcs_verdict/specs/Rounds.antt': {
         'waited_on': 'the notification on which an item waits, if it is a wait',
@@ -277,6 +281,24 @@ SAYS = {
     },
     'mcs_verdict/specs/Stood.antt': {
         'no_ticks': 'no tick in any standing',
+    },
+    'mcs_hints/specs/Notes.antt': {
+        'waits_on': 'an item waits on the notification',
+        'signals': 'an item signals the notification',
+        'unsignalled': 'the hint of a notification that is waited on and that nobody signals',
+    },
+    'mcs_hints/specs/Contexts.antt': {
+        'unbound': 'the hint of a context without a thread',
+        'share': "what a configuration grants of its core's time, in millionths",
+    },
+    'mcs_hints/specs/Cores.antt': {
+        'overcommitted': 'the hint of a core that grants more than all of its time',
+    },
+    'mcs_check/specs/Told.antt': {
+        'is_miss': 'whether a finding is a miss',
+        'is_overdue': 'whether a finding is that a round is overdue',
+        'is_never': 'whether a finding is that a thread was never activated',
+        'is_lost': 'whether a finding is a lost signal',
     },
 }
 
@@ -296,6 +318,7 @@ WORDS = {
     '◌+◌': 'sum',
     '◌-◌': 'difference; 0 where it would be below 0',
     '◌*◌': 'product',
+    '◌/◌': 'quotient, rounded down',
     '◌^◌': 'power',
     'min': 'the lesser of two numbers',
     'max': 'the greater of two numbers',
@@ -318,9 +341,12 @@ WORDS = {
     '◌++◌': 'one list and then another',
     'length': 'how many a list has',
     'sum': 'the sum of a list of numbers',
+    'sum_by': 'the sum of what this makes of each element',
     'map': 'each element changed',
     'flat_map': 'each element changed to a list, and these one after another',
     'filter': 'those elements of which it is so',
+    'filter_map': 'what this makes of each element, without the `None`s',
+    'find': 'the first element of which it is so, or `None`',
     'fold': '`fold f a xs`: `a`, changed by `f` with each element, the first first',
     'take': 'so many first elements',
     'drop': 'without so many first elements',
@@ -341,6 +367,7 @@ WORDS = {
     'None': 'there is none',
     'is_some': 'whether there is one',
     'unwrap_or': 'the one that there is, or else this',
+    'option_map': 'the one that there is, changed, or `None`',
     'option_and_then': 'what this makes of the one that there is, or `None`',
     'Result': '`Ok x` or `Err e`',
     'Ok': 'the answer of a call that succeeded',
@@ -355,6 +382,9 @@ WORDS = {
     'codes': 'the bytes of a text',
     'decimal': 'the decimal digits of a number, as bytes',
     'string_bytes': 'the bytes of a text',
+    'bytes_eq': 'whether two texts are equal, computed',
+    'chars': 'the characters of a text, as numbers',
+    'levenshtein_row': '`levenshtein_row eq xs ys n`: the least count of insertions, deletions and changes that make the first list the first `n` elements of the second, as the crate `strsim` has it',
     'slice_split': 'a list cut at each element of which it is so',
     'all_ascii_digits': 'whether all bytes are decimal digits',
     'is_utf8': 'whether bytes are UTF-8',

@@ -1,11 +1,11 @@
 #!/usr/bin/env python3
-"""Tells whether the files in bin/ are the built program and library of these sources, and, with --renew, puts them there.
+"""Tells whether the files in bin/ are the built programs and library of these sources, and, with --renew, puts them there.
 
 bin/SOURCES has the toolchain's line and, for each file, the digest of what it is built of: crates.txt, and the sources of its crate and of those below
 it. A digest that is not that of the sources is a failure, and so is a program or a library that was built here and has other bytes than the one in
 bin/, a sum in bin/README.md that is not that of the file, and a text in bin/HELP that the program does not give.
 
---renew takes the program that the gate built (./test, or ./mcsim --prove), and the library, which it builds where it is not there (archive.py). It refuses
+--renew takes the programs that the gate built (./test, or ./mcsim --prove and ./mcscheck --prove), and the library, which it builds where it is not there (archive.py). It refuses
 those that are older than a source."""
 from __future__ import annotations
 
@@ -49,8 +49,8 @@ class Artefact(NamedTuple):
 
 
 PROGRAM = Artefact('mcsim', 'mcsim')
-# a program or a library that comes along has one line here, and one in launcher/installed
-ARTEFACTS = (PROGRAM, Artefact('mcs_c', 'libmcs_c.a'))
+# a library that comes along has one entry here, a program one in PROGRAMS of common.py, and each has lines in launcher/installed
+ARTEFACTS = (PROGRAM, *(Artefact(name, name) for name in common.PROGRAMS if name != PROGRAM.file), Artefact('mcs_c', 'libmcs_c.a'))
 
 
 def below() -> dict[str, list[str]]:
@@ -125,7 +125,7 @@ class Look:
 
     def all(self) -> None:
         if not self.noted:
-            self.count.expect('there is no bin/SOURCES: checks/built.py --renew puts the built program there', False)
+            self.count.expect('there is no bin/SOURCES: checks/built.py --renew puts the built programs there', False)
             return
         self.toolchain()
         for artefact in ARTEFACTS:
@@ -155,7 +155,7 @@ class Look:
     def beside(self, artefact: Artefact, data: bytes) -> None:
         """The file beside what was built here."""
         built = artefact.here.relative_to(TOP)
-        if artefact == PROGRAM and self.program != artefact.here:
+        if artefact.is_program and self.program != PROGRAM.here:
             self.count.skip(f'whether bin/{artefact.file} is what the gate built, since the program that is tried is another one')
         elif not artefact.here.is_file():
             self.count.skip(f'whether bin/{artefact.file} is what is built here, since there is no {built}')
@@ -220,7 +220,7 @@ def renew() -> None:
 
 def main() -> None:
     parser = common.asking_program(__doc__)
-    parser.add_argument('--renew', action='store_true', help='puts the program and the library that were built here into bin/')
+    parser.add_argument('--renew', action='store_true', help='puts the programs and the library that were built here into bin/')
     parser.add_argument('--check', action='store_true', help='looks whether bin/ is up to date, as it does without a word')
     words = parser.parse_args()
     if words.renew:

@@ -17,9 +17,21 @@ from typing import NamedTuple, NoReturn, Union
 
 TOP = pathlib.Path(__file__).resolve().parent.parent
 DATA = TOP / 'crates' / 'mcs_corpus' / 'data'
+# the programs that come with the repository, the simulator first
+PROGRAMS = ('mcsim', 'mcscheck')
+
+
+def built_of(name: str) -> pathlib.Path:
+    """Where the gate leaves a program."""
+    return TOP / 'crates' / name / 'out' / name
+
+
 # the program as the gate leaves it, and the one that comes with the repository
-BUILT = TOP / 'crates' / 'mcsim' / 'out' / 'mcsim'
+BUILT = built_of('mcsim')
 SHIPPED = TOP / 'bin' / 'mcsim'
+# mcscheck, the same way
+BUILT_CHECKER = TOP / 'crates' / 'mcscheck' / 'out' / 'mcscheck'
+SHIPPED_CHECKER = TOP / 'bin' / 'mcscheck'
 # the library for C, the same way
 LIBRARY = TOP / 'crates' / 'mcs_c' / 'out' / 'libmcs_c.a'
 SHIPPED_LIBRARY = TOP / 'bin' / 'libmcs_c.a'
@@ -111,6 +123,20 @@ def built_program(given: pathlib.Path | None) -> pathlib.Path:
     if found is None:
         stop('no built program was found: ./mcsim --prove builds one, and --program PATH gives one')
     return found.resolve()
+
+
+def beside(program: pathlib.Path, name: str) -> pathlib.Path:
+    """Another program of this repository: the one beside a program, or else the one that was built here, or that of bin/."""
+    places = (program.parent / name, built_of(name), SHIPPED.parent / name)
+    found = next(filter(is_program, places), None)
+    if found is None:
+        stop(f'there is no program {name} beside {program}, and none in crates/{name}/out or in bin')
+    return found.resolve()
+
+
+def checker_of(program: pathlib.Path) -> pathlib.Path | None:
+    """mcscheck: that which stands beside the program that is tried, or the one that was built here or comes with the repository."""
+    return next(filter(is_program, (program.with_name('mcscheck'), BUILT_CHECKER, SHIPPED_CHECKER)), None)
 
 
 class Ran(NamedTuple):

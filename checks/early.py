@@ -3,7 +3,7 @@
 
 That is a layout that is not that of rt fmt, a file that no check reads, a module without a file, an operator under another name. An edit, whether the
 gate tries it or not, cannot be applied where its text does not stand once. And the launcher mcsim is asked for the crates that it proves: they are
-those on which the program stands. Each finding has a line, and each crate counts as one try. It needs the command rt; without it all of it is skipped."""
+those on which each program stands. Each finding has a line, and each crate counts as one try. It needs the command rt; without it all of it is skipped."""
 from __future__ import annotations
 
 import glob
@@ -22,7 +22,7 @@ sys.dont_write_bytecode = True
 import common
 from common import TOP, Count
 
-PROGRAM = 'mcsim'
+LAUNCHER = 'mcsim'
 # the folder of the edits that the gate leaves out
 LEFT_OUT = 'edits'
 
@@ -97,20 +97,22 @@ class Looks:
         return [found for look in (self.files, self.texts, self.layout, self.modules, self.edits) for found in look(crate)]
 
 
-def launched() -> list[str] | None:
-    """The crates that the launcher takes for those below the program, or None where it asks in another way."""
-    asks = re.search(r'^libraries\(\) \{\n.*?^\}\n', (TOP / PROGRAM).read_text(), re.M | re.S)
+def launched(program: str) -> list[str] | None:
+    """The crates that the launcher takes for those below a program, or None where it asks in another way."""
+    asks = re.search(r'^libraries\(\) \{\n.*?^\}\n', (TOP / LAUNCHER).read_text(), re.M | re.S)
     if asks is None:
         return None
-    script = f'top=.\n{asks[0]}libraries'
+    script = f'top=.\n{asks[0]}libraries {program}'
     return subprocess.run(['sh', '-c', script], cwd=TOP, capture_output=True, text=True).stdout.split()
 
 
 def look_at_launcher(crates: Sequence[object], count: Count) -> None:
-    wanted = next([below.name for below in crate.below()] for crate in crates if crate.name == PROGRAM)
-    found = launched()
-    what = 'no function libraries' if found is None else f'{" ".join(found) or "no crate"}, and the program stands on {" ".join(wanted)}'
-    count.expect(f'{PROGRAM}: the launcher has {what}', found is not None and sorted(found) == sorted(wanted))
+    for program in common.PROGRAMS:
+        wanted = next(([below.name for below in crate.below()] for crate in crates if crate.name == program), [])
+        found = launched(program)
+        what = 'no function libraries' if found is None else f'{" ".join(found) or "no crate"}, and the program stands on {" ".join(wanted) or "none"}'
+        # a crate that crates.txt leaves out stands on none to both
+        count.expect(f'{program}: the launcher has {what}', bool(found) and sorted(found) == sorted(wanted))
 
 
 def main() -> None:

@@ -4,7 +4,7 @@
 A sweep of combinations of a system is run by local jobs, and by what is there: `xargs`, GNU parallel, a Slurm whose `sinfo` answers, and dask's workers
 at the address that --dask gives. Nothing is started for that. With --set-up, by hand and as root on a machine of Debian with the packages of
 docs/SWEEPS.md, an ssh server of two names, a Slurm of one node and a scheduler of dask with two workers are started on the loopback, tried and stopped
-again. mcscheck is --checker, or that beside the program; where there is none, the tools' own reading of rows."""
+again. mcscheck is --checker, or that beside the program, or the repository's; where there is none, all is skipped."""
 from __future__ import annotations
 
 import argparse
@@ -25,7 +25,6 @@ import common
 from common import TOP, Count
 
 SYSTEM = TOP / 'crates' / 'mcs_corpus' / 'data' / 'examples' / 'storm_of_interrupts.toml'
-STAND_IN = TOP / 'tools' / 'mcsim_tools' / 'verdict_of_rows'
 DASK = TOP / 'tools' / 'engines' / 'dask_run.py'
 ARRAY = TOP / 'tools' / 'engines' / 'array.sh'
 # Debian's, which sees Debian's packages
@@ -248,7 +247,7 @@ def try_set_up(trial: Trial, only: Sequence[str], count: Count) -> None:
 
 def asked() -> argparse.Namespace:
     parser = common.asking_program(__doc__)
-    parser.add_argument('--checker', type=pathlib.Path, metavar='PATH', help='mcscheck (default: that beside the program, else the reading of rows)')
+    parser.add_argument('--checker', type=pathlib.Path, metavar='PATH', help='mcscheck (default: that beside the program, else crates/mcscheck/out/mcscheck or bin/mcscheck)')
     parser.add_argument('--set-up', action='store_true', help='starts the engines on this machine, and stops them again')
     parser.add_argument('--only', action='append', choices=('parallel', 'slurm', 'dask'), help='with --set-up only this engine; may be given several times')
     parser.add_argument('--dask', metavar='ADDRESS', help='the scheduler of dask whose workers are tried')
@@ -261,10 +260,10 @@ def main() -> None:
     # what was started is stopped too
     signal.signal(signal.SIGTERM, lambda *_: sys.exit(128 + signal.SIGTERM))
     program, count = common.built_program(words.program), Count()
-    checker = words.checker or next(filter(common.is_program, (program.parent / 'mcscheck', TOP / 'crates' / 'mcscheck' / 'out' / 'mcscheck')), None)
+    checker = words.checker or common.checker_of(program)
     if checker is None:
-        print('mcscheck is not there: the reading of rows of the tools gives the verdicts', flush=True)
-        checker = STAND_IN
+        count.skip('mcscheck is not there, which gives the verdicts')
+        count.end()
     with tempfile.TemporaryDirectory() as name:
         trial = Trial(pathlib.Path(name).resolve(), program, checker.resolve(), words.combinations or (100 if words.set_up else 20))
         lines = trial.local.count(b'\n')

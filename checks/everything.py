@@ -2,9 +2,9 @@
 """Tells whether all is well, in one line: the gate proves and tries the repository (rt ci), and then the program that it has built is checked.
 
 The last line is 'N passed, M failed' over all, with ', K skipped' where something is missing that a check needs, and the status is 0 where M
-is 0. The gate leaves its program in crates/mcsim/out, where ./mcsim finds it, and after it the library for C is built. With --program or
---no-proofs, and where the command rt is not on PATH, nothing is proved, and one line says so: then the checks try the program that is given, or
-crates/mcsim/out/mcsim, or else bin/mcsim."""
+is 0. The gate leaves its programs in crates/mcsim/out and crates/mcscheck/out, where ./mcsim and ./mcscheck find them, and after it the library for
+C is built. With --program or --no-proofs, and where the command rt is not on PATH, nothing is proved, and one line says so: then the checks try the
+program that is given, or crates/mcsim/out/mcsim, or else bin/mcsim, and the mcscheck beside it, or that of crates/mcscheck/out or bin."""
 from __future__ import annotations
 
 import argparse
@@ -44,6 +44,7 @@ CHECKS = (
     Check('stress', words=('--systems', '2000')),
     Check('schema'),
     Check('waves', tries_program=False),
+    Check('verdicts'),
     Check('traces'),
     Check('views'),
     Check('bandwidth'),
@@ -56,6 +57,7 @@ CHECKS = (
     Check('theorems', tries_program=False),
     Check('believe', tries_program=False),
     Check('faults'),
+    Check('checker'),
     Check('manual'),
     Check('mended'),
     Check('pages'),
@@ -147,7 +149,8 @@ def prove(words: argparse.Namespace) -> Tally:
         return Tally(skipped=1)
     began = time.time()
     count = gate(gate_command(words))
-    stamp(common.BUILT, began)
+    for name in common.PROGRAMS:
+        stamp(common.built_of(name), began)
     return count if count.failed else count.plus(build_library(began))
 
 

@@ -29,6 +29,8 @@ WITHIN = {'bad item': CRATES / 'mcs_script' / 'src' / 'fault.rt', 'control': CRA
 # a fault that no file has: there is room enough, or there is not
 WITHOUT_FILE = 'no memory'
 OF_WORDS = 'Words that are not understood'
+# of mcscheck alone
+OF_NOTIFICATION = 'A notification that is not there'
 FILE = 'toml'
 
 
@@ -87,7 +89,8 @@ def explains(told: Ran, line: str) -> bool:
 
 def is_of(title: str, line: str) -> bool:
     """Whether a line tells the fault of a heading."""
-    return line.startswith('error: ' if title == OF_WORDS else f'mcsim: {title}')
+    begins = {OF_WORDS: 'error: ', OF_NOTIFICATION: 'mcscheck: --allow-lost: no notification is called "'}
+    return line.startswith(begins.get(title, f'mcsim: {title}'))
 
 
 def try_part(program: pathlib.Path, folder: pathlib.Path, title: str, part: Part, count: Count) -> None:
@@ -118,12 +121,16 @@ def main() -> None:
     try_first_lines(program, count)
     found = headings()
     for fault in sorted(faults() | set(found)):
-        is_known = fault in faults() or fault == OF_WORDS
+        is_known = fault in faults() or fault in (OF_WORDS, OF_NOTIFICATION)
         count.expect(f'{fault}: no fault of the sources', is_known)
         count.expect(f'{fault}: nothing on the page', bool(found.get(fault)) or fault == WITHOUT_FILE and fault in found)
+    has_checker = common.checker_of(program) is not None
     with tempfile.TemporaryDirectory() as folder:
         for title, part in parts_of(found):
-            try_part(program, pathlib.Path(folder), title, part, count)
+            if title == OF_NOTIFICATION and not has_checker:
+                count.skip(f'{title}: mcscheck is not there')
+            else:
+                try_part(program, pathlib.Path(folder), title, part, count)
     count.end()
 
 

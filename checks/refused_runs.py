@@ -1,10 +1,10 @@
 #!/usr/bin/env python3
-"""Tells whether the built program answers well wherever memory is refused: its n-th growth, for n = 1, 2, .. until a run meets none, and then all
+"""Tells whether the built programs answer well wherever memory is refused: the n-th growth, for n = 1, 2, .. until a run meets none, and then all
 growths from the n-th on.
 
-Worked systems run with 1 and 2 workers, and there are a malformed file and the help. Each run gives the bytes and the status that it must give, or
-`mcsim: no memory` with status 4 and a first part of those bytes; where growths were refused only while the C library started a thread, it gives
-the bytes. Each kind of run has a line. It needs a C compiler, cc; without one all of it is skipped."""
+Worked systems run with 1 and 2 workers, and there are a malformed file and the help, and for mcscheck a name that no notification has. Each run gives
+the bytes and the status that it must give, or `mcsim: no memory` with status 4 and a first part of those bytes; where growths were refused only while
+the C library started a thread, it gives the bytes. Each kind of run has a line. It needs a C compiler, cc; without one all of it is skipped."""
 from __future__ import annotations
 
 import pathlib
@@ -14,6 +14,7 @@ from collections.abc import Callable, Iterator
 from typing import NamedTuple
 
 sys.dont_write_bytecode = True
+import checker
 import common
 import refusing
 from common import DATA, Count
@@ -24,15 +25,15 @@ SYSTEMS = (
     ('worked/delivery_in_order_of_making', 'schedule', 7),
     ('worked/ring_of_three_cores', 'schedule', 7),
 )
-NO_MEMORY = (4, b'mcsim: no memory\n')
 FOR_EVER = 2**63
 # for the number of the first growth that is refused, that of the last
 WAYS: dict[str, Callable[[int], int]] = {'once': lambda first: first, 'from then on': lambda first: FOR_EVER}
 
 
 class Kind(NamedTuple):
-    """A kind of run: its name, its words and its input, and what it gives where nothing is refused."""
+    """A kind of run: its program, its name, its words and its input, and what it gives where nothing is refused."""
 
+    program: str
     name: str
     words: list[str]
     stdin: bytes
@@ -45,20 +46,34 @@ class Kind(NamedTuple):
 
     def is_cut_well(self, got: Answer) -> bool:
         """Whether a run ended for want of memory, as it may where something else than a thread's start was refused."""
-        return refusing.ELSE in got.refused and (got.status, got.stderr) == NO_MEMORY and self.stdout.startswith(got.stdout)
+        no_memory = (4, f'{self.program}: no memory\n'.encode())
+        return refusing.ELSE in got.refused and (got.status, got.stderr) == no_memory and self.stdout.startswith(got.stdout)
 
 
-def kinds(program: pathlib.Path) -> Iterator[Kind]:
+def kinds_of_both(name: str, program: pathlib.Path) -> Iterator[Kind]:
+    """A malformed file, and the help."""
+    yield Kind(name, 'a malformed file', [], b'version = \n', 1, b'', f'{name}: not TOML at file\n'.encode())
+    helped = common.run([program, '--help'])
+    if f'Usage: {name} [OPTIONS] [FILE]'.encode() not in helped.stdout:
+        common.stop(f'the program {name} gives no help')
+    yield Kind(name, 'help', ['--help'], b'', *helped)
+
+
+def kinds_of_simulator() -> Iterator[Kind]:
     for name, run, horizon in SYSTEMS:
         file = (DATA / f'{name}.toml').read_bytes()
         schedule = (DATA / name / f'{run}.stdout').read_bytes()
         for workers in ('1', '2'):
-            yield Kind(f'{name}, {workers} workers', ['--horizon', str(horizon), '--workers', workers], file, 0, schedule, b'')
-    yield Kind('a malformed file', [], b'version = \n', 1, b'', b'mcsim: not TOML at file\n')
-    helped = common.run([program, '--help'])
-    if b'Usage: mcsim [OPTIONS] [FILE]' not in helped.stdout:
-        common.stop('the program gives no help')
-    yield Kind('help', ['--help'], b'', *helped)
+            yield Kind('mcsim', f'{name}, {workers} workers', ['--horizon', str(horizon), '--workers', workers], file, 0, schedule, b'')
+
+
+def kinds_of_checker() -> Iterator[Kind]:
+    system, words, written = checker.example()
+    for workers in ('1', '2'):
+        asked = [*words, '--workers', workers, '--allow-lost', 'fire']
+        yield Kind('mcscheck', f'the example of FORMAT, {workers} workers', asked, system, 5, written, b'')
+    near = checker.unknown('tik', 'the nearest is tick')
+    yield Kind('mcscheck', 'an unknown name', ['--allow-lost', 'fire', '--allow-lost', 'tik'], system, 2, b'', near)
 
 
 class Found:
@@ -103,14 +118,16 @@ def main() -> None:
     if not refusing.is_there():
         count.skip('the refused growths, since there is no C compiler, cc')
         count.end()
-    program = common.built_program(words.program)
+    simulator = common.built_program(words.program)
+    programs = {name: simulator if name == 'mcsim' else common.beside(simulator, name) for name in common.PROGRAMS}
+    of_both = [kind for name, program in programs.items() for kind in kinds_of_both(name, program)]
     with tempfile.TemporaryDirectory() as folder:
         library = refusing.compiled(folder)
-        for kind in kinds(program):
+        for kind in (*kinds_of_simulator(), *kinds_of_checker(), *of_both):
             for way, last in WAYS.items():
-                found = tried([program, *kind.words], library, kind, last)
+                found = tried([programs[kind.program], *kind.words], library, kind, last)
                 count.add(passed=found.runs - len(found.wrong), failed=len(found.wrong))
-                print(f'{kind.name}, {way}: {found}', flush=True)
+                print(f'{kind.program}: {kind.name}, {way}: {found}', flush=True)
     count.end()
 
 

@@ -20,11 +20,12 @@ CRATES = """# made up
 mcs_ticks: thiserror
 mcs_cli may_wait=7: mcs_ticks
 mcsim: mcs_cli
+mcscheck: mcs_cli
 mcs_c staticlib: mcs_ticks
 mcs_other: mcs_ticks
 """
-SOURCES = {'mcs_ticks/src/lib.rt': 'ticks\n', 'mcs_cli/src/lib.rt': 'cli\n', 'mcs_cli/src/asked/words.rt': 'words\n', 'mcsim/src/main.rt': 'main\n', 'mcs_c/src/lib.rt': 'c\n', 'mcs_other/src/lib.rt': 'other\n'}
-PAGE = '| File | Bytes | SHA-256 |\n|---|---|---|\n| `mcsim` | - | none |\n| `libmcs_c.a` | - | none |\n'
+SOURCES = {'mcs_ticks/src/lib.rt': 'ticks\n', 'mcs_cli/src/lib.rt': 'cli\n', 'mcs_cli/src/asked/words.rt': 'words\n', 'mcsim/src/main.rt': 'main\n', 'mcscheck/src/main.rt': 'check\n', 'mcs_c/src/lib.rt': 'c\n', 'mcs_other/src/lib.rt': 'other\n'}
+PAGE = '| File | Bytes | SHA-256 |\n|---|---|---|\n| `mcsim` | - | none |\n| `mcscheck` | - | none |\n| `libmcs_c.a` | - | none |\n'
 # says which program it is, and what it was given; the help of all is the same
 SAYS = '#!/bin/sh\n[ "$1" = --help ] && echo help && exit\necho {name} "$@"\ntest $# = 0 || cat "$1"\n'
 # gives its line, and makes of `try` what a program does that prints its words and its input; where the horizon is 900 it writes too much
@@ -44,9 +45,10 @@ file = pathlib.Path(__file__).parents[1] / 'crates/mcs_c/out/libmcs_c.a'
 file.parent.mkdir(exist_ok=True)
 file.write_text('archive\\n')
 """
-PROGRAM, ARCHIVE = SAYS.format(name='gate'), 'archive\n'
+PROGRAM, CHECKER, ARCHIVE = SAYS.format(name='gate'), SAYS.format(name='check'), 'archive\n'
 # the files of which each is built
-BELOW = ('crates.txt', 'crates/mcs_cli/src/asked/words.rt', 'crates/mcs_cli/src/lib.rt', 'crates/mcs_ticks/src/lib.rt', 'crates/mcsim/src/main.rt')
+BELOW_BOTH = ('crates.txt', 'crates/mcs_cli/src/asked/words.rt', 'crates/mcs_cli/src/lib.rt', 'crates/mcs_ticks/src/lib.rt')
+BELOW, BELOW_CHECKER = (*BELOW_BOTH, 'crates/mcsim/src/main.rt'), (*BELOW_BOTH, 'crates/mcscheck/src/main.rt')
 BELOW_LIBRARY = ('crates.txt', 'crates/mcs_c/src/lib.rt', 'crates/mcs_ticks/src/lib.rt')
 
 
@@ -101,8 +103,9 @@ class InFolder(unittest.TestCase):
         return ran.returncode, (ran.stdout + ran.stderr).splitlines()
 
     def built_here(self) -> None:
-        """A program newer than all sources, as the gate leaves it."""
+        """Programs newer than all sources, as the gate leaves them."""
         self.write('crates/mcsim/out/mcsim', PROGRAM, 0o755)
+        self.write('crates/mcscheck/out/mcscheck', CHECKER, 0o755)
 
     def digest(self, paths: Sequence[str]) -> str:
         """The sum of the lines that sha256sum writes of these files."""
@@ -111,10 +114,13 @@ class InFolder(unittest.TestCase):
     def renewed(self) -> None:
         """bin/ of these sources."""
         self.write('bin/mcsim', PROGRAM, 0o755)
+        self.write('bin/mcscheck', CHECKER, 0o755)
         self.write('bin/libmcs_c.a', ARCHIVE)
         self.write('bin/HELP', 'help\n')
-        self.write('bin/SOURCES', f'# made up\nkit kit 1\nmcsim {self.digest(BELOW)}\nmcs_c {self.digest(BELOW_LIBRARY)}\n')
-        rows = [f'| `{name}` | {len(text)} | `{sum_of(text.encode())}` |\n' for name, text in (('mcsim', PROGRAM), ('libmcs_c.a', ARCHIVE))]
+        digests = {'mcsim': self.digest(BELOW), 'mcscheck': self.digest(BELOW_CHECKER), 'mcs_c': self.digest(BELOW_LIBRARY)}
+        self.write('bin/SOURCES', '# made up\nkit kit 1\n' + ''.join(f'{name} {digest}\n' for name, digest in digests.items()))
+        files = (('mcsim', PROGRAM), ('mcscheck', CHECKER), ('libmcs_c.a', ARCHIVE))
+        rows = [f'| `{name}` | {len(text)} | `{sum_of(text.encode())}` |\n' for name, text in files]
         self.write('bin/README.md', PAGE.partition('| `')[0] + ''.join(rows))
 
 
@@ -228,6 +234,22 @@ class Launched(InFolder):
             self.assertEqual((status, stdout.splitlines()), (70, shown))
             self.assertEqual([line.partition(' rows end at moment ')[2].partition(';')[0] for line in stderr.splitlines()], ['', '69'])
 
+    def test_of_another_program_too_much_is_not_shown_in_part(self) -> None:
+        self.rt()
+        (self.top / 'mcscheck').symlink_to('mcsim')
+        ran = self.run_in([str(self.top / 'mcscheck'), '--horizon', '900', '--allow-lost', 'both'])
+        self.assertEqual((ran.returncode, ran.stdout), (70, ''))
+        self.assertIn('mcscheck: rt ran the sources as far as it does', ran.stderr)
+        self.assertIn('./mcscheck --prove', ran.stderr)
+
+    def test_the_link_of_the_repository_runs_the_second_program(self) -> None:
+        self.assertEqual(os.readlink(TOP / 'mcscheck'), 'mcsim')
+        self.renewed()
+        (self.top / 'mcscheck').symlink_to('mcsim')
+        ran = self.run_in([str(self.top / 'mcscheck')])
+        self.assertEqual((ran.stdout, ran.stderr), ('check\n', ''))
+        self.assertTrue(self.run_in([str(self.top / 'mcscheck'), '--version']).stdout.startswith('mcscheck, proved and built: bin/mcscheck\n'))
+
     def test_a_run_that_fails_otherwise_shows_what_rt_said(self) -> None:
         (self.tools / 'rt').write_text('#!/bin/sh\necho "error: a mistake" >&2\necho run=none proved=no >&2\nexit 1\n')
         (self.tools / 'rt').chmod(0o755)
@@ -327,6 +349,22 @@ class Installed(InFolder):
         self.assertEqual((status, stderr), (0, 'mcsim: left out: bin/libmcs_c.a, which is not there, or not built of these sources\n'))
         self.assertNotIn('lib/libmcs_c.a', self.files(self.home / '.local'))
 
+    def test_a_second_program_is_installed_under_its_name(self) -> None:
+        self.launch('--install')
+        installed = str(self.home / '.local' / 'bin' / 'mcscheck')
+        self.assertEqual(self.run_in([installed]).stdout, 'check\n')
+        digest = self.digest(BELOW_CHECKER)
+        self.assertEqual(self.run_in([installed, '--version']).stdout, f'mcscheck, proved and built\ntoolchain kit 1\nsources {digest}\n')
+        self.assertEqual(self.run_in([installed, '--uninstall']).returncode, 0)
+        self.assertEqual(self.files(self.home), set())
+
+    def test_a_second_program_of_other_sources_is_left_out_with_its_link(self) -> None:
+        self.write('crates/mcscheck/src/main.rt', 'changed\n')
+        status, _, stderr = self.launch('--install')
+        self.assertEqual((status, stderr), (0, 'mcsim: left out: bin/mcscheck, which is not there, or not built of these sources\n'))
+        self.assertNotIn('bin/mcscheck', self.files(self.home / '.local'))
+        self.assertEqual(self.run_in([str(self.home / '.local' / 'bin' / 'mcsim')]).stdout, 'gate\n')
+
     def test_nothing_to_take_away(self) -> None:
         self.assertEqual(self.launch('--uninstall')[0], 1)
 
@@ -335,7 +373,7 @@ class Checked(InFolder):
     def test_bin_of_these_sources_passes(self) -> None:
         self.renewed()
         status, lines = self.look()
-        self.assertEqual((status, lines[-1]), (0, '5 passed, 0 failed, 3 skipped'), lines)
+        self.assertEqual((status, lines[-1]), (0, '7 passed, 0 failed, 4 skipped'), lines)
 
     def test_what_was_built_here_is_put_there(self) -> None:
         self.renewed()
@@ -356,35 +394,35 @@ class Checked(InFolder):
         self.renewed()
         self.write('crates/mcs_ticks/src/lib.rt', 'changed\n')
         status, lines = self.look()
-        self.assertEqual((status, lines[-1]), (1, '3 passed, 2 failed, 3 skipped'))
+        self.assertEqual((status, lines[-1]), (1, '4 passed, 3 failed, 4 skipped'))
         self.assertEqual(lines[1], 'failed: bin/mcsim was not built of these sources: after a green gate checks/built.py --renew puts the new one there')
 
     def test_another_program_of_the_gate_fails(self) -> None:
         self.renewed()
         self.built_here()
-        self.assertEqual(self.look()[1][-1], '6 passed, 0 failed, 2 skipped')
+        self.assertEqual(self.look()[1][-1], '9 passed, 0 failed, 2 skipped')
         self.write('crates/mcsim/out/mcsim', SAYS.format(name='another'), 0o755)
         status, lines = self.look()
-        self.assertEqual((status, lines[-1]), (1, '5 passed, 1 failed, 2 skipped'))
+        self.assertEqual((status, lines[-1]), (1, '8 passed, 1 failed, 2 skipped'))
         self.assertIn('failed: bin/mcsim is not crates/mcsim/out/mcsim: checks/built.py --renew copies it', lines)
 
     def test_another_file_in_bin_than_the_page_has_fails(self) -> None:
         self.renewed()
         self.write('bin/libmcs_c.a', 'another\n')
         status, lines = self.look()
-        self.assertEqual((status, lines[-1]), (1, '4 passed, 1 failed, 3 skipped'))
+        self.assertEqual((status, lines[-1]), (1, '6 passed, 1 failed, 4 skipped'))
 
     def test_another_toolchain_fails(self) -> None:
         self.renewed()
         self.rt()
-        self.assertEqual(self.look()[1][-1], '6 passed, 0 failed, 2 skipped')
+        self.assertEqual(self.look()[1][-1], '8 passed, 0 failed, 3 skipped')
         noted = self.top / 'bin' / 'SOURCES'
         noted.write_text(noted.read_text().replace('kit kit 1', 'kit kit 0'))
-        self.assertEqual(self.look()[1][-1], '5 passed, 1 failed, 2 skipped')
+        self.assertEqual(self.look()[1][-1], '7 passed, 1 failed, 3 skipped')
 
     def test_an_empty_bin_is_one_clear_line(self) -> None:
         status, lines = self.look()
-        self.assertEqual((status, lines), (1, ['failed: there is no bin/SOURCES: checks/built.py --renew puts the built program there', '0 passed, 1 failed']))
+        self.assertEqual((status, lines), (1, ['failed: there is no bin/SOURCES: checks/built.py --renew puts the built programs there', '0 passed, 1 failed']))
 
     def test_what_is_older_than_a_source_is_not_taken(self) -> None:
         self.rt()

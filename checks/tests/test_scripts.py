@@ -14,6 +14,7 @@ from unittest import mock
 CHECKS = pathlib.Path(__file__).resolve().parent.parent
 sys.path.insert(0, str(CHECKS))
 import bandwidth
+import checker
 import common
 import faults
 import manual
@@ -37,9 +38,10 @@ class WrongPrograms(unittest.TestCase):
         self.program = pathlib.Path(folder.name, 'program')
 
     def tally(self, script: str, program: str, *words: str) -> common.Tally:
-        """What a script counts of a program that is these lines of the shell; its status has to agree."""
-        self.program.write_text(f'#!/bin/sh\n{program}\n')
-        self.program.chmod(0o755)
+        """What a script counts of programs that are these lines of the shell; its status has to agree."""
+        for file in (self.program, self.program.with_name('mcscheck')):
+            file.write_text(f'#!/bin/sh\n{program}\n')
+            file.chmod(0o755)
         command = [sys.executable, str(CHECKS / f'{script}.py'), '--program', str(self.program), *words]
         ran = subprocess.run(command, capture_output=True, text=True, env={**os.environ, 'TMPDIR': str(self.program.parent)})
         found = common.tally_of(ran.stdout.splitlines()[-1])
@@ -49,6 +51,15 @@ class WrongPrograms(unittest.TestCase):
     def test_a_program_that_says_nothing_answers_no_fault(self) -> None:
         self.assertEqual(self.tally('faults', 'exit 0'), (0, 16, 0))
 
+    def test_a_checker_that_says_nothing_has_nothing_of_its_page(self) -> None:
+        # all but a system, and a terminal, of which nothing is to be said
+        found = self.tally('checker', 'exit 0')
+        self.assertLessEqual(found.passed, 1)
+        self.assertGreater(found.failed, 30)
+
+    def test_a_checker_that_complains_on_a_short_run_fails(self) -> None:
+        self.assertEqual(self.tally('checker', 'echo "mcscheck: 1 of 2" >&2').passed, 0)
+
     def test_a_program_that_says_nothing_has_no_manual(self) -> None:
         self.assertGreater(self.tally('manual', 'exit 0').failed, 4)
 
@@ -56,8 +67,8 @@ class WrongPrograms(unittest.TestCase):
         self.assertGreater(self.tally('pages', 'exit 0').failed, 4)
 
     def test_a_program_that_complains_writes_no_page(self) -> None:
-        # two commands of the pages run a tool alone
-        self.assertLessEqual(self.tally('pages', 'echo wrong >&2').passed, 2)
+        # two commands of the pages run a tool alone; three jobs have a form, and one of them draws what the program says, which is nothing
+        self.assertLessEqual(self.tally('pages', 'echo wrong >&2').passed, 6)
 
     def test_a_program_that_says_nothing_draws_no_picture(self) -> None:
         self.assertGreater(self.tally('pictures', 'exit 0').failed, 4)
@@ -113,13 +124,29 @@ class Rules(unittest.TestCase):
         self.assertFalse(pages.are_in(['a', 'a'], ['a', 'b']))
         self.assertFalse(pages.is_shown('..\n', ['a']))
 
+    def test_a_block_ends_with_the_status_of_its_verdict(self) -> None:
+        clean, hints, late = (f'missed {late} overdue 0 lost 0 never 0 merged 1 allowed 1 hints {hints}' for late, hints in ((0, 0), (0, 1), (1, 0)))
+        for block, last, status in (
+            ('./mcscheck one.toml', clean, 0), ('./mcscheck one.toml', hints, 0), ('./mcscheck one.toml --strict', hints, 5), ('./mcscheck one.toml', late, 5),
+            ('sed s/1/2/ one.toml | ./mcscheck', late, 5), ('./mcscheck one.toml | tail -n 1', late, 0), ('./mcsim one.toml', late, 0),
+            ('tools/sweep one.toml --least call=1:2', 'call: under none of 1 to 2 nothing is found', 5),
+            ('tools/sweep one.toml --least call=1:2', 'call 1: the least of 1 to 2 under which nothing is found', 0),
+        ):
+            self.assertEqual(pages.status_of(block, ['first', last]), status, (block, last))
+        self.assertEqual(pages.status_of('./mcscheck one.toml || status=$?\nexit $status', [late, clean]), 5)
+
+    def test_the_lines_of_a_job_are_those_for_a_shell(self) -> None:
+        job = {'name': 'one', 'steps': [{'uses': 'other'}, {'run': 'a'}, {'name': 'two', 'run': 'b'}]}
+        self.assertEqual(list(pages.script_lines({'jobs': job})), ['a', 'b'])
+        self.assertEqual(list(pages.script_lines({'job': {'before_script': ['a'], 'script': ['b', 'c'], 'image': 'd'}})), ['a', 'b', 'c'])
+
     def test_a_case_names_what_differs(self) -> None:
         case = faults.Case('one', [], b'', faults.NOTHING, faults.exactly(b'said\n'), 3)
         self.assertEqual(case.differs(common.Ran(3, b'', b'said\n')), '')
         self.assertEqual(case.differs(common.Ran(1, b'x', b'said\n')), 'standard output, status')
 
     def test_a_run_without_memory_gives_a_first_part(self) -> None:
-        kind = refused_runs.Kind('one', [], b'', 0, b'lines', b'')
+        kind = refused_runs.Kind('mcsim', 'one', [], b'', 0, b'lines', b'')
         without = (4, b'li', b'mcsim: no memory\n')
         self.assertTrue(kind.is_cut_well(Answer(*without, b'sr')))
         # only a thread's start was refused
@@ -142,8 +169,20 @@ class Rules(unittest.TestCase):
             self.assertFalse(items[-1].startswith('wait'))
 
     def test_the_options_of_a_help(self) -> None:
-        text = 'Options:\n  -h, --help  Help\n      --workers <W>  Threads, 1 to 64\n                     [default: 1]\n\nRest'
-        self.assertEqual(manual.options_of_help(text), {'help': (None, None, None), 'workers': ('W', '1', '1 to 64')})
+        text = 'Options:\n  -h, --help  Help\n      --workers <W>  Threads, 1 to 64\n                     [default: 1]\n      --allow-lost <NOTE>  Lost\n\nRest'
+        wanted = {'help': (None, None, None), 'workers': ('W', '1', '1 to 64'), 'allow-lost': ('NOTE', None, None)}
+        self.assertEqual(manual.options_of_help(text), wanted)
+
+    def test_a_line_of_a_manual_may_be_two(self) -> None:
+        self.assertEqual(manual.written_in('$ mcsim x\na b\n  c d   (one line)\ne\n'), ('mcsim x', 'a b c d\ne\n'))
+
+    def test_progress_goes_on_and_is_wiped(self) -> None:
+        first, second = '\rmcscheck: 5 of 90\x1b[K', '\rmcscheck: 60 of 90\x1b[K'
+        self.assertTrue(checker.is_progress(f'{first}{second}\r\x1b[K', 90))
+        self.assertTrue(checker.is_progress(f'{first}\r\x1b[Ksaid\r\n', 90, 'said\r\n'))
+        for text in ('', first, f'{second}{first}\r\x1b[K', f'{first}\r\x1b[Kmore', f'{first}{first}\r\x1b[K'):
+            self.assertFalse(checker.is_progress(text, 90))
+        self.assertFalse(checker.is_progress(f'{first}\r\x1b[K', 91))
 
     def test_waves_that_are_read_back(self) -> None:
         dump = '$scope module core0 $end\n$var string 1 ! runs $end\n$upscope $end\n$dumpvars\ns- !\n$end\n#3\nsA !\n#5\ns- !\n'

@@ -1,7 +1,7 @@
 """One pass over the rows of a schedule, which tells a listener what they say of threads, rounds, signals and budgets.
 
 Words are those of mcscheck. A round is *activated* where its script's first wait has its word: when that word was first set since it was 0,
-or at the wake; without a first wait, when the thread is first ready or runs. A *miss* is a round that ended more than its deadline after its
+or at the wake; without a first wait, in the first tick in which the thread is ready or runs. A *miss* is a round that ended more than its deadline after its
 activation; *overdue* is one that is activated and not ended at the horizon, a deadline later or more. A signal is *lost* where it leaves a
 held word as it was, and *merged* where it adds bits to one.
 
@@ -136,7 +136,11 @@ class Account:
 
     def begin(self, moment: int, activated: Optional[int]) -> None:
         self.begun, self.activated = moment, activated
-        self.was_activated = self.was_activated or activated is not None
+        self.was_activated = self.was_activated or self.activated_by is not None
+
+    def pass_ticks(self) -> None:
+        """Some ticks have passed as it stands: a thread without a first wait that was ready or ran in one was activated."""
+        self.was_activated = self.was_activated or self.activated_by is None and self.standing in (READY, RUNNING)
 
     def end(self) -> None:
         self.begun = self.activated = None
@@ -295,12 +299,16 @@ class Reading:
     # ---- what rows come to
 
     def enter(self, account: Account, moment: int, standing: int, why: str = '') -> None:
-        if moment > account.since:
-            self.listener.stood(Stood(account.thread, account.standing, account.since, moment, account.why))
+        self.tell_stood(account, moment)
         account.standing, account.since, account.why = standing, moment, why
         self.listener.entered(account.thread, moment, standing, self.refills[account.thread.name].list[0][0] if standing == THROTTLED else None)
         if account.begun is not None and account.activated_by is None:
             account.see_standing(moment, standing)
+
+    def tell_stood(self, account: Account, end: int) -> None:
+        if end > account.since:
+            account.pass_ticks()
+            self.listener.stood(Stood(account.thread, account.standing, account.since, end, account.why))
 
     def tell_held(self, name: str, moment: int, is_used: bool) -> None:
         if name in self.listener.hears_holdings:
@@ -314,8 +322,7 @@ class Reading:
     def close(self) -> None:
         """What is open at the end."""
         for account in self.accounts.values():
-            if self.end > account.since:
-                self.listener.stood(Stood(account.thread, account.standing, account.since, self.end, account.why))
+            self.tell_stood(account, self.end)
             self.close_round(account)
         for (_, note), queue in self.signals.items():
             for signal in queue:
@@ -323,13 +330,13 @@ class Reading:
 
     def close_round(self, account: Account) -> None:
         """A round under way, or the word that is held for the next one."""
-        activated, note = account.activated, account.activated_by
+        activated, note, was_activated = account.activated, account.activated_by, account.was_activated
         if account.begun is None and note and self.words[note] and account.standing != DONE:
-            activated = self.first_set[note]
-        if activated is not None:
+            activated, was_activated = self.first_set[note], True
+        if activated is not None and was_activated:
             begun = self.end if account.begun is None else account.begun
             self.listener.round_open(Round(account.thread, 0, activated, begun, self.end))
-        elif account.thread.deadline and not account.was_activated:
+        elif account.thread.deadline and not was_activated:
             self.listener.never(account.thread, self.end)
 
 

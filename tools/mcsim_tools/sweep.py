@@ -266,7 +266,7 @@ def asked() -> argparse.Namespace:
     words.add_argument('--again', action='store_true', help='runs those too that have a result')
     words.add_argument('--collect', type=pathlib.Path, metavar='DIR', help='makes the CSV of the results')
     words.add_argument('--program', default=source.default_program(), metavar='PATH', help='mcsim (default: %(default)s)')
-    words.add_argument('--checker', metavar='PATH', help='mcscheck (default: what MCSCHECK names, or that beside mcsim)')
+    words.add_argument('--checker', metavar='PATH', help='mcscheck (default: what MCSCHECK names, or that beside mcsim, or on PATH)')
     words.add_argument('-o', '--output', type=pathlib.Path, metavar='FILE', help='where the CSV goes (default: standard output)')
     return words.parse_args()
 

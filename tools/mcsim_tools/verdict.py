@@ -20,22 +20,21 @@ from .system import System
 KINDS = ('missed', 'lost', 'overdue', 'never')
 # the word of a finding, and what it counts as
 COUNTED = {'miss': 'missed', 'lost': 'lost', 'overdue': 'overdue', 'never': 'never'}
+# the statuses of mcscheck: nothing found, or something; those between are faults of a system or a run
 NOTHING, FOUND = 0, 5
-
-
-# the verdict by the tools' own reading of the rows, of which no contract speaks
-OF_ROWS = pathlib.Path(__file__).with_name('verdict_of_rows')
+# the line of counts
+LAST = 'missed '
 
 
 def default_checker(program: str) -> Optional[str]:
-    """mcscheck: what MCSCHECK names, or that beside mcsim, or the repository's, or that on the PATH; where there is none, the reading of rows."""
+    """mcscheck: what MCSCHECK names, or that beside mcsim, or the repository's, or that on the PATH, if there is one."""
     if named_one := os.environ.get('MCSCHECK'):
         return named_one
-    found = shutil.which(program)
-    places = [pathlib.Path(found).resolve().parent / 'mcscheck'] if found else []
-    places.append(pathlib.Path(__file__).resolve().parents[2] / 'mcscheck')
-    there = next((str(place) for place in places if place.is_file()), None) or shutil.which('mcscheck')
-    return there or (str(OF_ROWS) if OF_ROWS.is_file() else None)
+    top = pathlib.Path(__file__).resolve().parents[2]
+    places = [top / 'mcscheck', top / 'crates' / 'mcscheck' / 'out' / 'mcscheck', top / 'bin' / 'mcscheck']
+    if found := shutil.which(program):
+        places = [pathlib.Path(found).with_name('mcscheck'), pathlib.Path(found).resolve().with_name('mcscheck'), *places]
+    return next((str(place) for place in places if place.is_file()), None) or shutil.which('mcscheck')
 
 
 @dataclass(frozen=True)
@@ -83,11 +82,16 @@ class Programs:
     def check(self, text: bytes, horizon: int) -> tuple[int, list[str], str]:
         """The status of mcscheck, its lines, and what it says on standard error."""
         try:
-            environment = {**os.environ, 'MCSIM': self.program}
-            ended = subprocess.run([self.checker, '--horizon', str(horizon)], input=text, capture_output=True, env=environment, check=False)
+            ended = subprocess.run([self.checker, '--horizon', str(horizon)], input=text, capture_output=True, check=False)
         except OSError as error:
             raise why(self.checker, error) from None
-        return ended.returncode, ended.stdout.decode(errors='replace').splitlines(), ended.stderr.decode(errors='replace')
+        said = ended.stderr.decode(errors='replace')
+        if not NOTHING <= ended.returncode <= FOUND:
+            raise Fault(f'{self.checker} ended with status {ended.returncode}: {first_line(said)}')
+        lines = ended.stdout.decode(errors='replace').splitlines()
+        if ended.returncode in (NOTHING, FOUND) and not (lines and lines[-1].startswith(LAST)):
+            raise Fault(f'{self.checker} gave no verdict')
+        return ended.returncode, lines, said
 
     def greatest(self, text: bytes, system: System, horizon: int) -> dict[str, int]:
         listener = Greatest(system)

@@ -122,6 +122,9 @@ class Rounds(unittest.TestCase):
         self.assertEqual(heard(WAITS, WAITS_ROWS, 9)[0].nevers, ['W'])
         self.assertEqual(heard(STARVED, STARVED_ROWS, 9)[0].nevers, [])
         self.assertEqual(heard(STARVED, STARVED_ROWS.rpartition('\n')[0], 1)[0].nevers, ['Ctl'])
+        # released at the horizon itself, it is ready in no tick
+        listener, _ = heard(STARVED, STARVED_ROWS, 2)
+        self.assertEqual((listener.nevers, [one.thread.name for one in listener.open]), (['Ctl'], ['Hog']))
 
 
 class Signals(unittest.TestCase):

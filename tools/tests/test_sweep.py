@@ -29,8 +29,10 @@ link = [{ maker = 1, home = 0, delay = 3 }]
 MISS = '11 0 miss A 1 11 deadline 10 activated 0 queued 0 ready 0 running 5 throttled 6 blocked 0 woken 0'
 LOST = '12 0 lost n 1'
 OTHER = '20 1 overdue B deadline 5 activated 0 queued 0 ready 20 running 0 throttled 0 blocked 0 woken 0'
-COUNTS = 'missed 0 overdue 0 lost 0 merged 0 never 0'
-CLEAN = (0, [COUNTS], '')
+COUNTS = 'missed 0 overdue 0 lost 0 never 0 merged 0 allowed 0 hints 1'
+HINT = 'hint note n is waited on and no script signals it'
+# a hint, also one that has the name of a notification, is no finding
+CLEAN = (0, [HINT, COUNTS], '')
 # by the budget of a: what mcscheck answers
 ANSWERS = {
     1: (5, [MISS, LOST, LOST, COUNTS], ''),
@@ -193,6 +195,52 @@ class Words(Case):
         with mock.patch.object(verdict, 'default_checker', lambda program: None):
             told = worked.ran('sweep', sweep.main, self.file, '--set', 'call=1')
         self.assertEqual(told.stderr, 'sweep: mcscheck, which gives the verdicts, was not found: --checker PATH or the variable MCSCHECK names it\n')
+
+
+
+class Checker(unittest.TestCase):
+    """Which mcscheck is taken, and how it is asked."""
+
+    def setUp(self) -> None:
+        place = tempfile.TemporaryDirectory()
+        self.addCleanup(place.cleanup)
+        self.folder = pathlib.Path(place.name).resolve()
+
+    def program(self, name: str, text: str = 'exit 0') -> str:
+        path = self.folder / name
+        path.parent.mkdir(exist_ok=True)
+        path.write_text(f'#!/bin/sh\n{text}\n')
+        path.chmod(0o755)
+        return str(path)
+
+    def test_what_the_variable_names_comes_first(self) -> None:
+        program = self.program('mcsim')
+        self.program('mcscheck')
+        with mock.patch.dict('os.environ', {'MCSCHECK': 'other'}):
+            self.assertEqual(verdict.default_checker(program), 'other')
+
+    def test_beside_mcsim(self) -> None:
+        program = self.program('there/mcsim')
+        (self.folder / 'link').symlink_to(program)
+        with mock.patch.dict('os.environ', {'MCSCHECK': ''}):
+            beside = self.program('there/mcscheck')
+            self.assertEqual([verdict.default_checker(name) for name in (program, str(self.folder / 'link'))], [beside, beside])
+
+    def test_system_and_horizon_are_handed_over(self) -> None:
+        checker = self.program('mcscheck', f'echo "$*"; cat; echo {COUNTS}; exit 5')
+        self.assertEqual(Programs('mcsim', checker).check(b'version = 2\n', 7), (5, ['--horizon 7', 'version = 2', COUNTS], ''))
+
+    def test_one_that_gives_no_verdict_stops_a_sweep(self) -> None:
+        for text in ('exit 0', 'echo wrong; exit 5'):
+            with self.assertRaisesRegex(Fault, 'mcscheck gave no verdict'):
+                Programs('mcsim', self.program('mcscheck', text)).check(b'', 7)
+
+    def test_one_that_does_not_run_stops_a_sweep(self) -> None:
+        checker = self.program('mcscheck', 'echo "mcscheck: no rt" >&2; exit 127')
+        with self.assertRaisesRegex(Fault, 'mcscheck ended with status 127: mcscheck: no rt'):
+            Programs('mcsim', checker).check(b'', 7)
+        with self.assertRaisesRegex(Fault, 'none: No such file or directory'):
+            Programs('mcsim', str(self.folder / 'none')).check(b'', 7)
 
 
 if __name__ == '__main__':

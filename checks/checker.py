@@ -1,0 +1,227 @@
+#!/usr/bin/env python3
+"""Tells whether mcscheck answers well: each of its statuses with its one line on standard error, and how far it is, on a terminal alone.
+
+The cases are those of docs/FORMAT.md, whose example is run as it stands there. What is refused leaves nothing on standard output. A run of more than
+a second whose standard error is a terminal shows a line of how far it is, and wipes it before findings are written, and before it ends, well or
+not; a pipe sees nothing of that."""
+from __future__ import annotations
+
+import contextlib
+import os
+import pathlib
+import pty
+import re
+import resource
+import subprocess
+import sys
+import tempfile
+import threading
+from collections.abc import Iterator
+from typing import BinaryIO
+
+sys.dont_write_bytecode = True
+import common
+import performance
+from common import TOP, Count, Ran
+from faults import DOUBLE_NAME, LONGEST, NOTHING, Case, begins, exactly, ran
+from pages import blocks_in
+
+NAME = 'mcscheck'
+CLEAN = 'missed 0 overdue 0 lost 0 never 0 merged 0 allowed 0 hints %d\n'
+READ_FAILED, WRITE_FAILED = (exactly(f'{NAME}: {what} failed\n'.encode()) for what in ('read', 'write'))
+NO_MEMORY = exactly(f'{NAME}: no memory\n'.encode())
+UNKNOWN = f'{NAME}: --allow-lost: no notification is called "%s": %s\n'
+# a system without a thread, and one of two notifications of like names
+EMPTY = b'version = 1\ncores = 1\ndelay = 1\ncontext = [{ name = "a", core = 0, budget = 2, period = 5 }]\n'
+NOTES = EMPTY + b'note = [{ name = "tick", core = 0 }, { name = "tock", core = 0 }]\n'
+# so little that a text of this many bytes has no room
+SPACE, LARGE = 48 * 2**20, 40 * 2**20
+WIPED = '\r\x1b[K'
+# a thread that misses its deadline once in some 10^6 ticks
+SELDOM_LATE = '''
+[[context]]
+name = "seldom"
+core = 0
+budget = 1
+period = 1048576
+
+[[thread]]
+name = "Seldom"
+context = "seldom"
+priority = 255
+deadline = 10
+script = ["compute 2"]
+'''
+# the horizons with which the search for a long run begins, and ends
+SHORT, FAR = 2**21, 2**31
+
+
+def example() -> tuple[bytes, list[str], bytes]:
+    """The system of docs/FORMAT.md, the words of its run, and what that writes."""
+    text = (TOP / 'docs' / 'FORMAT.md').read_text().partition('\n### An example\n')[2].partition('\n### ')[0]
+    (_, system), (_, written) = blocks_in(text)
+    return system.encode(), re.search(r'`mcscheck late\.toml (.*?)`', text)[1].split(), written.encode()
+
+
+def unknown(name: str, said: str) -> bytes:
+    return (UNKNOWN % (name, said)).encode()
+
+
+def hinted(many: int) -> bytes:
+    return b'hint context a has no thread\n' * many + (CLEAN % many).encode()
+
+
+def cases_of_findings() -> Iterator[Case]:
+    """Systems with findings, with hints alone, and with none."""
+    system, words, written = example()
+    yield Case('the example', words, system, exactly(written), NOTHING, 5)
+    yield Case('two workers', [*words, '--workers', '2'], system, exactly(written), NOTHING, 5)
+    allowed = b''.join(line for line in written.splitlines(keepends=True) if b' lost tick ' not in line)
+    allowed = allowed.replace(b'lost 2', b'lost 0').replace(b'allowed 0', b'allowed 2')
+    yield Case('allowed', [*words, '--allow-lost', 'tick', '--allow-lost', 'fire'], system, exactly(allowed), NOTHING, 5)
+    yield Case('hints', [], EMPTY, exactly(hinted(1)), NOTHING, 0)
+    yield Case('hints that count', ['--strict'], EMPTY, exactly(hinted(1)), NOTHING, 5)
+    yield Case('nothing', ['--strict'], EMPTY.partition(b'context')[0], exactly(hinted(0)), NOTHING, 0)
+
+
+def cases_of_files(folder: pathlib.Path) -> Iterator[Case]:
+    """Files that are refused, or cannot be read."""
+    cut = folder / 'cut.toml'
+    cut.write_bytes(b'version = 1\n')
+    asked = ['--allow-lost', 'none']
+    yield Case('a file', [cut], b'', NOTHING, exactly(b'mcscheck: missing key at top cores\n'), 1)
+    yield Case('a fault of a row', asked, DOUBLE_NAME, NOTHING, exactly(b'mcscheck: double name at context 2 name\n'), 1)
+    yield Case('a fault of the text before a name', [*asked, cut], b'', NOTHING, exactly(b'mcscheck: missing key at top cores\n'), 1)
+    yield Case('no such file before a name', [*asked, folder / 'none.toml'], b'', NOTHING, READ_FAILED, 3)
+    yield Case('a folder', [folder], b'', NOTHING, READ_FAILED, 3)
+    yield Case('a text that is too long', [], b'\n' * (LONGEST + 1), NOTHING, READ_FAILED, 3)
+
+
+def cases_of_words(folder: pathlib.Path) -> Iterator[Case]:
+    """Words that are refused, names that are not known, and the help."""
+    not_text = b'error: invalid UTF-8 was detected in one or more arguments\n'
+    for words in (['--workers', '65'], ['--horizon', '1099511627777'], ['--show', 'both'], ['--strict', '--strict'], ['--allow-lost'], ['a', 'b']):
+        yield Case(f'{words}, and no such file', [folder / 'none.toml', *words], b'', NOTHING, begins(b'error: ', words[0].encode()), 2)
+    yield Case('a word that is not UTF-8', [b'\xff'], b'', NOTHING, exactly(not_text), 2)
+    for name, near in (('tack', 'tick'), ('tocks', 'tock'), ('', 'tick'), ('TOCK', 'tick'), ('-n', 'tick')):
+        yield Case(f'an unknown name {name!r}', [f'--allow-lost={name}'], NOTES, NOTHING, exactly(unknown(name, f'the nearest is {near}')), 2)
+    yield Case('a name of two lines', ['--allow-lost=a\nb'], NOTES, NOTHING, exactly(unknown('a\\nb', 'the nearest is tick')), 2)
+    first = ['--allow-lost', 'tock', '--allow-lost', 'one', '--allow-lost', 'two']
+    yield Case('the first unknown name', first, NOTES, NOTHING, exactly(unknown('one', 'the nearest is tock')), 2)
+    yield Case('a name where there is none', ['--allow-lost', 'tick'], EMPTY, NOTHING, exactly(unknown('tick', 'there is none')), 2)
+    for word in ('--help', '-h'):
+        yield Case(word, [word], b'', begins(b'', b'Usage: mcscheck [OPTIONS] [FILE]'), NOTHING, 0)
+
+
+def cases_of_targets() -> Iterator[Case]:
+    """A device that takes nothing."""
+    system, words, _ = example()
+    yield Case('findings on a full device', words, system, NOTHING, WRITE_FAILED, 3, '/dev/full')
+    yield Case('help on a full device', ['--help'], b'', NOTHING, WRITE_FAILED, 3, '/dev/full')
+    yield Case('a fault of the file and a full device', [], b'', NOTHING, exactly(b'mcscheck: missing key at top version\n'), 1, '/dev/full')
+
+
+def little_space() -> None:
+    resource.setrlimit(resource.RLIMIT_AS, (SPACE, SPACE))
+
+
+def try_without_memory(program: pathlib.Path, count: Count) -> None:
+    ended = common.run([program], b'\n' * LARGE, preexec_fn=little_space)
+    count.expect(f'little memory: {ended}', ended.status == 4 and NOTHING(ended.stdout) and NO_MEMORY(ended.stderr))
+
+
+@contextlib.contextmanager
+def terminal() -> Iterator[tuple[int, bytearray]]:
+    """A terminal: the end that a program writes to, and what has been written once that is closed."""
+    ours, theirs = pty.openpty()
+    seen = bytearray()
+
+    def read() -> None:
+        # it has no end of file: reading fails once nobody has the other end
+        with contextlib.suppress(OSError):
+            while part := os.read(ours, 1 << 16):
+                seen.extend(part)
+
+    reader = threading.Thread(target=read)
+    reader.start()
+    try:
+        yield theirs, seen
+    finally:
+        os.close(theirs)
+        reader.join()
+        os.close(ours)
+
+
+def on_terminal(program: pathlib.Path, file: pathlib.Path, horizon: int, target: BinaryIO) -> tuple[int, str]:
+    """The status of a run, and what a terminal shows of its standard error."""
+    with terminal() as (theirs, seen):
+        command = [program, file, '--horizon', str(horizon)]
+        status = subprocess.run(command, stdin=subprocess.DEVNULL, stdout=target, stderr=theirs).returncode
+    return status, seen.decode()
+
+
+def is_progress(text: str, horizon: int, after: str = '') -> bool:
+    """Whether a text is lines of how far a run is, each over the one before and further, wiped at the end, with this behind it."""
+    line = rf'\rmcscheck: (\d+) of {horizon}\x1b\[K'
+    moments = [int(moment) for moment in re.findall(line, text)]
+    whole = re.fullmatch(rf'(?:{line})+{re.escape(WIPED + after)}', text)
+    return bool(whole) and moments == sorted(set(moments)) and moments[-1] <= horizon
+
+
+def long_run(program: pathlib.Path, file: pathlib.Path, target: pathlib.Path) -> tuple[int, int, str]:
+    """A horizon to which a run shows how far it is, its status, and what the terminal shows; the last of those that were tried where none does."""
+    horizon = SHORT
+    while True:
+        with open(target, 'wb') as device:
+            status, text = on_terminal(program, file, horizon, device)
+        if WIPED in text or horizon >= FAR:
+            return horizon, status, text
+        horizon *= 2
+
+
+def try_progress_among_findings(program: pathlib.Path, folder: pathlib.Path, horizon: int, count: Count) -> None:
+    """One terminal shows findings and how far the run is: each finding stands in a line of its own."""
+    file = folder / 'seldom.toml'
+    file.write_text(performance.crowd(1, 8) + SELDOM_LATE)
+    command = [program, file, '--horizon', str(2 * horizon)]
+    with terminal() as (theirs, seen):
+        status = subprocess.run(command, stdin=subprocess.DEVNULL, stdout=theirs, stderr=theirs).returncode
+    shown = seen.decode()
+    lines, times = re.subn(rf'(?:\rmcscheck: \d+ of {2 * horizon}\x1b\[K)+{re.escape(WIPED)}', '', shown)
+    wanted = common.run(command)
+    good = status == wanted.status == 5 and times > 0 and lines == wanted.stdout.decode().replace('\n', '\r\n')
+    count.expect(f'findings among progress, {times} times, up to {2 * horizon}: {shown[:300]!r}', good)
+
+
+def try_progress(program: pathlib.Path, folder: pathlib.Path, count: Count) -> None:
+    file, out = folder / 'long.toml', folder / 'out'
+    file.write_text(performance.crowd(1, 8))
+    with open(out, 'wb') as target:
+        count.expect('a short run shows something', on_terminal(program, file, 1000, target) == (0, ''))
+    horizon, status, text = long_run(program, file, out)
+    wanted = (CLEAN % 0).encode()
+    good = status == 0 and is_progress(text, horizon) and out.read_bytes() == wanted
+    count.expect(f'progress up to {horizon}: {text[:60]!r}..{text[-60:]!r}', good)
+    horizon, status, text = long_run(program, file, pathlib.Path('/dev/full'))
+    good = status == 3 and is_progress(text, horizon, 'mcscheck: write failed\r\n')
+    count.expect(f'progress up to {horizon} of a run that cannot write: {text[-80:]!r}', good)
+    try_progress_among_findings(program, folder, horizon, count)
+    count.expect('a pipe sees progress', common.run([program, file, '--horizon', str(2 * horizon)]) == Ran(0, wanted, b''))
+
+
+def main() -> None:
+    simulator = common.built_program(common.asking_program(__doc__).parse_args().program)
+    program, count = common.beside(simulator, NAME), Count()
+    with tempfile.TemporaryDirectory() as name:
+        folder = pathlib.Path(name)
+        for case in (*cases_of_findings(), *cases_of_files(folder), *cases_of_words(folder), *cases_of_targets()):
+            ended = ran(program, case)
+            differs = case.differs(ended)
+            count.expect(f'{case.name}: {differs} differ: {ended}', not differs)
+        try_without_memory(program, count)
+        try_progress(program, folder, count)
+    count.end()
+
+
+if __name__ == '__main__':
+    main()

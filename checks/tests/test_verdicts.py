@@ -1,0 +1,151 @@
+"""The plain reading of rows on systems that were worked by hand, and checkers that are wrong: the check has to see it."""
+import contextlib
+import io
+import pathlib
+import random
+import sys
+import tempfile
+import tomllib
+import unittest
+from collections.abc import Callable
+from unittest import mock
+
+sys.path.insert(0, str(pathlib.Path(__file__).resolve().parent.parent))
+import common
+import reading
+import verdicts
+from common import Ran
+
+# A is woken at 1 and has a tick to wait; its next word is set at 3, left as it is at 5, and added to at 6, and A takes it at 8. C stops in the tick in
+# which it runs, so it is never ready or running.
+TEXT = '''version = 1
+cores = 2
+delay = 1
+context = [{ name = "a", core = 0, budget = 3, period = 7 }, { name = "c", core = 1, budget = 1, period = 9 }, { name = "n", core = 1, budget = 8, period = 9 }]
+note = [{ name = "x", core = 0 }, { name = "y", core = 0 }]
+thread = [
+    { name = "A", context = "a", priority = 5, deadline = 5, script = ["wait x", "compute 3"] },
+    { name = "C", context = "c", priority = 5, deadline = 3, script = ["compute 1", "yield"] },
+]
+'''
+ROWS = '''0 0 release A
+0 0 run A
+0 0 stop A wait 0
+0 1 release C
+0 1 run C
+0 1 stop C yield 1 until 9
+1 0 wake A x 1
+2 0 run A
+3 0 hold x 1
+4 0 stop A spent 3 until 7
+5 0 hold x 1
+6 0 hold x 3
+7 0 release A
+7 0 run A
+8 0 round A 1 7
+8 0 got A x 3
+'''
+FOUND = '''5 0 lost x 1
+8 0 miss A 1 7 deadline 5 activated 1 queued 0 ready 1 running 3 throttled 3 blocked 0 woken 0
+9 0 overdue A deadline 5 activated 3 queued 5 ready 0 running 1 throttled 0 blocked 0 woken 0
+9 1 never C deadline 3
+'''
+HINTS = '''hint note x is waited on and no script signals it
+hint context n has no thread
+'''
+
+
+def read(horizon: int = 9) -> reading.Reading:
+    return reading.Reading(tomllib.loads(TEXT), ROWS, horizon)
+
+
+class Readings(unittest.TestCase):
+    def test_what_is_found(self) -> None:
+        self.assertEqual(read().wanted().text, FOUND + HINTS + 'missed 1 overdue 1 lost 1 never 1 merged 1 allowed 0 hints 2\n')
+        self.assertEqual(read().wanted().status(), 5)
+
+    def test_lost_signals_that_are_allowed_are_counted_and_not_told(self) -> None:
+        wanted = read().wanted(['x'])
+        self.assertNotIn('lost x', wanted.text)
+        self.assertEqual((wanted.counts['lost'], wanted.counts['allowed']), (0, 1))
+
+    def test_hints_alone_count_where_they_are_to(self) -> None:
+        wanted = reading.Wanted('', {**dict.fromkeys(reading.KINDS, 0), 'hints': 1, 'merged': 2, 'allowed': 3})
+        self.assertEqual((wanted.status(), wanted.status(is_strict=True)), (0, 5))
+
+    def test_a_word_is_held_from_the_signal_that_set_it(self) -> None:
+        rows = read().rows
+        self.assertEqual(read().past(rows[8]).word('x'), (0, None))
+        self.assertEqual(read().past(rows[15]).word('x'), (3, 3))
+        self.assertEqual(read().whole.word('x'), (0, None))
+
+    def test_a_wake_is_what_its_thread_does_next(self) -> None:
+        wake, run, release = (reading.Row(0, 0, 0, words.split()) for words in ('wake A x 1', 'run A', 'release A'))
+        standings = [reading.standing_after(wake, following) for following in (run, release, None)]
+        self.assertEqual(standings, ['ready', 'throttled', 'woken'])
+
+    def test_the_nearest_name_is_the_first_of_those(self) -> None:
+        self.assertEqual([reading.distance('tick', other) for other in ('tick', 'ticks', 'pick', 'kit', '')], [0, 1, 1, 3, 4])
+        self.assertIn('called "tik": the nearest is tick\n', reading.unknown_note('tik', ['frames', 'tick', 'tig']))
+        self.assertIn('called "n": there is none\n', reading.unknown_note('n', []))
+
+
+class WrongCheckers(unittest.TestCase):
+    def failed(self, wrong: Callable[[Ran], Ran], rows: str = ROWS, reports: str = 'thread A ran 4 late 1\nthread C ran 0 late 0\n') -> int:
+        """How many tries fail with a checker that is wrong in this way, which is given the words of a run."""
+        wanted = reading.Reading(tomllib.loads(TEXT), rows, 9)
+
+        def ran(command: list[common.Word], text: bytes = b'', **_: object) -> Ran:
+            if command[0] == 'mcsim':
+                return Ran(0, (rows + reports).encode(), b'')
+            allowed = [word.partition('=')[2] for word in command if word.startswith('--allow-lost')]
+            return wrong(verdicts.answer(wanted.wanted(allowed), '--strict' in command))
+
+        trial = verdicts.Trial('mcsim', 'mcscheck')
+        with tempfile.TemporaryDirectory() as folder, mock.patch('common.run', ran), mock.patch('tempfile.tempdir', folder):
+            with contextlib.redirect_stdout(io.StringIO()), mock.patch.object(trial, 'unknown'):
+                trial.agrees(verdicts.System('worked', TEXT, 9), random.Random(1))
+        return trial.count.tally.failed
+
+    def test_one_that_is_right_passes(self) -> None:
+        self.assertEqual(self.failed(lambda ran: ran), 0)
+
+    def test_another_status(self) -> None:
+        self.assertEqual(self.failed(lambda ran: ran._replace(status=0)), 2)
+
+    def test_a_line_that_is_not_there(self) -> None:
+        self.assertEqual(self.failed(lambda ran: ran._replace(stdout=ran.stdout.replace(b'hint context n has no thread\n', b''))), 2)
+
+    def test_words_on_standard_error(self) -> None:
+        self.assertEqual(self.failed(lambda ran: ran._replace(stderr=b'mcscheck: 1 of 9\n')), 2)
+
+    def test_a_report_that_tells_another_time(self) -> None:
+        self.assertEqual(self.failed(lambda ran: ran, reports='thread A ran 5 late 1\nthread C ran 0 late 0\n'), 1)
+
+    def test_a_round_that_tells_another_response(self) -> None:
+        self.assertEqual(self.failed(lambda ran: ran, rows=ROWS.replace('round A 1 7', 'round A 1 8')), 1)
+
+    def test_systems_that_show_nothing_are_a_failure(self) -> None:
+        with tempfile.TemporaryDirectory() as folder:
+            for name in ('mcsim', 'mcscheck'):
+                file = pathlib.Path(folder, name)
+                file.write_text('#!/bin/sh\nexit 1\n')
+                file.chmod(0o755)
+            command = [sys.executable, str(pathlib.Path(verdicts.__file__)), '--program', str(pathlib.Path(folder, 'mcsim')), '--systems', '1']
+            last = common.tally_of(common.run(command).stdout.decode().splitlines()[-1])
+        self.assertGreaterEqual(last.failed, len(verdicts.SEEN) - 1)
+
+
+class Systems(unittest.TestCase):
+    def test_a_text_is_that_of_its_tables(self) -> None:
+        tables = tomllib.loads(TEXT)
+        self.assertEqual(tomllib.loads(verdicts.text_of(tables)), tables)
+
+    def test_items_have_other_names_and_few_badges(self) -> None:
+        self.assertEqual(verdicts.renamed('wait n3', random.Random(1)), f'wait {verdicts.NAMES[3]}')
+        self.assertEqual(verdicts.renamed('compute 5', random.Random(1)), 'compute 5')
+        self.assertIn(verdicts.renamed('signal n0 1024', random.Random(1)).split()[2], ('1', '2', '4'))
+
+
+if __name__ == '__main__':
+    unittest.main()
