@@ -33,7 +33,7 @@ def take(kept: Any, crate: Any) -> bool:
     if not is_there(crate):
         shutil.rmtree(stamp_file(crate).parent, ignore_errors=True)
         os.makedirs(f'{crate.folder}/out', exist_ok=True)
-        if not kept.give(crate, False, kept.key(crate)):
+        if not kept.give(crate, False, kept.key(crate)) or not stamp_file(crate).parent.is_dir():
             return False
         stamp_file(crate).write_text(crate.stamp())
     kept.is_built(crate)
