@@ -30,8 +30,8 @@ stamped-of c t [] more h = h
 stamped-of c t (what ∷ told) more h = (refl, stamped-of c t told more h)
 
 all-append : (P : Row → Type 0) (rows more : List Row) → AllByRecursion P rows → AllByRecursion P more → AllByRecursion P (rows ++ more)
-all-append P [] more first second = second
-all-append P (r ∷ rows) more first second = (first.0, all-append P rows more first.1 second)
+all-append P [] more here there = there
+all-append P (r ∷ rows) more here there = (here.0, all-append P rows more here.1 there)
 
 all-later : (t h : ℕ) (rows : List Row) → t ≤ h → AllByRecursion (λ (r : Row). r.moment ≡ h) rows → AllByRecursion (λ (r : Row). t ≤ r.moment) rows
 all-later t h [] l all = tt

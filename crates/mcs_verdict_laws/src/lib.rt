@@ -3,6 +3,8 @@
 
 ghost use Rattle.mcs_verdict_laws.specs.laws.Order.{SchedulesAreInOrder};
 ghost use Rattle.mcs_verdict_laws.specs.laws.Responses.{ResponsesAreTold, PartsSumToResponses};
+ghost use Rattle.mcs_verdict_laws.specs.laws.Standings.{StandingsAreTheClocks};
+ghost use Rattle.mcs_verdict_laws.specs.laws.Running.{RunningIsRan};
 
 /// A law of the clock: each row of a schedule is of no earlier moment than those before it, and none is after the horizon. So all that is
 /// found in a schedule is found as its rows go by.
@@ -18,4 +20,16 @@ pub fn responses_are_told()
 /// So the parts of each round, as its job has them, sum to the response of its `round` row.
 pub fn parts_sum_to_responses()
     ensures { PartsSumToResponses }
+{}
+
+/// A law of the clock: in each tick up to the horizon each thread stands on its core as the rows of the schedule tell, where those that tell no
+/// more than that it was woken leave open whether it waits for the processor or for its budget.
+pub fn standings_are_the_clocks()
+    ensures { StandingsAreTheClocks }
+{}
+
+/// A law of the clock: over a whole run each thread stood running, by the rows, in as many ticks as its runs last, which is what its report says
+/// that it ran.
+pub fn running_is_ran()
+    ensures { RunningIsRan }
 {}
