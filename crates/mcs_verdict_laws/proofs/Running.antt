@@ -1,14 +1,18 @@
 -- The ticks in which a thread stands running are those of its runs.
-use Rattle.std.proofs.Common.{◌≡◌, ℕ, zero, suc, ◌+◌, ◌-◌, ◌<◌, ◌≤◌, ◌⊎◌, inl, inr, Bool, true, false, List, [], ◌∷◌, length, Option, Some, None, refl, sym, ap, subst, ◌∙◌, arith}
+use Rattle.std.proofs.Common.{◌≡◌, ℕ, zero, suc, ◌+◌, ◌-◌, ◌<◌, ◌≤◌, ◌⊎◌, inl, inr, Bool, true, false, List, [], ◌∷◌, length, get_or, sum, Option, Some, None, refl, sym, ap, subst, ◌∙◌, arith}
 use Rattle.std.specs.Prelude.{nat_lt}
 use Rattle.mcs_ticks.specs.declared.row.Row.{Row}
 use Rattle.mcs_ticks.specs.declared.row.What.{What}
 use Rattle.mcs_ticks.specs.declared.row.What.TheVariants as row
-use Rattle.mcs_system.specs.System.{System, thread_part, core_of}
+use Rattle.mcs_system.specs.declared.part.ThreadPart.{ThreadPart}
+use Rattle.mcs_system.specs.System.{System, no_thread, thread_part, core_of}
 use Rattle.mcs_system.specs.WellFormed.{IsWellFormed}
 use Rattle.mcs_core.specs.Clock as clocks
 use Rattle.mcs_laws.specs.Places.{times_running}
 use Rattle.mcs_laws.specs.Demand.{ticks_run}
+use Rattle.mcs_report.specs.declared.reports.ThreadReport.{ThreadReport}
+use Rattle.mcs_report.specs.Reports.{capped, run_lengths, thread_report, thread_reports, reports_of}
+use Rattle.mcs_report.specs.Tally.{no_report}
 use Rattle.mcs_report.proofs.Ticks.{runs-ticks}
 use Rattle.mcs_verdict.specs.declared.standing.Standing.{Standing}
 use Rattle.mcs_verdict.specs.declared.standing.Standing.TheVariants.{Pending, Ready, Running, Throttled, Blocked, Woken, Done}
@@ -80,5 +84,19 @@ module _ (system : System) (well : IsWellFormed system) (x horizon : ℕ) where
       let all : horizon - 0 ≡ horizon = omega arith in
       ap (λ n. (stood_for None (telling x (past_of [] (clocks.schedule system horizon))) 0 n).running) all ∙ counts horizon (omega arith)
 
+-- the report of a thread
+report-at : (h : ℕ) (rows : List Row) (n : ℕ) (threads : List ThreadPart) (x number : ℕ) → x < length threads → n + x ≡ number
+    → get_or (thread_reports h rows n threads) x no_report ≡ thread_report h rows number (get_or threads x no_thread).deadline
+report-at h rows n [] x number known e = absurd (omega (arith, known))
+report-at h rows n (thread ∷ threads) zero number known e = let same : n ≡ number = omega (arith, e) in ap (λ i. thread_report h rows i thread.deadline) same
+report-at h rows n (thread ∷ threads) (suc x) number known e = report-at h rows (suc n) threads x number (omega (arith, known)) (omega (arith, e))
+
 pub running_ran : RunningIsRan
-running_ran system well horizon x = counts_all system well x horizon ∙ sym (runs-ticks system well horizon x)
+running_ran system well horizon x =
+    let runs = counts_all system well x horizon ∙ sym (runs-ticks system well horizon x) in
+    record {
+      runs = runs;
+      reported = λ known.
+          ap (λ (r : ThreadReport). r.ran) (report-at horizon (clocks.schedule system horizon) 0 system.threads x x known (omega arith))
+          ∙ ap capped (sym runs);
+    }

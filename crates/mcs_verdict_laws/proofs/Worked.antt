@@ -1,0 +1,107 @@
+-- Standings and beginnings that were worked by hand.
+use Rattle.std.specs.Prelude.{◌≡◌, ℕ, ◌+◌, List, [], ◌∷◌, Option, Some, None, refl}
+use Rattle.std.proofs.Common.{ap, sym, ◌∙◌, arith}
+use Rattle.mcs_ticks.specs.declared.row.Row.{Row}
+use Rattle.mcs_control.specs.declared.config.Mode.TheVariants as mode
+use Rattle.mcs_script.specs.declared.item.Item.{Item}
+use Rattle.mcs_script.specs.declared.item.Item.TheVariants.{Compute, Signal, Wait}
+use Rattle.mcs_system.specs.declared.part.ThreadPart.{ThreadPart}
+use Rattle.mcs_system.specs.declared.part.ContextPart.{ContextPart}
+use Rattle.mcs_system.specs.System.{System}
+use Rattle.mcs_core.specs.Clock.{schedule}
+use Rattle.mcs_verdict.specs.declared.standing.Standing.{Standing}
+use Rattle.mcs_verdict.specs.declared.standing.Standing.TheVariants.{Pending, Ready, Running, Throttled, Blocked, Woken, Done}
+use Rattle.mcs_verdict.specs.Findings.{past_of}
+use Rattle.mcs_verdict.specs.Rounds.{begun_of}
+use Rattle.mcs_verdict.specs.Standing.{standing_at, telling}
+use Rattle.mcs_verdict_laws.specs.Standing.{standing_in_clock}
+use Rattle.mcs_verdict_laws.specs.laws.Responses.{IsTold, AreTold}
+use Rattle.mcs_verdict_laws.specs.laws.Running.{ticks_running}
+
+abbrev context : ℕ → ℕ → ContextPart
+context budget period = record { name = []; core = 0; config = record { budget = budget; period = period; extra = 0 }; mode = mode.Sporadic }
+
+abbrev thread : ℕ → ℕ → ℕ → ℕ → List Item → ThreadPart
+thread context priority start rounds script =
+    record { name = []; context = context; priority = priority; start = start; rounds = rounds; deadline = 0; script = script }
+
+abbrev one_core : List ContextPart → List ThreadPart → System
+one_core contexts threads =
+    record { cores = 1; delay = 1; call = 1; min_budget = 1; contexts = contexts; notes = record { name = []; core = 0 } ∷ []; threads = threads; orders = []; links = [] }
+
+-- by the rows up to a horizon
+abbrev told : System → ℕ → ℕ → ℕ → Standing
+told system horizon tick thread = standing_at tick None (telling thread (past_of [] (schedule system horizon)))
+
+-- Five ticks of work on a budget of 2 in 5, from moment 1 on: it runs at 1, 2, 6, 7 and 11.
+abbrev depletes : System
+depletes = one_core (context 2 5 ∷ []) (thread 0 5 1 1 (Compute 5 ∷ []) ∷ [])
+
+before_its_start : standing_in_clock depletes 0 0 ≡ Pending
+before_its_start = refl
+
+from_its_start : standing_in_clock depletes 1 0 ≡ Running
+from_its_start = refl
+
+up_to_its_budget : standing_in_clock depletes 2 0 ≡ Running
+up_to_its_budget = refl
+
+then_it_waits : standing_in_clock depletes 3 0 ≡ Throttled
+then_it_waits = refl
+
+up_to_its_refill : standing_in_clock depletes 5 0 ≡ Throttled
+up_to_its_refill = refl
+
+and_runs_on : standing_in_clock depletes 6 0 ≡ Running
+and_runs_on = refl
+
+its_last_tick : standing_in_clock depletes 11 0 ≡ Running
+its_last_tick = refl
+
+done_at_last : standing_in_clock depletes 12 0 ≡ Done
+done_at_last = refl
+
+it_ran_for_five : ticks_running 12 0 (schedule depletes 12) ≡ 5
+it_ran_for_five = refl
+
+and_for_two_of_the_first_six : ticks_running 6 0 (schedule depletes 6) ≡ 2
+and_for_two_of_the_first_six = refl
+
+-- Thread 1 waits, at the price of its budget of 1 in 10; thread 0 signals at 5 and is done. So thread 1 is woken at 5 and runs at 10.
+abbrev woken : System
+woken = one_core (context 20 20 ∷ context 1 10 ∷ []) (thread 0 5 0 1 (Compute 3 ∷ Signal 0 1 ∷ []) ∷ thread 1 9 0 0 (Wait 0 ∷ Compute 1 ∷ []) ∷ [])
+
+behind_the_other : standing_in_clock woken 0 0 ≡ Ready
+behind_the_other = refl
+
+before_its_wait : standing_in_clock woken 0 1 ≡ Running
+before_its_wait = refl
+
+at_its_wait : standing_in_clock woken 1 1 ≡ Blocked
+at_its_wait = refl
+
+woken_with_no_budget : standing_in_clock woken 5 1 ≡ Throttled
+woken_with_no_budget = refl
+
+which_the_rows_leave_open : told woken 9 5 1 ≡ Woken
+which_the_rows_leave_open = refl
+
+until_its_release : told woken 10 5 1 ≡ Throttled
+until_its_release = refl
+
+done_at_once : standing_in_clock woken 5 0 ≡ Done
+done_at_once = refl
+
+-- its round began when it was woken, and so it ends at 11 with a response of 6
+begun_by_the_wake : begun_of woken 1 (past_of [] (schedule woken 10)) ≡ Some 5
+begun_by_the_wake = refl
+
+its_response : IsTold woken (past_of [] (schedule woken 10)) 11 1 6
+its_response = record { beginning = 5; told = begun_by_the_wake; response_is = refl }
+
+no_other_response : IsTold woken (past_of [] (schedule woken 10)) 11 1 7 → ⊥
+no_other_response is =
+    let e : Some is.beginning ≡ Some 5 = sym is.told ∙ begun_by_the_wake in
+    let f : is.beginning ≡ 5 = cc in
+    let g = is.response_is in
+    omega (arith, f, g)
