@@ -100,6 +100,7 @@ module _ (x : ℕ) (waits : Option ℕ) (t : ℕ) where
         begins = f;
         timed = tt;
         alive = λ g. absurd (cc);
+        allows = tt;
       }
 
   pub step-round : (number response beginning : ℕ) (begun : Option ℕ) → begun ≡ Some beginning → t ≡ beginning + response
@@ -110,6 +111,7 @@ module _ (x : ℕ) (waits : Option ℕ) (t : ℕ) where
         begins = sym (ap (λ b. cond b (begun_at waits t) begun) (self x));
         timed = λ g. (beginning, e, f);
         alive = λ g. absurd (cc);
+        allows = λ g. refl;
       }
 
   pub step-got : (note word : ℕ) (begun : Option ℕ) → Step x waits t (told_of Running begun) (row.Got x note word) (told_of Running (begun_by_word waits t begun))
@@ -119,6 +121,7 @@ module _ (x : ℕ) (waits : Option ℕ) (t : ℕ) where
         begins = sym (ap (λ b. cond b (begun_by_word waits t begun) begun) (self x));
         timed = tt;
         alive = λ g. absurd (cc);
+        allows = tt;
       }
 
   woken_to : (date : Option ℕ) → (by_date date ≡ Ready) ⊎ (by_date date ≡ Throttled)
@@ -132,15 +135,23 @@ module _ (x : ℕ) (waits : Option ℕ) (t : ℕ) where
         begins = sym (ap (λ b. cond b (begun_by_word waits t begun) begun) (self x));
         timed = tt;
         alive = λ g. absurd (cc);
+        allows = tt;
       }
 
   pub step-run : (begun : Option ℕ) → Step x waits t (told_of Ready begun) (row.Run x) (told_of Running begun)
   step-run begun =
-      record { passes = passes_own (x == x) Ready Running (row.Run x) (self x) (refl, refl); begins = refl; timed = tt; alive = λ g. absurd (cc) }
+      record { passes = passes_own (x == x) Ready Running (row.Run x) (self x) (refl, refl); begins = refl; timed = tt; alive = λ g. absurd (cc); allows = tt }
 
-  pub step-release : (standing : Standing) (begun : Option ℕ) → (standing ≡ Pending) ⊎ (standing ≡ Throttled) → Step x waits t (told_of standing begun) (row.Release x) (told_of Ready begun)
-  step-release standing begun h =
-      record { passes = passes_own (x == x) standing Ready (row.Release x) (self x) (h, refl); begins = refl; timed = tt; alive = λ g. absurd (by h g) }
+  pub step-release : (standing : Standing) (begun : Option ℕ) → (standing ≡ Pending) ⊎ (standing ≡ Throttled)
+      → (standing ≡ Pending → (beginning : ℕ) → begun ≡ Some beginning → t ≤ beginning) → Step x waits t (told_of standing begun) (row.Release x) (told_of Ready begun)
+  step-release standing begun h early =
+      record {
+        passes = passes_own (x == x) standing Ready (row.Release x) (self x) (h, refl);
+        begins = refl;
+        timed = tt;
+        alive = λ g. absurd (by h g);
+        allows = λ own. early;
+      }
     where
       by : (standing ≡ Pending) ⊎ (standing ≡ Throttled) → standing ≡ Done → ⊥
       by (inl e) g = let f : Pending ≡ Done = sym e ∙ g in cc

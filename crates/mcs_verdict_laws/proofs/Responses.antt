@@ -6,10 +6,7 @@ use Rattle.mcs_ticks.specs.declared.row.What.TheVariants as row
 use Rattle.mcs_system.specs.System.{System}
 use Rattle.mcs_system.specs.WellFormed.{IsWellFormed}
 use Rattle.mcs_verdict.specs.Rounds.{begun_after, begun_of}
-use Rattle.mcs_verdict.specs.Stood.{all_ticks, stood_in}
-use Rattle.mcs_verdict.specs.Jobs.{or_now}
-use Rattle.mcs_verdict.proofs.Counts.{all-stood_for}
-use Rattle.mcs_verdict_laws.specs.laws.Responses.{IsTold, IsToldBy, IsSummedBy, AreTold, AreSummed, ResponsesAreTold, PartsSumToResponses}
+use Rattle.mcs_verdict_laws.specs.laws.Responses.{IsTold, IsToldBy, AreTold, ResponsesAreTold}
 use Rattle.mcs_verdict_laws.proofs.Steps.{Told, IsTimed, Leads}
 use Rattle.mcs_verdict_laws.proofs.Holds.{first}
 use Rattle.mcs_verdict_laws.proofs.Entering.{self}
@@ -50,31 +47,6 @@ module _ (system : System) where
   told_all past [] h = tt
   told_all past (r ∷ rows) h = (told_by past r.moment r.what (λ x. (h x).0), told_all (r ∷ past) rows (λ x. (h x).1))
 
-  -- so the parts of each sum to its response
-  summed_by : (past : List Row) (moment : ℕ) (what : What) → IsToldBy system past moment what → IsSummedBy system past moment what
-  summed_by past moment (row.Round thread number response) t =
-      let from : or_now moment (begun_of system thread past) ≡ t.beginning = ap (or_now moment) t.told in
-      let is = t.response_is in
-      ap (λ begun. all_ticks (stood_in thread past begun moment)) from
-      ∙ all-stood_for None _ t.beginning (moment - t.beginning)
-      ∙ omega (arith, is)
-  summed_by past moment (row.Release y) t = tt
-  summed_by past moment (row.Run y) t = tt
-  summed_by past moment (row.Stop y cause charged until) t = tt
-  summed_by past moment (row.Signal y note badge) t = tt
-  summed_by past moment (row.Arrive note badge maker) t = tt
-  summed_by past moment (row.Wake y note word) t = tt
-  summed_by past moment (row.Hold note word) t = tt
-  summed_by past moment (row.Got y note word) t = tt
-  summed_by past moment (row.Order context) t = tt
-
-  summed_all : (past rows : List Row) → AreTold system past rows → AreSummed system past rows
-  summed_all past [] t = tt
-  summed_all past (r ∷ rows) t = (summed_by past r.moment r.what t.0, summed_all (r ∷ past) rows t.1)
-
 pub responses_told : ResponsesAreTold
 responses_told system well horizon =
     told_all system [] _ (λ x. let r = reached system well x (suc horizon) in timed system x [] _ _ r.told r.leads refl)
-
-pub parts_sum : PartsSumToResponses
-parts_sum system well horizon = summed_all system [] _ (responses_told system well horizon)

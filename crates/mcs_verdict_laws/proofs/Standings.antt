@@ -47,7 +47,7 @@ stopped_tells why.Order None = refl
 stopped_tells why.Order (Some date) = refl
 
 -- a telling row says how the thread stands after it
-turn_tells : (before after : Standing) (what : What) → Turns before what after → TellsOf (standing_after what) after
+pub turn_tells : (before after : Standing) (what : What) → Turns before what after → TellsOf (standing_after what) after
 turn_tells before after (row.Release y) h = sym h.1
 turn_tells before after (row.Run y) h = sym h.1
 turn_tells before after (row.Stop y cause charged until) h =

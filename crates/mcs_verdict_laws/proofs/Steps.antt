@@ -1,5 +1,5 @@
 -- How a thread goes on from row to row: as its core has it, and not only as its rows tell.
-use Rattle.std.proofs.Common.{◌≡◌, ℕ, ◌+◌, ◌⊎◌, Bool, true, false, cond, ◌==◌, List, [], ◌∷◌, ◌++◌, map, Option, Some, None, refl, sym, ap, subst, ◌∙◌}
+use Rattle.std.proofs.Common.{◌≡◌, ℕ, ◌+◌, ◌≤◌, ◌⊎◌, Bool, true, false, cond, ◌==◌, List, [], ◌∷◌, ◌++◌, map, Option, Some, None, refl, sym, ap, subst, ◌∙◌}
 use Rattle.mcs_ticks.specs.declared.row.Row.{Row}
 use Rattle.mcs_ticks.specs.declared.row.What.{What}
 use Rattle.mcs_ticks.specs.declared.row.What.TheVariants as row
@@ -56,6 +56,12 @@ module _ (x : ℕ) where
       (y == x) ≡ true → (beginning : ℕ) × (begun ≡ Some beginning) × (t ≡ beginning + response)
   IsTimed t _ begun = Unit {0}
 
+  -- a round ends while its thread runs, and a thread that is pending is released no later than its first round begins
+  abbrev pub Allows : ℕ → What → Told → Type 0
+  Allows t (row.Round y number response) told = (y == x) ≡ true → told.standing ≡ Running
+  Allows t (row.Release y) told = (y == x) ≡ true → told.standing ≡ Pending → (beginning : ℕ) → told.begun ≡ Some beginning → t ≤ beginning
+  Allows t _ told = Unit {0}
+
 -- the thread, and the notification for which its script waits first
 module _ (x : ℕ) (waits : Option ℕ) where
   -- one row more
@@ -64,6 +70,7 @@ module _ (x : ℕ) (waits : Option ℕ) where
     pub begins : after.begun ≡ begun_after waits x t what before.begun
     pub timed : IsTimed x t what before.begun
     pub alive : before.standing ≡ Done → IsOther x what
+    pub allows : Allows x t what before
 
   -- the rows of a moment
   abbrev pub Walks : ℕ → Told → List What → Told → Type 0
@@ -89,25 +96,26 @@ module _ (x : ℕ) (waits : Option ℕ) where
 
   step-other : (t : ℕ) (told : Told) (what : What) → IsOther x what → Step t told what told
   step-other t told (row.Release y) e =
-      record { passes = untold (y == x) told.standing (row.Release y) e; begins = refl; timed = tt; alive = λ f. e }
+      record { passes = untold (y == x) told.standing (row.Release y) e; begins = refl; timed = tt; alive = λ f. e; allows = λ f. absurd (let g : true ≡ false = sym f ∙ e in cc) }
   step-other t told (row.Run y) e =
-      record { passes = untold (y == x) told.standing (row.Run y) e; begins = refl; timed = tt; alive = λ f. e }
+      record { passes = untold (y == x) told.standing (row.Run y) e; begins = refl; timed = tt; alive = λ f. e; allows = tt }
   step-other t told (row.Stop y cause charged until) e =
       record {
         passes = untold (y == x) told.standing (row.Stop y cause charged until) e;
         begins = not_stopped t charged y cause until told.begun e;
         timed = tt;
         alive = λ f. e;
+        allows = tt;
       }
   step-other t told (row.Wake y note word) e =
-      record { passes = untold (y == x) told.standing (row.Wake y note word) e; begins = rw e refl; timed = tt; alive = λ f. e }
-  step-other t told (row.Got y note word) e = record { passes = refl; begins = rw e refl; timed = tt; alive = λ f. e }
+      record { passes = untold (y == x) told.standing (row.Wake y note word) e; begins = rw e refl; timed = tt; alive = λ f. e; allows = tt }
+  step-other t told (row.Got y note word) e = record { passes = refl; begins = rw e refl; timed = tt; alive = λ f. e; allows = tt }
   step-other t told (row.Round y number response) e =
-      record { passes = refl; begins = rw e refl; timed = λ f. absurd (let g : true ≡ false = sym f ∙ e in cc); alive = λ f. e }
-  step-other t told (row.Signal y note badge) e = record { passes = refl; begins = refl; timed = tt; alive = λ f. tt }
-  step-other t told (row.Arrive note badge maker) e = record { passes = refl; begins = refl; timed = tt; alive = λ f. tt }
-  step-other t told (row.Hold note word) e = record { passes = refl; begins = refl; timed = tt; alive = λ f. tt }
-  step-other t told (row.Order context) e = record { passes = refl; begins = refl; timed = tt; alive = λ f. tt }
+      record { passes = refl; begins = rw e refl; timed = λ f. absurd (let g : true ≡ false = sym f ∙ e in cc); alive = λ f. e; allows = λ f. absurd (let g : true ≡ false = sym f ∙ e in cc) }
+  step-other t told (row.Signal y note badge) e = record { passes = refl; begins = refl; timed = tt; alive = λ f. tt; allows = tt }
+  step-other t told (row.Arrive note badge maker) e = record { passes = refl; begins = refl; timed = tt; alive = λ f. tt; allows = tt }
+  step-other t told (row.Hold note word) e = record { passes = refl; begins = refl; timed = tt; alive = λ f. tt; allows = tt }
+  step-other t told (row.Order context) e = record { passes = refl; begins = refl; timed = tt; alive = λ f. tt; allows = tt }
 
   pub walks-other : (t : ℕ) (told : Told) (rows : List What) → AreOther x rows → Walks t told rows told
   walks-other t told [] other = refl

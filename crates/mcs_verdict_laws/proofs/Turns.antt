@@ -19,7 +19,7 @@ use Rattle.mcs_core.specs.Turn.{Turn, silent, says, ◌followed_by◌, each, is_
 use Rattle.mcs_verdict.specs.declared.standing.Standing.{Standing}
 use Rattle.mcs_verdict.specs.declared.standing.Standing.TheVariants.{Pending, Ready, Running, Throttled, Blocked, Woken, Done}
 use Rattle.mcs_verdict_laws.proofs.Steps.{Told, told_of, Walks, walks-append, walks-other}
-use Rattle.mcs_verdict_laws.proofs.Holds.{dated_as, first, start_at, IsUnderWay, IsStarted, IsPending, AreDated, Own, Holds, Loose, Same, same-refl, same-back, holds-same, loose-same, Aside, Goes, goes-aside, goes-then, goes-each}
+use Rattle.mcs_verdict_laws.proofs.Holds.{dated_as, beginning_of, first, start_at, IsUnderWay, IsStarted, IsPending, AreDated, Own, Holds, Loose, Same, same-refl, same-back, holds-same, loose-same, Aside, Goes, goes-aside, goes-then, goes-each}
 use Rattle.mcs_verdict_laws.proofs.Entering.{equal, step-release, enters-back}
 use Rattle.mcs_verdict_laws.proofs.Parts.{tick_of-goes, arrives-goes, obeys-goes, preempts_by-goes, chooses_of-goes}
 
@@ -101,11 +101,12 @@ module _ (system : System) (x : ℕ) where
           (λ last holds. rest last (omega (arith, f)) holds)
 
   -- .. or is
-  one-released : (from t : ℕ) (xs : List Dated) (standing : Standing) (begun : Option ℕ) (k : Core) → (standing ≡ Pending) ⊎ (standing ≡ Throttled) → times_dated x xs ≡ 1
+  one-released : (from t : ℕ) (xs : List Dated) (standing : Standing) (begun : Option ℕ) (k : Core) → (standing ≡ Pending) ⊎ (standing ≡ Throttled)
+      → (standing ≡ Pending → (beginning : ℕ) → begun ≡ Some beginning → t ≤ beginning) → times_dated x xs ≡ 1
       → Loose system x t begun k → Goes system x from t (told_of standing begun) (each (turns.released by_priority system) xs k)
-  one-released from t [] standing begun k was one l = absurd (omega (arith, one))
-  one-released from t (d ∷ xs) standing begun k was one l =
-      by (d.thread == x) refl one (λ another loose. one-released from t xs standing begun (turns.released by_priority system d k).core was another loose)
+  one-released from t [] standing begun k was early one l = absurd (omega (arith, one))
+  one-released from t (d ∷ xs) standing begun k was early one l =
+      by (d.thread == x) refl one (λ another loose. one-released from t xs standing begun (turns.released by_priority system d k).core was early another loose)
     where
       own : times_dated x xs ≡ 0 → Goes system x from t (told_of standing begun) (turns.released by_priority system (record d { thread = x }) k followed_by each (turns.released by_priority system) xs)
       own none =
@@ -113,7 +114,7 @@ module _ (system : System) (x : ℕ) where
           let first : Goes system x from t (told_of standing begun) next =
           record {
             last = told_of Ready begun;
-            walks = (told_of Ready begun, step-release x (first system x) t standing begun was, refl);
+            walks = (told_of Ready begun, step-release x (first system x) t standing begun was early, refl);
             holds = enters-back system x from t None begun k l;
           }
           in
@@ -179,11 +180,12 @@ module _ (system : System) (x : ℕ) where
       let q = none-released (suc t) t (filter (is_due t) k.releases) told (left t k) none h in
       record { last = q.last; walks = q.walks; holds = q.holds }
 
-  is-due : (t : ℕ) (standing : Standing) (begun : Option ℕ) (k : Core) → (standing ≡ Pending) ⊎ (standing ≡ Throttled) → times_dated x (filter (is_due t) k.releases) ≡ 1 → Loose system x t begun (left t k)
+  is-due : (t : ℕ) (standing : Standing) (begun : Option ℕ) (k : Core) → (standing ≡ Pending) ⊎ (standing ≡ Throttled)
+      → (standing ≡ Pending → (beginning : ℕ) → begun ≡ Some beginning → t ≤ beginning) → times_dated x (filter (is_due t) k.releases) ≡ 1 → Loose system x t begun (left t k)
       → Goes system x (suc t) t (told_of standing begun) (turns.releases by_priority system t k)
   unfolding left
-  is-due t standing begun k was one l =
-      let q = one-released (suc t) t (filter (is_due t) k.releases) standing begun (left t k) was one l in
+  is-due t standing begun k was early one l =
+      let q = one-released (suc t) t (filter (is_due t) k.releases) standing begun (left t k) was early one l in
       record { last = q.last; walks = q.walks; holds = q.holds }
 
   loose-left : (t : ℕ) (begun : Option ℕ) (k : Core) (standing : Standing) → (standing ≡ Pending) ⊎ (standing ≡ Throttled) → times_dated x (filter (is_due t) k.releases) ≡ 1
@@ -241,6 +243,22 @@ module _ (system : System) (x : ℕ) where
       not-due t (told_of standing begun) k empty
       (later-holds t (suc t) t standing begun (left t k) other (holds-same system x t t (told_of standing begun) k (left t k) (left-same t k empty) h))
 
+  -- the first round of a pending thread begins at its start, if it has begun
+  at_start : (waits : Option ℕ) (item since beginning : ℕ) → beginning_of waits item since ≡ Some beginning → since ≡ beginning
+  at_start None item since beginning e = cc
+  at_start (Some note) item since beginning e = by (item == 0) e
+    where
+      by : (b : Bool) → cond b None (Some since) ≡ Some beginning → since ≡ beginning
+      by true f = absurd (cc)
+      by false f = cc
+
+  early : (t : ℕ) (begun : Option ℕ) (k : Core) → IsUnderWay system x begun k → IsPending system x t k → Pending ≡ Pending → (beginning : ℕ) → begun ≡ Some beginning → t ≤ beginning
+  early t begun k u p same beginning e =
+      let since = at_start (first system x) (thread_of k x).place.item (thread_of k x).since beginning (sym u.begins ∙ e) in
+      let later = p.later in
+      let start = p.since in
+      omega (arith, since, later, start)
+
   releases-as : (t : ℕ) (standing : Standing) (begun : Option ℕ) (k : Core) → Holds system x t t (told_of standing begun) k
       → Goes system x (suc t) t (told_of standing begun) (turns.releases by_priority system t k)
   unfolding left
@@ -256,7 +274,7 @@ module _ (system : System) (x : ℕ) where
       by (inl none) =
           not-due t (told_of Throttled begun) k none
           (later-holds t (suc t) t Throttled begun (left t k) (λ e. cc) (holds-same system x t t (told_of Throttled begun) k (left t k) (left-same t k none) h))
-      by (inr one) = is-due t Throttled begun k (inr refl) one (loose-left t begun k Throttled (inr refl) one h h.own.0 h.own.1)
+      by (inr one) = is-due t Throttled begun k (inr refl) (λ e. absurd (cc)) one (loose-left t begun k Throttled (inr refl) one h h.own.0 h.own.1)
   releases-as t Pending begun k h = by (due-cases t k (let d = h.dated in omega (arith, d)))
     where
       by : (times_dated x (filter (is_due t) k.releases) ≡ 0) ⊎ (times_dated x (filter (is_due t) k.releases) ≡ 1)
@@ -280,7 +298,7 @@ module _ (system : System) (x : ℕ) where
       by (inr one) =
           let start = due_then t (start_at system x) k.releases h.own.1.dates (omega (arith, one)) in
           let since = h.own.1.since in
-          is-due t Pending begun k (inl refl) one
+          is-due t Pending begun k (inl refl) (early t begun k h.own.0 h.own.1) one
           (loose-left t begun k Pending (inl refl) one h h.own.0 record { start = start; since = omega (arith, since, start) })
 
 -- the whole turn

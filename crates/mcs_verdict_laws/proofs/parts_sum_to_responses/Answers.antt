@@ -1,4 +1,4 @@
-use Rattle.mcs_verdict_laws.proofs.Responses.{parts_sum}
+use Rattle.mcs_verdict_laws.proofs.Ended.{parts_sum}
 use Rattle.mcs_verdict_laws.proofs.parts_sum_to_responses.Goals as goal
 
 pub returns : goal.returns

@@ -8,7 +8,7 @@ use Rattle.mcs_system.specs.WellFormed.{IsWellFormed}
 use Rattle.mcs_core.specs.Clock.{schedule}
 use Rattle.mcs_verdict.specs.Jobs.{job}
 use Rattle.mcs_verdict.specs.Rounds.{begun_of}
-use Rattle.mcs_verdict.specs.Stood.{all_ticks}
+use Rattle.mcs_verdict.specs.declared.standing.Stood.{Stood}
 
 -- the rows before the end of a round tell when it began, and its response is counted from there
 pub record IsTold (system : System) (past : List Row) (moment thread response : ℕ) : Type 0 where
@@ -16,9 +16,16 @@ pub record IsTold (system : System) (past : List Row) (moment thread response : 
   pub told : begun_of system thread past ≡ Some beginning
   pub response_is : moment ≡ beginning + response
 
--- so its parts, as the job has them, sum to it
+-- so many ticks: ready, running, throttled and blocked ones, and none in which the thread stood otherwise
+pub record HasParts (ticks : ℕ) (stood : Stood) : Type 0 where
+  pub sum : stood.ready + stood.running + stood.throttled + stood.blocked ≡ ticks
+  pub pending : stood.pending ≡ 0
+  pub woken : stood.woken ≡ 0
+  pub done : stood.done ≡ 0
+
+-- which are the parts of the round, as its job has them
 abbrev pub IsSummed : System → List Row → ℕ → ℕ → ℕ → ℕ → Type 0
-IsSummed system past moment thread number response = all_ticks (job system past moment thread number).stood ≡ response
+IsSummed system past moment thread number response = HasParts response (job system past moment thread number).stood
 
 -- that a round ended, by a row that comes after these
 abbrev pub IsToldBy : System → List Row → ℕ → What → Type 0
