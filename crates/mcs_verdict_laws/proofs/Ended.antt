@@ -1,5 +1,5 @@
 -- A round that ended was ready, running, throttled or blocked in each of its ticks.
-use Rattle.std.proofs.Common.{◌≡◌, ◌≢◌, ℕ, zero, suc, ◌+◌, ◌-◌, ◌<◌, ◌≤◌, max, ◌⊎◌, inl, inr, Bool, true, false, cond, ◌==◌, List, [], ◌∷◌, length, Option, Some, None, refl, sym, ap, subst, ◌∙◌, arith}
+use Rattle.std.proofs.Common.{◌≡◌, ℕ, suc, ◌-◌, ◌≤◌, max, ◌⊎◌, inl, inr, Bool, true, false, cond, ◌==◌, List, [], ◌∷◌, length, Option, Some, None, refl, sym, ap, subst, ◌∙◌, arith}
 use Rattle.std.specs.Prelude.{nat_lt}
 use Rattle.mcs_ticks.specs.declared.row.Row.{Row}
 use Rattle.mcs_ticks.specs.declared.row.What.{What}
@@ -7,7 +7,6 @@ use Rattle.mcs_ticks.specs.declared.row.What.TheVariants as row
 use Rattle.mcs_ticks.specs.declared.row.Why.{Why}
 use Rattle.mcs_ticks.specs.declared.row.Why.TheVariants as why
 use Rattle.mcs_system.specs.System.{System}
-use Rattle.mcs_system.specs.WellFormed.{IsWellFormed}
 use Rattle.mcs_verdict.specs.declared.standing.Standing.{Standing}
 use Rattle.mcs_verdict.specs.declared.standing.Standing.TheVariants.{Pending, Ready, Running, Throttled, Blocked, Woken, Done}
 use Rattle.mcs_verdict.specs.declared.standing.Stood.{Stood}
@@ -21,7 +20,7 @@ use Rattle.mcs_verdict.proofs.Counts.{all-stood_for}
 use Rattle.mcs_verdict.proofs.Stretches.{stretch}
 use Rattle.mcs_verdict.proofs.Watches.{since-up_to}
 use Rattle.mcs_verdict_laws.specs.Standing.{TellsOf}
-use Rattle.mcs_verdict_laws.specs.laws.Responses.{HasParts, IsToldBy, IsSummedBy, AreTold, AreSummed, PartsSumToResponses}
+use Rattle.mcs_verdict_laws.specs.laws.Responses.{IsToldBy, IsSummedBy, AreTold, AreSummed, PartsSumToResponses}
 use Rattle.mcs_verdict_laws.proofs.Order.{in_order}
 use Rattle.mcs_verdict_laws.proofs.Steps.{Told, Turns, Passes, IsTimed, Allows, Step, Leads}
 use Rattle.mcs_verdict_laws.proofs.Holds.{first}
@@ -98,7 +97,8 @@ none_done before after (row.Got y note word) e h = h
 none_done before after (row.Round y number response) e h = h
 none_done before after (row.Order context) e h = h
 
-woken_at_it : (before after : Standing) (what : What) → (before ≡ Ready) ⊎ (before ≡ Throttled) → Turns before what after → IsAtIt (settled (Some what) Woken)
+woken_at_it : (before after : Standing) (what : What) → (before ≡ Ready) ⊎ (before ≡ Throttled) → Turns before what after
+    → IsAtIt (settled (Some what) Woken)
 woken_at_it before after (row.Release y) w h = tt
 woken_at_it before after (row.Run y) w h = tt
 woken_at_it before after (row.Stop y cause charged until) (inl e) h = let g : Ready ≡ Running = sym e ∙ h.0 in absurd (cc)
@@ -112,7 +112,8 @@ woken_at_it before after (row.Got y note word) w h = absurd h
 woken_at_it before after (row.Round y number response) w h = absurd h
 woken_at_it before after (row.Order context) w h = absurd h
 
-at_it : (told before after : Standing) (what : What) → TellsOf told before → (told ≡ Pending → ⊥) → Turns before what after → IsAtIt (settled (Some what) told)
+at_it : (told before after : Standing) (what : What) → TellsOf told before → (told ≡ Pending → ⊥) → Turns before what after
+    → IsAtIt (settled (Some what) told)
 at_it Pending before after what t other turn = absurd (other refl)
 at_it Ready before after what t other turn = tt
 at_it Running before after what t other turn = tt
@@ -166,8 +167,10 @@ just_begun t (r ∷ rows) h =
     subst P none no-ticks
 
 -- up to the next telling row
-up_to_next : (x t from : ℕ) (rows : List Row) (r : Row) (before after opening : Standing) → (opening ≡ Pending) ⊎ (opening ≡ Done) → r.moment ≡ t → since_of rows ≤ t
-    → TellsOf (said opening rows) before → Turns before r.what after → (before ≡ Pending → t ≤ from) → IsParted (stood_of (Some from) rows) → IsParted (stood_of (Some from) (r ∷ rows))
+up_to_next : (x t from : ℕ) (rows : List Row) (r : Row) (before after opening : Standing) → (opening ≡ Pending) ⊎ (opening ≡ Done) → r.moment ≡ t
+    → since_of rows ≤ t
+    → TellsOf (said opening rows) before → Turns before r.what after → (before ≡ Pending → t ≤ from) → IsParted (stood_of (Some from) rows)
+    → IsParted (stood_of (Some from) (r ∷ rows))
 up_to_next x t from [] r before after at_first (inl o) e since told turn early p =
     let P : Standing → Type 0 = λ s. TellsOf s before in
     let is : Pending ≡ before = subst P o told in
@@ -199,7 +202,8 @@ runs_last Blocked e = e
 runs_last Done e = e
 
 -- and up to the end of the round
-up_to_end : (t from : ℕ) (rows : List Row) (opening : Standing) → (opening ≡ Pending) ⊎ (opening ≡ Done) → since_of rows ≤ t → TellsOf (said opening rows) Running
+up_to_end : (t from : ℕ) (rows : List Row) (opening : Standing) → (opening ≡ Pending) ⊎ (opening ≡ Done) → since_of rows ≤ t
+    → TellsOf (said opening rows) Running
     → IsParted (stood_of (Some from) rows) → IsParted (stood_for None rows from (t - from))
 up_to_end t from [] at_first (inl o) since told p = let e : Pending ≡ Running = sym o ∙ runs_last at_first told in absurd (cc)
 up_to_end t from [] at_first (inr o) since told p = let e : Done ≡ Running = sym o ∙ runs_last at_first told in absurd (cc)
@@ -225,8 +229,10 @@ module _ (system : System) (x : ℕ) where
   abbrev Kept : List Row → Told → Type 0
   Kept past told = (from : ℕ) → told.begun ≡ Some from → IsParted (stood_of (Some from) (telling x past))
 
-  ends_parted : (past : List Row) (r : Row) (before next : Told) (opening : Standing) → (opening ≡ Pending) ⊎ (opening ≡ Done) → Step x (first system x) r.moment before r.what next
-      → UpTo r.moment past → TellsOf (said opening (telling x past)) before.standing → before.begun ≡ begun_of system x past → Kept past before → IsPartedBy past r.moment r.what
+  ends_parted : (past : List Row) (r : Row) (before next : Told) (opening : Standing) → (opening ≡ Pending) ⊎ (opening ≡ Done)
+      → Step x (first system x) r.moment before r.what next
+      → UpTo r.moment past → TellsOf (said opening (telling x past)) before.standing → before.begun ≡ begun_of system x past → Kept past before
+      → IsPartedBy past r.moment r.what
   ends_parted past r before next opening o step up told e kept = by r.what step.timed step.allows
     where
       by : (what : What) → IsTimed x r.moment what before.begun → Allows x r.moment what before → IsPartedBy past r.moment what
@@ -248,7 +254,8 @@ module _ (system : System) (x : ℕ) where
       by (row.Order context) timed allows = tt
 
   -- one row more
-  pending_early : (t : ℕ) (what : What) (before : Told) (after : Standing) → tells x what ≡ true → Turns before.standing what after → Allows x t what before
+  pending_early : (t : ℕ) (what : What) (before : Told) (after : Standing) → tells x what ≡ true → Turns before.standing what after
+      → Allows x t what before
       → (from : ℕ) → before.begun ≡ Some from → before.standing ≡ Pending → t ≤ from
   pending_early t (row.Release y) before after own turn allows from e p = allows own p from e
   pending_early t (row.Run y) before after own turn allows from e p = let g : Pending ≡ Ready = sym p ∙ turn.0 in absurd (cc)
@@ -261,7 +268,8 @@ module _ (system : System) (x : ℕ) where
   pending_early t (row.Round y number response) before after own turn allows from e p = absurd turn
   pending_early t (row.Order context) before after own turn allows from e p = absurd turn
 
-  keeps : (past : List Row) (r : Row) (before next : Told) (opening : Standing) → (opening ≡ Pending) ⊎ (opening ≡ Done) → Step x (first system x) r.moment before r.what next
+  keeps : (past : List Row) (r : Row) (before next : Told) (opening : Standing) → (opening ≡ Pending) ⊎ (opening ≡ Done)
+      → Step x (first system x) r.moment before r.what next
       → UpTo r.moment past → TellsOf (said opening (telling x past)) before.standing → Kept past before → Kept (r ∷ past) next
   keeps past r before next opening o step up told kept from is =
       by (begins (first system x) x r.moment r.what before.begun)
@@ -273,7 +281,8 @@ module _ (system : System) (x : ℕ) where
           (pending_early r.moment r.what before next.standing own turn step.allows from e) (kept from e)
       same false own turn e = kept from e
 
-      by : Begins r.moment before.begun (begun_after (first system x) x r.moment r.what before.begun) → IsParted (stood_of (Some from) (telling x (r ∷ past)))
+      by : Begins r.moment before.begun (begun_after (first system x) x r.moment r.what before.begun)
+          → IsParted (stood_of (Some from) (telling x (r ∷ past)))
       by (Keeps e) = same (tells x r.what) refl step.passes (sym e ∙ sym step.begins ∙ is)
       by (Ends e) = let f : None ≡ Some from = sym e ∙ sym step.begins ∙ is in absurd (cc)
       by (Anew e) =
@@ -286,11 +295,13 @@ module _ (system : System) (x : ℕ) where
       → TellsOf (said opening (telling x past)) before.standing → TellsOf (said opening (telling x (r ∷ past))) next.standing
   tells_on past r before next opening step told = by (tells x r.what) step.passes
     where
-      by : (b : Bool) → Passes b before.standing r.what next.standing → TellsOf (said opening (cond b (r ∷ telling x past) (telling x past))) next.standing
+      by : (b : Bool) → Passes b before.standing r.what next.standing
+          → TellsOf (said opening (cond b (r ∷ telling x past) (telling x past))) next.standing
       by true turn = turn_tells before.standing next.standing r.what turn
       by false same = let P : Standing → Type 0 = λ s. TellsOf (said opening (telling x past)) s in subst P (sym same) told
 
-  all_parted : (past rows : List Row) (before last : Told) (opening : Standing) → (opening ≡ Pending) ⊎ (opening ≡ Done) → Leads x (first system x) before rows last → InOrder past rows
+  all_parted : (past rows : List Row) (before last : Told) (opening : Standing) → (opening ≡ Pending) ⊎ (opening ≡ Done)
+      → Leads x (first system x) before rows last → InOrder past rows
       → TellsOf (said opening (telling x past)) before.standing → before.begun ≡ begun_of system x past → Kept past before → ArePartedBy past rows
   all_parted past [] before last at_first o leads order told e kept = tt
   all_parted past (r ∷ rows) before last at_first o leads order told e kept =
@@ -303,7 +314,8 @@ module _ (system : System) (x : ℕ) where
 
 module _ (system : System) where
   -- of all
-  summed_by : (past : List Row) (moment : ℕ) (what : What) → IsToldBy system past moment what → ((x : ℕ) → IsPartedBy system x past moment what) → IsSummedBy system past moment what
+  summed_by : (past : List Row) (moment : ℕ) (what : What) → IsToldBy system past moment what → ((x : ℕ) → IsPartedBy system x past moment what)
+      → IsSummedBy system past moment what
   summed_by past moment (row.Round thread number response) t parted =
       let stood = stood_in thread past (or_now moment (begun_of system thread past)) moment in
       let p = parted thread (self thread) in

@@ -1,42 +1,30 @@
 -- The thread itself enters, stops, and goes through its script.
-use Rattle.std.proofs.Common.{◌≡◌, ◌≢◌, ℕ, zero, suc, ◌+◌, ◌-◌, ◌<◌, ◌≤◌, min, ◌⊎◌, inl, inr, Bool, true, false, cond, not, ◌==◌, ◌&&◌, List, [], ◌∷◌, ◌++◌, length, set, get_or, slice_get, Option, Some, None, refl, sym, ap, subst, ◌∙◌, arith, nat_lt, nat_le, ◌^◌, All}
-use Rattle.std.specs.List.{AllByRecursion}
+use Rattle.std.proofs.Common.{◌≡◌, ◌≢◌, ℕ, ◌+◌, ◌<◌, ◌≤◌, ◌⊎◌, inl, inr, Bool, true, false, cond, ◌==◌, length, Option, Some, None, refl, sym, ap, ◌∙◌, arith}
 use Rattle.std.proofs.lemmas.Bool.Decides.{nat_tests}
 use Rattle.std.proofs.lemmas.List.{get_or-set_same}
-use Rattle.std.proofs.lemmas.Option.{slice_get_past, get_or_from_slice_get}
 use Rattle.std.proofs.Math.ListN.{length-set}
 use Rattle.mcs_ticks.specs.Queue.{by_priority}
-use Rattle.mcs_ticks.specs.declared.queue.Queued.{Queued}
 use Rattle.mcs_ticks.specs.declared.row.What.{What}
 use Rattle.mcs_ticks.specs.declared.row.What.TheVariants as row
 use Rattle.mcs_ticks.specs.declared.row.Why.{Why}
 use Rattle.mcs_ticks.specs.declared.row.Why.TheVariants as why
 use Rattle.mcs_control.specs.Context.{head_amount}
-use Rattle.mcs_release.specs.declared.dated.Dated.{Dated}
-use Rattle.mcs_script.specs.declared.item.Item.{Item}
-use Rattle.mcs_script.specs.declared.item.Item.TheVariants.{Compute, Signal, Wait, Yield}
-use Rattle.mcs_script.specs.declared.moved.Moved.{Moved}
-use Rattle.mcs_script.specs.declared.moved.Moved.TheVariants.{Next, RoundEnds, AllDone}
-use Rattle.mcs_script.specs.Script.{IsScript, waits_last, move_after, place_after}
-use Rattle.mcs_system.specs.System.{System, no_thread, thread_part, core_of}
-use Rattle.mcs_system.specs.WellFormed.{IsWellFormed, IsThread, IsItem}
+use Rattle.mcs_system.specs.System.{System}
 use Rattle.mcs_core.specs.declared.standing.AfterItem.{AfterItem}
 use Rattle.mcs_core.specs.declared.standing.AfterItem.TheVariants as after
-use Rattle.mcs_core.specs.declared.standing.Chosen.{Chosen}
 use Rattle.mcs_core.specs.declared.standing.Standing as core_standing
 use Rattle.mcs_core.specs.declared.standing.Thread.{Thread}
-use Rattle.mcs_core.specs.Core.{Core, no_state, thread_of, note_of, with_thread, with_note, stands, pends, off}
-use Rattle.mcs_core.specs.Places.{times_queued, times_dated, times_waiting}
+use Rattle.mcs_core.specs.Core.{Core, no_state, thread_of, with_thread, stands, off}
+use Rattle.mcs_core.specs.Places.{times_queued, times_dated}
 use Rattle.mcs_core.specs.Turn as turns
 use Rattle.mcs_core.specs.Turn.{Turn, silent, says, ◌followed_by◌, each}
 use Rattle.mcs_core.proofs.Counts.{times_queued-back, times_queued-front, times_dated-append}
-use Rattle.mcs_laws.specs.Places.{times_running}
 use Rattle.mcs_verdict.specs.declared.standing.Standing.{Standing}
-use Rattle.mcs_verdict.specs.declared.standing.Standing.TheVariants.{Pending, Ready, Running, Throttled, Blocked, Woken, Done}
-use Rattle.mcs_verdict.specs.Rounds.{waited_on, first_wait, begun_at, begun_by_word, begun_after}
-use Rattle.mcs_verdict.specs.Standing.{tells, standing_stopped}
-use Rattle.mcs_verdict_laws.proofs.Steps.{Told, told_of, Turns, Passes, IsOther, AreOther, IsTimed, Step, Walks}
-use Rattle.mcs_verdict_laws.proofs.Holds.{runs_as, ready_as, dated_as, waits_as, beginning_of, first, start_at, IsUnderWay, IsStarted, IsWaiting, Holds, Loose, Same, same-context, same-refl, holds-same, loose-same, Goes, goes-then, goes_if}
+use Rattle.mcs_verdict.specs.declared.standing.Standing.TheVariants.{Pending, Ready, Running, Throttled, Blocked, Done}
+use Rattle.mcs_verdict.specs.Rounds.{begun_at, begun_by_word, begun_after}
+use Rattle.mcs_verdict.specs.Standing.{standing_stopped}
+use Rattle.mcs_verdict_laws.proofs.Steps.{told_of, Turns, Passes, Step}
+use Rattle.mcs_verdict_laws.proofs.Holds.{beginning_of, first, start_at, IsUnderWay, IsStarted, Holds, Loose, same-context, holds-same, Goes, goes_if}
 
 pub self : (x : ℕ) → (x == x) ≡ true
 self x = grind (arith, nat_tests)
@@ -114,7 +102,8 @@ module _ (x : ℕ) (waits : Option ℕ) (t : ℕ) where
         allows = λ g. refl;
       }
 
-  pub step-got : (note word : ℕ) (begun : Option ℕ) → Step x waits t (told_of Running begun) (row.Got x note word) (told_of Running (begun_by_word waits t begun))
+  pub step-got : (note word : ℕ) (begun : Option ℕ)
+      → Step x waits t (told_of Running begun) (row.Got x note word) (told_of Running (begun_by_word waits t begun))
   step-got note word begun =
       record {
         passes = refl;
@@ -128,7 +117,8 @@ module _ (x : ℕ) (waits : Option ℕ) (t : ℕ) where
   woken_to None = inl refl
   woken_to (Some date) = inr refl
 
-  pub step-wake : (note word : ℕ) (date begun : Option ℕ) → Step x waits t (told_of Blocked begun) (row.Wake x note word) (told_of (by_date date) (begun_by_word waits t begun))
+  pub step-wake : (note word : ℕ) (date begun : Option ℕ)
+      → Step x waits t (told_of Blocked begun) (row.Wake x note word) (told_of (by_date date) (begun_by_word waits t begun))
   step-wake note word date begun =
       record {
         passes = passes_own (x == x) Blocked (by_date date) (row.Wake x note word) (self x) (refl, woken_to date);
@@ -143,7 +133,8 @@ module _ (x : ℕ) (waits : Option ℕ) (t : ℕ) where
       record { passes = passes_own (x == x) Ready Running (row.Run x) (self x) (refl, refl); begins = refl; timed = tt; alive = λ g. absurd (cc); allows = tt }
 
   pub step-release : (standing : Standing) (begun : Option ℕ) → (standing ≡ Pending) ⊎ (standing ≡ Throttled)
-      → (standing ≡ Pending → (beginning : ℕ) → begun ≡ Some beginning → t ≤ beginning) → Step x waits t (told_of standing begun) (row.Release x) (told_of Ready begun)
+      → (standing ≡ Pending → (beginning : ℕ) → begun ≡ Some beginning → t ≤ beginning)
+      → Step x waits t (told_of standing begun) (row.Release x) (told_of Ready begun)
   step-release standing begun h early =
       record {
         passes = passes_own (x == x) standing Ready (row.Release x) (self x) (h, refl);
@@ -159,7 +150,8 @@ module _ (x : ℕ) (waits : Option ℕ) (t : ℕ) where
 
 module _ (system : System) (x : ℕ) where
   -- the state of the thread changes
-  pub under-thread : (begun : Option ℕ) (state : Thread) (k : Core) → x < length system.threads → x < length k.threads → length k.notes ≡ length system.notes
+  pub under-thread : (begun : Option ℕ) (state : Thread) (k : Core) → x < length system.threads → x < length k.threads
+      → length k.notes ≡ length system.notes
       → begun ≡ beginning_of (first system x) state.place.item state.since → IsUnderWay system x begun (with_thread x state k)
   under-thread begun state k known has notes e =
       record {
@@ -169,23 +161,27 @@ module _ (system : System) (x : ℕ) where
         begins = e ∙ ap (λ (s : Thread). beginning_of (first system x) s.place.item s.since) (sym (get_or-set_same k.threads x state no_state has));
       }
 
-  pub started-thread : (now : ℕ) (state : Thread) (k : Core) → x < length k.threads → start_at system x ≤ now → state.since ≤ now → IsStarted system x now (with_thread x state k)
+  pub started-thread : (now : ℕ) (state : Thread) (k : Core) → x < length k.threads → start_at system x ≤ now → state.since ≤ now
+      → IsStarted system x now (with_thread x state k)
   started-thread now state k has start since =
       let e = ap (λ (s : Thread). s.since) (get_or-set_same k.threads x state no_state has) in
       record { start = start; since = omega arith }
 
   -- it stands otherwise
-  pub under-stands : (begun : Option ℕ) (standing : core_standing.Standing) (k : Core) → IsUnderWay system x begun k → IsUnderWay system x begun (stands x standing k)
+  pub under-stands : (begun : Option ℕ) (standing : core_standing.Standing) (k : Core) → IsUnderWay system x begun k
+      → IsUnderWay system x begun (stands x standing k)
   under-stands begun standing k u = under-thread begun (record (thread_of k x) { standing = standing }) k u.known u.has u.notes u.begins
 
-  pub started-stands : (now : ℕ) (standing : core_standing.Standing) (k : Core) → x < length k.threads → IsStarted system x now k → IsStarted system x now (stands x standing k)
+  pub started-stands : (now : ℕ) (standing : core_standing.Standing) (k : Core) → x < length k.threads → IsStarted system x now k
+      → IsStarted system x now (stands x standing k)
   started-stands now standing k has s = started-thread now (record (thread_of k x) { standing = standing }) k has s.start s.since
 
   one_self : (n : ℕ) → n ≡ 0 → cond (x == x) 1 0 + n ≡ 1
   one_self n e = ap (λ b. cond b 1 0 + n) (self x) ∙ omega arith
 
   -- it enters
-  pub enters-back : (from now : ℕ) (date begun : Option ℕ) (k : Core) → Loose system x now begun k → Holds system x from now (told_of (by_date date) begun) (turns.enters_back by_priority system x date k)
+  pub enters-back : (from now : ℕ) (date begun : Option ℕ) (k : Core) → Loose system x now begun k
+      → Holds system x from now (told_of (by_date date) begun) (turns.enters_back by_priority system x date k)
   enters-back from now None begun k l =
       let under = under-stands begun core_standing.TheVariants.Ready k l.under in
       let started = started-stands now core_standing.TheVariants.Ready k l.under.has l.started in
@@ -213,7 +209,8 @@ module _ (system : System) (x : ℕ) where
         );
       }
 
-  pub enters-front : (from now : ℕ) (date begun : Option ℕ) (k : Core) → Loose system x now begun k → Holds system x from now (told_of (by_date date) begun) (turns.enters_front by_priority system x date k)
+  pub enters-front : (from now : ℕ) (date begun : Option ℕ) (k : Core) → Loose system x now begun k
+      → Holds system x from now (told_of (by_date date) begun) (turns.enters_front by_priority system x date k)
   enters-front from now None begun k l =
       let under = under-stands begun core_standing.TheVariants.Ready k l.under in
       let started = started-stands now core_standing.TheVariants.Ready k l.under.has l.started in
@@ -254,9 +251,11 @@ module _ (system : System) (x : ℕ) where
       }
 
   -- and enters again
-  pub leaves-goes : (from t n : ℕ) (cause : Why) (begun : Option ℕ) (enters : ℕ → Option ℕ → Core → Core) (k : Core) → IsPlain x (first system x) t cause
+  pub leaves-goes : (from t n : ℕ) (cause : Why) (begun : Option ℕ) (enters : ℕ → Option ℕ → Core → Core) (k : Core)
+      → IsPlain x (first system x) t cause
       → ((date : Option ℕ) (core : Core) → Loose system x t begun core → Holds system x from t (told_of (by_date date) begun) (enters x date core))
-      → Holds system x from t (told_of Running begun) k → Goes system x from t (told_of Running begun) (turns.leaves by_priority system t enters x cause n k)
+      → Holds system x from t (told_of Running begun) k
+      → Goes system x from t (told_of Running begun) (turns.leaves by_priority system t enters x cause n k)
   leaves-goes from t n cause begun enters k plain enter h =
       let date = turns.date_of system t x k in
       record {
@@ -270,14 +269,16 @@ module _ (system : System) (x : ℕ) where
       }
 
   pub stops_to_back-goes : (from t n : ℕ) (cause : Why) (begun : Option ℕ) (k : Core) → IsPlain x (first system x) t cause
-      → Holds system x from t (told_of Running begun) k → Goes system x from t (told_of Running begun) (turns.stops_to_back by_priority system t x cause n k)
+      → Holds system x from t (told_of Running begun) k
+      → Goes system x from t (told_of Running begun) (turns.stops_to_back by_priority system t x cause n k)
   stops_to_back-goes from t n cause begun k plain h =
       leaves-goes from t n cause begun (turns.enters_back by_priority system) (turns.charged system x n k) plain
       (λ date core l. enters-back from t date begun core l)
       (holds-same system x from t (told_of Running begun) k (turns.charged system x n k) (same-context system x _ _ k) h)
 
   pub stops_to_front-goes : (from t n : ℕ) (cause : Why) (begun : Option ℕ) (k : Core) → IsPlain x (first system x) t cause
-      → Holds system x from t (told_of Running begun) k → Goes system x from t (told_of Running begun) (turns.stops_to_front by_priority system t x cause n k)
+      → Holds system x from t (told_of Running begun) k
+      → Goes system x from t (told_of Running begun) (turns.stops_to_front by_priority system t x cause n k)
   stops_to_front-goes from t n cause begun k plain h =
       leaves-goes from t n cause begun (turns.enters_front by_priority system) k plain (λ date core l. enters-front from t date begun core l) h
 
@@ -297,7 +298,8 @@ module _ (system : System) (x : ℕ) where
   IsCalm after.Ends = ⊥
   IsCalm after.Blocks = ⊥
 
-  pub calm-goes : (cause : AfterItem) → IsCalm cause → (from t using : ℕ) (begun : Option ℕ) (k : Core) → Holds system x from t (told_of Running begun) k
+  pub calm-goes : (cause : AfterItem) → IsCalm cause → (from t using : ℕ) (begun : Option ℕ) (k : Core)
+      → Holds system x from t (told_of Running begun) k
       → Goes system x from t (told_of Running begun) (turns.may_stop by_priority system t x using cause k)
   calm-goes after.GoesOn calm from t using begun k h = spent-goes from t using begun k h
   calm-goes after.Yields calm from t using begun k h =

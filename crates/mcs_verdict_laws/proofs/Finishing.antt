@@ -1,24 +1,21 @@
 -- The running thread finishes an item, and a waiting one is woken.
-use Rattle.std.proofs.Common.{◌≡◌, ◌≢◌, ℕ, zero, suc, ◌+◌, ◌-◌, ◌<◌, ◌≤◌, min, ◌⊎◌, inl, inr, Bool, true, false, cond, not, ◌==◌, ◌&&◌, List, [], ◌∷◌, ◌++◌, length, set, get_or, slice_get, Option, Some, None, refl, sym, ap, subst, ◌∙◌, arith, nat_lt, nat_le}
+use Rattle.std.proofs.Common.{◌≡◌, ℕ, ◌+◌, ◌-◌, ◌<◌, ◌≤◌, ◌⊎◌, inl, inr, Bool, true, false, cond, ◌==◌, List, length, get_or, slice_get, Option, Some, None, refl, sym, ap, subst, ◌∙◌, arith, nat_lt}
 use Rattle.std.proofs.lemmas.Bool.{cases_lt}
 use Rattle.std.proofs.lemmas.Bool.Decides.{nat_tests}
 use Rattle.std.proofs.lemmas.List.{get_or-set_same}
 use Rattle.std.proofs.lemmas.Option.{slice_get_past, get_or_from_slice_get}
 use Rattle.std.proofs.Math.ListN.{length-set}
 use Rattle.mcs_ticks.specs.Queue.{by_priority}
-use Rattle.mcs_ticks.specs.declared.row.What.{What}
 use Rattle.mcs_ticks.specs.declared.row.What.TheVariants as row
 use Rattle.mcs_ticks.specs.declared.row.Why.TheVariants as why
-use Rattle.mcs_notify.specs.Note.{Note, quiet_note, posted, after_post, waited, after_wait}
-use Rattle.mcs_notify.specs.declared.posted.Posted.{Posted}
-use Rattle.mcs_notify.specs.declared.posted.Posted.TheVariants.{Woke, Held}
-use Rattle.mcs_notify.specs.declared.posted.Waited.{Waited}
+use Rattle.mcs_notify.specs.Note.{after_post, after_wait}
+use Rattle.mcs_notify.specs.declared.posted.Posted.TheVariants.{Woke}
 use Rattle.mcs_notify.specs.declared.posted.Waited.TheVariants.{Got, Blocks}
 use Rattle.mcs_script.specs.declared.item.Item.{Item}
-use Rattle.mcs_script.specs.declared.item.Item.TheVariants.{Compute, Signal, Wait, Yield}
+use Rattle.mcs_script.specs.declared.item.Item.TheVariants.{Wait, Yield}
 use Rattle.mcs_script.specs.declared.moved.Moved.{Moved}
 use Rattle.mcs_script.specs.declared.moved.Moved.TheVariants.{Next, RoundEnds, AllDone}
-use Rattle.mcs_script.specs.Script.{IsScript, waits_last, move_after, place_after}
+use Rattle.mcs_script.specs.Script.{waits_last, move_after, place_after}
 use Rattle.mcs_script.specs.declared.place.Place.{Place}
 use Rattle.mcs_system.specs.System.{System, no_thread, thread_part, core_of}
 use Rattle.mcs_system.specs.WellFormed.{IsWellFormed, IsThread, IsItem}
@@ -26,22 +23,22 @@ use Rattle.mcs_core.specs.declared.standing.AfterItem.{AfterItem}
 use Rattle.mcs_core.specs.declared.standing.AfterItem.TheVariants as after
 use Rattle.mcs_core.specs.declared.standing.Standing as core_standing
 use Rattle.mcs_core.specs.declared.standing.Thread.{Thread}
-use Rattle.mcs_core.specs.Core.{Core, no_state, thread_of, note_of, with_thread, with_note, stands, off}
-use Rattle.mcs_core.specs.Places.{times_queued, times_dated, times_waiting}
+use Rattle.mcs_core.specs.Core.{Core, no_state, thread_of, note_of, with_note, off}
+use Rattle.mcs_core.specs.Places.{times_queued}
 use Rattle.mcs_core.specs.Turn as turns
 use Rattle.mcs_core.specs.Turn.{Turn, silent, says, ◌followed_by◌}
-use Rattle.mcs_core.proofs.Counts.{times_queued-append, times_queued-without, times_waiting-set, times_waiting-at}
-use Rattle.mcs_laws.specs.Places.{times_running}
-use Rattle.mcs_laws.proofs.Places.{woke, set-waiting}
+use Rattle.mcs_core.proofs.Counts.{times_queued-append, times_queued-without, times_waiting-set}
+use Rattle.mcs_laws.proofs.Places.{set-waiting}
 use Rattle.mcs_verdict.specs.declared.standing.Standing.{Standing}
 use Rattle.mcs_verdict.specs.declared.standing.Standing.TheVariants.{Pending, Ready, Running, Throttled, Blocked, Woken, Done}
-use Rattle.mcs_verdict.specs.Rounds.{waited_on, first_wait, begun_at, begun_by_word, begun_after}
-use Rattle.mcs_verdict_laws.proofs.Steps.{Told, told_of, Step, Walks}
-use Rattle.mcs_verdict_laws.proofs.Holds.{waits_as, beginning_of, first, start_at, IsUnderWay, IsStarted, IsWaiting, Holds, Loose, Same, same-context, same-note, loose-same, holds-same, Goes, goes-then, goes-assoc}
+use Rattle.mcs_verdict.specs.Rounds.{waited_on, begun_at, begun_by_word}
+use Rattle.mcs_verdict_laws.proofs.Steps.{told_of}
+use Rattle.mcs_verdict_laws.proofs.Holds.{waits_as, beginning_of, first, IsUnderWay, IsStarted, IsWaiting, Holds, Loose, same-note, holds-same, Goes}
 use Rattle.mcs_verdict_laws.proofs.Entering.{self, equal, by_date, step-stop, step-round, step-got, step-wake, under-thread, started-thread, under-stands, started-stands, enters-back, IsCalm, calm-goes}
 
 -- where a round begins that does not begin with the thread's first wait
-pub unless_first : (script : List Item) (waits : Option ℕ) (item since : ℕ) → waits ≡ waited_on (slice_get script 0) → waited_on (slice_get script item) ≡ None
+pub unless_first : (script : List Item) (waits : Option ℕ) (item since : ℕ) → waits ≡ waited_on (slice_get script 0)
+    → waited_on (slice_get script item) ≡ None
     → beginning_of waits item since ≡ Some since
 unless_first script None item since e f = refl
 unless_first script (Some note) item since e f = by (item == 0) refl
@@ -54,7 +51,8 @@ unless_first script (Some note) item since e f = by (item == 0) refl
     by false g = refl
 
 -- a wait is given its word: its round is under way from then on
-when_given : (script : List Item) (waits : Option ℕ) (item since t note : ℕ) → waits ≡ waited_on (slice_get script 0) → slice_get script item ≡ Some (Wait note)
+when_given : (script : List Item) (waits : Option ℕ) (item since t note : ℕ) → waits ≡ waited_on (slice_get script 0)
+    → slice_get script item ≡ Some (Wait note)
     → begun_by_word waits t (beginning_of waits item since) ≡ Some (cond (item == 0) t since)
 when_given script None item since t note e f = by (item == 0) refl
   where
@@ -84,7 +82,8 @@ at_first None t = refl
 at_first (Some note) t = refl
 
 -- a wait is not the last item of a script
-wait_goes : (script : List Item) (rounds note : ℕ) (place : Place) → waits_last script ≡ false → slice_get script place.item ≡ Some (Wait note) → move_after script rounds place ≡ Next
+wait_goes : (script : List Item) (rounds note : ℕ) (place : Place) → waits_last script ≡ false → slice_get script place.item ≡ Some (Wait note)
+    → move_after script rounds place ≡ Next
 wait_goes script rounds note place last e = by (cases_lt (place.item + 1) (length script))
   where
     next : (b : Bool) (other : Moved) → b ≡ true → cond b Next other ≡ Next
@@ -111,7 +110,8 @@ wait_goes script rounds note place last e = by (cases_lt (place.item + 1) (lengt
             absurd (cc)
 
 -- its notification is one of the system's
-wait_known : (system : System) (core : ℕ) (script : List Item) (item note : ℕ) → ((i : ℕ) (d : Item) → i < length script → IsItem system core (get_or script i d))
+wait_known : (system : System) (core : ℕ) (script : List Item) (item note : ℕ)
+    → ((i : ℕ) (d : Item) → i < length script → IsItem system core (get_or script i d))
     → slice_get script item ≡ Some (Wait note) → note < length system.notes
 wait_known system core script item note h e = by (cases_lt item (length script))
   where
@@ -140,7 +140,8 @@ module _ (system : System) (well : IsWellFormed system) (x : ℕ) where
   not_later true t since h = omega arith
   not_later false t since h = h
 
-  given-next : (t : ℕ) (k : Core) → x < length k.threads → x < length system.threads → IsWaiting system x k → turns.move_of system x (turns.given t x k) ≡ Next
+  given-next : (t : ℕ) (k : Core) → x < length k.threads → x < length system.threads → IsWaiting system x k
+      → turns.move_of system x (turns.given t x k) ≡ Next
   given-next t k has known w =
       let e = ap (λ (s : Thread). s.place) (given-state t k has) in
       wait_goes (thread_part system x).script (thread_part system x).rounds w.note (thread_of (turns.given t x k) x).place (thread known).script.last
@@ -194,7 +195,8 @@ module _ (system : System) (well : IsWellFormed system) (x : ℕ) where
         );
       }
 
-  pub finish-goes : (from t using : ℕ) (begun : Option ℕ) (k : Core) (move : Moved) (cause : AfterItem) → IsCalm system x cause → Holds system x from t (told_of Running begun) k
+  pub finish-goes : (from t using : ℕ) (begun : Option ℕ) (k : Core) (move : Moved) (cause : AfterItem) → IsCalm system x cause
+      → Holds system x from t (told_of Running begun) k
       → begun ≡ Some (thread_of k x).since
       → Goes system x from t (told_of Running begun) (turns.moves system t x move k followed_by turns.may_stop by_priority system t x using (turns.after_move move cause))
   finish-goes from t using begun k Next cause calm h e =
@@ -307,7 +309,8 @@ module _ (system : System) (well : IsWellFormed system) (x : ℕ) where
   waits_one Woken l = absurd (omega (arith, l))
   waits_one Done l = absurd (omega (arith, l))
 
-  pub woken-goes : (from t note word : ℕ) (begun : Option ℕ) (k : Core) → 1 ≤ times_queued x (note_of k note).waiters → Holds system x from t (told_of Blocked begun) k
+  pub woken-goes : (from t note word : ℕ) (begun : Option ℕ) (k : Core) → 1 ≤ times_queued x (note_of k note).waiters
+      → Holds system x from t (told_of Blocked begun) k
       → Goes system x from t (told_of Blocked begun) (turns.posts_as by_priority system t note (Woke x word) k)
   unfolding moved_on
   woken-goes from t note word begun k waits h =

@@ -3,7 +3,7 @@ use Rattle.std.proofs.Common.{◌≡◌, ◌≢◌, ℕ, zero, suc, ◌+◌, ◌
 use Rattle.std.specs.Prelude.{nat_lt}
 use Rattle.std.specs.List.{AllByRecursion}
 use Rattle.std.proofs.lemmas.Bool.Decides.{nat_tests}
-use Rattle.std.proofs.lemmas.List.{get_or-set_same, get_or-set_other, append_assoc}
+use Rattle.std.proofs.lemmas.List.{get_or-set_other, append_assoc}
 use Rattle.std.proofs.Math.ListN.{length-set}
 use Rattle.mcs_ticks.specs.Queue.{by_priority}
 use Rattle.mcs_ticks.specs.declared.queue.Queued.{Queued}
@@ -11,13 +11,12 @@ use Rattle.mcs_ticks.specs.declared.row.What.{What}
 use Rattle.mcs_control.specs.Context.{Context}
 use Rattle.mcs_notify.specs.Note.{Note, quiet_note}
 use Rattle.mcs_release.specs.declared.dated.Dated.{Dated}
-use Rattle.mcs_script.specs.declared.item.Item.{Item}
 use Rattle.mcs_script.specs.declared.item.Item.TheVariants.{Wait}
 use Rattle.mcs_system.specs.System.{System, thread_part}
 use Rattle.mcs_core.specs.declared.standing.Chosen.{Chosen}
 use Rattle.mcs_core.specs.declared.standing.Standing as core_standing
 use Rattle.mcs_core.specs.declared.standing.Thread.{Thread}
-use Rattle.mcs_core.specs.Core.{Core, no_state, thread_of, note_of, with_thread, with_context, with_note, stands, pends, off}
+use Rattle.mcs_core.specs.Core.{Core, no_state, thread_of, note_of, with_thread, with_context, with_note, stands, off}
 use Rattle.mcs_core.specs.Places.{times_queued, times_dated, times_waiting}
 use Rattle.mcs_core.specs.Turn as turns
 use Rattle.mcs_core.specs.Turn.{Turn, silent, says, ◌followed_by◌, each}
@@ -26,7 +25,7 @@ use Rattle.mcs_laws.specs.Places.{times_running}
 use Rattle.mcs_verdict.specs.declared.standing.Standing.{Standing}
 use Rattle.mcs_verdict.specs.declared.standing.Standing.TheVariants.{Pending, Ready, Running, Throttled, Blocked, Woken, Done}
 use Rattle.mcs_verdict.specs.Rounds.{first_wait}
-use Rattle.mcs_verdict_laws.proofs.Steps.{Told, told_of, IsOther, AreOther, other-append, Walks, walks-append, walks-other}
+use Rattle.mcs_verdict_laws.proofs.Steps.{Told, AreOther, other-append, Walks, walks-append, walks-other}
 
 -- how often a thread that stands so runs, is ready, is in the release queue, and waits
 abbrev pub runs_as : Standing → ℕ
@@ -179,7 +178,8 @@ module _ (system : System) (x : ℕ) where
   pending-same : (from : ℕ) (k after : Core) → Same k after → IsPending from k → IsPending from after
   pending-same from k after s p = record { later = p.later; since = s.since ∙ p.since; dates = s.dates start_at p.dates }
 
-  own-same : (from now : ℕ) (standing : Standing) (begun : Option ℕ) (k after : Core) → Same k after → Own from now standing begun k → Own from now standing begun after
+  own-same : (from now : ℕ) (standing : Standing) (begun : Option ℕ) (k after : Core) → Same k after → Own from now standing begun k
+      → Own from now standing begun after
   own-same from now Pending begun k after s o = (under-same begun k after s o.0, pending-same from k after s o.1)
   own-same from now Ready begun k after s o = (under-same begun k after s o.0, started-same now k after s o.1)
   own-same from now Running begun k after s o = (under-same begun k after s o.0, started-same now k after s o.1)
@@ -244,7 +244,8 @@ module _ (system : System) (x : ℕ) where
   one_other : (y : ℕ) → (y == x) ≡ false → ◌≡◌ {A = ℕ} (cond (y == x) 1 0) 0
   one_other y e = ap (λ b. cond b 1 0) e
 
-  dates-push : (date : ℕ) (releases : List Dated) (dated : Dated) → (dated.thread ≡ x → dated.date ≡ date) → AreDated date releases → AreDated date (releases ++ dated ∷ [])
+  dates-push : (date : ℕ) (releases : List Dated) (dated : Dated) → (dated.thread ≡ x → dated.date ≡ date) → AreDated date releases
+      → AreDated date (releases ++ dated ∷ [])
   dates-push date [] dated h all = (h, tt)
   dates-push date (other ∷ others) dated h all = (all.0, dates-push date others dated h all.1)
 
@@ -283,7 +284,8 @@ module _ (system : System) (x : ℕ) where
       by true f = omega (arith, e, times_waiting-set x i n notes (inside i (length notes) f))
       by false f = ap (times_waiting x) (set-past notes i n (outside i (length notes) f))
 
-  pub same-note : (note : ℕ) (state : Note) (k : Core) → times_queued x state.waiters ≡ times_queued x (note_of k note).waiters → Same k (with_note note state k)
+  pub same-note : (note : ℕ) (state : Note) (k : Core) → times_queued x state.waiters ≡ times_queued x (note_of k note).waiters
+      → Same k (with_note note state k)
   same-note note state k e =
       record {
         runs = refl;
@@ -366,7 +368,8 @@ module _ (system : System) (x : ℕ) where
       let e = append_assoc made.rows (part made.core).rows (others (part made.core).core).rows in
       record { last = g.last; walks = subst P (sym e) g.walks; holds = g.holds }
 
-  pub goes-each : {A : Type 0} (from now : ℕ) (part : A → Core → Turn) → ((item : A) (told : Told) (k : Core) → Holds from now told k → Goes from now told (part item k))
+  pub goes-each : {A : Type 0} (from now : ℕ) (part : A → Core → Turn)
+      → ((item : A) (told : Told) (k : Core) → Holds from now told k → Goes from now told (part item k))
       → (items : List A) (told : Told) (k : Core) → Holds from now told k → Goes from now told (each part items k)
   goes-each from now part h [] told k holds = goes-aside from now told k (silent k) holds (aside-silent k k (same-refl k))
   goes-each from now part h (item ∷ items) told k holds =

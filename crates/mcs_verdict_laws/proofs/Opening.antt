@@ -1,5 +1,5 @@
 -- How a thread stands on its core at first.
-use Rattle.std.proofs.Common.{◌≡◌, ◌≢◌, ℕ, zero, suc, ◌+◌, ◌<◌, ◌≤◌, ◌⊎◌, inl, inr, Bool, true, false, cond, ◌==◌, List, [], ◌∷◌, length, map, get_or, Option, Some, None, refl, sym, ap, ◌∙◌, arith}
+use Rattle.std.proofs.Common.{◌≡◌, ℕ, zero, suc, ◌+◌, ◌<◌, ◌≤◌, Bool, true, false, cond, ◌==◌, List, [], ◌∷◌, length, get_or, Option, Some, None, refl, sym, ap, ◌∙◌, arith}
 use Rattle.std.specs.Prelude.{nat_lt}
 use Rattle.std.proofs.lemmas.Bool.Decides.{nat_tests}
 use Rattle.std.proofs.lemmas.List.{get_or-map, length-map}
@@ -8,8 +8,8 @@ use Rattle.mcs_notify.specs.Note.{quiet_note}
 use Rattle.mcs_system.specs.declared.part.ThreadPart.{ThreadPart}
 use Rattle.mcs_system.specs.System.{System, no_thread, thread_part, core_of}
 use Rattle.mcs_core.specs.declared.standing.Thread.{Thread}
-use Rattle.mcs_core.specs.Core.{Core, no_state, thread_of, opening_thread, opening_releases, opening_core}
-use Rattle.mcs_core.specs.Places.{times_queued, times_dated, times_waiting}
+use Rattle.mcs_core.specs.Core.{no_state, thread_of, opening_thread, opening_releases, opening_core}
+use Rattle.mcs_core.specs.Places.{times_dated}
 use Rattle.mcs_laws.proofs.Places.{quiet-waiting}
 use Rattle.mcs_laws.proofs.Homes.{no_date}
 use Rattle.mcs_verdict.specs.declared.standing.Standing.{Standing}
@@ -19,7 +19,8 @@ use Rattle.mcs_verdict_laws.proofs.Steps.{Told, told_of}
 use Rattle.mcs_verdict_laws.proofs.Holds.{beginning_of, first, start_at, AreDated, Holds}
 
 -- a thread of the core is once in the release queue
-one_date : (system : System) (c x n i : ℕ) (threads : List ThreadPart) → i < length threads → x ≡ n + i → core_of system (get_or threads i no_thread) ≡ c
+one_date : (system : System) (c x n i : ℕ) (threads : List ThreadPart) → i < length threads → x ≡ n + i
+    → core_of system (get_or threads i no_thread) ≡ c
     → times_dated x (opening_releases system c n threads) ≡ 1
 one_date system c x n i [] l e own = absurd (omega (arith, l))
 one_date system c x n zero (part ∷ parts) l e own = by (core_of system part == c) (same (core_of system part) c own)
@@ -54,7 +55,8 @@ one_date system c x n (suc i) (part ∷ parts) l e own = by (core_of system part
     by false one = one
 
 -- and its date is its start
-all-dated : (system : System) (c x n date : ℕ) (threads : List ThreadPart) → ((i : ℕ) → i < length threads → x ≡ n + i → (get_or threads i no_thread).start ≡ date)
+all-dated : (system : System) (c x n date : ℕ) (threads : List ThreadPart)
+    → ((i : ℕ) → i < length threads → x ≡ n + i → (get_or threads i no_thread).start ≡ date)
     → AreDated system x date (opening_releases system c n threads)
 all-dated system c x n date [] h = tt
 all-dated system c x n date (part ∷ parts) h =
@@ -77,7 +79,8 @@ module _ (system : System) (x : ℕ) where
   abbrev pub opening_told : Told
   opening_told = told_of opening_standing (begun_at (first system x) (start_at system x))
 
-  known-holds : x < length system.threads → Holds system x 0 0 (told_of Pending (begun_at (first system x) (start_at system x))) (opening_core system (core_of system (thread_part system x)))
+  known-holds : x < length system.threads
+      → Holds system x 0 0 (told_of Pending (begun_at (first system x) (start_at system x))) (opening_core system (core_of system (thread_part system x)))
   known-holds known =
       let c = core_of system (thread_part system x) in
       let state : thread_of (opening_core system c) x ≡ opening_thread system c (thread_part system x) = get_or-map (opening_thread system c) system.threads x no_thread no_state known in
@@ -105,7 +108,8 @@ module _ (system : System) (x : ℕ) where
       begins None start = refl
       begins (Some note) start = refl
 
-  unknown-holds : (begun : Option ℕ) → length system.threads ≤ x → Holds system x 0 0 (told_of Done begun) (opening_core system (core_of system (thread_part system x)))
+  unknown-holds : (begun : Option ℕ) → length system.threads ≤ x
+      → Holds system x 0 0 (told_of Done begun) (opening_core system (core_of system (thread_part system x)))
   unknown-holds begun past =
       let c = core_of system (thread_part system x) in
       record {

@@ -1,13 +1,11 @@
 -- What is done to another thread leaves this one as it is.
-use Rattle.std.proofs.Common.{◌≡◌, ◌≢◌, ℕ, zero, suc, ◌+◌, ◌<◌, ◌≤◌, Bool, true, false, cond, ◌==◌, List, [], ◌∷◌, ◌++◌, Option, Some, None, refl, sym, ap, subst, ◌∙◌, arith}
-use Rattle.std.specs.Prelude.{nat_lt}
+use Rattle.std.proofs.Common.{◌≡◌, ℕ, Bool, true, false, cond, ◌==◌, [], ◌∷◌, Option, Some, refl, ap, arith}
 use Rattle.mcs_ticks.specs.Queue.{by_priority}
-use Rattle.mcs_ticks.specs.declared.row.What.{What}
 use Rattle.mcs_ticks.specs.declared.row.What.TheVariants as row
 use Rattle.mcs_ticks.specs.declared.row.Why.{Why}
 use Rattle.mcs_ticks.specs.declared.row.Why.TheVariants as why
 use Rattle.mcs_control.specs.Context.{head_amount}
-use Rattle.mcs_notify.specs.Note.{posted, after_post, waited, after_wait}
+use Rattle.mcs_notify.specs.Note.{posted, after_post, after_wait}
 use Rattle.mcs_notify.specs.declared.posted.Posted.{Posted}
 use Rattle.mcs_notify.specs.declared.posted.Posted.TheVariants.{Woke, Held}
 use Rattle.mcs_notify.specs.declared.posted.Waited.{Waited}
@@ -19,7 +17,7 @@ use Rattle.mcs_system.specs.System.{System, note_part, thread_part}
 use Rattle.mcs_core.specs.declared.standing.AfterItem.{AfterItem}
 use Rattle.mcs_core.specs.declared.standing.AfterItem.TheVariants as after
 use Rattle.mcs_core.specs.declared.standing.Standing as core_standing
-use Rattle.mcs_core.specs.Core.{Core, thread_of, note_of, with_thread, with_note, stands, off}
+use Rattle.mcs_core.specs.Core.{Core, thread_of, note_of, with_note, stands, off}
 use Rattle.mcs_core.specs.Places.{times_queued, times_waiting}
 use Rattle.mcs_core.specs.Turn as turns
 use Rattle.mcs_core.specs.Turn.{Turn, silent, says, ◌followed_by◌}
@@ -92,7 +90,8 @@ module _ (system : System) (x : ℕ) where
   pub posts-aside : (t note badge : ℕ) (k : Core) → times_waiting x k.notes ≡ 0 → Aside system x k (turns.posts by_priority system t note badge k)
   posts-aside t note badge k none = posts_as-aside t note badge (posted badge (note_of k note)) k refl none
 
-  pub signals-aside : (c t y note badge : ℕ) (k : Core) → times_waiting x k.notes ≡ 0 → Aside system x k (turns.signals by_priority system c t y note badge k)
+  pub signals-aside : (c t y note badge : ℕ) (k : Core) → times_waiting x k.notes ≡ 0
+      → Aside system x k (turns.signals by_priority system c t y note badge k)
   signals-aside c t y note badge k none =
       let sent : Turn = record { core = k; rows = []; mails = turns.mail_to system c t note badge ∷ [] } in
       let a =
@@ -118,7 +117,8 @@ module _ (system : System) (x : ℕ) where
       }
 
   -- another thread, which runs, stops
-  pub leaves-aside : (t y n using : ℕ) (cause : Why) (enters : ℕ → Option ℕ → Core → Core) (k : Core) → ((date : Option ℕ) (core : Core) → Same system x core (enters y date core))
+  pub leaves-aside : (t y n using : ℕ) (cause : Why) (enters : ℕ → Option ℕ → Core → Core) (k : Core)
+      → ((date : Option ℕ) (core : Core) → Same system x core (enters y date core))
       → k.running ≡ Some (record { thread = y; using = using }) → (y == x) ≡ false → Aside system x k (turns.leaves by_priority system t enters y cause n k)
   leaves-aside t y n using cause enters k enter r e =
       record {

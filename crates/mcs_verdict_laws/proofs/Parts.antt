@@ -1,12 +1,8 @@
 -- A thread goes on through each part of its core's turn.
-use Rattle.std.proofs.Common.{◌≡◌, ◌≢◌, ℕ, zero, suc, ◌+◌, ◌<◌, ◌≤◌, ◌-◌, ◌⊎◌, inl, inr, Bool, true, false, cond, not, ◌==◌, List, [], ◌∷◌, ◌++◌, length, slice_get, Option, Some, None, refl, sym, ap, subst, ◌∙◌, arith}
-use Rattle.std.specs.Prelude.{filter, nat_lt}
-use Rattle.std.specs.List.{AllByRecursion}
-use Rattle.std.proofs.lemmas.Bool.Decides.{nat_tests}
-use Rattle.std.proofs.lemmas.List.{get_or-set_same}
+use Rattle.std.proofs.Common.{◌≡◌, ℕ, ◌+◌, ◌≤◌, ◌-◌, Bool, true, false, cond, ◌==◌, [], ◌∷◌, Option, Some, None, refl, sym, ap, subst, ◌∙◌, arith}
+use Rattle.std.specs.Prelude.{nat_lt}
 use Rattle.mcs_ticks.specs.Queue.{by_priority, first_of, rest_of}
 use Rattle.mcs_ticks.specs.declared.queue.Queued.{Queued}
-use Rattle.mcs_ticks.specs.declared.row.What.{What}
 use Rattle.mcs_ticks.specs.declared.row.What.TheVariants as row
 use Rattle.mcs_ticks.specs.declared.row.Why.TheVariants as why
 use Rattle.mcs_control.specs.declared.config.Order.{Order}
@@ -15,8 +11,6 @@ use Rattle.mcs_notify.specs.declared.posted.Posted.{Posted}
 use Rattle.mcs_notify.specs.declared.posted.Posted.TheVariants.{Woke, Held}
 use Rattle.mcs_notify.specs.declared.posted.Waited.{Waited}
 use Rattle.mcs_notify.specs.declared.posted.Waited.TheVariants.{Got, Blocks}
-use Rattle.mcs_release.specs.declared.dated.Dated.{Dated}
-use Rattle.mcs_release.specs.Release.{is_due}
 use Rattle.mcs_script.specs.declared.item.Item.{Item}
 use Rattle.mcs_script.specs.declared.item.Item.TheVariants.{Compute, Signal, Wait, Yield}
 use Rattle.mcs_script.specs.declared.moved.Moved.{Moved}
@@ -25,13 +19,12 @@ use Rattle.mcs_script.specs.declared.place.Place.{Place}
 use Rattle.mcs_mail.specs.declared.mail.Mail.{Mail}
 use Rattle.mcs_system.specs.System.{System, note_part, thread_part}
 use Rattle.mcs_system.specs.WellFormed.{IsWellFormed}
-use Rattle.mcs_core.specs.declared.standing.AfterItem.{AfterItem}
 use Rattle.mcs_core.specs.declared.standing.AfterItem.TheVariants as after
 use Rattle.mcs_core.specs.declared.standing.Chosen.{Chosen}
 use Rattle.mcs_core.specs.declared.standing.Standing as core_standing
 use Rattle.mcs_core.specs.declared.standing.Thread.{Thread}
-use Rattle.mcs_core.specs.Core.{Core, no_state, thread_of, note_of, with_thread, stands}
-use Rattle.mcs_core.specs.Places.{times_queued, times_dated, times_waiting}
+use Rattle.mcs_core.specs.Core.{Core, thread_of, note_of, stands}
+use Rattle.mcs_core.specs.Places.{times_queued}
 use Rattle.mcs_core.specs.Turn as turns
 use Rattle.mcs_core.specs.Turn.{Turn, silent, says, ◌followed_by◌, each, is_for_now}
 use Rattle.mcs_core.proofs.Counts.{times_queued-rest, times_waiting-at}
@@ -41,8 +34,8 @@ use Rattle.mcs_verdict.specs.declared.standing.Standing.{Standing}
 use Rattle.mcs_verdict.specs.declared.standing.Standing.TheVariants.{Pending, Ready, Running, Throttled, Blocked, Woken, Done}
 use Rattle.mcs_verdict.specs.Rounds.{waited_on}
 use Rattle.mcs_verdict_laws.proofs.Steps.{Told, told_of, walks-append, walks-other}
-use Rattle.mcs_verdict_laws.proofs.Holds.{runs_as, ready_as, dated_as, waits_as, first, start_at, IsUnderWay, IsStarted, IsWaiting, IsPending, AreDated, Holds, Loose, Same, same-refl, same-trans, same-context, same-thread, same-running, same-ready, same-back, same-front, holds-same, loose-same, Aside, aside-silent, aside_if, Goes, goes-aside, goes-then, goes-assoc, goes-each, goes_if}
-use Rattle.mcs_verdict_laws.proofs.Entering.{self, equal, by_date, plain_order, plain_preempt, step-run, step-release, under-thread, started-thread, under-stands, started-stands, enters-back, stops_to_front-goes, calm-goes}
+use Rattle.mcs_verdict_laws.proofs.Holds.{runs_as, ready_as, first, IsUnderWay, IsStarted, Holds, Same, same-refl, same-trans, same-context, same-thread, same-running, same-ready, same-front, holds-same, Aside, aside-silent, aside_if, Goes, goes-aside, goes-then, goes-assoc, goes_if}
+use Rattle.mcs_verdict_laws.proofs.Entering.{self, equal, plain_order, plain_preempt, step-run, under-thread, started-thread, under-stands, started-stands, stops_to_front-goes, calm-goes}
 use Rattle.mcs_verdict_laws.proofs.Others.{moves_on-aside, woke-aside, held-aside, signals-aside, waits_as-aside, leaves-aside, charged-aside, may_stop-aside}
 use Rattle.mcs_verdict_laws.proofs.Finishing.{unless_first, finish-goes, got-goes, blocks-goes, waits_one, woken-goes}
 
@@ -67,7 +60,8 @@ ready_one Done l = absurd (omega (arith, l))
 
 module _ (system : System) (well : IsWellFormed system) (x : ℕ) where
   -- posts
-  posts_as-goes : (from t note badge : ℕ) (post : Posted) (told : Told) (k : Core) → posted badge (note_of k note) ≡ post → Holds system x from t told k
+  posts_as-goes : (from t note badge : ℕ) (post : Posted) (told : Told) (k : Core) → posted badge (note_of k note) ≡ post
+      → Holds system x from t told k
       → Goes system x from t told (turns.posts_as by_priority system t note post k)
   posts_as-goes from t note badge (Held word) told k p h = goes-aside system x from t told k (turns.posts_as by_priority system t note (Held word) k) h (held-aside system x t note word k)
   posts_as-goes from t note badge (Woke y word) told k p h = by (y == x) refl
@@ -84,10 +78,12 @@ module _ (system : System) (well : IsWellFormed system) (x : ℕ) where
           subst P (sym same) (subst Q (sym blocked) (woken-goes system well x from t note word told.begun k own) h)
       by false e = goes-aside system x from t told k (turns.posts_as by_priority system t note (Woke y word) k) h (woke-aside system x t note badge y word k p e)
 
-  posts-goes : (from t note badge : ℕ) (told : Told) (k : Core) → Holds system x from t told k → Goes system x from t told (turns.posts by_priority system t note badge k)
+  posts-goes : (from t note badge : ℕ) (told : Told) (k : Core) → Holds system x from t told k
+      → Goes system x from t told (turns.posts by_priority system t note badge k)
   posts-goes from t note badge told k h = posts_as-goes from t note badge (posted badge (note_of k note)) told k refl h
 
-  signals-goes : (from c t y note badge : ℕ) (told : Told) (k : Core) → Holds system x from t told k → Goes system x from t told (turns.signals by_priority system c t y note badge k)
+  signals-goes : (from c t y note badge : ℕ) (told : Told) (k : Core) → Holds system x from t told k
+      → Goes system x from t told (turns.signals by_priority system c t y note badge k)
   signals-goes from c t y note badge told k h =
       let sent : Turn = record { core = k; rows = []; mails = turns.mail_to system c t note badge ∷ [] } in
       goes-then system x from from t told (says (row.Signal y note badge) k)
@@ -97,7 +93,8 @@ module _ (system : System) (well : IsWellFormed system) (x : ℕ) where
       (posts-goes from t note badge last k holds)
       (goes-aside system x from t last k sent holds record { same = same-refl system x k; rows = tt }))
 
-  pub arrives-goes : (from t : ℕ) (mail : Mail) (told : Told) (k : Core) → Holds system x from t told k → Goes system x from t told (turns.arrives by_priority system t mail k)
+  pub arrives-goes : (from t : ℕ) (mail : Mail) (told : Told) (k : Core) → Holds system x from t told k
+      → Goes system x from t told (turns.arrives by_priority system t mail k)
   arrives-goes from t mail told k h =
       goes-then system x from from t told (says (row.Arrive mail.note mail.badge mail.maker) k) (turns.posts by_priority system t mail.note mail.badge)
       (goes-aside system x from t told k (says (row.Arrive mail.note mail.badge mail.maker) k) h record { same = same-refl system x k; rows = (tt, tt) })
@@ -158,11 +155,13 @@ module _ (system : System) (well : IsWellFormed system) (x : ℕ) where
       (may_stop-aside system x t y using held cause effect.core (effect-running c t y item k ∙ r) e))
 
   -- the round of the running thread is under way where its item is no wait
-  begun_there : (from t : ℕ) (begun : Option ℕ) (k : Core) → Holds system x from t (told_of Running begun) k → waited_on (turns.item_of system x k) ≡ None → begun ≡ Some (thread_of k x).since
+  begun_there : (from t : ℕ) (begun : Option ℕ) (k : Core) → Holds system x from t (told_of Running begun) k
+      → waited_on (turns.item_of system x k) ≡ None → begun ≡ Some (thread_of k x).since
   begun_there from t begun k h e =
       h.own.0.begins ∙ unless_first (thread_part system x).script (first system x) (thread_of k x).place.item (thread_of k x).since refl e
 
-  finishes-signal : (from c t using note badge : ℕ) (begun : Option ℕ) (k : Core) → Holds system x from t (told_of Running begun) k → turns.item_of system x k ≡ Some (Signal note badge)
+  finishes-signal : (from c t using note badge : ℕ) (begun : Option ℕ) (k : Core) → Holds system x from t (told_of Running begun) k
+      → turns.item_of system x k ≡ Some (Signal note badge)
       → Goes system x from t (told_of Running begun) (turns.finishes by_priority system c t x using (Some (Signal note badge)) k)
   finishes-signal from c t using note badge begun k h item =
       let sent = turns.signals by_priority system c t x note badge k in
@@ -185,12 +184,14 @@ module _ (system : System) (well : IsWellFormed system) (x : ℕ) where
         holds = q.holds;
       }
 
-  finishes-wait : (from t using note : ℕ) (w : Waited) (begun : Option ℕ) (k : Core) → Holds system x from t (told_of Running begun) k → turns.item_of system x k ≡ Some (Wait note)
+  finishes-wait : (from t using note : ℕ) (w : Waited) (begun : Option ℕ) (k : Core) → Holds system x from t (told_of Running begun) k
+      → turns.item_of system x k ≡ Some (Wait note)
       → Goes system x from t (told_of Running begun) (turns.waits_as system t x note w k followed_by turns.may_stop by_priority system t x using (turns.after_waited w))
   finishes-wait from t using note (Got word) begun k h item = got-goes system well x from t using note word begun k h record { note = note; item = item }
   finishes-wait from t using note Blocks begun k h item = blocks-goes system well x from t using note begun k h item
 
-  finishes-own : (from c t using : ℕ) (item : Option Item) (begun : Option ℕ) (k : Core) → turns.item_of system x k ≡ item → Holds system x from t (told_of Running begun) k
+  finishes-own : (from c t using : ℕ) (item : Option Item) (begun : Option ℕ) (k : Core) → turns.item_of system x k ≡ item
+      → Holds system x from t (told_of Running begun) k
       → Goes system x from t (told_of Running begun) (turns.finishes by_priority system c t x using item k)
   finishes-own from c t using (Some (Signal note badge)) begun k e h = finishes-signal from c t using note badge begun k h e
   finishes-own from c t using (Some (Wait note)) begun k e h = finishes-wait from t using note (waited (note_of k note)) begun k h e
@@ -246,7 +247,8 @@ module _ (system : System) (well : IsWellFormed system) (x : ℕ) where
       (same-running system x (Some (record { thread = y; using = using + 1 })) k same)
       (same-thread system x y state running e)
 
-  pub tick_of-goes : (from c t : ℕ) (o : Option Chosen) (told : Told) (k : Core) → k.running ≡ o → Holds system x from t told k → Goes system x from t told (turns.tick_of by_priority system c t o k)
+  pub tick_of-goes : (from c t : ℕ) (o : Option Chosen) (told : Told) (k : Core) → k.running ≡ o → Holds system x from t told k
+      → Goes system x from t told (turns.tick_of by_priority system c t o k)
   tick_of-goes from c t None told k r h = goes-aside system x from t told k (silent k) h (aside-silent system x k k (same-refl system x k))
   tick_of-goes from c t (Some chosen) told k r h =
       split from from t told k chosen (λ y. turns.tick_of by_priority system c t (Some (record { thread = y; using = chosen.using })) k) r h
@@ -287,13 +289,15 @@ module _ (system : System) (well : IsWellFormed system) (x : ℕ) where
       (holds-same system x from t (told_of Running told.begun) k (turns.applied t order (turns.charged system x chosen.using k)) (ordered t x chosen.using order k) holds))
       (goes-aside system x from t (told_of Running told.begun) k (silent (turns.applied t order k)) holds (aside-silent system x k (turns.applied t order k) (same-context system x _ _ k))))
 
-  pub obeys-goes : (from t : ℕ) (order : Order) (told : Told) (k : Core) → Holds system x from t told k → Goes system x from t told (turns.obeys by_priority system t order k)
+  pub obeys-goes : (from t : ℕ) (order : Order) (told : Told) (k : Core) → Holds system x from t told k
+      → Goes system x from t told (turns.obeys by_priority system t order k)
   obeys-goes from t order told k h =
       goes-then system x from from t told (says (row.Order order.context) k) (λ core. turns.orders_running by_priority system t order core.running core)
       (goes-aside system x from t told k (says (row.Order order.context) k) h record { same = same-refl system x k; rows = (tt, tt) })
       (λ last holds. orders_running-goes from t order k.running last k refl holds)
 
-  pub preempts_by-goes : (from t : ℕ) (o : Option Chosen) (best : Option Queued) (told : Told) (k : Core) → k.running ≡ o → Holds system x from t told k
+  pub preempts_by-goes : (from t : ℕ) (o : Option Chosen) (best : Option Queued) (told : Told) (k : Core) → k.running ≡ o
+      → Holds system x from t told k
       → Goes system x from t told (turns.preempts_by by_priority system t o best k)
   preempts_by-goes from t (Some chosen) (Some best) told k r h =
       split from from t told k chosen (λ y. turns.preempts_by by_priority system t (Some (record { thread = y; using = chosen.using })) (Some best) k) r h
@@ -331,7 +335,8 @@ module _ (system : System) (well : IsWellFormed system) (x : ℕ) where
         rows = (e, tt);
       }
 
-  chooses-own : (from t : ℕ) (begun : Option ℕ) (best : Queued) (k : Core) → first_of k.ready ≡ Some best → best.thread ≡ x → Holds system x from t (told_of Ready begun) k
+  chooses-own : (from t : ℕ) (begun : Option ℕ) (best : Queued) (k : Core) → first_of k.ready ≡ Some best → best.thread ≡ x
+      → Holds system x from t (told_of Ready begun) k
       → Holds system x from t (told_of Running begun) (turns.chooses_of by_priority system t None (Some (record best { thread = x })) k).core
   chooses-own from t begun best k f e h =
       let context = turns.with_chosen_context system t x k in
@@ -353,7 +358,8 @@ module _ (system : System) (well : IsWellFormed system) (x : ℕ) where
         );
       }
 
-  pub chooses_of-goes : (from t : ℕ) (o : Option Chosen) (best : Option Queued) (told : Told) (k : Core) → k.running ≡ o → first_of k.ready ≡ best → Holds system x from t told k
+  pub chooses_of-goes : (from t : ℕ) (o : Option Chosen) (best : Option Queued) (told : Told) (k : Core) → k.running ≡ o → first_of k.ready ≡ best
+      → Holds system x from t told k
       → Goes system x from t told (turns.chooses_of by_priority system t o best k)
   chooses_of-goes from t (Some chosen) best told k r f h = goes-aside system x from t told k (silent k) h (aside-silent system x k k (same-refl system x k))
   chooses_of-goes from t None None told k r f h = goes-aside system x from t told k (silent k) h (aside-silent system x k k (same-refl system x k))

@@ -1,31 +1,31 @@
 -- How a thread stands before each moment of the clock, and how it came there.
-use Rattle.std.proofs.Common.{◌≡◌, ◌≢◌, ℕ, zero, suc, ◌+◌, ◌<◌, ◌≤◌, ◌⊎◌, inl, inr, List, [], ◌∷◌, ◌++◌, map, Option, Some, None, refl, sym, ap, subst, ◌∙◌, arith}
+use Rattle.std.proofs.Common.{◌≡◌, ◌≢◌, ℕ, zero, suc, ◌+◌, ◌<◌, ◌≤◌, ◌⊎◌, inl, inr, List, [], ◌∷◌, ◌++◌, None, refl, sym, ap, subst, ◌∙◌, arith}
 use Rattle.std.specs.Prelude.{filter, flat_map}
 use Rattle.std.specs.List.{range_with_len, AllByRecursion}
 use Rattle.std.proofs.lemmas.Bool.{cases_lt}
 use Rattle.std.proofs.lemmas.List.{append_assoc, append-nil}
-use Rattle.mcs_ticks.specs.Queue.{by_priority}
 use Rattle.mcs_ticks.specs.declared.row.Row.{Row}
 use Rattle.mcs_ticks.specs.declared.row.What.{What}
 use Rattle.mcs_mail.specs.declared.mail.Mail.{Mail}
 use Rattle.mcs_system.specs.System.{System, TakesTime, thread_part, core_of}
 use Rattle.mcs_system.specs.WellFormed.{IsWellFormed}
 use Rattle.mcs_system.proofs.Linked.{takes_time}
-use Rattle.mcs_core.specs.Core.{Core, opening_core}
+use Rattle.mcs_core.specs.Core.{Core}
 use Rattle.mcs_core.specs.Turn.{Turn, stamped}
 use Rattle.mcs_core.specs.Clock as clocks
-use Rattle.mcs_core.proofs.Clock.{core_shown-first, turn_kept, turn_of-kept, core_shown-kept, rows-clock}
+use Rattle.mcs_core.proofs.Clock.{core_shown-first, turn_of-kept, core_shown-kept, rows-clock}
 use Rattle.mcs_laws.specs.Places.{places}
 use Rattle.mcs_laws.proofs.Homes.{own_core, own_core_known, away}
 use Rattle.mcs_verdict.specs.declared.standing.Standing.{Standing}
 use Rattle.mcs_verdict.specs.declared.standing.Standing.TheVariants.{Pending, Ready, Running, Throttled, Blocked, Woken, Done}
 use Rattle.mcs_verdict_laws.proofs.Steps.{Told, told_of, AreOther, Walks, walks-other, walks-done, Leads, leads-append, leads-stamped}
-use Rattle.mcs_verdict_laws.proofs.Holds.{first, IsStarted, IsPending, Own, Holds, Goes}
+use Rattle.mcs_verdict_laws.proofs.Holds.{first, IsStarted, Own, Holds}
 use Rattle.mcs_verdict_laws.proofs.Turns.{turn-goes}
 use Rattle.mcs_verdict_laws.proofs.Opening.{opening_told, opening-holds}
 
 -- the rows of a moment
-stamped-of : (c t : ℕ) (told : List What) (more : List Row) → AllByRecursion (λ (r : Row). r.moment ≡ t) more → AllByRecursion (λ (r : Row). r.moment ≡ t) (stamped c t told ++ more)
+stamped-of : (c t : ℕ) (told : List What) (more : List Row) → AllByRecursion (λ (r : Row). r.moment ≡ t) more
+    → AllByRecursion (λ (r : Row). r.moment ≡ t) (stamped c t told ++ more)
 stamped-of c t [] more h = h
 stamped-of c t (what ∷ told) more h = (refl, stamped-of c t told more h)
 
@@ -120,14 +120,16 @@ module _ (system : System) (well : IsWellFormed system) (x : ℕ) where
       (leads-past t n (a + 1) told (omega (arith, past)) (omega (arith, within)))
 
   -- and from before it
-  leads-from : (t n a : ℕ) (told : Told) (turn : OwnTurn t told) → a ≤ home → home < a + n → a + n ≤ system.cores → Leads x (first system x) told (rows_from t a n) turn.last
+  leads-from : (t n a : ℕ) (told : Told) (turn : OwnTurn t told) → a ≤ home → home < a + n → a + n ≤ system.cores
+      → Leads x (first system x) told (rows_from t a n) turn.last
   leads-from t zero a told turn before after within = absurd (omega (arith, before, after))
   leads-from t (suc n) a told turn before after within = by (cases_lt a home) (λ less. leads-from t n (a + 1) told turn (omega (arith, less)) (omega (arith, after)) (omega (arith, within)))
     where
       here : a ≡ home → Walks x (first system x) t told (clocks.turn_of system a t).rows turn.last
       here e = let P : ℕ → Type 0 = λ c. Walks x (first system x) t told (clocks.turn_of system c t).rows turn.last in subst P (sym e) turn.walks
 
-      by : (a < home) ⊎ (home ≤ a) → (a < home → Leads x (first system x) told (rows_from t (a + 1) n) turn.last) → Leads x (first system x) told (clocks.rows_of system a t ++ rows_from t (a + 1) n) turn.last
+      by : (a < home) ⊎ (home ≤ a) → (a < home → Leads x (first system x) told (rows_from t (a + 1) n) turn.last)
+          → Leads x (first system x) told (clocks.rows_of system a t ++ rows_from t (a + 1) n) turn.last
       by (inl less) rest =
           leads-append x (first system x) (clocks.rows_of system a t) (rows_from t (a + 1) n) told told turn.last
           (leads-stamped x (first system x) a t (clocks.turn_of system a t).rows told told

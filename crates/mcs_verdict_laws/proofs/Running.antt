@@ -1,9 +1,8 @@
 -- The ticks in which a thread stands running are those of its runs.
-use Rattle.std.proofs.Common.{◌≡◌, ℕ, zero, suc, ◌+◌, ◌-◌, ◌<◌, ◌≤◌, ◌⊎◌, inl, inr, Bool, true, false, List, [], ◌∷◌, length, get_or, sum, Option, Some, None, refl, sym, ap, subst, ◌∙◌, arith}
+use Rattle.std.proofs.Common.{◌≡◌, ℕ, zero, suc, ◌+◌, ◌-◌, ◌<◌, ◌≤◌, inl, inr, Bool, true, false, List, [], ◌∷◌, length, get_or, Option, None, refl, sym, ap, ◌∙◌, arith}
 use Rattle.std.specs.Prelude.{nat_lt}
 use Rattle.mcs_ticks.specs.declared.row.Row.{Row}
 use Rattle.mcs_ticks.specs.declared.row.What.{What}
-use Rattle.mcs_ticks.specs.declared.row.What.TheVariants as row
 use Rattle.mcs_system.specs.declared.part.ThreadPart.{ThreadPart}
 use Rattle.mcs_system.specs.System.{System, no_thread, thread_part, core_of}
 use Rattle.mcs_system.specs.WellFormed.{IsWellFormed}
@@ -11,7 +10,7 @@ use Rattle.mcs_core.specs.Clock as clocks
 use Rattle.mcs_laws.specs.Places.{times_running}
 use Rattle.mcs_laws.specs.Demand.{ticks_run}
 use Rattle.mcs_report.specs.declared.reports.ThreadReport.{ThreadReport}
-use Rattle.mcs_report.specs.Reports.{capped, run_lengths, thread_report, thread_reports, reports_of}
+use Rattle.mcs_report.specs.Reports.{capped, thread_report, thread_reports}
 use Rattle.mcs_report.specs.Tally.{no_report}
 use Rattle.mcs_report.proofs.Ticks.{runs-ticks}
 use Rattle.mcs_verdict.specs.declared.standing.Standing.{Standing}
@@ -24,7 +23,7 @@ use Rattle.mcs_verdict_laws.specs.Standing.{TellsOf}
 use Rattle.mcs_verdict_laws.specs.laws.Running.{RunningIsRan}
 use Rattle.mcs_verdict_laws.proofs.Holds.{runs_as}
 use Rattle.mcs_verdict_laws.proofs.Opening.{opening_as, opening_standing}
-use Rattle.mcs_verdict_laws.proofs.Reached.{core_before, reached, after}
+use Rattle.mcs_verdict_laws.proofs.Reached.{reached, after}
 use Rattle.mcs_verdict_laws.proofs.Standings.{said, rows_of_tick, next_row, tick_told, tick_settles}
 
 -- a tick of this standing more

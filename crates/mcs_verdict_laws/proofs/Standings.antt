@@ -1,5 +1,5 @@
 -- The rows of a schedule tell how a thread stands on its core.
-use Rattle.std.proofs.Common.{◌≡◌, ℕ, zero, suc, ◌+◌, ◌-◌, ◌<◌, ◌≤◌, ◌⊎◌, inl, inr, Bool, true, false, cond, ◌==◌, List, [], ◌∷◌, ◌++◌, length, Option, Some, None, refl, sym, ap, subst, ◌∙◌, arith}
+use Rattle.std.proofs.Common.{◌≡◌, ℕ, suc, ◌-◌, ◌<◌, ◌≤◌, ◌⊎◌, inl, inr, Bool, true, false, cond, ◌==◌, List, [], ◌∷◌, ◌++◌, length, Option, Some, None, refl, sym, ap, subst, ◌∙◌, arith}
 use Rattle.std.specs.Prelude.{nat_lt, nat_le}
 use Rattle.std.specs.List.{AllByRecursion}
 use Rattle.std.proofs.lemmas.Bool.Decides.{nat_tests}
@@ -18,14 +18,14 @@ use Rattle.mcs_laws.proofs.Places.{sorted-queued}
 use Rattle.mcs_verdict.specs.declared.standing.Standing.{Standing}
 use Rattle.mcs_verdict.specs.declared.standing.Standing.TheVariants.{Pending, Ready, Running, Throttled, Blocked, Woken, Done}
 use Rattle.mcs_verdict.specs.Account.{since_of}
-use Rattle.mcs_verdict.specs.Findings.{past_of, UpTo}
+use Rattle.mcs_verdict.specs.Findings.{past_of}
 use Rattle.mcs_verdict.specs.Standing.{tells, telling, standing_stopped, standing_after, settled, standing_at}
 use Rattle.mcs_verdict.proofs.Watches.{since-up_to}
-use Rattle.mcs_verdict_laws.specs.Standing.{standing_on, standing_in_clock, TellsOf}
+use Rattle.mcs_verdict_laws.specs.Standing.{standing_in_clock, TellsOf}
 use Rattle.mcs_verdict_laws.specs.laws.Standings.{StandingsAreTheClocks}
 use Rattle.mcs_verdict_laws.proofs.Order.{in_order}
 use Rattle.mcs_verdict_laws.proofs.Steps.{Told, Turns, Passes, Leads}
-use Rattle.mcs_verdict_laws.proofs.Holds.{runs_as, ready_as, dated_as, waits_as, first, start_at, Own, Holds}
+use Rattle.mcs_verdict_laws.proofs.Holds.{runs_as, ready_as, dated_as, waits_as, first, start_at, Own}
 use Rattle.mcs_verdict_laws.proofs.Opening.{opening_as, opening_standing, opening_told}
 use Rattle.mcs_verdict_laws.proofs.Reached.{core_before, reached, after, later}
 
@@ -125,7 +125,8 @@ module _ (x : ℕ) where
           past_it : (a b : ℕ) → suc b ≤ a → nat_le a b ≡ false
           past_it a b h = grind (arith, nat_tests)
 
-      by : (b : Bool) → standing_at t (first_told next rows) (cond b (r ∷ telling x past) (telling x past)) ≡ standing_at t (cond b (Some r.what) (first_told next rows)) (telling x past)
+      by : (b : Bool)
+          → standing_at t (first_told next rows) (cond b (r ∷ telling x past) (telling x past)) ≡ standing_at t (cond b (Some r.what) (first_told next rows)) (telling x past)
       by true = ap (λ b. cond b (settled (first_told next rows) (standing_after r.what)) (standing_at t (Some r.what) (telling x past))) later_row
       by false = refl
 
@@ -143,15 +144,18 @@ module _ (x : ℕ) where
   rows_tell waits opening past [] before last leads h = let P : Told → Type 0 = λ told. TellsOf (said opening (telling x past)) told.standing in subst P leads h
   rows_tell waits opening past (r ∷ rows) before last leads h = rows_tell waits opening (r ∷ past) rows leads.0 last leads.2 (by (tells x r.what) leads.1.passes)
     where
-      by : (b : Bool) → Passes b before.standing r.what leads.0.standing → TellsOf (said opening (cond b (r ∷ telling x past) (telling x past))) leads.0.standing
+      by : (b : Bool) → Passes b before.standing r.what leads.0.standing
+          → TellsOf (said opening (cond b (r ∷ telling x past) (telling x past))) leads.0.standing
       by true turn = turn_tells before.standing leads.0.standing r.what turn
       by false same = let P : Standing → Type 0 = λ s. TellsOf (said opening (telling x past)) s in subst P (sym same) h
 
-  next_told : (waits : Option ℕ) (rows : List Row) (before last : Told) → Leads x waits before rows last → IsNext (first_told None rows) before.standing
+  next_told : (waits : Option ℕ) (rows : List Row) (before last : Told) → Leads x waits before rows last
+      → IsNext (first_told None rows) before.standing
   next_told waits [] before last leads = tt
   next_told waits (r ∷ rows) before last leads = by (tells x r.what) leads.1.passes (next_told waits rows leads.0 last leads.2)
     where
-      by : (b : Bool) → Passes b before.standing r.what leads.0.standing → IsNext (first_told None rows) leads.0.standing → IsNext (cond b (Some r.what) (first_told None rows)) before.standing
+      by : (b : Bool) → Passes b before.standing r.what leads.0.standing → IsNext (first_told None rows) leads.0.standing
+          → IsNext (cond b (Some r.what) (first_told None rows)) before.standing
       by true turn rest = turn_next before.standing leads.0.standing r.what turn
       by false same rest = let P : Standing → Type 0 = λ s. IsNext (first_told None rows) s in subst P same rest
 
@@ -160,7 +164,8 @@ past-append past [] more = refl
 past-append past (r ∷ rows) more = past-append (r ∷ past) rows more
 
 -- the counts of a thread's places tell how it stands
-counts_tell : (r q d w : ℕ) (dated s : Standing) → r ≡ runs_as s → q ≡ ready_as s → d ≡ dated_as s → w ≡ waits_as s → (d ≡ 1 → dated ≡ s) → (s ≡ Woken → ⊥)
+counts_tell : (r q d w : ℕ) (dated s : Standing) → r ≡ runs_as s → q ≡ ready_as s → d ≡ dated_as s → w ≡ waits_as s → (d ≡ 1 → dated ≡ s)
+    → (s ≡ Woken → ⊥)
     → cond (r == 1) Running (cond (q == 1) Ready (cond (d == 1) dated (cond (w == 1) Blocked Done))) ≡ s
 counts_tell r q d w dated Running e f g i h no_woken = rw e refl
 counts_tell r q d w dated Ready e f g i h no_woken = rw (e, f) refl

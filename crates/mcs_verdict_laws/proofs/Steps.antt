@@ -1,5 +1,5 @@
 -- How a thread goes on from row to row: as its core has it, and not only as its rows tell.
-use Rattle.std.proofs.Common.{◌≡◌, ℕ, ◌+◌, ◌≤◌, ◌⊎◌, Bool, true, false, cond, ◌==◌, List, [], ◌∷◌, ◌++◌, map, Option, Some, None, refl, sym, ap, subst, ◌∙◌}
+use Rattle.std.proofs.Common.{◌≡◌, ℕ, ◌+◌, ◌≤◌, ◌⊎◌, Bool, true, false, ◌==◌, List, [], ◌∷◌, ◌++◌, Option, Some, refl, sym, subst, ◌∙◌}
 use Rattle.mcs_ticks.specs.declared.row.Row.{Row}
 use Rattle.mcs_ticks.specs.declared.row.What.{What}
 use Rattle.mcs_ticks.specs.declared.row.What.TheVariants as row
@@ -7,7 +7,7 @@ use Rattle.mcs_ticks.specs.declared.row.Why.{Why}
 use Rattle.mcs_ticks.specs.declared.row.Why.TheVariants as why
 use Rattle.mcs_core.specs.Turn.{stamped}
 use Rattle.mcs_verdict.specs.declared.standing.Standing.{Standing}
-use Rattle.mcs_verdict.specs.declared.standing.Standing.TheVariants.{Pending, Ready, Running, Throttled, Blocked, Woken, Done}
+use Rattle.mcs_verdict.specs.declared.standing.Standing.TheVariants.{Pending, Ready, Running, Throttled, Blocked, Done}
 use Rattle.mcs_verdict.specs.Rounds.{begun_after}
 use Rattle.mcs_verdict.specs.Standing.{tells, standing_stopped}
 
@@ -86,7 +86,8 @@ module _ (x : ℕ) (waits : Option ℕ) where
   untold true s what e = absurd (let g : true ≡ false = e in cc)
   untold false s what e = refl
 
-  not_stopped : (t charged y : ℕ) (cause : Why) (until begun : Option ℕ) → (y == x) ≡ false → begun ≡ begun_after waits x t (row.Stop y cause charged until) begun
+  not_stopped : (t charged y : ℕ) (cause : Why) (until begun : Option ℕ) → (y == x) ≡ false
+      → begun ≡ begun_after waits x t (row.Stop y cause charged until) begun
   not_stopped t charged y why.Spent until begun e = refl
   not_stopped t charged y why.Yield until begun e = refl
   not_stopped t charged y why.Wait until begun e = refl

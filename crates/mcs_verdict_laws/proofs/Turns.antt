@@ -1,30 +1,28 @@
 -- A thread goes on through a whole turn of its core.
-use Rattle.std.proofs.Common.{◌≡◌, ◌≢◌, ℕ, zero, suc, ◌+◌, ◌<◌, ◌≤◌, ◌⊎◌, inl, inr, Bool, true, false, cond, not, ◌==◌, List, [], ◌∷◌, ◌++◌, Option, Some, None, refl, sym, ap, subst, ◌∙◌, arith}
+use Rattle.std.proofs.Common.{◌≡◌, ◌≢◌, ℕ, suc, ◌+◌, ◌<◌, ◌≤◌, ◌⊎◌, inl, inr, Bool, true, false, cond, not, ◌==◌, List, [], ◌∷◌, Option, Some, None, refl, sym, subst, ◌∙◌, arith}
 use Rattle.std.specs.Prelude.{filter, nat_le}
 use Rattle.std.proofs.lemmas.Bool.{cases_lt}
 use Rattle.std.proofs.lemmas.Bool.Decides.{nat_tests}
 use Rattle.mcs_ticks.specs.Queue.{by_priority, first_of}
-use Rattle.mcs_ticks.specs.declared.row.What.{What}
-use Rattle.mcs_ticks.specs.declared.row.What.TheVariants as row
-use Rattle.mcs_control.specs.declared.config.Order.{Order}
 use Rattle.mcs_release.specs.declared.dated.Dated.{Dated}
 use Rattle.mcs_release.specs.Release.{is_due}
 use Rattle.mcs_mail.specs.declared.mail.Mail.{Mail}
-use Rattle.mcs_system.specs.System.{System, thread_part}
+use Rattle.mcs_system.specs.System.{System}
 use Rattle.mcs_system.specs.WellFormed.{IsWellFormed}
 use Rattle.mcs_core.specs.Core.{Core, thread_of}
-use Rattle.mcs_core.specs.Places.{times_queued, times_dated, times_waiting}
+use Rattle.mcs_core.specs.Places.{times_dated}
 use Rattle.mcs_core.specs.Turn as turns
 use Rattle.mcs_core.specs.Turn.{Turn, silent, says, ◌followed_by◌, each, is_for_now}
 use Rattle.mcs_verdict.specs.declared.standing.Standing.{Standing}
 use Rattle.mcs_verdict.specs.declared.standing.Standing.TheVariants.{Pending, Ready, Running, Throttled, Blocked, Woken, Done}
-use Rattle.mcs_verdict_laws.proofs.Steps.{Told, told_of, Walks, walks-append, walks-other}
+use Rattle.mcs_verdict_laws.proofs.Steps.{Told, told_of, walks-append, walks-other}
 use Rattle.mcs_verdict_laws.proofs.Holds.{dated_as, beginning_of, first, start_at, IsUnderWay, IsStarted, IsPending, AreDated, Own, Holds, Loose, Same, same-refl, same-back, holds-same, loose-same, Aside, Goes, goes-aside, goes-then, goes-each}
 use Rattle.mcs_verdict_laws.proofs.Entering.{equal, step-release, enters-back}
 use Rattle.mcs_verdict_laws.proofs.Parts.{tick_of-goes, arrives-goes, obeys-goes, preempts_by-goes, chooses_of-goes}
 
 -- the release queue, of which those that are due leave
-due-left : (x t : ℕ) (xs : List Dated) → times_dated x (filter (is_due t) xs) + times_dated x (filter (λ dated. not (is_due t dated)) xs) ≡ times_dated x xs
+due-left : (x t : ℕ) (xs : List Dated)
+    → times_dated x (filter (is_due t) xs) + times_dated x (filter (λ dated. not (is_due t dated)) xs) ≡ times_dated x xs
 due-left x t [] = refl
 due-left x t (d ∷ xs) = by (is_due t d) (due-left x t xs)
   where
@@ -50,7 +48,8 @@ module _ (system : System) (x : ℕ) where
   dated-passes p date [] all l = absurd (omega (arith, l))
   dated-passes p date (d ∷ xs) all l = by (p d) refl (dated-passes p date xs all.1) l
     where
-      there : (b : Bool) → (d.thread == x) ≡ b → p d ≡ true → (1 ≤ times_dated x (filter p xs) → (dated : Dated) × (p dated ≡ true) × (dated.date ≡ date))
+      there : (b : Bool) → (d.thread == x) ≡ b → p d ≡ true
+          → (1 ≤ times_dated x (filter p xs) → (dated : Dated) × (p dated ≡ true) × (dated.date ≡ date))
           → 1 ≤ cond b 1 0 + times_dated x (filter p xs) → (dated : Dated) × (p dated ≡ true) × (dated.date ≡ date)
       there true e f rest m = (d, f, all.0 (equal d.thread x e))
       there false e f rest m = rest (omega (arith, m))
@@ -70,7 +69,8 @@ module _ (system : System) (x : ℕ) where
       come : (a b : ℕ) → nat_le a b ≡ true → a ≤ b
       come a b e = grind (arith, nat_tests)
 
-  left_then : (t date : ℕ) (xs : List Dated) → AreDated system x date xs → 1 ≤ times_dated x (filter (λ dated. not (is_due t dated)) xs) → suc t ≤ date
+  left_then : (t date : ℕ) (xs : List Dated) → AreDated system x date xs → 1 ≤ times_dated x (filter (λ dated. not (is_due t dated)) xs)
+      → suc t ≤ date
   left_then t date xs all l =
       let d = dated-passes (λ dated. not (is_due t dated)) date xs all l in
       let h = later d.0.date t (is_due t d.0) refl d.1 in
@@ -141,7 +141,8 @@ module _ (system : System) (x : ℕ) where
           }
 
   -- a thread that has started does not become pending
-  later-holds : (from to t : ℕ) (standing : Standing) (begun : Option ℕ) (k : Core) → standing ≢ Pending → Holds system x from t (told_of standing begun) k → Holds system x to t (told_of standing begun) k
+  later-holds : (from to t : ℕ) (standing : Standing) (begun : Option ℕ) (k : Core) → standing ≢ Pending
+      → Holds system x from t (told_of standing begun) k → Holds system x to t (told_of standing begun) k
   later-holds from to t standing begun k h holds =
       record { runs = holds.runs; ready = holds.ready; dated = holds.dated; waits = holds.waits; own = by standing h holds.own }
     where
@@ -174,21 +175,24 @@ module _ (system : System) (x : ℕ) where
   left t k = record k { releases = filter (λ dated. not (is_due t dated)) k.releases }
 
   -- it has no date that is due
-  not-due : (t : ℕ) (told : Told) (k : Core) → times_dated x (filter (is_due t) k.releases) ≡ 0 → Holds system x (suc t) t told (left t k) → Goes system x (suc t) t told (turns.releases by_priority system t k)
+  not-due : (t : ℕ) (told : Told) (k : Core) → times_dated x (filter (is_due t) k.releases) ≡ 0 → Holds system x (suc t) t told (left t k)
+      → Goes system x (suc t) t told (turns.releases by_priority system t k)
   unfolding left
   not-due t told k none h =
       let q = none-released (suc t) t (filter (is_due t) k.releases) told (left t k) none h in
       record { last = q.last; walks = q.walks; holds = q.holds }
 
   is-due : (t : ℕ) (standing : Standing) (begun : Option ℕ) (k : Core) → (standing ≡ Pending) ⊎ (standing ≡ Throttled)
-      → (standing ≡ Pending → (beginning : ℕ) → begun ≡ Some beginning → t ≤ beginning) → times_dated x (filter (is_due t) k.releases) ≡ 1 → Loose system x t begun (left t k)
+      → (standing ≡ Pending → (beginning : ℕ) → begun ≡ Some beginning → t ≤ beginning) → times_dated x (filter (is_due t) k.releases) ≡ 1
+      → Loose system x t begun (left t k)
       → Goes system x (suc t) t (told_of standing begun) (turns.releases by_priority system t k)
   unfolding left
   is-due t standing begun k was early one l =
       let q = one-released (suc t) t (filter (is_due t) k.releases) standing begun (left t k) was early one l in
       record { last = q.last; walks = q.walks; holds = q.holds }
 
-  loose-left : (t : ℕ) (begun : Option ℕ) (k : Core) (standing : Standing) → (standing ≡ Pending) ⊎ (standing ≡ Throttled) → times_dated x (filter (is_due t) k.releases) ≡ 1
+  loose-left : (t : ℕ) (begun : Option ℕ) (k : Core) (standing : Standing) → (standing ≡ Pending) ⊎ (standing ≡ Throttled)
+      → times_dated x (filter (is_due t) k.releases) ≡ 1
       → Holds system x t t (told_of standing begun) k → IsUnderWay system x begun k → IsStarted system x t k → Loose system x t begun (left t k)
   unfolding left
   loose-left t begun k Pending was one h u s =
@@ -225,7 +229,8 @@ module _ (system : System) (x : ℕ) where
   loose-left t begun k Done (inr e) one h u s = absurd (cc)
 
   -- none of its dates is due, or it has one alone
-  due-cases : (t : ℕ) (k : Core) → times_dated x k.releases ≤ 1 → (times_dated x (filter (is_due t) k.releases) ≡ 0) ⊎ (times_dated x (filter (is_due t) k.releases) ≡ 1)
+  due-cases : (t : ℕ) (k : Core) → times_dated x k.releases ≤ 1
+      → (times_dated x (filter (is_due t) k.releases) ≡ 0) ⊎ (times_dated x (filter (is_due t) k.releases) ≡ 1)
   due-cases t k l = by (cases_lt (times_dated x (filter (is_due t) k.releases)) 1)
     where
       by : (times_dated x (filter (is_due t) k.releases) < 1) ⊎ (1 ≤ times_dated x (filter (is_due t) k.releases))
@@ -233,7 +238,8 @@ module _ (system : System) (x : ℕ) where
       by (inl none) = inl (omega (arith, none))
       by (inr one) = inr (omega (arith, one, due-left x t k.releases))
 
-  undated-goes : (t : ℕ) (standing : Standing) (begun : Option ℕ) (k : Core) → standing ≢ Pending → dated_as standing ≡ 0 → Holds system x t t (told_of standing begun) k
+  undated-goes : (t : ℕ) (standing : Standing) (begun : Option ℕ) (k : Core) → standing ≢ Pending → dated_as standing ≡ 0
+      → Holds system x t t (told_of standing begun) k
       → Goes system x (suc t) t (told_of standing begun) (turns.releases by_priority system t k)
   unfolding left
   undated-goes t standing begun k other none h =
@@ -252,7 +258,8 @@ module _ (system : System) (x : ℕ) where
       by true f = absurd (cc)
       by false f = cc
 
-  early : (t : ℕ) (begun : Option ℕ) (k : Core) → IsUnderWay system x begun k → IsPending system x t k → Pending ≡ Pending → (beginning : ℕ) → begun ≡ Some beginning → t ≤ beginning
+  early : (t : ℕ) (begun : Option ℕ) (k : Core) → IsUnderWay system x begun k → IsPending system x t k → Pending ≡ Pending → (beginning : ℕ)
+      → begun ≡ Some beginning → t ≤ beginning
   early t begun k u p same beginning e =
       let since = at_start (first system x) (thread_of k x).place.item (thread_of k x).since beginning (sym u.begins ∙ e) in
       let later = p.later in
@@ -303,7 +310,8 @@ module _ (system : System) (x : ℕ) where
 
 -- the whole turn
 module _ (system : System) (well : IsWellFormed system) (c t x : ℕ) where
-  pub turn-goes : (mails : List Mail) (told : Told) (k : Core) → Holds system x t t told k → Goes system x (suc t) t told (turns.turn_with by_priority system c t mails k)
+  pub turn-goes : (mails : List Mail) (told : Told) (k : Core) → Holds system x t t told k
+      → Goes system x (suc t) t told (turns.turn_with by_priority system c t mails k)
   turn-goes mails told k h =
       let one = turns.tick by_priority system c t k in
       let two = one followed_by each (turns.arrives by_priority system t) mails in

@@ -1,7 +1,6 @@
 -- Standings and beginnings that were worked by hand.
-use Rattle.std.specs.Prelude.{◌≡◌, ℕ, ◌+◌, List, [], ◌∷◌, Option, Some, None, refl}
-use Rattle.std.proofs.Common.{ap, sym, ◌∙◌, arith}
-use Rattle.mcs_ticks.specs.declared.row.Row.{Row}
+use Rattle.std.specs.Prelude.{◌≡◌, ℕ, List, [], ◌∷◌, Some, None, refl}
+use Rattle.std.proofs.Common.{sym, ◌∙◌, arith}
 use Rattle.mcs_control.specs.declared.config.Mode.TheVariants as mode
 use Rattle.mcs_script.specs.declared.item.Item.{Item}
 use Rattle.mcs_script.specs.declared.item.Item.TheVariants.{Compute, Signal, Wait}
@@ -12,10 +11,11 @@ use Rattle.mcs_core.specs.Clock.{schedule}
 use Rattle.mcs_verdict.specs.declared.standing.Standing.{Standing}
 use Rattle.mcs_verdict.specs.declared.standing.Standing.TheVariants.{Pending, Ready, Running, Throttled, Blocked, Woken, Done}
 use Rattle.mcs_verdict.specs.Findings.{past_of}
+use Rattle.mcs_verdict.specs.Jobs.{job}
 use Rattle.mcs_verdict.specs.Rounds.{begun_of}
 use Rattle.mcs_verdict.specs.Standing.{standing_at, telling}
 use Rattle.mcs_verdict_laws.specs.Standing.{standing_in_clock}
-use Rattle.mcs_verdict_laws.specs.laws.Responses.{IsTold, AreTold}
+use Rattle.mcs_verdict_laws.specs.laws.Responses.{HasParts, IsTold}
 use Rattle.mcs_verdict_laws.specs.laws.Running.{ticks_running}
 
 abbrev context : ℕ → ℕ → ContextPart
@@ -105,3 +105,10 @@ no_other_response is =
     let f : is.beginning ≡ 5 = cc in
     let g = is.response_is in
     omega (arith, f, g)
+
+-- its parts: throttled from 5 to 10, and one tick of work
+its_parts : HasParts 6 (job woken (past_of [] (schedule woken 10)) 11 1 1).stood
+its_parts = record { sum = refl; pending = refl; woken = refl; done = refl }
+
+its_throttled_ticks : (job woken (past_of [] (schedule woken 10)) 11 1 1).stood.throttled ≡ 5
+its_throttled_ticks = refl
