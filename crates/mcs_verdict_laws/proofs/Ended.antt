@@ -213,7 +213,8 @@ up_to_end t from (last ∷ rows) at_first o since told p =
     let P : Stood → Type 0 = IsParted in
     let Q : Standing → Type 0 = λ s. IsAtIt (settled None s) in
     subst P (sym split)
-    (more-parted (settled None (standing_after last.what)) (t - max last.moment from) (stood_for (Some last.what) rows from (last.moment - from)) (subst Q (sym e) tt) p)
+    (more-parted (settled None (standing_after last.what)) (t - max last.moment from) (stood_for (Some last.what) rows from (last.moment - from))
+    (subst Q (sym e) tt) p)
 
 module _ (system : System) (x : ℕ) where
   -- the rounds of one thread
@@ -309,7 +310,8 @@ module _ (system : System) (x : ℕ) where
       let step = leads.1 in (
         ends_parted past r before next at_first o step order.0 told e kept,
         all_parted (r ∷ past) rows next last at_first o leads.2 order.1 (tells_on past r before next at_first step told)
-            (step.begins ∙ ap (λ begun. begun_after (first system x) x r.moment r.what begun) e) (keeps past r before next at_first o step order.0 told kept),
+            (step.begins ∙ ap (λ begun. begun_after (first system x) x r.moment r.what begun) e)
+            (keeps past r before next at_first o step order.0 told kept),
       )
 
 module _ (system : System) where
@@ -353,5 +355,6 @@ parts_sum system well horizon =
     summed_all system [] _ (responses_told system well horizon)
     (λ x.
     let r = reached system well x (suc horizon) in
-    all_parted system x [] _ _ r.told (opening_standing system x) (opens system x (nat_lt x (length system.threads))) r.leads (in_order system well horizon).0
+    all_parted system x [] _ _ r.told (opening_standing system x) (opens system x (nat_lt x (length system.threads))) r.leads
+    (in_order system well horizon).0
     (opens_so system x (nat_lt x (length system.threads))) refl (λ from e. no-ticks))

@@ -130,7 +130,13 @@ module _ (x : ℕ) (waits : Option ℕ) (t : ℕ) where
 
   pub step-run : (begun : Option ℕ) → Step x waits t (told_of Ready begun) (row.Run x) (told_of Running begun)
   step-run begun =
-      record { passes = passes_own (x == x) Ready Running (row.Run x) (self x) (refl, refl); begins = refl; timed = tt; alive = λ g. absurd (cc); allows = tt }
+      record {
+        passes = passes_own (x == x) Ready Running (row.Run x) (self x) (refl, refl);
+        begins = refl;
+        timed = tt;
+        alive = λ g. absurd (cc);
+        allows = tt;
+      }
 
   pub step-release : (standing : Standing) (begun : Option ℕ) → (standing ≡ Pending) ⊎ (standing ≡ Throttled)
       → (standing ≡ Pending → (beginning : ℕ) → begun ≡ Some beginning → t ≤ beginning)

@@ -128,13 +128,19 @@ module _ (system : System) (well : IsWellFormed system) (x : ℕ) where
   thread : x < length system.threads → IsThread system (thread_part system x)
   thread known = well.threads x no_thread known
 
+  -- its state after a move, in a round that began at this moment
+  abbrev state_at : Moved → ℕ → Core → Thread
+  state_at move since k =
+      let state = thread_of k x in record state { place = place_after system.call (thread_part system x).script move state.place; since = since }
+
   -- what a wait makes of the thread when its word is there: it moves on to the next item
   pub moved_on : ℕ → Core → Core
   moved_on t k = let given = turns.given t x k in turns.placed system t x Next (thread_of given x).since given
 
   given-state : (t : ℕ) (k : Core) → x < length k.threads
       → thread_of (turns.given t x k) x ≡ record (thread_of k x) { since = cond ((thread_of k x).place.item == 0) t (thread_of k x).since }
-  given-state t k has = get_or-set_same k.threads x (record (thread_of k x) { since = cond ((thread_of k x).place.item == 0) t (thread_of k x).since }) no_state has
+  given-state t k has =
+      get_or-set_same k.threads x (record (thread_of k x) { since = cond ((thread_of k x).place.item == 0) t (thread_of k x).since }) no_state has
 
   not_later : (b : Bool) (t since : ℕ) → since ≤ t → cond b t since ≤ t
   not_later true t since h = omega arith
@@ -153,7 +159,7 @@ module _ (system : System) (well : IsWellFormed system) (x : ℕ) where
   given-under t begun k u s w =
       let given = turns.given t x k in
       let e = given-state t k u.has in
-      let state : Thread = record (thread_of given x) { place = place_after system.call (thread_part system x).script Next (thread_of given x).place; since = (thread_of given x).since } in
+      let state = state_at Next (thread_of given x).since given in
       let item = (thread_of k x).place.item in
       let since = (thread_of k x).since in
       let word : begun_by_word (first system x) t begun ≡ Some (cond (item == 0) t since) =
@@ -172,7 +178,7 @@ module _ (system : System) (well : IsWellFormed system) (x : ℕ) where
       let item = (thread_of k x).place.item in
       let since = (thread_of k x).since in
       let e = ap (λ (s : Thread). s.since) (given-state t k u.has) in
-      let state : Thread = record (thread_of given x) { place = place_after system.call (thread_part system x).script Next (thread_of given x).place; since = (thread_of given x).since } in
+      let state = state_at Next (thread_of given x).since given in
       started-thread system x t state given
       (let l = length-set k.threads x (record (thread_of k x) { since = cond (item == 0) t since }) in let h = u.has in omega arith)
       s.start
@@ -183,7 +189,7 @@ module _ (system : System) (well : IsWellFormed system) (x : ℕ) where
       → ended ≡ beginning_of (first system x) (place_after system.call (thread_part system x).script move (thread_of k x).place).item since
       → Holds system x from t (told_of Running ended) (turns.placed system t x move since k)
   placed-holds from t since move begun ended k h l e =
-      let state : Thread = record (thread_of k x) { place = place_after system.call (thread_part system x).script move (thread_of k x).place; since = since } in
+      let state = state_at move since k in
       record {
         runs = h.runs;
         ready = h.ready;
@@ -198,18 +204,21 @@ module _ (system : System) (well : IsWellFormed system) (x : ℕ) where
   pub finish-goes : (from t using : ℕ) (begun : Option ℕ) (k : Core) (move : Moved) (cause : AfterItem) → IsCalm system x cause
       → Holds system x from t (told_of Running begun) k
       → begun ≡ Some (thread_of k x).since
-      → Goes system x from t (told_of Running begun) (turns.moves system t x move k followed_by turns.may_stop by_priority system t x using (turns.after_move move cause))
+      → Goes system x from t (told_of Running begun)
+      (turns.moves system t x move k followed_by turns.may_stop by_priority system t x using (turns.after_move move cause))
   finish-goes from t using begun k Next cause calm h e =
       let moved = turns.placed system t x Next (thread_of k x).since k in
       let q =
       calm-goes system x cause calm from t using begun moved
-      (placed-holds from t (thread_of k x).since Next begun begun k h h.own.1.since (e ∙ sym (past_first (first system x) (thread_of k x).place.item (thread_of k x).since)))
+      (placed-holds from t (thread_of k x).since Next begun begun k h h.own.1.since
+      (e ∙ sym (past_first (first system x) (thread_of k x).place.item (thread_of k x).since)))
       in
       record { last = q.last; walks = q.walks; holds = q.holds }
   finish-goes from t using begun k RoundEnds cause calm h e =
       let moved = turns.placed system t x RoundEnds t k in
       let next = begun_at (first system x) t in
-      let q = calm-goes system x cause calm from t using next moved (placed-holds from t t RoundEnds begun next k h (omega arith) (at_first (first system x) t)) in
+      let q = calm-goes system x cause calm from t using next moved
+      (placed-holds from t t RoundEnds begun next k h (omega arith) (at_first (first system x) t)) in
       let l = h.own.1.since in
       record {
         last = q.last;
@@ -239,12 +248,14 @@ module _ (system : System) (well : IsWellFormed system) (x : ℕ) where
 
   -- a wait that is given a word goes on, and one that is given none blocks
   pub got-goes : (from t using note word : ℕ) (begun : Option ℕ) (k : Core) → Holds system x from t (told_of Running begun) k → IsWaiting system x k
-      → Goes system x from t (told_of Running begun) (turns.waits_as system t x note (Got word) k followed_by turns.may_stop by_priority system t x using after.GoesOn)
+      → Goes system x from t (told_of Running begun)
+      (turns.waits_as system t x note (Got word) k followed_by turns.may_stop by_priority system t x using after.GoesOn)
   unfolding moved_on
   got-goes from t using note word begun k h w =
       let noted = with_note note (after_wait (Got word) (turns.queued system x) (note_of k note)) k in
       let given = turns.given t x noted in
-      let was = holds-same system x from t (told_of Running begun) k noted (same-note system x note (after_wait (Got word) (turns.queued system x) (note_of k note)) k refl) h in
+      let was = holds-same system x from t (told_of Running begun) k noted
+      (same-note system x note (after_wait (Got word) (turns.queued system x) (note_of k note)) k refl) h in
       let waits : IsWaiting system x noted = record { note = w.note; item = w.item } in
       let next = begun_by_word (first system x) t begun in
       let holds : Holds system x from t (told_of Running next) (moved_on t noted) =
@@ -266,13 +277,15 @@ module _ (system : System) (well : IsWellFormed system) (x : ℕ) where
 
   pub blocks-goes : (from t using note : ℕ) (begun : Option ℕ) (k : Core) → Holds system x from t (told_of Running begun) k
       → slice_get (thread_part system x).script (thread_of k x).place.item ≡ Some (Wait note)
-      → Goes system x from t (told_of Running begun) (turns.waits_as system t x note Blocks k followed_by turns.may_stop by_priority system t x using after.Blocks)
+      → Goes system x from t (told_of Running begun)
+      (turns.waits_as system t x note Blocks k followed_by turns.may_stop by_priority system t x using after.Blocks)
   blocks-goes from t using note begun k h item =
       let u = h.own.0 in
       let ready = after_wait Blocks (turns.queued system x) (note_of k note) in
       let noted = with_note note ready k in
       let gone = off (turns.charged system x using noted) in
-      let known = wait_known system (core_of system (thread_part system x)) (thread_part system x).script (thread_of k x).place.item note (thread u.known).items item in
+      let known = wait_known system (core_of system (thread_part system x)) (thread_part system x).script (thread_of k x).place.item note
+      (thread u.known).items item in
       let within : note < length k.notes = let e = u.notes in omega arith in
       let set = times_waiting-set x note ready k.notes within in
       let more = times_queued-append x (note_of k note).waiters (turns.queued system x) in

@@ -143,7 +143,8 @@ module _ (system : System) (x : ℕ) where
     pub notes : length after.notes ≡ length k.notes
 
   pub same-refl : (k : Core) → Same k k
-  same-refl k = record { runs = refl; ready = refl; dated = refl; dates = λ date h. h; waits = refl; place = refl; since = refl; has = refl; notes = refl }
+  same-refl k =
+      record { runs = refl; ready = refl; dated = refl; dates = λ date h. h; waits = refl; place = refl; since = refl; has = refl; notes = refl }
 
   pub same-trans : (a b c : Core) → Same a b → Same b c → Same a c
   same-trans a b c p q =
@@ -165,7 +166,8 @@ module _ (system : System) (x : ℕ) where
         known = u.known;
         has = let e = s.has in let h = u.has in omega arith;
         notes = s.notes ∙ u.notes;
-        begins = u.begins ∙ ap (λ p. beginning_of first p.item (thread_of k x).since) (sym s.place) ∙ ap (λ m. beginning_of first (thread_of after x).place.item m) (sym s.since);
+        begins = u.begins ∙ ap (λ p. beginning_of first p.item (thread_of k x).since) (sym s.place) ∙ ap
+            (λ m. beginning_of first (thread_of after x).place.item m) (sym s.since);
       }
 
   started-same : (now : ℕ) (k after : Core) → Same k after → IsStarted now k → IsStarted now after
@@ -335,7 +337,11 @@ module _ (system : System) (x : ℕ) where
 
   pub aside-then : (k : Core) (made : Turn) (part : Core → Turn) → Aside k made → Aside made.core (part made.core) → Aside k (made followed_by part)
   aside-then k made part p q =
-      record { same = same-trans k made.core (part made.core).core p.same q.same; rows = other-append x made.rows (part made.core).rows p.rows q.rows }
+      record {
+        same = same-trans k made.core (part made.core).core p.same q.same;
+        rows = other-append x made.rows
+            (part made.core).rows p.rows q.rows;
+      }
 
   pub aside-silent : (k after : Core) → Same k after → Aside k (silent after)
   aside-silent k after s = record { same = s; rows = tt }

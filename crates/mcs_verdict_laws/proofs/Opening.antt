@@ -37,18 +37,21 @@ one_date system c x n zero (part ∷ parts) l e own = by (core_of system part ==
     none : times_dated x (opening_releases system c (n + 1) parts) ≡ 0
     none = no_date system c x (n + 1) parts (λ i l f q. omega (arith, e, q))
 
-    by : (b : Bool) → b ≡ true → times_dated x (cond b (record { thread = n; date = part.start } ∷ opening_releases system c (n + 1) parts) (opening_releases system c (n + 1) parts)) ≡ 1
+    by : (b : Bool) → b ≡ true → times_dated x
+        (cond b (record { thread = n; date = part.start } ∷ opening_releases system c (n + 1) parts) (opening_releases system c (n + 1) parts)) ≡ 1
     by true f =
         let one : ◌≡◌ {A = ℕ} (cond (n == x) 1 0) 1 = ap (λ b. cond b 1 0) (self n x e) in
         omega (arith, one, none)
     by false f = absurd (let g : false ≡ true = f in cc)
-one_date system c x n (suc i) (part ∷ parts) l e own = by (core_of system part == c) (one_date system c x (n + 1) i parts (omega (arith, l)) (omega (arith, e)) own)
+one_date system c x n (suc i) (part ∷ parts) l e own =
+    by (core_of system part == c) (one_date system c x (n + 1) i parts (omega (arith, l)) (omega (arith, e)) own)
   where
     another : (a b i : ℕ) → b ≡ a + suc i → (a == b) ≡ false
     another a b i e = grind (arith, nat_tests)
 
     by : (b : Bool) → times_dated x (opening_releases system c (n + 1) parts) ≡ 1
-        → times_dated x (cond b (record { thread = n; date = part.start } ∷ opening_releases system c (n + 1) parts) (opening_releases system c (n + 1) parts)) ≡ 1
+        → times_dated x (cond b (record { thread = n; date = part.start } ∷ opening_releases system c (n + 1) parts)
+        (opening_releases system c (n + 1) parts)) ≡ 1
     by true one =
         let none : ◌≡◌ {A = ℕ} (cond (n == x) 1 0) 0 = ap (λ b. cond b 1 0) (another n x i e) in
         omega (arith, one, none)
@@ -63,7 +66,8 @@ all-dated system c x n date (part ∷ parts) h =
     by (core_of system part == c) (all-dated system c x (n + 1) date parts (λ i l e. h (suc i) (omega (arith, l)) (omega (arith, e))))
   where
     by : (b : Bool) → AreDated system x date (opening_releases system c (n + 1) parts)
-        → AreDated system x date (cond b (record { thread = n; date = part.start } ∷ opening_releases system c (n + 1) parts) (opening_releases system c (n + 1) parts))
+        → AreDated system x date
+        (cond b (record { thread = n; date = part.start } ∷ opening_releases system c (n + 1) parts) (opening_releases system c (n + 1) parts))
     by true rest = ((λ e. h 0 (omega arith) (omega (arith, e))), rest)
     by false rest = rest
 
@@ -80,10 +84,12 @@ module _ (system : System) (x : ℕ) where
   opening_told = told_of opening_standing (begun_at (first system x) (start_at system x))
 
   known-holds : x < length system.threads
-      → Holds system x 0 0 (told_of Pending (begun_at (first system x) (start_at system x))) (opening_core system (core_of system (thread_part system x)))
+      → Holds system x 0 0 (told_of Pending (begun_at (first system x) (start_at system x)))
+      (opening_core system (core_of system (thread_part system x)))
   known-holds known =
       let c = core_of system (thread_part system x) in
-      let state : thread_of (opening_core system c) x ≡ opening_thread system c (thread_part system x) = get_or-map (opening_thread system c) system.threads x no_thread no_state known in
+      let state : thread_of (opening_core system c) x ≡ opening_thread system c (thread_part system x) = get_or-map
+      (opening_thread system c) system.threads x no_thread no_state known in
       record {
         runs = refl;
         ready = refl;
@@ -94,12 +100,14 @@ module _ (system : System) (x : ℕ) where
             known = known;
             has = let l = length-map system.threads (opening_thread system c) in omega (arith, l, known);
             notes = length-map system.notes (λ _. quiet_note);
-            begins = begins (first system x) (start_at system x) ∙ ap (λ (s : Thread). beginning_of (first system x) s.place.item s.since) (sym state);
+            begins = begins (first system x) (start_at system x) ∙ ap (λ (s : Thread). beginning_of (first system x) s.place.item s.since)
+                (sym state);
           },
           record {
             later = omega arith;
             since = ap (λ (s : Thread). s.since) state;
-            dates = all-dated system c x 0 (start_at system x) system.threads (λ i l e. ap (λ n. (get_or system.threads n no_thread).start) (omega (arith, e)));
+            dates = all-dated system c x 0 (start_at system x) system.threads
+                (λ i l e. ap (λ n. (get_or system.threads n no_thread).start) (omega (arith, e)));
           },
         );
       }
@@ -130,6 +138,7 @@ module _ (system : System) (x : ℕ) where
       outside a b e = grind (arith, nat_tests)
 
       by : (b : Bool) → nat_lt x (length system.threads) ≡ b
-          → Holds system x 0 0 (told_of (opening_as b) (begun_at (first system x) (start_at system x))) (opening_core system (core_of system (thread_part system x)))
+          → Holds system x 0 0 (told_of (opening_as b) (begun_at (first system x) (start_at system x)))
+          (opening_core system (core_of system (thread_part system x)))
       by true e = known-holds (inside x (length system.threads) e)
       by false e = unknown-holds (begun_at (first system x) (start_at system x)) (outside x (length system.threads) e)

@@ -106,7 +106,8 @@ module _ (system : System) (x : ℕ) where
       let noted = with_note note (after_wait (Got word) (turns.queued system y) (note_of k note)) k in
       let given = turns.given t y noted in
       let a = moves_on-aside t y given e in
-      let before = same-trans system x k noted given (same-note system x note (after_wait (Got word) (turns.queued system y) (note_of k note)) k refl) (given-aside t y noted e) in
+      let before = same-trans system x k noted given
+      (same-note system x note (after_wait (Got word) (turns.queued system y) (note_of k note)) k refl) (given-aside t y noted e) in
       record { same = same-trans system x k given (turns.moves_on system t y given).core before a.same; rows = (e, a.rows) }
   waits_as-aside t y note Blocks k e =
       let more = times_queued-append x (note_of k note).waiters (turns.queued system y) in
@@ -119,10 +120,12 @@ module _ (system : System) (x : ℕ) where
   -- another thread, which runs, stops
   pub leaves-aside : (t y n using : ℕ) (cause : Why) (enters : ℕ → Option ℕ → Core → Core) (k : Core)
       → ((date : Option ℕ) (core : Core) → Same system x core (enters y date core))
-      → k.running ≡ Some (record { thread = y; using = using }) → (y == x) ≡ false → Aside system x k (turns.leaves by_priority system t enters y cause n k)
+      → k.running ≡ Some (record { thread = y; using = using }) → (y == x) ≡ false → Aside system x k
+      (turns.leaves by_priority system t enters y cause n k)
   leaves-aside t y n using cause enters k enter r e =
       record {
-        same = same-trans system x k (off k) (enters y (turns.date_of system t y k) (off k)) (same-off system x y using k r e) (enter (turns.date_of system t y k) (off k));
+        same = same-trans system x k (off k) (enters y (turns.date_of system t y k) (off k)) (same-off system x y using k r e)
+            (enter (turns.date_of system t y k) (off k));
         rows = (e, tt);
       }
 
@@ -134,9 +137,14 @@ module _ (system : System) (x : ℕ) where
   stops_to_back-aside t y n using cause k r e =
       let charged = turns.charged system y n k in
       let a = leaves-aside t y n using cause (turns.enters_back by_priority system) charged (λ date core. same-back system x y date core e) r e in
-      record { same = same-trans system x k charged (turns.stops_to_back by_priority system t y cause n k).core (charged-aside y n k) a.same; rows = a.rows }
+      record {
+        same = same-trans system x k charged (turns.stops_to_back by_priority system t y cause n k).core
+            (charged-aside y n k) a.same;
+        rows = a.rows;
+      }
 
-  stops-aside : (y n using : ℕ) (cause : Why) (standing : core_standing.Standing) (k : Core) → k.running ≡ Some (record { thread = y; using = using }) → (y == x) ≡ false
+  stops-aside : (y n using : ℕ) (cause : Why) (standing : core_standing.Standing) (k : Core) → k.running ≡ Some
+      (record { thread = y; using = using }) → (y == x) ≡ false
       → Aside system x k (turns.stops system y cause n standing k)
   stops-aside y n using cause standing k r e =
       let charged = turns.charged system y n k in

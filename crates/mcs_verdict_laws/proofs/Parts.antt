@@ -63,20 +63,24 @@ module _ (system : System) (well : IsWellFormed system) (x : ℕ) where
   posts_as-goes : (from t note badge : ℕ) (post : Posted) (told : Told) (k : Core) → posted badge (note_of k note) ≡ post
       → Holds system x from t told k
       → Goes system x from t told (turns.posts_as by_priority system t note post k)
-  posts_as-goes from t note badge (Held word) told k p h = goes-aside system x from t told k (turns.posts_as by_priority system t note (Held word) k) h (held-aside system x t note word k)
+  posts_as-goes from t note badge (Held word) told k p h =
+      goes-aside system x from t told k (turns.posts_as by_priority system t note (Held word) k) h (held-aside system x t note word k)
   posts_as-goes from t note badge (Woke y word) told k p h = by (y == x) refl
     where
       by : (b : Bool) → (y == x) ≡ b → Goes system x from t told (turns.posts_as by_priority system t note (Woke y word) k)
       by true e =
           let same = equal y x e in
           let waits = woke y word badge (note_of k note).word (note_of k note).waiters p in
-          let own : 1 ≤ times_queued x (note_of k note).waiters = let f = ap (λ z. times_queued z (note_of k note).waiters) same in omega (arith, f, waits) in
+          let alike = ap (λ z. times_queued z (note_of k note).waiters) same in
+          let own : 1 ≤ times_queued x (note_of k note).waiters = omega (arith, alike, waits) in
           let at = times_waiting-at x note k.notes in
           let blocked : told.standing ≡ Blocked = waits_one system well x told.standing (let w = h.waits in omega (arith, w, own, at)) in
           let P : ℕ → Type 0 = λ z. Goes system x from t told (turns.posts_as by_priority system t note (Woke z word) k) in
-          let Q : Standing → Type 0 = λ s. Holds system x from t (told_of s told.begun) k → Goes system x from t (told_of s told.begun) (turns.posts_as by_priority system t note (Woke x word) k) in
+          let Q : Standing → Type 0 = λ s. Holds system x from t (told_of s told.begun) k → Goes system x from t (told_of s told.begun)
+          (turns.posts_as by_priority system t note (Woke x word) k) in
           subst P (sym same) (subst Q (sym blocked) (woken-goes system well x from t note word told.begun k own) h)
-      by false e = goes-aside system x from t told k (turns.posts_as by_priority system t note (Woke y word) k) h (woke-aside system x t note badge y word k p e)
+      by false e = goes-aside system x from t told k (turns.posts_as by_priority system t note (Woke y word) k) h
+          (woke-aside system x t note badge y word k p e)
 
   posts-goes : (from t note badge : ℕ) (told : Told) (k : Core) → Holds system x from t told k
       → Goes system x from t told (turns.posts by_priority system t note badge k)
@@ -87,7 +91,8 @@ module _ (system : System) (well : IsWellFormed system) (x : ℕ) where
   signals-goes from c t y note badge told k h =
       let sent : Turn = record { core = k; rows = []; mails = turns.mail_to system c t note badge ∷ [] } in
       goes-then system x from from t told (says (row.Signal y note badge) k)
-      (λ core. cond ((note_part system note).core == c) (turns.posts by_priority system t note badge core) (record { core = core; rows = []; mails = turns.mail_to system c t note badge ∷ [] }))
+      (λ core. cond ((note_part system note).core == c) (turns.posts by_priority system t note badge core)
+      (record { core = core; rows = []; mails = turns.mail_to system c t note badge ∷ [] }))
       (goes-aside system x from t told k (says (row.Signal y note badge) k) h record { same = same-refl system x k; rows = (tt, tt) })
       (λ last holds. goes_if system x from t last ((note_part system note).core == c) (turns.posts by_priority system t note badge k) sent
       (posts-goes from t note badge last k holds)
@@ -96,14 +101,17 @@ module _ (system : System) (well : IsWellFormed system) (x : ℕ) where
   pub arrives-goes : (from t : ℕ) (mail : Mail) (told : Told) (k : Core) → Holds system x from t told k
       → Goes system x from t told (turns.arrives by_priority system t mail k)
   arrives-goes from t mail told k h =
-      goes-then system x from from t told (says (row.Arrive mail.note mail.badge mail.maker) k) (turns.posts by_priority system t mail.note mail.badge)
-      (goes-aside system x from t told k (says (row.Arrive mail.note mail.badge mail.maker) k) h record { same = same-refl system x k; rows = (tt, tt) })
+      goes-then system x from from t told (says (row.Arrive mail.note mail.badge mail.maker) k)
+      (turns.posts by_priority system t mail.note mail.badge)
+      (goes-aside system x from t told k
+      (says (row.Arrive mail.note mail.badge mail.maker) k) h record { same = same-refl system x k; rows = (tt, tt) })
       (λ last holds. posts-goes from t mail.note mail.badge last k holds)
 
   -- the running thread is this one or another
   split : (from to t : ℕ) (told : Told) (k : Core) (chosen : Chosen) (turn : ℕ → Turn) → k.running ≡ Some chosen → Holds system x from t told k
       → ((chosen.thread == x) ≡ false → Goes system x to t told (turn chosen.thread))
-      → (Holds system x from t (told_of Running told.begun) k → k.running ≡ Some (record { thread = x; using = chosen.using }) → Goes system x to t (told_of Running told.begun) (turn x))
+      → (Holds system x from t (told_of Running told.begun) k → k.running ≡ Some (record { thread = x; using = chosen.using }) → Goes system x to t
+      (told_of Running told.begun) (turn x))
       → Goes system x to t told (turn chosen.thread)
   split from to t told k chosen turn r h other own = by (chosen.thread == x) refl
     where
@@ -140,12 +148,16 @@ module _ (system : System) (well : IsWellFormed system) (x : ℕ) where
       goes-then system x from from t told sent (turns.moves_on system t y) (signals-goes from c t y note badge told k h)
       (λ last holds. goes-aside system x from t last sent.core (turns.moves_on system t y sent.core) holds (moves_on-aside system x t y sent.core e))
   effect-other from c t y (Some (Wait note)) told k e h =
-      goes-aside system x from t told k (turns.waits_as system t y note (waited (note_of k note)) k) h (waits_as-aside system x t y note (waited (note_of k note)) k e)
-  effect-other from c t y (Some (Compute ticks)) told k e h = goes-aside system x from t told k (turns.moves_on system t y k) h (moves_on-aside system x t y k e)
-  effect-other from c t y (Some Yield) told k e h = goes-aside system x from t told k (turns.moves_on system t y k) h (moves_on-aside system x t y k e)
+      goes-aside system x from t told k (turns.waits_as system t y note (waited (note_of k note)) k) h
+      (waits_as-aside system x t y note (waited (note_of k note)) k e)
+  effect-other from c t y (Some (Compute ticks)) told k e h =
+      goes-aside system x from t told k (turns.moves_on system t y k) h (moves_on-aside system x t y k e)
+  effect-other from c t y (Some Yield) told k e h =
+      goes-aside system x from t told k (turns.moves_on system t y k) h (moves_on-aside system x t y k e)
   effect-other from c t y None told k e h = goes-aside system x from t told k (silent k) h (aside-silent system x k k (same-refl system x k))
 
-  finishes-other : (from c t y using held : ℕ) (item : Option Item) (told : Told) (k : Core) → (y == x) ≡ false → k.running ≡ Some (record { thread = y; using = held })
+  finishes-other : (from c t y using held : ℕ) (item : Option Item) (told : Told) (k : Core) → (y == x) ≡ false → k.running ≡ Some
+      (record { thread = y; using = held })
       → Holds system x from t told k → Goes system x from t told (turns.finishes by_priority system c t y using item k)
   finishes-other from c t y using held item told k e r h =
       let effect = turns.takes_effect by_priority system c t y item k in
@@ -168,26 +180,31 @@ module _ (system : System) (well : IsWellFormed system) (x : ℕ) where
       let cause = turns.after_move (turns.move_of system x k) after.GoesOn in
       let a = signals-aside system x c t x note badge k h.waits in
       let holds = holds-same system x from t (told_of Running begun) k sent.core a.same h in
-      let there : begun ≡ Some (thread_of sent.core x).since = begun_there from t begun k h (ap waited_on item) ∙ ap (λ m. Some m) (sym a.same.since) in
+      let there : begun ≡ Some (thread_of sent.core x).since = begun_there from t begun k h (ap waited_on item) ∙ ap (λ m. Some m)
+      (sym a.same.since) in
       let moved : turns.move_of system x sent.core ≡ turns.move_of system x k =
       ap (λ (p : Place). move_after (thread_part system x).script (thread_part system x).rounds p) a.same.place
       in
       let P : Moved → Type 0 =
       λ move. Goes system x from t (told_of Running begun)
-      (turns.moves system t x (turns.move_of system x sent.core) sent.core followed_by turns.may_stop by_priority system t x using (turns.after_move move after.GoesOn))
+      (turns.moves system t x (turns.move_of system x sent.core) sent.core followed_by turns.may_stop by_priority system t x using
+      (turns.after_move move after.GoesOn))
       in
       let q = subst P moved (finish-goes system well x from t using begun sent.core (turns.move_of system x sent.core) after.GoesOn tt holds there) in
       goes-assoc system x from t (told_of Running begun) sent (turns.moves_on system t x) (turns.may_stop by_priority system t x using cause)
       record {
         last = q.last;
-        walks = walks-append x (first system x) t sent.rows _ (told_of Running begun) (told_of Running begun) q.last (walks-other x (first system x) t (told_of Running begun) sent.rows a.rows) q.walks;
+        walks = walks-append x (first system x) t sent.rows _ (told_of Running begun) (told_of Running begun) q.last
+            (walks-other x (first system x) t (told_of Running begun) sent.rows a.rows) q.walks;
         holds = q.holds;
       }
 
   finishes-wait : (from t using note : ℕ) (w : Waited) (begun : Option ℕ) (k : Core) → Holds system x from t (told_of Running begun) k
       → turns.item_of system x k ≡ Some (Wait note)
-      → Goes system x from t (told_of Running begun) (turns.waits_as system t x note w k followed_by turns.may_stop by_priority system t x using (turns.after_waited w))
-  finishes-wait from t using note (Got word) begun k h item = got-goes system well x from t using note word begun k h record { note = note; item = item }
+      → Goes system x from t (told_of Running begun)
+      (turns.waits_as system t x note w k followed_by turns.may_stop by_priority system t x using (turns.after_waited w))
+  finishes-wait from t using note (Got word) begun k h item =
+      got-goes system well x from t using note word begun k h record { note = note; item = item }
   finishes-wait from t using note Blocks begun k h item = blocks-goes system well x from t using note begun k h item
 
   finishes-own : (from c t using : ℕ) (item : Option Item) (begun : Option ℕ) (k : Core) → turns.item_of system x k ≡ item
@@ -217,7 +234,8 @@ module _ (system : System) (well : IsWellFormed system) (x : ℕ) where
       (turns.finishes by_priority system c t y using (turns.item_of system y k) k)
       (turns.may_stop by_priority system t y using after.GoesOn k)
       (finishes-other from c t y using held (turns.item_of system y k) told k e r h)
-      (goes-aside system x from t told k (turns.may_stop by_priority system t y using after.GoesOn k) h (may_stop-aside system x t y using held after.GoesOn k r e))
+      (goes-aside system x from t told k (turns.may_stop by_priority system t y using after.GoesOn k) h
+      (may_stop-aside system x t y using held after.GoesOn k r e))
 
   counts-own : (from t using : ℕ) (begun : Option ℕ) (k : Core) → Holds system x from t (told_of Running begun) k
       → Holds system x from t (told_of Running begun) (turns.counts (record { thread = x; using = using }) k)
@@ -254,16 +272,23 @@ module _ (system : System) (well : IsWellFormed system) (x : ℕ) where
       split from from t told k chosen (λ y. turns.tick_of by_priority system c t (Some (record { thread = y; using = chosen.using })) k) r h
       (λ e. after_count-other from c t chosen.thread (chosen.using + 1) (chosen.using + 1) told (turns.counts chosen k) e refl
       (holds-same system x from t told k (turns.counts chosen k) (counts-other chosen.thread chosen.using k r e) h))
-      (λ holds own. after_count-own from c t (chosen.using + 1) told.begun (turns.counts (record { thread = x; using = chosen.using }) k) (counts-own from t chosen.using told.begun k holds))
+      (λ holds own. after_count-own from c t (chosen.using + 1) told.begun (turns.counts (record { thread = x; using = chosen.using }) k)
+      (counts-own from t chosen.using told.begun k holds))
 
   -- orders, and the thread that gives way
-  stops_to_front-aside : (t y using : ℕ) (order : Bool) (k core : Core) → Same system x k core → core.running ≡ Some (record { thread = y; using = using }) → (y == x) ≡ false
+  stops_to_front-aside : (t y using : ℕ) (order : Bool) (k core : Core) → Same system x k core → core.running ≡ Some
+      (record { thread = y; using = using }) → (y == x) ≡ false
       → Aside system x k (turns.stops_to_front by_priority system t y (cond order why.Order why.Preempt) using core)
   stops_to_front-aside t y using order k core s r e =
       let a =
-      leaves-aside system x t y using using (cond order why.Order why.Preempt) (turns.enters_front by_priority system) core (λ date c. same-front system x y date c e) r e
+      leaves-aside system x t y using using (cond order why.Order why.Preempt) (turns.enters_front by_priority system) core
+      (λ date c. same-front system x y date c e) r e
       in
-      record { same = same-trans system x k core (turns.stops_to_front by_priority system t y (cond order why.Order why.Preempt) using core).core s a.same; rows = a.rows }
+      record {
+        same = same-trans system x k core
+            (turns.stops_to_front by_priority system t y (cond order why.Order why.Preempt) using core).core s a.same;
+        rows = a.rows;
+      }
 
   ordered : (t y using : ℕ) (order : Order) (k : Core) → Same system x k (turns.applied t order (turns.charged system y using k))
   ordered t y using order k =
@@ -273,26 +298,34 @@ module _ (system : System) (well : IsWellFormed system) (x : ℕ) where
   orders_running-goes : (from t : ℕ) (order : Order) (o : Option Chosen) (told : Told) (k : Core) → k.running ≡ o → Holds system x from t told k
       → Goes system x from t told (turns.orders_running by_priority system t order o k)
   orders_running-goes from t order None told k r h =
-      goes-aside system x from t told k (silent (turns.applied t order k)) h (aside-silent system x k (turns.applied t order k) (same-context system x _ _ k))
+      goes-aside system x from t told k (silent (turns.applied t order k)) h
+      (aside-silent system x k (turns.applied t order k) (same-context system x _ _ k))
   orders_running-goes from t order (Some chosen) told k r h =
-      split from from t told k chosen (λ y. turns.orders_running by_priority system t order (Some (record { thread = y; using = chosen.using })) k) r h
+      split from from t told k chosen
+      (λ y. turns.orders_running by_priority system t order (Some (record { thread = y; using = chosen.using })) k) r h
       (λ e. goes-aside system x from t told k (turns.orders_running by_priority system t order (Some chosen) k) h
       (aside_if system x k ((turns.part_of system chosen.thread).context == order.context)
-      (turns.stops_to_front by_priority system t chosen.thread why.Order chosen.using (turns.applied t order (turns.charged system chosen.thread chosen.using k)))
+      (turns.stops_to_front by_priority system t chosen.thread why.Order chosen.using
+      (turns.applied t order (turns.charged system chosen.thread chosen.using k)))
       (silent (turns.applied t order k))
-      (stops_to_front-aside t chosen.thread chosen.using true k (turns.applied t order (turns.charged system chosen.thread chosen.using k)) (ordered t chosen.thread chosen.using order k) r e)
+      (stops_to_front-aside t chosen.thread chosen.using true k (turns.applied t order (turns.charged system chosen.thread chosen.using k))
+      (ordered t chosen.thread chosen.using order k) r e)
       (aside-silent system x k (turns.applied t order k) (same-context system x _ _ k))))
       (λ holds own. goes_if system x from t (told_of Running told.begun) ((turns.part_of system x).context == order.context)
       (turns.stops_to_front by_priority system t x why.Order chosen.using (turns.applied t order (turns.charged system x chosen.using k)))
       (silent (turns.applied t order k))
-      (stops_to_front-goes system x from t chosen.using why.Order told.begun (turns.applied t order (turns.charged system x chosen.using k)) (plain_order x (first system x) t)
-      (holds-same system x from t (told_of Running told.begun) k (turns.applied t order (turns.charged system x chosen.using k)) (ordered t x chosen.using order k) holds))
-      (goes-aside system x from t (told_of Running told.begun) k (silent (turns.applied t order k)) holds (aside-silent system x k (turns.applied t order k) (same-context system x _ _ k))))
+      (stops_to_front-goes system x from t chosen.using why.Order told.begun (turns.applied t order (turns.charged system x chosen.using k))
+      (plain_order x (first system x) t)
+      (holds-same system x from t (told_of Running told.begun) k (turns.applied t order (turns.charged system x chosen.using k))
+      (ordered t x chosen.using order k) holds))
+      (goes-aside system x from t (told_of Running told.begun) k (silent (turns.applied t order k)) holds
+      (aside-silent system x k (turns.applied t order k) (same-context system x _ _ k))))
 
   pub obeys-goes : (from t : ℕ) (order : Order) (told : Told) (k : Core) → Holds system x from t told k
       → Goes system x from t told (turns.obeys by_priority system t order k)
   obeys-goes from t order told k h =
-      goes-then system x from from t told (says (row.Order order.context) k) (λ core. turns.orders_running by_priority system t order core.running core)
+      goes-then system x from from t told (says (row.Order order.context) k)
+      (λ core. turns.orders_running by_priority system t order core.running core)
       (goes-aside system x from t told k (says (row.Order order.context) k) h record { same = same-refl system x k; rows = (tt, tt) })
       (λ last holds. orders_running-goes from t order k.running last k refl holds)
 
@@ -300,20 +333,25 @@ module _ (system : System) (well : IsWellFormed system) (x : ℕ) where
       → Holds system x from t told k
       → Goes system x from t told (turns.preempts_by by_priority system t o best k)
   preempts_by-goes from t (Some chosen) (Some best) told k r h =
-      split from from t told k chosen (λ y. turns.preempts_by by_priority system t (Some (record { thread = y; using = chosen.using })) (Some best) k) r h
+      split from from t told k chosen
+      (λ y. turns.preempts_by by_priority system t (Some (record { thread = y; using = chosen.using })) (Some best) k) r h
       (λ e. goes-aside system x from t told k (turns.preempts_by by_priority system t (Some chosen) (Some best) k) h
       (aside_if system x k (nat_lt (turns.part_of system chosen.thread).priority best.priority)
       (turns.stops_to_front by_priority system t chosen.thread why.Preempt chosen.using (turns.charged system chosen.thread chosen.using k))
       (silent k)
-      (stops_to_front-aside t chosen.thread chosen.using false k (turns.charged system chosen.thread chosen.using k) (charged-aside system x chosen.thread chosen.using k) r e)
+      (stops_to_front-aside t chosen.thread chosen.using false k (turns.charged system chosen.thread chosen.using k)
+      (charged-aside system x chosen.thread chosen.using k) r e)
       (aside-silent system x k k (same-refl system x k))))
       (λ holds own. goes_if system x from t (told_of Running told.begun) (nat_lt (turns.part_of system x).priority best.priority)
       (turns.stops_to_front by_priority system t x why.Preempt chosen.using (turns.charged system x chosen.using k))
       (silent k)
-      (stops_to_front-goes system x from t chosen.using why.Preempt told.begun (turns.charged system x chosen.using k) (plain_preempt x (first system x) t)
-      (holds-same system x from t (told_of Running told.begun) k (turns.charged system x chosen.using k) (charged-aside system x x chosen.using k) holds))
+      (stops_to_front-goes system x from t chosen.using why.Preempt told.begun (turns.charged system x chosen.using k)
+      (plain_preempt x (first system x) t)
+      (holds-same system x from t (told_of Running told.begun) k (turns.charged system x chosen.using k)
+      (charged-aside system x x chosen.using k) holds))
       (goes-aside system x from t (told_of Running told.begun) k (silent k) holds (aside-silent system x k k (same-refl system x k))))
-  preempts_by-goes from t (Some chosen) None told k r h = goes-aside system x from t told k (silent k) h (aside-silent system x k k (same-refl system x k))
+  preempts_by-goes from t (Some chosen) None told k r h =
+      goes-aside system x from t told k (silent k) h (aside-silent system x k k (same-refl system x k))
   preempts_by-goes from t None best told k r h = goes-aside system x from t told k (silent k) h (aside-silent system x k k (same-refl system x k))
 
   -- the choice
@@ -329,9 +367,11 @@ module _ (system : System) (well : IsWellFormed system) (x : ℕ) where
       record {
         same =
             same-trans system x k context _ (same-context system x _ _ k)
-            (same-trans system x context stood _ (same-thread system x best.thread (record (thread_of context best.thread) { standing = core_standing.TheVariants.Running }) context e)
+            (same-trans system x context stood _
+            (same-thread system x best.thread (record (thread_of context best.thread) { standing = core_standing.TheVariants.Running }) context e)
             (same-trans system x stood running _ (same-running system x chosen stood (none ∙ sym (ap (times_running x) r)))
-            (same-ready system x (rest_of k.ready) running (let n : times_queued x (rest_of k.ready) ≡ times_queued x k.ready = omega (arith, rest, none) in n))));
+            (same-ready system x (rest_of k.ready) running
+            (let n : times_queued x (rest_of k.ready) ≡ times_queued x k.ready = omega (arith, rest, none) in n))));
         rows = (e, tt);
       }
 
@@ -361,7 +401,8 @@ module _ (system : System) (well : IsWellFormed system) (x : ℕ) where
   pub chooses_of-goes : (from t : ℕ) (o : Option Chosen) (best : Option Queued) (told : Told) (k : Core) → k.running ≡ o → first_of k.ready ≡ best
       → Holds system x from t told k
       → Goes system x from t told (turns.chooses_of by_priority system t o best k)
-  chooses_of-goes from t (Some chosen) best told k r f h = goes-aside system x from t told k (silent k) h (aside-silent system x k k (same-refl system x k))
+  chooses_of-goes from t (Some chosen) best told k r f h =
+      goes-aside system x from t told k (silent k) h (aside-silent system x k k (same-refl system x k))
   chooses_of-goes from t None None told k r f h = goes-aside system x from t told k (silent k) h (aside-silent system x k k (same-refl system x k))
   chooses_of-goes from t None (Some best) told k r f h = by (best.thread == x) refl
     where
@@ -373,7 +414,8 @@ module _ (system : System) (well : IsWellFormed system) (x : ℕ) where
           let ready : told.standing ≡ Ready = ready_one told.standing (let w = h.ready in omega (arith, w, one, rest)) in
           let P : ℕ → Type 0 = λ z. Goes system x from t told (turns.chooses_of by_priority system t None (Some (record best { thread = z })) k) in
           let Q : Standing → Type 0 =
-          λ s. Holds system x from t (told_of s told.begun) k → Goes system x from t (told_of s told.begun) (turns.chooses_of by_priority system t None (Some (record best { thread = x })) k)
+          λ s. Holds system x from t (told_of s told.begun) k → Goes system x from t (told_of s told.begun)
+          (turns.chooses_of by_priority system t None (Some (record best { thread = x })) k)
           in
           subst P (sym same)
           (subst Q (sym ready)

@@ -123,7 +123,8 @@ module _ (system : System) (well : IsWellFormed system) (x : ℕ) where
   leads-from : (t n a : ℕ) (told : Told) (turn : OwnTurn t told) → a ≤ home → home < a + n → a + n ≤ system.cores
       → Leads x (first system x) told (rows_from t a n) turn.last
   leads-from t zero a told turn before after within = absurd (omega (arith, before, after))
-  leads-from t (suc n) a told turn before after within = by (cases_lt a home) (λ less. leads-from t n (a + 1) told turn (omega (arith, less)) (omega (arith, after)) (omega (arith, within)))
+  leads-from t (suc n) a told turn before after within =
+      by (cases_lt a home) (λ less. leads-from t n (a + 1) told turn (omega (arith, less)) (omega (arith, after)) (omega (arith, within)))
     where
       here : a ≡ home → Walks x (first system x) t told (clocks.turn_of system a t).rows turn.last
       here e = let P : ℕ → Type 0 = λ c. Walks x (first system x) t told (clocks.turn_of system c t).rows turn.last in subst P (sym e) turn.walks
@@ -133,7 +134,8 @@ module _ (system : System) (well : IsWellFormed system) (x : ℕ) where
       by (inl less) rest =
           leads-append x (first system x) (clocks.rows_of system a t) (rows_from t (a + 1) n) told told turn.last
           (leads-stamped x (first system x) a t (clocks.turn_of system a t).rows told told
-          (walks-other x (first system x) t told (clocks.turn_of system a t).rows (other-turn t a (omega (arith, within)) (λ e. omega (arith, less, e)))))
+          (walks-other x (first system x) t told (clocks.turn_of system a t).rows
+          (other-turn t a (omega (arith, within)) (λ e. omega (arith, less, e)))))
           (rest less)
       by (inr at) rest =
           leads-append x (first system x) (clocks.rows_of system a t) (rows_from t (a + 1) n) told turn.last turn.last
@@ -160,14 +162,20 @@ module _ (system : System) (well : IsWellFormed system) (x : ℕ) where
         told = turn.last;
         leads =
             subst P (sym (rows-clock system takes t))
-            (leads-append x (first system x) (clocks.clock system t).rows (rows_from t 0 system.cores) (opening_told system x) r.told turn.last r.leads (leads-moment t r));
+            (leads-append x (first system x) (clocks.clock system t).rows (rows_from t 0 system.cores)
+            (opening_told system x) r.told turn.last r.leads (leads-moment t r));
         holds = now-later system x (suc t) t (suc t) turn.last (core_before (suc t)) (omega arith) turn.holds;
       }
 
   pub reached : (t : ℕ) → Reached t
   reached zero =
       let Q : Core → Type 0 = λ k. Holds system x 0 0 (opening_told system x) k in
-      record { told = opening_told system x; leads = refl; holds = subst Q (sym (core_shown-first system (core_of system (thread_part system x)) home_known)) (opening-holds system x) }
+      record {
+        told = opening_told system x;
+        leads = refl;
+        holds = subst Q
+            (sym (core_shown-first system (core_of system (thread_part system x)) home_known)) (opening-holds system x);
+      }
   reached (suc t) = next t (reached t)
 
   -- after the turn at t
@@ -194,8 +202,10 @@ module _ (system : System) (well : IsWellFormed system) (x : ℕ) where
       let r = reached h in
       record {
         rows = before.rows ++ rows_from h 0 system.cores;
-        more = rows-clock system takes h ∙ ap (λ rows. rows ++ rows_from h 0 system.cores) before.more ∙ append_assoc (clocks.clock system t).rows before.rows (rows_from h 0 system.cores);
-        leads = leads-append x (first system x) before.rows (rows_from h 0 system.cores) (reached t).told r.told (turned h r).last before.leads (leads-moment h r);
+        more = rows-clock system takes h ∙ ap (λ rows. rows ++ rows_from h 0 system.cores) before.more ∙ append_assoc
+            (clocks.clock system t).rows before.rows (rows_from h 0 system.cores);
+        leads = leads-append x (first system x) before.rows (rows_from h 0 system.cores) (reached t).told r.told (turned h r).last before.leads
+            (leads-moment h r);
         moments =
             all-append (λ (q : Row). t ≤ q.moment) before.rows (rows_from h 0 system.cores) before.moments
             (all-later t h (rows_from h 0 system.cores) (omega (arith, e)) (rows-of h system.cores 0));

@@ -62,14 +62,16 @@ module _ (system : System) (well : IsWellFormed system) (x horizon : ℕ) where
       let r = reached system well x (suc t) in
       ap runs_as (tick_told system well x horizon t within)
       ∙ any_opening system x (nat_lt x (length system.threads)) (next_row system well x horizon t within) (rows_of_tick system well x t)
-      ∙ same_runs (settled (next_row system well x horizon t within) (said (opening_standing system x) (rows_of_tick system well x t))) r.told.standing (tick_settles system well x horizon t within)
+      ∙ same_runs (settled (next_row system well x horizon t within)
+      (said (opening_standing system x) (rows_of_tick system well x t))) r.told.standing (tick_settles system well x horizon t within)
       ∙ sym h.runs
 
   counts : (n : ℕ) → n ≤ horizon → (stood_for None (telling x (past_of [] (clocks.schedule system horizon))) 0 n).running ≡ ticks_run system x n
   counts zero h = refl
   counts (suc n) h =
       let rows = telling x (past_of [] (clocks.schedule system horizon)) in
-      let tick : runs_as (standing_at (0 + n) None rows) ≡ runs_as (standing_at n None rows) = ap (λ m. runs_as (standing_at m None rows)) (omega arith) in
+      let tick : runs_as (standing_at (0 + n) None rows) ≡ runs_as (standing_at n None rows) = ap (λ m. runs_as (standing_at m None rows))
+      (omega arith) in
       omega (
         arith,
         running_counted (standing_at (0 + n) None rows) (stood_for None rows 0 n),
@@ -87,7 +89,8 @@ module _ (system : System) (well : IsWellFormed system) (x horizon : ℕ) where
 report-at : (h : ℕ) (rows : List Row) (n : ℕ) (threads : List ThreadPart) (x number : ℕ) → x < length threads → n + x ≡ number
     → get_or (thread_reports h rows n threads) x no_report ≡ thread_report h rows number (get_or threads x no_thread).deadline
 report-at h rows n [] x number known e = absurd (omega (arith, known))
-report-at h rows n (thread ∷ threads) zero number known e = let same : n ≡ number = omega (arith, e) in ap (λ i. thread_report h rows i thread.deadline) same
+report-at h rows n (thread ∷ threads) zero number known e =
+    let same : n ≡ number = omega (arith, e) in ap (λ i. thread_report h rows i thread.deadline) same
 report-at h rows n (thread ∷ threads) (suc x) number known e = report-at h rows (suc n) threads x number (omega (arith, known)) (omega (arith, e))
 
 pub running_ran : RunningIsRan

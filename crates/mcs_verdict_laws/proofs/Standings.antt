@@ -126,7 +126,8 @@ module _ (x : ℕ) where
           past_it a b h = grind (arith, nat_tests)
 
       by : (b : Bool)
-          → standing_at t (first_told next rows) (cond b (r ∷ telling x past) (telling x past)) ≡ standing_at t (cond b (Some r.what) (first_told next rows)) (telling x past)
+          → standing_at t (first_told next rows) (cond b (r ∷ telling x past) (telling x past)) ≡ standing_at t
+          (cond b (Some r.what) (first_told next rows)) (telling x past)
       by true = ap (λ b. cond b (settled (first_told next rows) (standing_after r.what)) (standing_at t (Some r.what) (telling x past))) later_row
       by false = refl
 
@@ -141,8 +142,10 @@ module _ (x : ℕ) where
   -- what rows tell goes along with how the thread stands
   rows_tell : (waits : Option ℕ) (opening : Standing) (past rows : List Row) (before last : Told) → Leads x waits before rows last
       → TellsOf (said opening (telling x past)) before.standing → TellsOf (said opening (telling x (past_of past rows))) last.standing
-  rows_tell waits opening past [] before last leads h = let P : Told → Type 0 = λ told. TellsOf (said opening (telling x past)) told.standing in subst P leads h
-  rows_tell waits opening past (r ∷ rows) before last leads h = rows_tell waits opening (r ∷ past) rows leads.0 last leads.2 (by (tells x r.what) leads.1.passes)
+  rows_tell waits opening past [] before last leads h =
+      let P : Told → Type 0 = λ told. TellsOf (said opening (telling x past)) told.standing in subst P leads h
+  rows_tell waits opening past (r ∷ rows) before last leads h =
+      rows_tell waits opening (r ∷ past) rows leads.0 last leads.2 (by (tells x r.what) leads.1.passes)
     where
       by : (b : Bool) → Passes b before.standing r.what leads.0.standing
           → TellsOf (said opening (cond b (r ∷ telling x past) (telling x past))) leads.0.standing
@@ -202,7 +205,8 @@ module _ (system : System) (well : IsWellFormed system) (x : ℕ) where
       let h = after system well x t in
       let told = (reached system well x (suc t)).told in
       let core = clocks.core_at system (clocks.world system (suc t)) (core_of system (thread_part system x)) in
-      counts_tell (times_running x core.running) (times_queued x core.ready) (times_dated x core.releases) (times_waiting x core.notes) _ told.standing
+      counts_tell (times_running x core.running) (times_queued x core.ready) (times_dated x core.releases)
+      (times_waiting x core.notes) _ told.standing
       h.runs (sym (sorted-queued x core.ready) ∙ h.ready) h.dated h.waits
       (λ one. dated_tell t told.standing told.begun (core_before system well x (suc t)) h.own (sym h.dated ∙ one))
       (not_woken t told.standing told.begun (core_before system well x (suc t)) h.own)
@@ -219,14 +223,16 @@ module _ (system : System) (well : IsWellFormed system) (x : ℕ) where
   unfolding rows_of_tick
   up_to_tick t =
       let r = reached system well x (suc t) in
-      rows_tell x (first system x) (opening_standing system x) [] (clocks.clock system (suc t)).rows (opening_told system x) r.told r.leads (opening_tells (nat_lt x (length system.threads)))
+      rows_tell x (first system x) (opening_standing system x) [] (clocks.clock system (suc t)).rows (opening_told system x) r.told r.leads
+      (opening_tells (nat_lt x (length system.threads)))
 
   pub next_row : (horizon t : ℕ) → t ≤ horizon → Option What
   next_row horizon t within = first_told x None (later system well x (horizon - t) (suc t) (suc horizon) (omega (arith, within))).rows
 
   -- how it stands in a tick by the rows of a whole schedule
   pub tick_told : (horizon t : ℕ) (within : t ≤ horizon)
-      → standing_at t None (telling x (past_of [] (clocks.schedule system horizon))) ≡ settled (next_row horizon t within) (said Pending (rows_of_tick t))
+      → standing_at t None (telling x (past_of [] (clocks.schedule system horizon))) ≡ settled (next_row horizon t within)
+      (said Pending (rows_of_tick t))
   unfolding next_row rows_of_tick
   tick_told horizon t within =
       let l = later system well x (horizon - t) (suc t) (suc horizon) (omega (arith, within)) in
@@ -237,7 +243,8 @@ module _ (system : System) (well : IsWellFormed system) (x : ℕ) where
       ∙ reads_last x t (first_told x None l.rows) (telling x (past_of [] (clocks.clock system (suc t)).rows)) early
 
   pub tick_settles : (horizon t : ℕ) (within : t ≤ horizon)
-      → TellsOf (settled (next_row horizon t within) (said (opening_standing system x) (rows_of_tick t))) (reached system well x (suc t)).told.standing
+      → TellsOf (settled (next_row horizon t within) (said (opening_standing system x) (rows_of_tick t)))
+      (reached system well x (suc t)).told.standing
   unfolding next_row
   tick_settles horizon t within =
       let l = later system well x (horizon - t) (suc t) (suc horizon) (omega (arith, within)) in
@@ -248,7 +255,8 @@ module _ (system : System) (well : IsWellFormed system) (x : ℕ) where
 pub standings : StandingsAreTheClocks
 standings system well horizon t x within known =
     let P : Bool → Type 0 =
-    λ b. TellsOf (settled (next_row system well x horizon t within) (said (opening_as system x b) (rows_of_tick system well x t))) (reached system well x (suc t)).told.standing
+    λ b. TellsOf (settled (next_row system well x horizon t within) (said (opening_as system x b) (rows_of_tick system well x t)))
+    (reached system well x (suc t)).told.standing
     in
     let Q : Standing → Type 0 = λ s. TellsOf s (reached system well x (suc t)).told.standing in
     let R : Standing → Type 0 = λ s. TellsOf (standing_at t None (telling x (past_of [] (clocks.schedule system horizon)))) s in

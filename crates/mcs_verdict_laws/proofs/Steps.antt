@@ -81,6 +81,10 @@ module _ (x : ℕ) (waits : Option ℕ) where
   walks-append t [] more a b c first second = let P : Told → Type 0 = λ d. Walks t d more c in subst P (sym first) second
   walks-append t (what ∷ rows) more a b c first second = (first.0, first.1, walks-append t rows more first.0 b c first.2 second)
 
+  contrary : (b : Bool) → b ≡ false → b ≡ true → ⊥
+  contrary true e f = let g : true ≡ false = e in cc
+  contrary false e f = let g : false ≡ true = f in cc
+
   -- rows of others change nothing
   untold : (b : Bool) (s : Standing) (what : What) → b ≡ false → Passes b s what s
   untold true s what e = absurd (let g : true ≡ false = e in cc)
@@ -97,7 +101,13 @@ module _ (x : ℕ) (waits : Option ℕ) where
 
   step-other : (t : ℕ) (told : Told) (what : What) → IsOther x what → Step t told what told
   step-other t told (row.Release y) e =
-      record { passes = untold (y == x) told.standing (row.Release y) e; begins = refl; timed = tt; alive = λ f. e; allows = λ f. absurd (let g : true ≡ false = sym f ∙ e in cc) }
+      record {
+        passes = untold (y == x) told.standing (row.Release y) e;
+        begins = refl;
+        timed = tt;
+        alive = λ f. e;
+        allows = λ f. absurd (contrary (y == x) e f);
+      }
   step-other t told (row.Run y) e =
       record { passes = untold (y == x) told.standing (row.Run y) e; begins = refl; timed = tt; alive = λ f. e; allows = tt }
   step-other t told (row.Stop y cause charged until) e =
@@ -112,7 +122,13 @@ module _ (x : ℕ) (waits : Option ℕ) where
       record { passes = untold (y == x) told.standing (row.Wake y note word) e; begins = rw e refl; timed = tt; alive = λ f. e; allows = tt }
   step-other t told (row.Got y note word) e = record { passes = refl; begins = rw e refl; timed = tt; alive = λ f. e; allows = tt }
   step-other t told (row.Round y number response) e =
-      record { passes = refl; begins = rw e refl; timed = λ f. absurd (let g : true ≡ false = sym f ∙ e in cc); alive = λ f. e; allows = λ f. absurd (let g : true ≡ false = sym f ∙ e in cc) }
+      record {
+        passes = refl;
+        begins = rw e refl;
+        timed = λ f. absurd (contrary (y == x) e f);
+        alive = λ f. e;
+        allows = λ f. absurd (contrary (y == x) e f);
+      }
   step-other t told (row.Signal y note badge) e = record { passes = refl; begins = refl; timed = tt; alive = λ f. tt; allows = tt }
   step-other t told (row.Arrive note badge maker) e = record { passes = refl; begins = refl; timed = tt; alive = λ f. tt; allows = tt }
   step-other t told (row.Hold note word) e = record { passes = refl; begins = refl; timed = tt; alive = λ f. tt; allows = tt }

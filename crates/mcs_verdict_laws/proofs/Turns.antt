@@ -88,7 +88,8 @@ module _ (system : System) (x : ℕ) where
   none-released : (from t : ℕ) (xs : List Dated) (told : Told) (k : Core) → times_dated x xs ≡ 0 → Holds system x from t told k
       → Goes system x from t told (each (turns.released by_priority system) xs k)
   none-released from t [] told k none h = goes-aside system x from t told k (silent k) h record { same = same-refl system x k; rows = tt }
-  none-released from t (d ∷ xs) told k none h = by (d.thread == x) refl none (λ last empty holds. none-released from t xs last (turns.released by_priority system d k).core empty holds)
+  none-released from t (d ∷ xs) told k none h =
+      by (d.thread == x) refl none (λ last empty holds. none-released from t xs last (turns.released by_priority system d k).core empty holds)
     where
       by : (b : Bool) → (d.thread == x) ≡ b → cond b 1 0 + times_dated x xs ≡ 0
           → ((last : Told) → times_dated x xs ≡ 0 → Holds system x from t last (turns.released by_priority system d k).core
@@ -97,7 +98,8 @@ module _ (system : System) (x : ℕ) where
       by true e f rest = absurd (omega (arith, f))
       by false e f rest =
           let next = turns.released by_priority system d k in
-          goes-then system x from from t told next (each (turns.released by_priority system) xs) (goes-aside system x from t told k next h (released-aside d k e))
+          goes-then system x from from t told next (each (turns.released by_priority system) xs)
+          (goes-aside system x from t told k next h (released-aside d k e))
           (λ last holds. rest last (omega (arith, f)) holds)
 
   -- .. or is
@@ -106,9 +108,11 @@ module _ (system : System) (x : ℕ) where
       → Loose system x t begun k → Goes system x from t (told_of standing begun) (each (turns.released by_priority system) xs k)
   one-released from t [] standing begun k was early one l = absurd (omega (arith, one))
   one-released from t (d ∷ xs) standing begun k was early one l =
-      by (d.thread == x) refl one (λ another loose. one-released from t xs standing begun (turns.released by_priority system d k).core was early another loose)
+      by (d.thread == x) refl one
+      (λ another loose. one-released from t xs standing begun (turns.released by_priority system d k).core was early another loose)
     where
-      own : times_dated x xs ≡ 0 → Goes system x from t (told_of standing begun) (turns.released by_priority system (record d { thread = x }) k followed_by each (turns.released by_priority system) xs)
+      own : times_dated x xs ≡ 0 → Goes system x from t (told_of standing begun)
+          (turns.released by_priority system (record d { thread = x }) k followed_by each (turns.released by_priority system) xs)
       own none =
           let next = turns.released by_priority system (record d { thread = x }) k in
           let first : Goes system x from t (told_of standing begun) next =
@@ -127,7 +131,8 @@ module _ (system : System) (x : ℕ) where
           → Goes system x from t (told_of standing begun) (each (turns.released by_priority system) (d ∷ xs) k)
       by true e f rest =
           let P : ℕ → Type 0 =
-          λ z. Goes system x from t (told_of standing begun) (turns.released by_priority system (record d { thread = z }) k followed_by each (turns.released by_priority system) xs)
+          λ z. Goes system x from t (told_of standing begun)
+          (turns.released by_priority system (record d { thread = z }) k followed_by each (turns.released by_priority system) xs)
           in
           subst P (sym (equal d.thread x e)) (own (omega (arith, f)))
       by false e f rest =
@@ -136,7 +141,8 @@ module _ (system : System) (x : ℕ) where
           let q = rest (omega (arith, f)) (loose-same system x t begun k next.core a.same l) in
           record {
             last = q.last;
-            walks = walks-append x (first system x) t next.rows _ (told_of standing begun) (told_of standing begun) q.last (walks-other x (first system x) t (told_of standing begun) next.rows a.rows) q.walks;
+            walks = walks-append x (first system x) t next.rows _ (told_of standing begun) (told_of standing begun) q.last
+                (walks-other x (first system x) t (told_of standing begun) next.rows a.rows) q.walks;
             holds = q.holds;
           }
 
@@ -156,7 +162,8 @@ module _ (system : System) (x : ℕ) where
       by Done h o = o
 
   -- those that are left
-  left-same : (t : ℕ) (k : Core) → times_dated x (filter (is_due t) k.releases) ≡ 0 → Same system x k (record k { releases = filter (λ dated. not (is_due t dated)) k.releases })
+  left-same : (t : ℕ) (k : Core) → times_dated x (filter (is_due t) k.releases) ≡ 0 → Same system x k
+      (record k { releases = filter (λ dated. not (is_due t dated)) k.releases })
   left-same t k none =
       let all = due-left x t k.releases in
       record {
@@ -247,7 +254,8 @@ module _ (system : System) (x : ℕ) where
       let d = h.dated in
       let empty : times_dated x (filter (is_due t) k.releases) ≡ 0 = omega (arith, all, d, none) in
       not-due t (told_of standing begun) k empty
-      (later-holds t (suc t) t standing begun (left t k) other (holds-same system x t t (told_of standing begun) k (left t k) (left-same t k empty) h))
+      (later-holds t (suc t) t standing begun (left t k) other
+      (holds-same system x t t (told_of standing begun) k (left t k) (left-same t k empty) h))
 
   -- the first round of a pending thread begins at its start, if it has begun
   at_start : (waits : Option ℕ) (item since beginning : ℕ) → beginning_of waits item since ≡ Some beginning → since ≡ beginning
@@ -280,7 +288,8 @@ module _ (system : System) (x : ℕ) where
           → Goes system x (suc t) t (told_of Throttled begun) (turns.releases by_priority system t k)
       by (inl none) =
           not-due t (told_of Throttled begun) k none
-          (later-holds t (suc t) t Throttled begun (left t k) (λ e. cc) (holds-same system x t t (told_of Throttled begun) k (left t k) (left-same t k none) h))
+          (later-holds t (suc t) t Throttled begun (left t k) (λ e. cc)
+          (holds-same system x t t (told_of Throttled begun) k (left t k) (left-same t k none) h))
       by (inr one) = is-due t Throttled begun k (inr refl) (λ e. absurd (cc)) one (loose-left t begun k Throttled (inr refl) one h h.own.0 h.own.1)
   releases-as t Pending begun k h = by (due-cases t k (let d = h.dated in omega (arith, d)))
     where
@@ -325,7 +334,8 @@ module _ (system : System) (well : IsWellFormed system) (c t x : ℕ) where
       (goes-then system x t t t told one (each (turns.arrives by_priority system t) mails)
       (tick_of-goes system well x t c t k.running told k refl h)
       (λ last holds. goes-each system x t t (turns.arrives by_priority system t) (arrives-goes system well x t t) mails last one.core holds))
-      (λ last holds. goes-each system x t t (turns.obeys by_priority system t) (obeys-goes system well x t t) (filter (is_for_now system c t) system.orders) last two.core holds))
+      (λ last holds. goes-each system x t t (turns.obeys by_priority system t) (obeys-goes system well x t t)
+      (filter (is_for_now system c t) system.orders) last two.core holds))
       (λ last holds. releases-as system x t last.standing last.begun three.core holds))
       (λ last holds. preempts_by-goes system well x (suc t) t four.core.running (first_of four.core.ready) last four.core refl holds))
       (λ last holds. chooses_of-goes system well x (suc t) t five.core.running (first_of five.core.ready) last five.core refl refl holds)

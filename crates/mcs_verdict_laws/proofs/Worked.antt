@@ -27,7 +27,17 @@ thread context priority start rounds script =
 
 abbrev one_core : List ContextPart → List ThreadPart → System
 one_core contexts threads =
-    record { cores = 1; delay = 1; call = 1; min_budget = 1; contexts = contexts; notes = record { name = []; core = 0 } ∷ []; threads = threads; orders = []; links = [] }
+    record {
+      cores = 1;
+      delay = 1;
+      call = 1;
+      min_budget = 1;
+      contexts = contexts;
+      notes = record { name = []; core = 0 } ∷ [];
+      threads = threads;
+      orders = [];
+      links = [];
+    }
 
 -- by the rows up to a horizon
 abbrev told : System → ℕ → ℕ → ℕ → Standing
