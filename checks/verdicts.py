@@ -3,7 +3,7 @@
 
 Each random system has deadlines, signals that are lost or merged, orders, and contexts without a thread; it is checked as it is, and once more with
 some of the words --workers, --strict and --allow-lost, and some with a notification that it has not. A system that mcsim refuses is refused with the
-same fault. Two laws of the rows are tried meanwhile, of which no proof speaks: a round's parts are the ticks of its response in its `round` row, and
+same fault. Two laws of schedules are tried meanwhile on what is written: a round's parts are the ticks of its response in its `round` row, and
 the ticks in which the rows say that a thread runs are those of the reports. Then come systems of this repository whose findings are known. A kind of
 finding, of a part or of a status that was seen nowhere is a failure: a test that sees nothing of it tells nothing."""
 from __future__ import annotations

@@ -17,7 +17,8 @@ pub fn responses_are_told()
     ensures { ResponsesAreTold }
 {}
 
-/// So the parts of each round, as its job has them, sum to the response of its `round` row.
+/// So the parts of each round, as its job has them, sum to the response of its `round` row: they are ready, running, throttled and blocked ticks, and
+/// in none the thread was pending, woken or done.
 pub fn parts_sum_to_responses()
     ensures { PartsSumToResponses }
 {}
