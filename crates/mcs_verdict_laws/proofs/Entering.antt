@@ -1,5 +1,5 @@
 -- The thread itself enters, stops, and goes through its script.
-use Rattle.std.proofs.Common.{◌≡◌, ◌≢◌, ℕ, ◌+◌, ◌<◌, ◌≤◌, ◌⊎◌, inl, inr, Bool, true, false, cond, ◌==◌, length, Option, Some, None, refl, sym, ap, ◌∙◌, arith}
+use Rattle.std.proofs.Common.{◌≡◌, ℕ, ◌+◌, ◌<◌, ◌≤◌, ◌⊎◌, inl, inr, Bool, true, false, cond, ◌==◌, length, Option, Some, None, refl, sym, ap, ◌∙◌, arith}
 use Rattle.std.proofs.lemmas.Bool.Decides.{nat_tests}
 use Rattle.std.proofs.lemmas.List.{get_or-set_same}
 use Rattle.std.proofs.Math.ListN.{length-set}
@@ -75,9 +75,6 @@ module _ (x : ℕ) (waits : Option ℕ) (t : ℕ) where
   passes_own : (b : Bool) (before after : Standing) (what : What) → b ≡ true → Turns before what after → Passes b before what after
   passes_own true before after what e h = h
   passes_own false before after what e h = absurd (let g : false ≡ true = e in cc)
-
-  not_done : (standing : Standing) → standing ≡ Running → standing ≢ Done
-  not_done standing e f = let g : Running ≡ Done = sym e ∙ f in cc
 
   pub step-stop : (n : ℕ) (cause : Why) (date : Option ℕ) (standing : Standing) (begun ended : Option ℕ) → standing ≡ standing_stopped cause date
       → ended ≡ begun_after waits x t (row.Stop x cause n date) begun
