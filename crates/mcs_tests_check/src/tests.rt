@@ -183,7 +183,7 @@ impl Progress for Told {
     }
 }
 
-fn told(
+fn progress_of(
     rt: &(impl Threads + Wait + Sync),
     alloc: Global,
     system: &str,
@@ -204,9 +204,9 @@ fn told(
 // What was shown gives way before each piece that is written, and at the end: two lines are two pieces.
 #[test]
 fn what_was_shown_gives_way(rt: HostRuntime) -> Result<(), Fail> {
-    let none = told(&rt, rt.alloc(), SIGNALS, &options(rt.alloc(), 0, 1, &[])?)?;
+    let none = progress_of(&rt, rt.alloc(), SIGNALS, &options(rt.alloc(), 0, 1, &[])?)?;
     assert_eq!(rt; (none.passed, none.wiped), (0, 1));
-    let two = told(&rt, rt.alloc(), SIGNALS, &options(rt.alloc(), 5, 1, &[])?)?;
+    let two = progress_of(&rt, rt.alloc(), SIGNALS, &options(rt.alloc(), 5, 1, &[])?)?;
     assert_eq!(rt; (two.passed, two.wiped), (0, 3));
     Ok(())
 }
@@ -215,7 +215,7 @@ fn what_was_shown_gives_way(rt: HostRuntime) -> Result<(), Fail> {
 // time between 9,000 and 10,000.
 #[test]
 fn a_long_run_is_told_of(rt: HostRuntime) -> Result<(), Fail> {
-    let long = told(
+    let long = progress_of(
         &rt,
         rt.alloc(),
         SIGNALS,
