@@ -251,17 +251,22 @@ fn files_and_the_input(rt: HostRuntime) -> Result<(), Fail> {
     Ok(())
 }
 
-#[test]
-fn all_that_is_found_in_rows(rt: HostRuntime) -> Result<(), Fail> {
-    let system = load(rt.alloc(), SIGNALS.as_bytes())?;
-    let rows = [1, 3].map(|moment| Row {
-        moment: Tick::new(moment).unwrap(),
+/// A signal that a notification holds.
+fn hold(moment: Tick) -> Row {
+    Row {
+        moment,
         core: CoreId(0),
         what: What::Hold {
             note: NoteId(0),
             word: 1,
         },
-    });
+    }
+}
+
+#[test]
+fn all_that_is_found_in_rows(rt: HostRuntime) -> Result<(), Fail> {
+    let system = load(rt.alloc(), SIGNALS.as_bytes())?;
+    let rows = [hold(Tick::new(1).unwrap()), hold(Tick::new(3).unwrap())];
     let found = find_all(rt.alloc(), &system, Tick::new(5).unwrap(), rows.as_slice())?;
     let lost = Found {
         moment: Tick::new(3).unwrap(),
