@@ -5,8 +5,7 @@ use mcs_check_words::Options;
 use mcs_cli::{FromRead, IntoWrite, RunFault};
 use mcs_hints::{Hint, hints};
 use mcs_load::load;
-use mcs_ticks::{CoreId, NoteId, Row, Tick, What};
-use mcs_verdict::{Finding, Found, find_all};
+use mcs_ticks::{NoteId, Tick};
 use std::alloc::Global;
 use std::process::Abort;
 use std::rt::Files;
@@ -248,35 +247,6 @@ fn files_and_the_input(rt: HostRuntime) -> Result<(), Fail> {
         Ok(counts) => assert_eq!(rt; (counts.missed, counts.is_clean(false)), (1, false)),
         Err(_) => rt.abort(),
     }
-    Ok(())
-}
-
-/// A signal that a notification holds.
-fn hold(moment: Tick) -> Row {
-    Row {
-        moment,
-        core: CoreId(0),
-        what: What::Hold {
-            note: NoteId(0),
-            word: 1,
-        },
-    }
-}
-
-#[test]
-fn all_that_is_found_in_rows(rt: HostRuntime) -> Result<(), Fail> {
-    let system = load(rt.alloc(), SIGNALS.as_bytes())?;
-    let rows = [hold(Tick::new(1).unwrap()), hold(Tick::new(3).unwrap())];
-    let found = find_all(rt.alloc(), &system, Tick::new(5).unwrap(), rows.as_slice())?;
-    let lost = Found {
-        moment: Tick::new(3).unwrap(),
-        core: CoreId(0),
-        finding: Finding::Lost {
-            note: NoteId(0),
-            word: 1,
-        },
-    };
-    assert_eq!(rt; found.as_slice(), [lost].as_slice());
     Ok(())
 }
 
