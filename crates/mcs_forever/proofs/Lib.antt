@@ -1,0 +1,11 @@
+pub mod Sound
+pub mod Dates
+pub mod Parts
+pub mod Turns
+pub mod Always
+pub mod Home
+pub mod Proper
+pub mod Worlds
+pub mod Schedules
+pub mod Repeats
+pub mod Worked

@@ -1,0 +1,180 @@
+-- Worked systems that recur. In the first one a context falls back for ever: H has half of the core, and L, which may have three quarters of it,
+-- has what is left. From moment 13 on all is repeated after 12 ticks, but the dates of L's context are only 8 later.
+use Rattle.std.proofs.Common.{◌≡◌, ℕ, zero, suc, ◌+◌, ◌<◌, ◌≤◌, ◌⊎◌, inl, inr, Bool, true, false, cond, List, [], ◌∷◌, refl, sym, ap, subst, ◌∙◌, Some, arith}
+use Rattle.std.specs.Prelude.{◌==◌}
+use Rattle.std.proofs.lemmas.Bool.Decides.{nat_tests}
+use Rattle.std.specs.List.{AllByRecursion}
+use Rattle.mcs_ticks.specs.declared.row.What.{What}
+use Rattle.mcs_control.specs.declared.config.Mode.TheVariants.{Sporadic}
+use Rattle.mcs_script.specs.declared.item.Item.TheVariants.{Compute}
+use Rattle.mcs_system.specs.System.{System, thread_part}
+use Rattle.mcs_system.specs.WellFormed.{IsWellFormed}
+use Rattle.mcs_core.specs.Clock.{turn_of, world, core_at}
+use Rattle.mcs_core.specs.Core.{Core}
+use Rattle.mcs_core.specs.declared.standing.Standing.TheVariants.{Running, Ready}
+use Rattle.mcs_control.specs.Context.Budget.{Dates}
+use Rattle.mcs_forever.specs.Later.{KeepsUp, IsShift, later_core}
+use Rattle.mcs_forever.specs.Recurs.{Shifts, shift_of, Recurs}
+use Rattle.mcs_forever.specs.laws.Repeats.{IsNeverLate, EndsNoRound}
+use Rattle.mcs_forever.proofs.Repeats.{never-late, no-round-ends-again}
+
+abbrev pub worked : System
+worked =
+    record {
+      cores = 1;
+      delay = 1;
+      call = 1;
+      min_budget = 1;
+      contexts = record { name = 104 ∷ []; core = 0; config = record { budget = 2; period = 4; extra = 0 }; mode = Sporadic }
+          ∷ record { name = 108 ∷ []; core = 0; config = record { budget = 3; period = 4; extra = 0 }; mode = Sporadic } ∷ [];
+      notes = [];
+      threads = record { name = 72 ∷ []; context = 0; priority = 5; start = 0; rounds = 0; deadline = 4; script = Compute 2 ∷ [] }
+          ∷ record { name = 76 ∷ []; context = 1; priority = 1; start = 0; rounds = 0; deadline = 0; script = Compute 3 ∷ [] } ∷ [];
+      orders = [];
+      links = [];
+    }
+
+abbrev lag : ℕ → ℕ
+lag k = cond (k == 1) 8 12
+
+abbrev more : ℕ → ℕ
+more x = cond (x == 0) 3 (cond (x == 1) 2 0)
+
+abbrev pub shifts : Shifts
+shifts = record { by = 12; contexts = λ c k. lag k; threads = λ c x. 12; rounds = λ c x. more x }
+
+abbrev all : ℕ → Bool
+all c = true
+
+-- what holds of n moments from a on
+abbrev AllIn : (ℕ → Type 0) → ℕ → ℕ → Type 0
+AllIn P a zero = Unit {0}
+AllIn P a (suc n) = P a × AllIn P (a + 1) n
+
+between : (P : ℕ → Type 0) (n a t : ℕ) → AllIn P a n → a ≤ t → t < a + n → P t
+between P zero a t h l m = absurd (omega (arith, l, m))
+between P (suc n) a t h l m = by (a == t) refl (λ p q. between P n (a + 1) t h.1 p q)
+  where
+    by : (b : Bool) → (a == t) ≡ b → (a + 1 ≤ t → t < a + 1 + n → P t) → P t
+    by true e i = let same : a ≡ t = grind (arith, nat_tests) in subst P same h.0
+    by false e i = i (grind (arith, nat_tests)) (omega (arith, m))
+
+is_shift : (c : ℕ) → IsShift worked (shift_of shifts c)
+is_shift c = record { lags = λ k. by (k == 1); endless = endless }
+  where
+    by : (b : Bool) → cond b 8 12 ≤ 12
+    by true = omega arith
+    by false = omega arith
+
+    endless : (x : ℕ) → (more x ≡ 0) ⊎ ((thread_part worked x).rounds ≡ 0)
+    endless zero = inr refl
+    endless (suc zero) = inr refl
+    endless (suc (suc x)) = inr refl
+
+only : (c : ℕ) → c < 1 → 0 ≡ c
+only c l = omega (arith, l)
+
+-- the core before moment 13: H runs, just chosen, and L is ready
+abbrev core_as : ℕ → ℕ → ℕ → ℕ → List ℕ → List ℕ → Core
+core_as h l since began dates lagging =
+    record {
+      running = Some (record { thread = 0; using = 0 });
+      threads = record { standing = Running; place = record { round = h; item = 0; left = 2 }; since = since }
+          ∷ record { standing = Ready; place = record { round = l; item = 0; left = 3 }; since = began } ∷ [];
+      ready = record { thread = 1; priority = 1 } ∷ [];
+      releases = [];
+      contexts = Some (record { config = record { budget = 2; period = 4; extra = 0 }; mode = Sporadic; budget = Dates dates })
+          ∷ Some (record { config = record { budget = 3; period = 4; extra = 0 }; mode = Sporadic; budget = Dates lagging }) ∷ [];
+      notes = [];
+    }
+
+abbrev core_13 : Core
+core_13 = core_as 4 3 10 12 (12 ∷ 13 ∷ []) (8 ∷ 9 ∷ 10 ∷ [])
+
+abbrev core_25 : Core
+core_25 = core_as 7 5 22 24 (24 ∷ 25 ∷ []) (16 ∷ 17 ∷ 18 ∷ [])
+
+at-13 : core_at worked (world worked 13) 0 ≡ core_13
+at-13 = refl
+
+at-25 : core_at worked (world worked 25) 0 ≡ core_25
+at-25 = refl
+
+moved : core_25 ≡ later_core (shift_of shifts 0) core_13
+moved = refl
+
+first-again : core_at worked (world worked 25) 0 ≡ later_core (shift_of shifts 0) (core_at worked (world worked 13) 0)
+first-again = at-25 ∙ moved ∙ ap (later_core (shift_of shifts 0)) (sym at-13)
+
+abbrev KeepUp : List What → Type 0
+KeepUp rows = AllByRecursion (KeepsUp worked (shift_of shifts 0)) rows
+
+first-rows : AllIn (λ t. KeepUp (turn_of worked 0 t).rows) 13 12
+first-rows = (tt, ((refl, (refl, (inr refl, tt))), (tt, ((tt, (tt, (inr refl, tt))), (tt, ((refl, (refl, (inr refl, tt))), ((refl, (tt, (inr refl, tt))), ((tt, (tt, (inr refl, tt))), (tt, ((refl, (refl, (inr refl, tt))), (tt, ((refl, (tt, (tt, (inr refl, tt)))), tt))))))))))))
+
+pub recurs : Recurs worked all shifts 13
+recurs =
+    record {
+      closed = λ thread place note badge known item own. refl;
+      some = omega arith;
+      shift = is_shift;
+      orders = tt;
+      again = record {
+        cores = λ c l own. let P : ℕ → Type 0 = λ c. core_at worked (world worked 25) c ≡ later_core (shift_of shifts c) (core_at worked (world worked 13) c) in subst P (only c l) first-again;
+        mails = refl;
+      };
+      rows = λ t c l m known own.
+          let P : ℕ → Type 0 = λ c. AllByRecursion (KeepsUp worked (shift_of shifts c)) (turn_of worked c t).rows in
+          subst P (only c known) (between (λ t. KeepUp (turn_of worked 0 t).rows) 12 13 t first-rows l m);
+    }
+
+-- so H, whose deadline is 4, is never late
+pub never : IsWellFormed worked → (horizon : ℕ) → IsNeverLate worked all horizon
+never well horizon = never-late worked all shifts 13 well recurs first horizon
+  where
+    first : IsNeverLate worked all 25
+    first = (refl, (refl, (refl, (refl, (refl, (refl, (refl, (refl, (refl, (refl, (refl, (refl, (refl, (refl, (refl, (refl, (refl, (refl, (refl, (refl, (refl, (refl, (refl, (refl, (refl, (refl, (refl, (refl, (refl, (refl, (refl, (refl, (refl, (refl, (refl, (refl, (refl, (refl, (refl, (refl, (refl, (refl, (refl, (refl, (refl, (refl, (refl, tt)))))))))))))))))))))))))))))))))))))))))))))))
+
+-- A system that has come to rest recurs at each moment: its one thread ends its one round at moment 1. Nothing of it is later any more, and
+-- nothing is compared with now.
+abbrev pub ended : System
+ended =
+    record {
+      cores = 1;
+      delay = 1;
+      call = 1;
+      min_budget = 1;
+      contexts = record { name = 107 ∷ []; core = 0; config = record { budget = 2; period = 4; extra = 0 }; mode = Sporadic } ∷ [];
+      notes = [];
+      threads = record { name = 84 ∷ []; context = 0; priority = 5; start = 0; rounds = 1; deadline = 4; script = Compute 1 ∷ [] } ∷ [];
+      orders = [];
+      links = [];
+    }
+
+abbrev pub at_rest : Shifts
+at_rest = record { by = 1; contexts = λ c k. 0; threads = λ c x. 0; rounds = λ c x. 0 }
+
+rest-2 : core_at ended (world ended 3) 0 ≡ later_core (shift_of at_rest 0) (core_at ended (world ended 2) 0)
+rest-2 = refl
+
+pub rests : Recurs ended all at_rest 2
+rests =
+    record {
+      closed = λ thread place note badge known item own. refl;
+      some = omega arith;
+      shift = λ c. record { lags = λ k. omega arith; endless = λ x. inl refl };
+      orders = tt;
+      again = record {
+        cores = λ c l own. let P : ℕ → Type 0 = λ c. core_at ended (world ended 3) c ≡ later_core (shift_of at_rest c) (core_at ended (world ended 2) c) in subst P (only c l) rest-2;
+        mails = refl;
+      };
+      rows = λ t c l m known own.
+          let same : 2 ≡ t = omega (arith, l, m) in
+          let P : ℕ → Type 0 = λ c. AllByRecursion (KeepsUp ended (shift_of at_rest c)) (turn_of ended c t).rows in
+          let Q : ℕ → Type 0 = λ t. AllByRecursion (KeepsUp ended (shift_of at_rest 0)) (turn_of ended 0 t).rows in
+          subst P (only c known) (subst Q same tt);
+    }
+
+-- its thread ends no round again
+pub no-more : IsWellFormed ended → (horizon : ℕ) → EndsNoRound ended 0 2 horizon
+no-more well horizon = no-round-ends-again ended all at_rest 2 well rests 0 refl (refl, (refl, (refl, (refl, tt)))) horizon
