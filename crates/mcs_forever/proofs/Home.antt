@@ -1,11 +1,11 @@
 -- Rows tell of the core's own threads and notifications: at each moment no other thread has a place on the core, and no part of a turn gives it one.
 use Rattle.std.proofs.Common.{◌≡◌, ◌≢◌, ℕ, zero, suc, ◌+◌, ◌<◌, ◌≤◌, ◌⊎◌, inl, inr, Bool, true, false, cond, not, List, [], ◌∷◌, ◌++◌, length, get_or, refl, sym, ap, subst, ◌∙◌, Option, Some, None, arith}
-use Rattle.std.specs.Prelude.{filter, ◌==◌, ◌&&◌, nat_lt, All}
-use Rattle.std.specs.List.{AllByRecursion, slice_get}
+use Rattle.std.specs.Prelude.{filter, ◌==◌, ◌&&◌, nat_lt, All, flat_map}
+use Rattle.std.specs.List.{AllByRecursion, slice_get, range_with_len}
 use Rattle.std.proofs.lemmas.Bool.{cases_lt}
 use Rattle.std.proofs.lemmas.Bool.Decides.{nat_tests}
 use Rattle.std.proofs.lemmas.List.Elements.{All-head, All-tail}
-use Rattle.mcs_ticks.specs.Queue.{by_priority, first_of}
+use Rattle.mcs_ticks.specs.Queue.{by_priority, in_one_list, first_of}
 use Rattle.mcs_ticks.specs.declared.queue.Queued.{Queued}
 use Rattle.mcs_ticks.specs.declared.row.What.{What}
 use Rattle.mcs_ticks.specs.declared.row.Why.TheVariants as why
@@ -34,11 +34,49 @@ use Rattle.mcs_core.specs.Turn as turns
 use Rattle.mcs_core.specs.Turn.{Turn, each}
 use Rattle.mcs_core.specs.Clock as clocks
 use Rattle.mcs_core.proofs.Clock.{turn_of-kept, core_shown-first, core_shown-kept}
+use Rattle.mcs_core.proofs.Mails.{IsOutgoing, turn-out}
+use Rattle.mcs_core.proofs.Known.{known-said}
+use Rattle.mcs_laws.specs.Turns as laws
+use Rattle.mcs_laws.proofs.UnderWay.{signals-of-turns}
 use Rattle.mcs_laws.specs.Places.{times_running, places}
 use Rattle.mcs_laws.proofs.Histories.{takes-time}
 use Rattle.mcs_laws.proofs.Homes.{one_if, no_date}
 use Rattle.mcs_laws.proofs.Places.{queued-cons, dated-cons, woke, set-waiting, arrives-held, each-held, obeys-held, releases-held, preempts_by-held, tick_of-held, turn-held, quiet-waiting}
 use Rattle.mcs_forever.specs.laws.Home.{IsOwnThread, IsOwnNote, IsOfOwn, RowsAreOfOwn}
+
+-- each signal under way is for a notification that there is
+module _ (system : System) where
+  abbrev AreKnown : List Mail → Type 0
+  AreKnown mails = AllByRecursion (λ (mail : Mail). mail.note < length system.notes) mails
+
+  known-both : (xs ys : List Mail) → AreKnown xs → AreKnown ys → AreKnown (xs ++ ys)
+  known-both [] ys p q = q
+  known-both (mail ∷ xs) ys p q = (p.0, known-both xs ys p.1 q)
+
+  known-all : (f : ℕ → List Mail) (n a : ℕ) → ((m : ℕ) → AreKnown (f m)) → AreKnown (flat_map f (range_with_len a n))
+  known-all f zero a h = tt
+  known-all f (suc n) a h = known-both (f a) (flat_map f (range_with_len (a + 1) n)) (h a) (known-all f n (a + 1) h)
+
+  known-filter : (p : Mail → Bool) (mails : List Mail) → AreKnown mails → AreKnown (filter p mails)
+  known-filter p [] h = tt
+  known-filter p (mail ∷ mails) h = by (p mail) (known-filter p mails h.1)
+    where
+      by : (b : Bool) → AreKnown (filter p mails) → AreKnown (cond b (mail ∷ filter p mails) (filter p mails))
+      by true i = (h.0, i)
+      by false i = i
+
+  module _ (well : IsWellFormed system) where
+    outgoing-known : (c t : ℕ) (mails : List Mail) → IsOutgoing in_one_list system c t mails → AreKnown mails
+    outgoing-known c t [] h = tt
+    outgoing-known c t (mail ∷ []) h = (known-said system well mail.note mail.badge h.said, tt)
+    outgoing-known c t (mail ∷ next ∷ mails) h = absurd h
+
+    under_way-known : (t : ℕ) → AreKnown (clocks.world system t).mails
+    under_way-known t =
+        subst AreKnown (sym (signals-of-turns system (takes-time system well) t))
+        (known-filter (λ mail. not (laws.was_taken system t mail)) (laws.sent_before system t)
+        (known-all (laws.sent_at system) t 0 (λ m. known-all (λ c. (clocks.turn_of system c m).mails) system.cores 0
+        (λ c. outgoing-known c m (clocks.turn_of system c m).mails (turn-out in_one_list system c m (filter (clocks.arrives_at system m c) (clocks.world system m).mails) (clocks.core_at system (clocks.world system m) c))))))
 
 module _ (system : System) (c : ℕ) where
   abbrev Own : ℕ → Type 0
@@ -207,8 +245,8 @@ module _ (system : System) (c : ℕ) where
     may_stop-own x using after.GoesOn k own =
         all_test (using == head_amount (turns.its_context system x k)) (turns.stops_to_back by_priority system t x why.Spent using k) (turns.silent k) (own, tt) tt
 
-    signals-own : (x note badge : ℕ) (k : Core) → Own x → NoOther k → AllOwn (turns.signals by_priority system c t x note badge k).rows
-    signals-own x note badge k own s =
+    signals-own : (x note badge : ℕ) (k : Core) → Own x → note < length system.notes → NoOther k → AllOwn (turns.signals by_priority system c t x note badge k).rows
+    signals-own x note badge k own there s =
         (own, by ((note_part system note).core == c) refl)
       where
         same : (a b : ℕ) → (a == b) ≡ true → a ≡ b
@@ -216,29 +254,28 @@ module _ (system : System) (c : ℕ) where
 
         by : (b : Bool) → ((note_part system note).core == c) ≡ b →
             AllOwn (cond b (turns.posts by_priority system t note badge k) (record { core = k; rows = []; mails = turns.mail_to system c t note badge ∷ [] })).rows
-        by true e = posts-own note badge k s (same (note_part system note).core c e)
+        by true e = posts-own note badge k s (record { known = there; home = same (note_part system note).core c e })
         by false e = tt
 
     module _ (well : IsWellFormed system) where
-      waits-item : (core : ℕ) (item : Item) (note : ℕ) → IsItem system core item → Some item ≡ Some (Wait note) → (note_part system note).core ≡ core
-      waits-item core item note h e =
-          let same : item ≡ Wait note = cc in
-          let wait : IsItem system core (Wait note) = subst (IsItem system core) same h in
-          wait.1
+      item-at : (core : ℕ) (items : List Item) (i : ℕ) (item : Item) → All (IsItem system core) items → slice_get items i ≡ Some item → IsItem system core item
+      item-at core [] i item h e = cc
+      item-at core (first ∷ items) zero item h e = let same : first ≡ item = cc in subst (IsItem system core) same (All-head (IsItem system core) first items h)
+      item-at core (first ∷ items) (suc i) item h e = item-at core items i item (All-tail (IsItem system core) first items h) e
 
-      waits-at : (core : ℕ) (items : List Item) (i note : ℕ) → All (IsItem system core) items → slice_get items i ≡ Some (Wait note) → (note_part system note).core ≡ core
-      waits-at core [] i note h e = cc
-      waits-at core (item ∷ items) zero note h e = waits-item core item note (All-head (IsItem system core) item items h) e
-      waits-at core (item ∷ items) (suc i) note h e = waits-at core items i note (All-tail (IsItem system core) item items h) e
+      -- the item of a thread of the core
+      own-item : (x : ℕ) (item : Item) (k : Core) → turns.item_of system x k ≡ Some item → Own x → IsItem system (core_of system (thread_part system x)) item
+      own-item x item k e own =
+          item-at (core_of system (thread_part system x)) (thread_part system x).script (thread_of k x).place.item item (well.threads x no_thread own.known).items e
 
       takes_effect-own : (x : ℕ) (item : Option Item) (k : Core) → turns.item_of system x k ≡ item → Own x → NoOther k → AllOwn (turns.takes_effect by_priority system c t x item k).rows
       takes_effect-own x (Some (Signal note badge)) k e own s =
           all_append (turns.signals by_priority system c t x note badge k).rows (turns.moves_on system t x (turns.signals by_priority system c t x note badge k).core).rows
-          (signals-own x note badge k own s)
+          (signals-own x note badge k own (own-item x (Signal note badge) k e own).0 s)
           (moves-own x (turns.move_of system x (turns.signals by_priority system c t x note badge k).core) (turns.signals by_priority system c t x note badge k).core own)
       takes_effect-own x (Some (Wait note)) k e own s =
-          waits_as-own x note (waited (note_of k note)) k own
-          (waits-at (core_of system (thread_part system x)) (thread_part system x).script (thread_of k x).place.item note (well.threads x no_thread own.known).items e ∙ own.home)
+          let item = own-item x (Wait note) k e own in
+          waits_as-own x note (waited (note_of k note)) k own (record { known = item.0; home = item.1 ∙ own.home })
       takes_effect-own x (Some (Compute ticks)) k e own s = moves-own x (turns.move_of system x k) k own
       takes_effect-own x (Some Yield) k e own s = moves-own x (turns.move_of system x k) k own
       takes_effect-own x None k e own s = tt
@@ -326,16 +363,16 @@ module _ (system : System) (c : ℕ) where
       still_none a b p q = omega (arith, p, q)
 
   -- what arrives on a core is for its notifications
-  arriving-own : (t : ℕ) (mails : List Mail) → AllByRecursion (λ (mail : Mail). IsOwnNote system c mail.note) (filter (clocks.arrives_at system t c) mails)
-  arriving-own t [] = tt
-  arriving-own t (mail ∷ mails) = by (mail.arrives == t) ((note_part system mail.note).core == c) refl (arriving-own t mails)
+  arriving-own : (t : ℕ) (mails : List Mail) → AreKnown system mails → AllByRecursion (λ (mail : Mail). IsOwnNote system c mail.note) (filter (clocks.arrives_at system t c) mails)
+  arriving-own t [] h = tt
+  arriving-own t (mail ∷ mails) h = by (mail.arrives == t) ((note_part system mail.note).core == c) refl (arriving-own t mails h.1)
     where
       same : (a b : ℕ) → (a == b) ≡ true → a ≡ b
       same a b e = grind (arith, nat_tests)
 
       by : (now : Bool) (home : Bool) → ((note_part system mail.note).core == c) ≡ home → AllByRecursion (λ (mail : Mail). IsOwnNote system c mail.note) (filter (clocks.arrives_at system t c) mails) →
           AllByRecursion (λ (mail : Mail). IsOwnNote system c mail.note) (cond (now && home) (mail ∷ filter (clocks.arrives_at system t c) mails) (filter (clocks.arrives_at system t c) mails))
-      by true true e i = (same (note_part system mail.note).core c e, i)
+      by true true e i = (record { known = h.0; home = same (note_part system mail.note).core c e }, i)
       by true false e i = i
       by false home e i = i
 
@@ -344,4 +381,4 @@ rows-of-own system well c t known =
     let P : List What → Type 0 = λ rows. AllByRecursion (IsOfOwn system c) rows in
     subst P (sym (ap (λ (made : Turn). made.rows) (turn_of-kept system c t)))
     (turn-own system c t well (filter (clocks.arrives_at system t c) (clocks.world system t).mails) (clocks.core_shown system (clocks.world system t) c)
-    (arriving-own system c t (clocks.world system t).mails) (none-other system c well known t))
+    (arriving-own system c t (clocks.world system t).mails (under_way-known system well t)) (none-other system c well known t))

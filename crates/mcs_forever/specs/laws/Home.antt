@@ -13,8 +13,10 @@ module _ (system : System) (core : ℕ) where
     pub known : thread < length system.threads
     pub home : core_of system (thread_part system thread) ≡ core
 
-  abbrev pub IsOwnNote : ℕ → Type 0
-  IsOwnNote note = (note_part system note).core ≡ core
+  -- a notification that there is, on this core
+  pub record IsOwnNote (note : ℕ) : Type 0 where
+    pub known : note < length system.notes
+    pub home : (note_part system note).core ≡ core
 
   -- the thread that a row names is one of the core's, and so is the notification whose word it tells; that of a signal may be anywhere
   abbrev pub IsOfOwn : What → Type 0
