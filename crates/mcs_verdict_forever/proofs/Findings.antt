@@ -1,0 +1,175 @@
+-- What is found comes again, and where nothing is found in the first period nothing is found ever.
+use Rattle.std.proofs.Common.{◌≡◌, ℕ, zero, suc, ◌+◌, ◌-◌, ◌<◌, ◌≤◌, Bool, true, false, cond, List, [], ◌∷◌, ◌++◌, length, map, refl, sym, ap, subst, ◌∙◌, Option, Some, None, option_map, arith}
+use Rattle.std.specs.Prelude.{filter, nat_lt, ◌==◌, All}
+use Rattle.std.specs.List.{slice_get}
+use Rattle.std.proofs.lemmas.Bool.Decides.{nat_tests}
+use Rattle.std.proofs.lemmas.List.Elements.{filter-append, All-head}
+use Rattle.mcs_script.specs.declared.item.Item.{Item}
+use Rattle.mcs_script.specs.declared.item.Item.TheVariants.{Compute, Signal, Wait, Yield}
+use Rattle.mcs_system.specs.System.{System, no_thread, thread_part, note_part, core_of}
+use Rattle.mcs_system.specs.WellFormed.{IsWellFormed, IsItem}
+use Rattle.mcs_core.specs.Clock.{clock}
+use Rattle.mcs_core.proofs.Clock.{rows-clock}
+use Rattle.mcs_laws.proofs.Histories.{takes-time}
+use Rattle.mcs_verdict.specs.declared.finding.Found.{Found}
+use Rattle.mcs_verdict.specs.declared.held.Held.{Held}
+use Rattle.mcs_verdict.specs.declared.standing.Standing.{Standing}
+use Rattle.mcs_verdict.specs.declared.standing.Standing.TheVariants.{Pending, Ready, Running, Throttled, Blocked, Woken, Done}
+use Rattle.mcs_verdict.specs.Words.{no_word, held}
+use Rattle.mcs_verdict.specs.Misses.{yet_to_begin, set_at, word_for, first_word}
+use Rattle.mcs_verdict.specs.Rounds.{waited_on, first_wait}
+use Rattle.mcs_verdict.specs.Findings.{found_in}
+use Rattle.mcs_verdict.proofs.Kept.{account_at}
+use Rattle.mcs_verdict_laws.proofs.Order.{in_order}
+use Rattle.mcs_forever.specs.Recurs.{shift_of}
+use Rattle.mcs_verdict_forever.specs.Later.{later_moment, later_finding, later_found}
+use Rattle.mcs_verdict_forever.specs.Recurs.{past_before}
+use Rattle.mcs_verdict_forever.specs.laws.Repeats.{rows_at, found_at_moment, FindingsRepeat, NothingIsFound, OverdueRepeats}
+use Rattle.mcs_verdict_forever.proofs.Accounts.{account-overdue}
+use Rattle.mcs_verdict_forever.proofs.Kept.{overdue-kept}
+use Rattle.mcs_verdict_forever.proofs.Alike.{Alike, held-known}
+use Rattle.mcs_verdict_forever.proofs.Moments.{Later, Set, found_in-append, alike, later-thread, later-word, found-later}
+
+pub findings-repeat : FindingsRepeat
+findings-repeat system group shifts from well recur t l = found-later system group shifts from well recur t l
+
+-- the findings before a moment are those of the moments before it
+module _ (system : System) (group : ℕ → Bool) (well : IsWellFormed system) where
+  abbrev found_before : ℕ → List Found
+  found_before t = filter (λ (found : Found). group found.core) (found_in system [] (clock system t).rows)
+
+  found-next : (t : ℕ) → found_before (suc t) ≡ found_before t ++ found_at_moment system group t
+  found-next t =
+      ap (λ rows. filter (λ (found : Found). group found.core) (found_in system [] rows)) (rows-clock system (takes-time system well) t)
+      ∙ ap (filter (λ (found : Found). group found.core)) (found_in-append system [] (clock system t).rows (rows_at system t))
+      ∙ filter-append (λ (found : Found). group found.core) (found_in system [] (clock system t).rows) (found_in system (past_before system t) (rows_at system t))
+
+  first-none : (xs ys : List Found) → xs ++ ys ≡ [] → xs ≡ []
+  first-none [] ys e = refl
+  first-none (x ∷ xs) ys e = cc
+
+  second-none : (xs ys : List Found) → xs ++ ys ≡ [] → ys ≡ []
+  second-none [] ys e = e
+  second-none (x ∷ xs) ys e = cc
+
+  none-at : (n t : ℕ) → t < n → found_before n ≡ [] → found_at_moment system group t ≡ []
+  none-at zero t l e = absurd (omega (arith, l))
+  none-at (suc n) t l e = by (none-at n t) (nat_lt t n) refl
+    where
+      both : found_before n ++ found_at_moment system group n ≡ []
+      both = sym (found-next n) ∙ e
+
+      by : (t < n → found_before n ≡ [] → found_at_moment system group t ≡ []) → (b : Bool) → nat_lt t n ≡ b → found_at_moment system group t ≡ []
+      by i true f = i (grind (arith, nat_tests)) (first-none (found_before n) (found_at_moment system group n) both)
+      by i false f =
+          let low : n ≤ t = grind (arith, nat_tests) in
+          let same : n ≡ t = omega (arith, low, l) in
+          let P : ℕ → Type 0 = λ t. found_at_moment system group t ≡ [] in
+          subst P same (second-none (found_before n) (found_at_moment system group n) both)
+
+  none-before : (n : ℕ) → ((t : ℕ) → found_at_moment system group t ≡ []) → found_before n ≡ []
+  none-before zero h = refl
+  none-before (suc n) h = found-next n ∙ both _ _ (none-before n h) (h n)
+    where
+      both : (xs ys : List Found) → xs ≡ [] → ys ≡ [] → xs ++ ys ≡ []
+      both xs ys e f = cc
+
+pub nothing-is-found : NothingIsFound
+nothing-is-found system group shifts from well recur first horizon = none-before system group well (suc horizon) (λ t. below (suc t) t (omega arith))
+  where
+    d : ℕ
+    d = shifts.by
+
+    some : 1 ≤ shifts.by
+    some = recur.recurs.some
+
+    below : (n t : ℕ) → t < n → found_at_moment system group t ≡ []
+    below zero t l = absurd (omega (arith, l))
+    below (suc n) t l = by (below n (t - shifts.by)) (nat_lt t (from + shifts.by)) refl
+      where
+        by : (t - shifts.by < n → found_at_moment system group (t - shifts.by) ≡ []) → (b : Bool) → nat_lt t (from + shifts.by) ≡ b → found_at_moment system group t ≡ []
+        by i true e =
+            let less : t < from + shifts.by = grind (arith, nat_tests) in
+            none-at system group well (suc (from + shifts.by)) t (omega (arith, less)) first
+        by i false e =
+            let m : from + shifts.by ≤ t = grind (arith, nat_tests) in
+            let f : t - shifts.by + shifts.by ≡ t = omega (arith, m) in
+            let P : ℕ → Type 0 = λ t. found_at_moment system group t ≡ [] in
+            subst P f
+            (findings-repeat system group shifts from well recur (t - shifts.by) (omega (arith, m))
+            ∙ ap (map (later_found shifts)) (i (omega (arith, l, m, some))))
+
+-- a round that is yet to begin
+yet-later : (d : ℕ) (s : Standing) (held more : Held) → more.word ≡ held.word → more.since ≡ held.since + d → yet_to_begin s more ≡ later_moment d (yet_to_begin s held)
+yet-later d s held more e f = by s
+  where
+    set : set_at more ≡ later_moment d (set_at held)
+    set = ap (λ word. cond (word == 0) None (Some more.since)) e ∙ ap (λ since. cond (held.word == 0) None (Some since)) f ∙ tests (held.word == 0)
+      where
+        tests : (b : Bool) → cond b None (Some (held.since + d)) ≡ later_moment d (cond b None (Some held.since))
+        tests true = refl
+        tests false = refl
+
+    by : (s : Standing) → yet_to_begin s more ≡ later_moment d (yet_to_begin s held)
+    by Done = refl
+    by Pending = set
+    by Ready = set
+    by Running = set
+    by Throttled = set
+    by Blocked = set
+    by Woken = set
+
+none-later : (d : ℕ) (s : Standing) → yet_to_begin s no_word ≡ later_moment d (yet_to_begin s no_word)
+none-later d Done = refl
+none-later d Pending = refl
+none-later d Ready = refl
+none-later d Running = refl
+none-later d Throttled = refl
+none-later d Blocked = refl
+none-later d Woken = refl
+
+-- the notification for which a script waits first is one of the thread's core
+module _ (system : System) where
+  waits-first : (core : ℕ) (items : List Item) (note : ℕ) → All (IsItem system core) items → waited_on (slice_get items 0) ≡ Some note → (note < length system.notes) × ((note_part system note).core ≡ core)
+  waits-first core [] note h e = cc
+  waits-first core (Compute ticks ∷ items) note h e = cc
+  waits-first core (Signal other badge ∷ items) note h e = cc
+  waits-first core (Yield ∷ items) note h e = cc
+  waits-first core (Wait other ∷ items) note h e =
+      let same : other ≡ note = cc in
+      let P : ℕ → Type 0 = λ n. (n < length system.notes) × ((note_part system n).core ≡ core) in
+      subst P same (All-head (IsItem system core) (Wait other) items h)
+
+pub overdue-repeats : OverdueRepeats
+overdue-repeats system group shifts from well recur thread known own later first horizon l =
+    sym (overdue-kept system thread (past_before system (suc (horizon + shifts.by))) (horizon + shifts.by) (in_order system well (horizon + shifts.by)).1)
+    ∙ account-overdue (shift_of shifts home) horizon thread (first_word system thread (past_before system (suc horizon))) (first_word system thread (past_before system (suc (horizon + shifts.by))))
+    (account_at system thread (past_before system (suc horizon))) (account_at system thread (past_before system (suc (horizon + shifts.by))))
+    (yet (first_wait (thread_part system thread)) refl)
+    (like.threads thread known own (later-thread system group shifts from well recur thread known later))
+    ∙ ap (option_map (later_finding (shift_of shifts home))) (overdue-kept system thread (past_before system (suc horizon)) horizon (in_order system well horizon).1)
+  where
+    home : ℕ
+    home = core_of system (thread_part system thread)
+
+    Like : ℕ → Type 0
+    Like n = Alike system group shifts (Later system group shifts from well recur) (Set system group shifts from well recur) (suc horizon) (past_before system (suc horizon)) (past_before system n)
+
+    like : Like (suc (horizon + shifts.by))
+    like =
+        let e : suc horizon + shifts.by ≡ suc (horizon + shifts.by) = omega arith in
+        subst Like e (alike system group shifts from well recur (suc horizon) (omega (arith, l)))
+
+    yet : (waits : Option ℕ) → first_wait (thread_part system thread) ≡ waits → (s : Standing) →
+        yet_to_begin s (word_for (length system.notes) waits (past_before system (suc (horizon + shifts.by))))
+        ≡ later_moment shifts.by (yet_to_begin s (word_for (length system.notes) waits (past_before system (suc horizon))))
+    yet None e s = none-later shifts.by s
+    yet (Some note) e s =
+        let there = waits-first system home (thread_part system thread).script note (well.threads thread no_thread known).items e in
+        let mine : group (note_part system note).core ≡ true = ap group there.1 ∙ own in
+        rw (
+          held-known note (length system.notes) (past_before system (suc (horizon + shifts.by))) there.0,
+          held-known note (length system.notes) (past_before system (suc horizon)) there.0,
+        )
+        (yet-later shifts.by s (held note (past_before system (suc horizon))) (held note (past_before system (suc (horizon + shifts.by))))
+        (like.words note there.0 mine) (like.sets note there.0 mine (later-word system group shifts from well recur note there.0 (first note e))))

@@ -1,0 +1,5 @@
+pub mod Accounts
+pub mod Kept
+pub mod Alike
+pub mod Moments
+pub mod Findings

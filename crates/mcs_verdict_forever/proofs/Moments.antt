@@ -1,0 +1,271 @@
+-- The watch of a group that recurs: before each moment from then on what is kept of its threads and words is what it was a period earlier, but later.
+use Rattle.std.proofs.Common.{◌≡◌, ℕ, zero, suc, ◌+◌, ◌-◌, ◌<◌, ◌≤◌, ◌⊎◌, inl, inr, Bool, true, false, ◌&&◌, List, [], ◌∷◌, ◌++◌, length, get_or, map, refl, sym, ap, subst, ◌∙◌, append_assoc, arith}
+use Rattle.std.specs.Prelude.{filter, flat_map, ◌==◌, nat_le}
+use Rattle.std.specs.List.{range_with_len, AllByRecursion}
+use Rattle.std.proofs.lemmas.Bool.Decides.{nat_tests}
+use Rattle.std.proofs.lemmas.List.{map-append}
+use Rattle.std.proofs.lemmas.List.Elements.{filter-append}
+use Rattle.mcs_ticks.specs.declared.row.Row.{Row}
+use Rattle.mcs_ticks.specs.declared.row.What.{What}
+use Rattle.mcs_ticks.specs.declared.row.What.TheVariants as row
+use Rattle.mcs_system.specs.System.{System, thread_part, core_of}
+use Rattle.mcs_system.specs.WellFormed.{IsWellFormed}
+use Rattle.mcs_core.specs.Clock.{clock, turn_of, rows_of}
+use Rattle.mcs_core.proofs.Clock.{rows-clock}
+use Rattle.mcs_laws.proofs.Histories.{takes-time}
+use Rattle.mcs_verdict.specs.declared.account.Account.{Account}
+use Rattle.mcs_verdict.specs.declared.held.Held.{Held}
+use Rattle.mcs_verdict.specs.declared.finding.Found.{Found}
+use Rattle.mcs_verdict.specs.Words.{no_word, held}
+use Rattle.mcs_verdict.specs.Findings.{UpTo, past_of, found_at, found_in, finding}
+use Rattle.mcs_verdict.specs.Watch.{accounts_of, words_of}
+use Rattle.mcs_verdict.proofs.Kept.{account_at}
+use Rattle.mcs_verdict.proofs.Watches.{account_kept}
+use Rattle.mcs_verdict.proofs.Words.{length-words, word_kept}
+use Rattle.mcs_verdict_laws.proofs.Order.{in_order}
+use Rattle.mcs_forever.specs.Later.{later_what}
+use Rattle.mcs_forever.specs.Recurs.{Shifts, shift_of}
+use Rattle.mcs_forever.specs.laws.Home.{IsOfOwn}
+use Rattle.mcs_forever.specs.laws.Repeats.{ends_round, EndsNoRound}
+use Rattle.mcs_forever.proofs.Home.{rows-of-own}
+use Rattle.mcs_forever.proofs.Worlds.{rows-again}
+use Rattle.mcs_forever.proofs.Schedules.{each-turn}
+use Rattle.mcs_forever.proofs.Repeats.{forever}
+use Rattle.mcs_verdict_forever.specs.Later.{IsLaterAccount, later_found}
+use Rattle.mcs_verdict_forever.specs.Recurs.{takes_word, TakesNoWord, past_before, ThreadIsLater, WordIsSame, WordIsLater, FindingsRecur}
+use Rattle.mcs_verdict_forever.specs.laws.Repeats.{rows_at}
+use Rattle.mcs_verdict_forever.proofs.Alike.{Alike, Counts, alike-turn, found-turn}
+
+-- some rows and then others
+pub past_of-append : (past xs ys : List Row) → past_of past (xs ++ ys) ≡ past_of (past_of past xs) ys
+past_of-append past [] ys = refl
+past_of-append past (x ∷ xs) ys = past_of-append (x ∷ past) xs ys
+
+pub found_in-append : (system : System) (past xs ys : List Row) → found_in system past (xs ++ ys) ≡ found_in system past xs ++ found_in system (past_of past xs) ys
+found_in-append system past [] ys = refl
+found_in-append system past (x ∷ xs) ys =
+    ap (λ found. found_at x.moment x.core (finding system past x.moment x.what) ++ found) (found_in-append system (x ∷ past) xs ys)
+    ∙ sym (append_assoc (found_at x.moment x.core (finding system past x.moment x.what)) (found_in system (x ∷ past) xs) (found_in system (past_of (x ∷ past) xs) ys))
+
+pub up_to-more : (m n : ℕ) (past : List Row) → m ≤ n → UpTo m past → UpTo n past
+up_to-more m n [] h up = tt
+up_to-more m n (r ∷ past) h up = let g = up.0 in (omega (arith, g, h), up_to-more m n past h up.1)
+
+module _ (system : System) (well : IsWellFormed system) where
+  -- the rows before a moment
+  pub past-next : (t : ℕ) → past_before system (suc t) ≡ past_of (past_before system t) (rows_at system t)
+  past-next t = ap (past_of []) (rows-clock system (takes-time system well) t) ∙ past_of-append [] (clock system t).rows (rows_at system t)
+
+  pub up_to : (t : ℕ) → UpTo t (past_before system t)
+  up_to zero = tt
+  up_to (suc t) = up_to-more t (suc t) (past_before system (suc t)) (omega arith) (in_order system well t).1
+
+  -- what is kept of a thread and of a word
+  account-kept : (t x : ℕ) (d : Account) → x < length system.threads → get_or (accounts_of (length system.notes) 0 system.threads (past_before system t)) x d ≡ account_at system x (past_before system t)
+  account-kept t x d l = account_kept (length system.notes) x system.threads (past_before system t) d l
+
+  word-kept : (t n : ℕ) (d : Held) → n < length system.notes → get_or (words_of 0 system.notes (past_before system t)) n d ≡ held n (past_before system t)
+  word-kept t n d l =
+      let m = length-words 0 system.notes (past_before system t) in
+      word_kept n system.notes (past_before system t) (words_of 0 system.notes (past_before system t)) d refl (omega (arith, l, m))
+
+module _ (system : System) (group : ℕ → Bool) (shifts : Shifts) (from : ℕ) (well : IsWellFormed system) (recur : FindingsRecur system group shifts from) where
+  abbrev d : ℕ
+  d = shifts.by
+
+  abbrev home : ℕ → ℕ
+  home x = core_of system (thread_part system x)
+
+  abbrev past : ℕ → List Row
+  past t = past_before system t
+
+  abbrev whats : ℕ → ℕ → List What
+  whats t c = (turn_of system c t).rows
+
+  -- the threads that are later, and the words that were set later
+  abbrev pub Later : ℕ → Type 0
+  Later x = IsLaterAccount shifts.by (account_at system x (past_before system from)) (account_at system x (past_before system (from + shifts.by)))
+
+  abbrev pub Set : ℕ → Type 0
+  Set n = (held n (past_before system (from + shifts.by))).since ≡ (held n (past_before system from)).since + shifts.by
+
+  abbrev Like : ℕ → List Row → List Row → Type 0
+  Like t rows rows' = Alike system group shifts Later Set t rows rows'
+
+  abbrev Count : What → Type 0
+  Count what = Counts system group shifts Later Set what
+
+  pub later-thread : (x : ℕ) → x < length system.threads → ThreadIsLater system d from x → Later x
+  later-thread x known h =
+      moved _ _ _ _ (account-kept system well from x other known) (account-kept system well (from + d) x other known) (h other)
+    where
+      other : Account
+      other = account_at system x []
+
+      moved : (a b a' b' : Account) → a ≡ a' → b ≡ b' → IsLaterAccount d a b → IsLaterAccount d a' b'
+      moved a b a' b' e f h = rw (sym e, sym f) h
+
+  pub later-word : (n : ℕ) → n < length system.notes → WordIsLater system d from n → Set n
+  later-word n known h =
+      sym (ap (λ (held : Held). held.since) (word-kept system well (from + d) n no_word known)) ∙ h no_word
+      ∙ ap (λ (held : Held). held.since + d) (word-kept system well from n no_word known)
+
+  same-word : (n : ℕ) → n < length system.notes → WordIsSame system d from n → (held n (past (from + d))).word ≡ (held n (past from)).word
+  same-word n known h =
+      sym (ap (λ (held : Held). held.word) (word-kept system well (from + d) n no_word known)) ∙ h no_word
+      ∙ ap (λ (held : Held). held.word) (word-kept system well from n no_word known)
+
+  -- a thread that ends a round is later, and a word that is taken was set later
+  count-row : (c t : ℕ) (what : What) → group c ≡ true → from ≤ t → IsOfOwn system c what →
+      ((x : ℕ) → EndsNoRound system x from (from + d) → (nat_le from t && ends_round x what) ≡ false) →
+      ((n : ℕ) → TakesNoWord system n from (from + d) → (nat_le from t && takes_word n what) ≡ false) → Count what
+  count-row c t (row.Round x number response) own l o ends takes = by (recur.threads x o.known (ap group o.home ∙ own))
+    where
+      never : (a b x : ℕ) → a ≤ b → (nat_le a b && (x == x)) ≡ false → ⊥
+      never a b x l e = grind (arith, nat_tests)
+
+      by : ThreadIsLater system d from x ⊎ EndsNoRound system x from (from + d) → Later x
+      by (inl later) = later-thread x o.known later
+      by (inr none) = absurd (never from t x l (ends x none))
+  count-row c t (row.Got x n word) own l o ends takes = by (recur.taken n o.1.known (ap group o.1.home ∙ own))
+    where
+      never : (a b x : ℕ) → a ≤ b → (nat_le a b && (x == x)) ≡ false → ⊥
+      never a b x l e = grind (arith, nat_tests)
+
+      by : WordIsLater system d from n ⊎ TakesNoWord system n from (from + d) → Set n
+      by (inl later) = later-word n o.1.known later
+      by (inr none) = absurd (never from t n l (takes n none))
+  count-row c t (row.Release x) own l o ends takes = tt
+  count-row c t (row.Run x) own l o ends takes = tt
+  count-row c t (row.Stop x cause k until) own l o ends takes = tt
+  count-row c t (row.Signal x note badge) own l o ends takes = tt
+  count-row c t (row.Arrive note badge maker) own l o ends takes = tt
+  count-row c t (row.Wake x note word) own l o ends takes = tt
+  count-row c t (row.Hold note word) own l o ends takes = tt
+  count-row c t (row.Order context) own l o ends takes = tt
+
+  count-rows : (c t : ℕ) (rows : List What) → group c ≡ true → from ≤ t → AllByRecursion (IsOfOwn system c) rows →
+      ((x : ℕ) → EndsNoRound system x from (from + d) → AllByRecursion (λ what. (nat_le from t && ends_round x what) ≡ false) rows) →
+      ((n : ℕ) → TakesNoWord system n from (from + d) → AllByRecursion (λ what. (nat_le from t && takes_word n what) ≡ false) rows) → AllByRecursion Count rows
+  count-rows c t [] own l o ends takes = tt
+  count-rows c t (what ∷ rows) own l o ends takes = (
+    count-row c t what own l o.0 (λ x none. (ends x none).0) (λ n none. (takes n none).0),
+    count-rows c t rows own l o.1 (λ x none. (ends x none).1) (λ n none. (takes n none).1),
+  )
+
+  count-first : (t c : ℕ) → from ≤ t → t < from + d → c < system.cores → group c ≡ true → AllByRecursion Count (whats t c)
+  count-first t c l less known own =
+      count-rows c t (whats t c) own l (rows-of-own system well c t known)
+      (λ x none. each-turn (λ row. (nat_le from row.moment && ends_round x row.what) ≡ false) system well (suc (from + d)) t c (omega (arith, less)) known none)
+      (λ n none. each-turn (λ row. (nat_le from row.moment && takes_word n row.what) ≡ false) system well (suc (from + d)) t c (omega (arith, less)) known none)
+
+  count-later : (c : ℕ) (what : What) → Count what → Count (later_what (shift_of shifts c) what)
+  count-later c (row.Round x number response) k = k
+  count-later c (row.Got x note word) k = k
+  count-later c (row.Release x) k = k
+  count-later c (row.Run x) k = k
+  count-later c (row.Stop x cause j until) k = k
+  count-later c (row.Signal x note badge) k = k
+  count-later c (row.Arrive note badge maker) k = k
+  count-later c (row.Wake x note word) k = k
+  count-later c (row.Hold note word) k = k
+  count-later c (row.Order context) k = k
+
+  count-all : (t c : ℕ) → from ≤ t → c < system.cores → group c ≡ true → AllByRecursion Count (whats t c)
+  count-all t c l known own = forever system group shifts from well recur.recurs (λ c what. Count what) count-later from (omega arith) count-first t c l known own
+
+  -- all turns of a moment, from core a on
+  alike-cores : (n a t : ℕ) (rows rows' : List Row) → from ≤ t → a + n ≤ system.cores → Like t rows rows' →
+      Like t (past_of rows (flat_map (λ c. rows_of system c t) (range_with_len a n))) (past_of rows' (flat_map (λ c. rows_of system c (t + d)) (range_with_len a n)))
+  alike-cores zero a t rows rows' l few h = h
+  alike-cores (suc n) a t rows rows' l few h =
+      let known : a < system.cores = omega (arith, few) in
+      let first = alike-turn system group shifts Later Set a t (whats t a) (whats (t + d) a) rows rows' (rows-of-own system well a t known) (rows-of-own system well a (t + d) known)
+      (λ own. count-all t a l known own) (λ own. rows-again system group shifts from well recur.recurs t a l known own) h
+      in
+      rw (
+        past_of-append rows (rows_of system a t) (flat_map (λ c. rows_of system c t) (range_with_len (a + 1) n)),
+        past_of-append rows' (rows_of system a (t + d)) (flat_map (λ c. rows_of system c (t + d)) (range_with_len (a + 1) n)),
+      ) (alike-cores n (a + 1) t (past_of rows (rows_of system a t)) (past_of rows' (rows_of system a (t + d))) l (omega (arith, few)) first)
+
+  abbrev of_group : Found → Bool
+  of_group found = group found.core
+
+  found-cores : (n a t : ℕ) (rows rows' : List Row) → from ≤ t → a + n ≤ system.cores → Like t rows rows' →
+      filter of_group (found_in system rows' (flat_map (λ c. rows_of system c (t + d)) (range_with_len a n)))
+      ≡ map (later_found shifts) (filter of_group (found_in system rows (flat_map (λ c. rows_of system c t) (range_with_len a n))))
+  found-cores zero a t rows rows' l few h = refl
+  found-cores (suc n) a t rows rows' l few h =
+      let known : a < system.cores = omega (arith, few) in
+      let first = alike-turn system group shifts Later Set a t (whats t a) (whats (t + d) a) rows rows' (rows-of-own system well a t known) (rows-of-own system well a (t + d) known)
+      (λ own. count-all t a l known own) (λ own. rows-again system group shifts from well recur.recurs t a l known own) h
+      in
+      split (found_in system rows' (now' ++ others')) (found_in system rows' now') (found_in system (past_of rows' now') others') (found_in-append system rows' now' others')
+      ∙ both _ _ _ _
+      (found-turn system group shifts Later Set a t (whats t a) (whats (t + d) a) rows rows' (rows-of-own system well a t known) (rows-of-own system well a (t + d) known)
+      (λ own. count-all t a l known own) (λ own. rows-again system group shifts from well recur.recurs t a l known own) h)
+      (found-cores n (a + 1) t (past_of rows now) (past_of rows' now') l (omega (arith, few)) first)
+      ∙ sym (map-append (later_found shifts) (filter of_group (found_in system rows now)) (filter of_group (found_in system (past_of rows now) others)))
+      ∙ ap (map (later_found shifts)) (sym (split (found_in system rows (now ++ others)) (found_in system rows now) (found_in system (past_of rows now) others) (found_in-append system rows now others)))
+    where
+      now : List Row
+      now = rows_of system a t
+
+      now' : List Row
+      now' = rows_of system a (t + d)
+
+      others : List Row
+      others = flat_map (λ c. rows_of system c t) (range_with_len (a + 1) n)
+
+      others' : List Row
+      others' = flat_map (λ c. rows_of system c (t + d)) (range_with_len (a + 1) n)
+
+      split : (all xs ys : List Found) → all ≡ xs ++ ys → filter of_group all ≡ filter of_group xs ++ filter of_group ys
+      split all xs ys e = ap (filter of_group) e ∙ filter-append of_group xs ys
+
+      both : (xs ys us vs : List Found) → xs ≡ ys → us ≡ vs → xs ++ us ≡ ys ++ vs
+      both xs ys us vs e f = cc
+
+  abbrev LikeAt : ℕ → Type 0
+  LikeAt t = Like t (past_before system t) (past_before system (t + shifts.by))
+
+  base : LikeAt from
+  base =
+      record {
+        threads = λ x known h later. later;
+        words = λ n known h. same-word n known (recur.words n known h);
+        sets = λ n known h set. set;
+        before = up_to system well from;
+        after = up_to system well (from + d);
+      }
+
+  next : (t : ℕ) → from ≤ t → LikeAt t → LikeAt (suc t)
+  next t l h =
+      let now = alike-cores system.cores 0 t (past t) (past (t + d)) l (omega arith) h in
+      let later : Like (suc t) (past_of (past t) (rows_at system t)) (past_of (past (t + d)) (rows_at system (t + d))) =
+      record {
+        threads = now.threads;
+        words = now.words;
+        sets = now.sets;
+        before = up_to-more t (suc t) (past_of (past t) (rows_at system t)) (omega arith) now.before;
+        after = up_to-more (t + d) (suc t + d) (past_of (past (t + d)) (rows_at system (t + d))) (omega arith) now.after;
+      } in
+      let e : suc (t + d) ≡ suc t + d = omega arith in
+      let P : ℕ → Type 0 = λ n. Like (suc t) (past (suc t)) (past n) in
+      let Q : List Row → List Row → Type 0 = λ rows rows'. Like (suc t) rows rows' in
+      subst P e (moved Q _ _ _ _ (sym (past-next system well t)) (sym (past-next system well (t + d))) later)
+    where
+      moved : (Q : List Row → List Row → Type 0) (a b a' b' : List Row) → a ≡ a' → b ≡ b' → Q a b → Q a' b'
+      moved Q a b a' b' e f h = rw (sym e, sym f) h
+
+  alike-from : (n : ℕ) → LikeAt (from + n)
+  alike-from zero = let e : from ≡ from + 0 = omega arith in subst LikeAt e base
+  alike-from (suc n) = let e : suc (from + n) ≡ from + suc n = omega arith in subst LikeAt e (next (from + n) (omega arith) (alike-from n))
+
+  pub alike : (t : ℕ) → from ≤ t → LikeAt t
+  alike t l = let e : from + (t - from) ≡ t = omega (arith, l) in subst LikeAt e (alike-from (t - from))
+
+  pub found-later : (t : ℕ) → from ≤ t →
+      filter of_group (found_in system (past_before system (t + shifts.by)) (rows_at system (t + shifts.by)))
+      ≡ map (later_found shifts) (filter of_group (found_in system (past_before system t) (rows_at system t)))
+  found-later t l = found-cores system.cores 0 t (past t) (past (t + d)) l (omega arith) (alike t l)

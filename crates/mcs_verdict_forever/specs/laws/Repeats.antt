@@ -1,0 +1,52 @@
+-- Where a group of cores recurs in what is kept of its rows, what is found in them comes again, without end.
+use Rattle.std.specs.Prelude.{◌≡◌, ℕ, ◌+◌, ◌<◌, ◌≤◌, Bool, true, List, [], filter, map, flat_map, length, Some, option_map}
+use Rattle.mcs_ticks.specs.declared.row.Row.{Row}
+use Rattle.mcs_system.specs.System.{System, thread_part, core_of}
+use Rattle.mcs_system.specs.WellFormed.{IsWellFormed}
+use Rattle.mcs_core.specs.Clock.{rows_of, schedule}
+use Rattle.mcs_laws.specs.Turns.{cores}
+use Rattle.mcs_verdict.specs.declared.finding.Found.{Found}
+use Rattle.mcs_verdict.specs.Findings.{past_of, found_in}
+use Rattle.mcs_verdict.specs.Misses.{overdue}
+use Rattle.mcs_verdict.specs.Rounds.{first_wait}
+use Rattle.mcs_forever.specs.Recurs.{Shifts, shift_of}
+use Rattle.mcs_verdict_forever.specs.Later.{later_finding, later_found}
+use Rattle.mcs_verdict_forever.specs.Recurs.{past_before, ThreadIsLater, WordIsLater, FindingsRecur}
+
+module _ (system : System) where
+  -- the rows of moment t
+  abbrev pub rows_at : ℕ → List Row
+  rows_at t = flat_map (λ c. rows_of system c t) (cores system)
+
+  module _ (group : ℕ → Bool) where
+    -- what is found in the group's rows of moment t, by all rows before each: rounds that missed their deadline, and lost signals
+    abbrev pub found_at_moment : ℕ → List Found
+    found_at_moment t = filter (λ (found : Found). group found.core) (found_in system (past_before system t) (rows_at t))
+
+    -- and in its rows up to the horizon
+    abbrev pub found_up_to : ℕ → List Found
+    found_up_to horizon = filter (λ (found : Found). group found.core) (found_in system [] (schedule system horizon))
+
+-- from then on each finding comes again, a period later, and no other comes
+abbrev pub FindingsRepeat : Type 0
+FindingsRepeat =
+    (system : System) (group : ℕ → Bool) (shifts : Shifts) (from : ℕ) → IsWellFormed system → FindingsRecur system group shifts from →
+    (t : ℕ) → from ≤ t → found_at_moment system group (t + shifts.by) ≡ map (later_found shifts) (found_at_moment system group t)
+
+-- where nothing is found up to the end of the first period, nothing is found up to any horizon: no round misses its deadline, and no signal is lost
+abbrev pub NothingIsFound : Type 0
+NothingIsFound =
+    (system : System) (group : ℕ → Bool) (shifts : Shifts) (from : ℕ) → IsWellFormed system → FindingsRecur system group shifts from →
+    found_up_to system group (from + shifts.by) ≡ [] → (horizon : ℕ) → found_up_to system group horizon ≡ []
+
+-- a thread of the group that is later, as is the word for which its script waits first, is overdue a period later where it is overdue
+abbrev pub OverdueRepeats : Type 0
+OverdueRepeats =
+    (system : System) (group : ℕ → Bool) (shifts : Shifts) (from : ℕ) → IsWellFormed system → FindingsRecur system group shifts from →
+    (thread : ℕ) → thread < length system.threads → group (core_of system (thread_part system thread)) ≡ true →
+    ThreadIsLater system shifts.by from thread →
+    ((note : ℕ) → first_wait (thread_part system thread) ≡ Some note → WordIsLater system shifts.by from note) →
+    (horizon : ℕ) → from ≤ horizon →
+    overdue system (past_of [] (schedule system (horizon + shifts.by))) (horizon + shifts.by) thread
+    ≡ option_map (later_finding (shift_of shifts (core_of system (thread_part system thread))))
+    (overdue system (past_of [] (schedule system horizon)) horizon thread)

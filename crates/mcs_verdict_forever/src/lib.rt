@@ -1,0 +1,7 @@
+//! Laws of what is found in schedules that repeat. Each is the contract of a function whose body is empty: the function may be called for what
+//! its contract says.
+#![tactic(auto)]
+
+mod laws;
+
+pub use laws::{findings_repeat, nothing_is_found, overdue_repeats};
