@@ -18,8 +18,9 @@ use Rattle.mcs_forever.specs.Recurs.{Shifts, shift_of, Recurs}
 use Rattle.mcs_forever.specs.laws.Repeats.{IsNeverLate, EndsNoRound}
 use Rattle.mcs_forever.proofs.Repeats.{never-late, no-round-ends-again}
 
-abbrev pub worked : System
-worked =
+-- L may have a deadline, on which no row depends
+abbrev pub worked : ℕ → System
+worked deadline =
     record {
       cores = 1;
       delay = 1;
@@ -29,7 +30,7 @@ worked =
           ∷ record { name = 108 ∷ []; core = 0; config = record { budget = 3; period = 4; extra = 0 }; mode = Sporadic } ∷ [];
       notes = [];
       threads = record { name = 72 ∷ []; context = 0; priority = 5; start = 0; rounds = 0; deadline = 4; script = Compute 2 ∷ [] }
-          ∷ record { name = 76 ∷ []; context = 1; priority = 1; start = 0; rounds = 0; deadline = 0; script = Compute 3 ∷ [] } ∷ [];
+          ∷ record { name = 76 ∷ []; context = 1; priority = 1; start = 0; rounds = 0; deadline = deadline; script = Compute 3 ∷ [] } ∷ [];
       orders = [];
       links = [];
     }
@@ -43,7 +44,7 @@ more x = cond (x == 0) 3 (cond (x == 1) 2 0)
 abbrev pub shifts : Shifts
 shifts = record { by = 12; contexts = λ c k. lag k; threads = λ c x. 12; rounds = λ c x. more x }
 
-abbrev all : ℕ → Bool
+abbrev pub all : ℕ → Bool
 all c = true
 
 -- what holds of n moments from a on
@@ -59,19 +60,19 @@ between P (suc n) a t h l m = by (a == t) refl (λ p q. between P n (a + 1) t h.
     by true e i = let same : a ≡ t = grind (arith, nat_tests) in subst P same h.0
     by false e i = i (grind (arith, nat_tests)) (omega (arith, m))
 
-is_shift : (c : ℕ) → IsShift worked (shift_of shifts c)
-is_shift c = record { lags = λ k. by (k == 1); endless = endless }
+is_shift : (deadline c : ℕ) → IsShift (worked deadline) (shift_of shifts c)
+is_shift deadline c = record { lags = λ k. by (k == 1); endless = endless }
   where
     by : (b : Bool) → cond b 8 12 ≤ 12
     by true = omega arith
     by false = omega arith
 
-    endless : (x : ℕ) → (more x ≡ 0) ⊎ ((thread_part worked x).rounds ≡ 0)
+    endless : (x : ℕ) → (more x ≡ 0) ⊎ ((thread_part (worked deadline) x).rounds ≡ 0)
     endless zero = inr refl
     endless (suc zero) = inr refl
     endless (suc (suc x)) = inr refl
 
-only : (c : ℕ) → c < 1 → 0 ≡ c
+pub only : (c : ℕ) → c < 1 → 0 ≡ c
 only c l = omega (arith, l)
 
 -- the core before moment 13: H runs, just chosen, and L is ready
@@ -94,45 +95,45 @@ core_13 = core_as 4 3 10 12 (12 ∷ 13 ∷ []) (8 ∷ 9 ∷ 10 ∷ [])
 abbrev core_25 : Core
 core_25 = core_as 7 5 22 24 (24 ∷ 25 ∷ []) (16 ∷ 17 ∷ 18 ∷ [])
 
-at-13 : core_at worked (world worked 13) 0 ≡ core_13
-at-13 = refl
+at-13 : (deadline : ℕ) → core_at (worked deadline) (world (worked deadline) 13) 0 ≡ core_13
+at-13 deadline = refl
 
-at-25 : core_at worked (world worked 25) 0 ≡ core_25
-at-25 = refl
+at-25 : (deadline : ℕ) → core_at (worked deadline) (world (worked deadline) 25) 0 ≡ core_25
+at-25 deadline = refl
 
 moved : core_25 ≡ later_core (shift_of shifts 0) core_13
 moved = refl
 
-first-again : core_at worked (world worked 25) 0 ≡ later_core (shift_of shifts 0) (core_at worked (world worked 13) 0)
-first-again = at-25 ∙ moved ∙ ap (later_core (shift_of shifts 0)) (sym at-13)
+first-again : (deadline : ℕ) → core_at (worked deadline) (world (worked deadline) 25) 0 ≡ later_core (shift_of shifts 0) (core_at (worked deadline) (world (worked deadline) 13) 0)
+first-again deadline = at-25 deadline ∙ moved ∙ ap (later_core (shift_of shifts 0)) (sym (at-13 deadline))
 
-abbrev KeepUp : List What → Type 0
-KeepUp rows = AllByRecursion (KeepsUp worked (shift_of shifts 0)) rows
+abbrev KeepUp : ℕ → List What → Type 0
+KeepUp deadline rows = AllByRecursion (KeepsUp (worked deadline) (shift_of shifts 0)) rows
 
-first-rows : AllIn (λ t. KeepUp (turn_of worked 0 t).rows) 13 12
-first-rows = (tt, ((refl, (refl, (inr refl, tt))), (tt, ((tt, (tt, (inr refl, tt))), (tt, ((refl, (refl, (inr refl, tt))), ((refl, (tt, (inr refl, tt))), ((tt, (tt, (inr refl, tt))), (tt, ((refl, (refl, (inr refl, tt))), (tt, ((refl, (tt, (tt, (inr refl, tt)))), tt))))))))))))
+first-rows : (deadline : ℕ) → AllIn (λ t. KeepUp deadline (turn_of (worked deadline) 0 t).rows) 13 12
+first-rows deadline = (tt, ((refl, (refl, (inr refl, tt))), (tt, ((tt, (tt, (inr refl, tt))), (tt, ((refl, (refl, (inr refl, tt))), ((refl, (tt, (inr refl, tt))), ((tt, (tt, (inr refl, tt))), (tt, ((refl, (refl, (inr refl, tt))), (tt, ((refl, (tt, (tt, (inr refl, tt)))), tt))))))))))))
 
-pub recurs : Recurs worked all shifts 13
-recurs =
+pub recurs : (deadline : ℕ) → Recurs (worked deadline) all shifts 13
+recurs deadline =
     record {
       closed = λ thread place note badge known item own. refl;
       some = omega arith;
-      shift = is_shift;
+      shift = is_shift deadline;
       orders = tt;
       again = record {
-        cores = λ c l own. let P : ℕ → Type 0 = λ c. core_at worked (world worked 25) c ≡ later_core (shift_of shifts c) (core_at worked (world worked 13) c) in subst P (only c l) first-again;
+        cores = λ c l own. let P : ℕ → Type 0 = λ c. core_at (worked deadline) (world (worked deadline) 25) c ≡ later_core (shift_of shifts c) (core_at (worked deadline) (world (worked deadline) 13) c) in subst P (only c l) (first-again deadline);
         mails = refl;
       };
       rows = λ t c l m known own.
-          let P : ℕ → Type 0 = λ c. AllByRecursion (KeepsUp worked (shift_of shifts c)) (turn_of worked c t).rows in
-          subst P (only c known) (between (λ t. KeepUp (turn_of worked 0 t).rows) 12 13 t first-rows l m);
+          let P : ℕ → Type 0 = λ c. AllByRecursion (KeepsUp (worked deadline) (shift_of shifts c)) (turn_of (worked deadline) c t).rows in
+          subst P (only c known) (between (λ t. KeepUp deadline (turn_of (worked deadline) 0 t).rows) 12 13 t (first-rows deadline) l m);
     }
 
 -- so H, whose deadline is 4, is never late
-pub never : IsWellFormed worked → (horizon : ℕ) → IsNeverLate worked all horizon
-never well horizon = never-late worked all shifts 13 well recurs first horizon
+pub never : IsWellFormed (worked 0) → (horizon : ℕ) → IsNeverLate (worked 0) all horizon
+never well horizon = never-late (worked 0) all shifts 13 well (recurs 0) first horizon
   where
-    first : IsNeverLate worked all 25
+    first : IsNeverLate (worked 0) all 25
     first = (refl, (refl, (refl, (refl, (refl, (refl, (refl, (refl, (refl, (refl, (refl, (refl, (refl, (refl, (refl, (refl, (refl, (refl, (refl, (refl, (refl, (refl, (refl, (refl, (refl, (refl, (refl, (refl, (refl, (refl, (refl, (refl, (refl, (refl, (refl, (refl, (refl, (refl, (refl, (refl, (refl, (refl, (refl, (refl, (refl, (refl, (refl, tt)))))))))))))))))))))))))))))))))))))))))))))))
 
 -- A system that has come to rest recurs at each moment: its one thread ends its one round at moment 1. Nothing of it is later any more, and
