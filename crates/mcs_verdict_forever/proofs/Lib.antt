@@ -3,3 +3,4 @@ pub mod Kept
 pub mod Alike
 pub mod Moments
 pub mod Findings
+pub mod Worked
