@@ -1,0 +1,7 @@
+pub mod Counts
+pub mod Rounds
+pub mod Signals
+pub mod Shares
+pub mod Unused
+pub mod Figures
+pub mod Table

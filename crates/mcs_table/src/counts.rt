@@ -1,0 +1,47 @@
+ghost use Rattle.std.specs.Prelude.{◌≡◌, ℕ, ◌+◌, List, ◌∷◌, if◌then◌else◌, IfOk};
+ghost use Rattle.mcs_ticks.specs.declared.row.Row.{Row as TheRow};
+ghost use Rattle.mcs_table.specs.Signals.{is_note, lost_note, held_note, times_at};
+ghost use Rattle.mcs_table.specs.Table.{counts_of};
+
+use mcs_ticks::{NoMemory, NoteId, What};
+use mcs_verdict::Finding;
+use std::alloc::Global;
+
+/// No signal at any of so many notifications.
+pub(crate) fn no_counts(alloc: Global, notes: usize) -> Result<Vec<u64>, NoMemory>
+    ensures { IfOk result (λ counts. counts.items ≡ counts_of (λ note. 0) notes) }
+{
+    Ok(vec![in alloc; 0; notes]?)
+}
+
+/// One more at this notification, if there is one.
+pub(crate) fn count_at(counts: &mut [u64], place: Option<NoteId>)
+    ensures { (before : ℕ → ℕ) (notes : ℕ) → counts.old ≡ counts_of before notes →
+        counts.new ≡ counts_of (λ note. (if is_note note place then 1 else 0) + before note) notes }
+{
+    if let Some(note) = place {
+        if note.0 < counts.len() {
+            counts[note.0] = counts[note.0].saturating_add(1);
+        }
+    }
+}
+
+/// The notification at which a signal is lost that is found so.
+pub(crate) fn lost_note(found: Option<Finding>) -> Option<NoteId>
+    ensures { result ≡ lost_note found }
+{
+    match found? {
+        Finding::Lost { note, .. } => Some(note),
+        _ => None,
+    }
+}
+
+/// The notification whose word a row tells after a signal.
+pub(crate) fn held_note(what: &What) -> Option<NoteId>
+    ensures { result ≡ held_note what.now }
+{
+    match *what {
+        What::Hold { note, .. } => Some(note),
+        _ => None,
+    }
+}

@@ -1,0 +1,13 @@
+//! Figures of a schedule, row by row: of each thread how many rounds ended and how long they took, how near its deadline it came, how much of
+//! its core it was granted and used, and which signals were lost or merged; and of each context the budget that was never used.
+#![tactic(auto)]
+
+mod account;
+mod counts;
+mod figures;
+mod shares;
+mod table;
+mod unused;
+
+pub use figures::{Figures, Margin, Rounds, Share, Signals};
+pub use table::Table;
