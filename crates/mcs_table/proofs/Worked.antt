@@ -11,6 +11,7 @@ use Rattle.mcs_script.specs.declared.item.Item.{Item}
 use Rattle.mcs_script.specs.declared.item.Item.TheVariants.{Compute, Signal, Wait, Yield}
 use Rattle.mcs_system.specs.declared.part.ThreadPart.{ThreadPart}
 use Rattle.mcs_system.specs.System.{System}
+use Rattle.mcs_histogram.specs.Buckets.{doublings}
 use Rattle.mcs_verdict.specs.Findings.{past_of}
 use Rattle.mcs_table.specs.declared.figures.Margin.TheVariants.{Left, Over}
 use Rattle.mcs_table.specs.Rounds.{responses_of, margin, rounds_in}
@@ -66,17 +67,20 @@ waits deadline = two [] (thread 0 0 (Signal 0 1 ∷ [])) (thread 1 deadline (Wai
 missed_and_not_late :
     rounds_in (waits 14) 20 1 looped
     ≡ record { ended = 1; greatest = Some 15; fiftieth = Some 15; ninetieth = Some 15; ninety_ninth = Some 15; missed = 1; late = 0 }
+unfolding doublings
 missed_and_not_late = refl
 
 -- a response of the deadline itself is none too late
 at_the_deadline :
     rounds_in (waits 15) 20 1 looped
     ≡ record { ended = 1; greatest = Some 15; fiftieth = Some 15; ninetieth = Some 15; ninety_ninth = Some 15; missed = 0; late = 0 }
+unfolding doublings
 at_the_deadline = refl
 
 missed_and_late :
     rounds_in (waits 13) 20 1 looped
     ≡ record { ended = 1; greatest = Some 15; fiftieth = Some 15; ninetieth = Some 15; ninety_ninth = Some 15; missed = 1; late = 1 }
+unfolding doublings
 missed_and_late = refl
 
 -- the other thread ended none
@@ -102,12 +106,14 @@ five = refl
 five_rounds :
     rounds_in computes 20 0 rising
     ≡ record { ended = 5; greatest = Some 5; fiftieth = Some 3; ninetieth = Some 5; ninety_ninth = Some 5; missed = 1; late = 1 }
+unfolding doublings
 five_rounds = refl
 
 -- those of another thread don't count; without a deadline none is missed
 one_round :
     rounds_in computes 20 1 rising
     ≡ record { ended = 1; greatest = Some 20; fiftieth = Some 20; ninetieth = Some 20; ninety_ninth = Some 20; missed = 0; late = 0 }
+unfolding doublings
 one_round = refl
 
 -- ---- margins
@@ -194,6 +200,7 @@ all_figures :
       signals = None;
       stood = record { pending = 0; ready = 0; running = 6; throttled = 14; blocked = 0; woken = 0; done = 0 };
     }
+unfolding doublings
 all_figures = refl
 
 -- and of one that begins with a wait, and never ran

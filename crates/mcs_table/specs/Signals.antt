@@ -6,8 +6,8 @@ use Rattle.mcs_ticks.specs.declared.row.What.TheVariants as row
 use Rattle.mcs_system.specs.System.{System}
 use Rattle.mcs_verdict.specs.declared.finding.Finding.{Finding}
 use Rattle.mcs_verdict.specs.declared.finding.Finding.TheVariants as finding
+use Rattle.mcs_verdict.specs.Findings.{finding as finding_of}
 use Rattle.mcs_verdict.specs.Words.{merges}
-use Rattle.mcs_verdict.specs.Findings as findings
 use Rattle.mcs_table.specs.declared.figures.Signals.{Signals}
 use Rattle.mcs_table.specs.Counts.{capped}
 
@@ -25,12 +25,15 @@ abbrev pub held_note : What → Option ℕ
 held_note (row.Hold note word) = Some note
 held_note _ = None
 
+abbrev pub merged_note : Bool → What → Option ℕ
+merged_note is_merged what = if is_merged then held_note what else None
+
 -- the notification at which a row after these loses a signal, and at which it merges one
 abbrev pub lost_by : System → List Row → Row → Option ℕ
-lost_by system past r = lost_note (findings.finding system past r.moment r.what)
+lost_by system past r = lost_note (finding_of system past r.moment r.what)
 
 abbrev pub merged_by : System → List Row → Row → Option ℕ
-merged_by system past r = if merges system past r.what then held_note r.what else None
+merged_by system past r = merged_note (merges system past r.what) r.what
 
 -- how many of the rows, each by those before it, do so at this notification
 abbrev pub times_at : (List Row → Row → Option ℕ) → ℕ → List Row → ℕ

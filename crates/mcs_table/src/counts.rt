@@ -1,6 +1,5 @@
-ghost use Rattle.std.specs.Prelude.{◌≡◌, ℕ, ◌+◌, List, ◌∷◌, if◌then◌else◌, IfOk};
-ghost use Rattle.mcs_ticks.specs.declared.row.Row.{Row as TheRow};
-ghost use Rattle.mcs_table.specs.Signals.{is_note, lost_note, held_note, times_at};
+ghost use Rattle.std.specs.Prelude.{◌≡◌, ℕ, ◌+◌, if◌then◌else◌, IfOk};
+ghost use Rattle.mcs_table.specs.Signals.{is_note, lost_note, held_note, merged_note};
 ghost use Rattle.mcs_table.specs.Table.{counts_of};
 
 use mcs_ticks::{NoMemory, NoteId, What};
@@ -36,12 +35,19 @@ pub(crate) fn lost_note(found: Option<Finding>) -> Option<NoteId>
     }
 }
 
-/// The notification whose word a row tells after a signal.
-pub(crate) fn held_note(what: &What) -> Option<NoteId>
+// The notification whose word a row tells after a signal.
+fn held_note(what: &What) -> Option<NoteId>
     ensures { result ≡ held_note what.now }
 {
     match *what {
         What::Hold { note, .. } => Some(note),
         _ => None,
     }
+}
+
+/// The notification at which a row merges a signal, where it merges one.
+pub(crate) fn merged_note(is_merged: bool, what: &What) -> Option<NoteId>
+    ensures { result ≡ merged_note is_merged what.now }
+{
+    if is_merged { held_note(what) } else { None }
 }

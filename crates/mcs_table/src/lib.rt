@@ -3,11 +3,13 @@
 #![tactic(auto)]
 
 mod account;
+mod all;
 mod counts;
 mod figures;
 mod shares;
 mod table;
 mod unused;
 
+pub use all::tabulate;
 pub use figures::{Figures, Margin, Rounds, Share, Signals};
 pub use table::Table;

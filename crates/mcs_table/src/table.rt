@@ -12,13 +12,13 @@ ghost use Rattle.mcs_table.specs.Table.{accounts_of, counts_of, table_of};
 ghost use Rattle.mcs_table.specs.Unused.{unused_of};
 
 use crate::account::{Account, margin};
-use crate::counts::{count_at, held_note, lost_note, no_counts};
+use crate::counts::{count_at, lost_note, merged_note, no_counts};
 use crate::shares::share;
 use crate::unused::unused;
 use crate::{Figures, Signals};
 use mcs_script::Item;
 use mcs_system::{System, SystemParts, ThreadPart};
-use mcs_ticks::{ContextId, NoMemory, NoteId, Row, ThreadId, Tick, What};
+use mcs_ticks::{ContextId, Limits, NoMemory, NoteId, Row, ThreadId, Tick, What};
 use mcs_verdict::{Finding, Job, Watch};
 use std::alloc::Global;
 use std::marker::Model;
@@ -103,8 +103,7 @@ impl Table {
     {
         end_round(self.accounts.as_mut_slice(), job, row);
         count_at(self.lost.as_mut_slice(), lost_note(found));
-        let merged = if is_merged { held_note(&row.what) } else { None };
-        count_at(self.merged.as_mut_slice(), merged);
+        count_at(self.merged.as_mut_slice(), merged_note(is_merged, &row.what));
     }
 
     // Of the notification for which a script waits first.
@@ -131,6 +130,8 @@ impl Table {
         ensures { (past : List TheRow) → self.now ≡ table_of system.now self.now.horizon past → watch.now ≡ watch_of system.now past →
             UpTo self.now.horizon past → result ≡ figures_of system.now self.now.horizon past thread }
     {
+        // so that no share is above 2^64 - 1
+        prove!(self.horizon.get() <= Limits::TICK);
         let parts = system.parts();
         let part = parts.thread(thread);
         let account = &self.accounts[thread.0];

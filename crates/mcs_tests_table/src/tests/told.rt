@@ -1,0 +1,213 @@
+ghost use Rattle.std.specs.Prelude.{◌≡◌, ◌≤◌, ◌^◌, length};
+
+use mcs_load::load;
+use mcs_system::System;
+use mcs_table::{Figures, Margin, Rounds, Share, Signals, Table, tabulate};
+use mcs_ticks::{ContextId, CoreId, NoteId, Row, ThreadId, Tick, What};
+use mcs_verdict::{Stood, Watch};
+use std::process::Abort;
+use std::test::Fail;
+
+// The second thread waits first, for a word that the first one sets.
+const WAITS: &str = r#"
+version = 1
+cores = 1
+delay = 1
+context = [{ name = "a", core = 0, budget = 3, period = 10 }, { name = "b", core = 0, budget = 20, period = 20 }]
+note = [{ name = "n", core = 0 }]
+thread = [
+  { name = "A", context = "a", priority = 6, script = ["signal n 1", "compute 1"] },
+  { name = "B", context = "b", priority = 5, deadline = 14, script = ["wait n", "compute 12"] },
+]
+"#;
+
+// Both threads compute, and an order names the context of the first one.
+const COMPUTES: &str = r#"
+version = 1
+cores = 1
+delay = 1
+context = [{ name = "a", core = 0, budget = 3, period = 10 }, { name = "b", core = 0, budget = 20, period = 20 }]
+thread = [
+  { name = "A", context = "a", priority = 6, deadline = 4, script = ["compute 1"] },
+  { name = "B", context = "b", priority = 5, script = ["compute 1"] },
+]
+order = [{ at = 30, core = 0, context = "a", budget = 4, period = 10 }]
+"#;
+
+fn row(moment: u64, what: What) -> Row
+    requires { moment ≤ 2 ^ 42 }
+    ensures { result.moment ≡ moment }
+{
+    Row {
+        moment: Tick::new(moment).unwrap(),
+        core: CoreId(0),
+        what,
+    }
+}
+
+fn release(thread: usize) -> What {
+    What::Release {
+        thread: ThreadId(thread),
+    }
+}
+
+fn run(thread: usize) -> What {
+    What::Run {
+        thread: ThreadId(thread),
+    }
+}
+
+fn hold(word: u32) -> What {
+    What::Hold {
+        note: NoteId(0),
+        word,
+    }
+}
+
+fn round(thread: usize, number: u64, response: u64) -> What {
+    What::Round {
+        thread: ThreadId(thread),
+        number,
+        response,
+    }
+}
+
+fn figures(
+    rt: &impl Abort,
+    system: &System,
+    watch: &Watch,
+    table: &Table,
+    thread: usize,
+) -> Figures
+    requires watched { length watch.now.accounts ≡ length system.now.threads }
+    requires kept { length table.now.accounts ≡ length system.now.threads }
+{
+    assert!(rt; thread < system.parts().threads.len());
+    table.figures(system, watch, ThreadId(thread))
+}
+
+fn unused(
+    rt: &impl Abort,
+    system: &System,
+    watch: &Watch,
+    table: &Table,
+    context: usize,
+) -> Option<u64>
+    requires watched { length watch.now.accounts ≡ length system.now.threads }
+{
+    assert!(rt; context < system.parts().contexts.len());
+    table.unused(system, watch, ContextId(context))
+}
+
+fn stood(ready: u64, running: u64) -> Stood {
+    Stood {
+        pending: 0,
+        ready,
+        running,
+        throttled: 0,
+        blocked: 0,
+        woken: 0,
+        done: 0,
+    }
+}
+
+// The word is set at 1 and the round ends at 16, 15 ticks later; it begins at 2, from where its row counts 14.
+#[test]
+fn a_round_that_waits_in_line(rt: HostRuntime) -> Result<(), Fail> {
+    let system = load(rt.alloc(), WAITS.as_bytes())?;
+    let got = What::Got {
+        thread: ThreadId(1),
+        note: NoteId(0),
+        word: 1,
+    };
+    let rows = [
+        row(0, release(1)),
+        row(1, hold(1)),
+        row(1, run(1)),
+        row(2, got),
+        row(11, hold(1)),
+        row(12, hold(1)),
+        row(13, hold(3)),
+        row(16, round(1, 1, 14)),
+    ];
+    let horizon = Tick::new(20).unwrap();
+    let (watch, table) = tabulate(rt.alloc(), &system, horizon, rows.as_slice())?;
+    let wanted = Figures {
+        core: CoreId(0),
+        priority: 5,
+        share: Share {
+            budget: 20,
+            period: 20,
+            granted: 1_000_000,
+            used: 950_000,
+        },
+        rounds: Rounds {
+            ended: 1,
+            greatest: Some(15),
+            fiftieth: Some(15),
+            ninetieth: Some(15),
+            ninety_ninth: Some(15),
+            missed: 1,
+            late: 0,
+        },
+        deadline: 14,
+        margin: Some(Margin::Over(1)),
+        signals: Some(Signals { lost: 1, merged: 1 }),
+        stood: stood(1, 19),
+    };
+    assert_eq!(rt; figures(&rt, &system, &watch, &table, 1), wanted);
+    // it ran 19 of 20 ticks, and the first thread none of the 6 that it might have run
+    assert_eq!(rt; unused(&rt, &system, &watch, &table, 0), Some(6));
+    assert_eq!(rt; unused(&rt, &system, &watch, &table, 1), Some(1));
+    Ok(())
+}
+
+// Responses of 1, 4, 2, 5 and 3 ticks: the third in rising order is the 50th percentile, and the last the 90th and the 99th.
+#[test]
+fn rounds_of_two_threads(rt: HostRuntime) -> Result<(), Fail> {
+    let system = load(rt.alloc(), COMPUTES.as_bytes())?;
+    let rows = [
+        row(0, release(0)),
+        row(0, release(1)),
+        row(0, run(0)),
+        row(1, round(0, 1, 1)),
+        row(5, round(0, 2, 4)),
+        row(7, round(0, 3, 2)),
+        row(12, round(0, 4, 5)),
+        row(15, round(0, 5, 3)),
+        row(18, round(1, 1, 18)),
+    ];
+    let horizon = Tick::new(18).unwrap();
+    let (watch, table) = tabulate(rt.alloc(), &system, horizon, rows.as_slice())?;
+    let wanted = Figures {
+        core: CoreId(0),
+        priority: 6,
+        share: Share {
+            budget: 3,
+            period: 10,
+            granted: 300_000,
+            used: 1_000_000,
+        },
+        rounds: Rounds {
+            ended: 5,
+            greatest: Some(5),
+            fiftieth: Some(3),
+            ninetieth: Some(5),
+            ninety_ninth: Some(5),
+            missed: 1,
+            late: 1,
+        },
+        deadline: 4,
+        margin: Some(Margin::Over(1)),
+        signals: None,
+        stood: stood(0, 18),
+    };
+    assert_eq!(rt; figures(&rt, &system, &watch, &table, 0), wanted);
+    let other = figures(&rt, &system, &watch, &table, 1);
+    assert_eq!(rt; (other.rounds.greatest, other.margin), (Some(18), None));
+    assert_eq!(rt; other.stood, stood(18, 0));
+    // an order names the first context, and the second one let nothing run
+    assert_eq!(rt; unused(&rt, &system, &watch, &table, 0), None);
+    assert_eq!(rt; unused(&rt, &system, &watch, &table, 1), Some(18));
+    Ok(())
+}
