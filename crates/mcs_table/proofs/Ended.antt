@@ -1,7 +1,7 @@
 -- One round more of a thread, and rows that end none of its rounds.
-use Rattle.std.proofs.Common.{◌≡◌, ◌≢◌, ℕ, zero, suc, ◌+◌, ◌-◌, ◌^◌, ◌<◌, ◌≤◌, min, max, ◌⊎◌, inl, inr, Bool, true, false, eqb, ltb, cond, List, [], ◌∷◌, ◌++◌, length, get_or, set, map, Option, Some, None, refl, sym, ap, subst, ◌∙◌, arith}
-use Rattle.std.specs.Prelude.{◌&&◌, filter, fold, count_by, option_to_list, unwrap_or}
-use Rattle.std.proofs.lemmas.Bool.{cases_eq, eq-eqb, ne_eqb, lt-ltb, le-ltb, cases_lt}
+use Rattle.std.proofs.Common.{◌≡◌, ◌≢◌, ℕ, zero, suc, ◌+◌, ◌<◌, ◌≤◌, max, inl, inr, Bool, true, false, eqb, ltb, cond, List, [], ◌∷◌, ◌++◌, length, get_or, set, map, Option, Some, None, refl, sym, ap, subst, ◌∙◌, arith}
+use Rattle.std.specs.Prelude.{◌&&◌, filter, fold, option_to_list, unwrap_or}
+use Rattle.std.proofs.lemmas.Bool.{eq-eqb, ne_eqb, lt-ltb, le-ltb, cases_lt}
 use Rattle.std.proofs.lemmas.List.Sums.{sum_by-cons}
 use Rattle.mcs_ticks.specs.declared.row.Row.{Row}
 use Rattle.mcs_ticks.specs.declared.row.What.{What}
@@ -14,7 +14,6 @@ use Rattle.mcs_verdict.specs.declared.job.Job.{Job}
 use Rattle.mcs_verdict.specs.Misses.{is_above}
 use Rattle.mcs_verdict.specs.Jobs.{job, job_known, job_of}
 use Rattle.mcs_table.specs.declared.account.Account.{Account}
-use Rattle.mcs_table.specs.Counts.{capped}
 use Rattle.mcs_table.specs.Rounds.{jobs_of, responses_of, greatest, missed_in, is_late, late_in}
 use Rattle.mcs_table.specs.Table.{account_with, account_of, accounts_of}
 
@@ -80,7 +79,7 @@ same_other system horizon k m core x number response past differ =
     (λ deadline. ap (λ (b : Bool). b && is_above deadline response) (ne_eqb x k differ))
 
 -- no round
-same_row : (system : System) (horizon k m core : ℕ) (what : What) (past : List Row) → ((x n response : ℕ) → what ≡ row.Round x n response → ⊥)
+pub same_row : (system : System) (horizon k m core : ℕ) (what : What) (past : List Row) → ((x n response : ℕ) → what ≡ row.Round x n response → ⊥)
     → IsSame system horizon (record { moment = m; core = core; what = what }) past k
 same_row system horizon k m core (row.Release x) past differs = same_with system horizon k (record { moment = m; core = core; what = row.Release x }) past refl (λ d. refl)
 same_row system horizon k m core (row.Run x) past differs = same_with system horizon k (record { moment = m; core = core; what = row.Run x }) past refl (λ d. refl)
@@ -111,7 +110,7 @@ own system horizon deadline k m core number response past known =
     ∙ ap (λ n. account_with horizon deadline ((job system past m k number).response ∷ responses_of system k past) n) late)
 
 -- ---- of all threads
-accounts_same : (system : System) (horizon n : ℕ) (parts : List ThreadPart) (r : Row) (past : List Row)
+pub accounts_same : (system : System) (horizon n : ℕ) (parts : List ThreadPart) (r : Row) (past : List Row)
     → ((k : ℕ) → n ≤ k → k < n + length parts → IsSame system horizon r past k)
     → accounts_of system horizon n parts (r ∷ past) ≡ accounts_of system horizon n parts past
 accounts_same system horizon n [] r past h = refl
@@ -161,7 +160,7 @@ pub account_kept : (system : System) (horizon x : ℕ) (parts : List ThreadPart)
 account_kept system horizon x parts past d h = account_from system horizon 0 x x parts past d (omega arith) h
 
 -- ---- rows that end a round, or none
-known_job : (b : Bool) (found job : Job) → Some found ≡ cond b (Some job) None → (b ≡ true) × (found ≡ job)
+pub known_job : (b : Bool) (found job : Job) → Some found ≡ cond b (Some job) None → (b ≡ true) × (found ≡ job)
 known_job true found job e = (refl, ap (λ o. unwrap_or o found) e)
 known_job false found job e = absurd (cc)
 

@@ -1,5 +1,5 @@
 -- Responses of a run, and how many there are.
-use Rattle.std.proofs.Common.{◌≡◌, ℕ, ◌+◌, ◌-◌, ◌^◌, ◌<◌, ◌≤◌, min, Bool, true, false, eqb, ltb, cond, List, [], ◌∷◌, ◌++◌, length, map, Option, Some, None, refl, sym, ap, ◌∙◌, All, filter, count_by, option_to_list, arith}
+use Rattle.std.proofs.Common.{◌≡◌, ℕ, ◌^◌, ◌<◌, ◌≤◌, Bool, true, false, eqb, ltb, cond, List, [], ◌∷◌, ◌++◌, length, map, Option, Some, None, refl, ap, ◌∙◌, All, filter, option_to_list, arith}
 use Rattle.std.proofs.lemmas.List.{length-map}
 use Rattle.std.proofs.lemmas.List.Elements.{All-cons}
 use Rattle.std.proofs.lemmas.List.Sums.{count_by-le-length}
@@ -15,8 +15,8 @@ use Rattle.mcs_verdict.specs.Jobs.{job, job_of}
 use Rattle.mcs_verdict.specs.Misses.{is_above}
 use Rattle.mcs_table.specs.declared.figures.Rounds.{Rounds}
 use Rattle.mcs_table.specs.Counts.{capped}
-use Rattle.mcs_table.specs.Rounds.{jobs_of, responses_of, greatest, missed_in, is_late, late_in, rounds_in}
-use Rattle.mcs_table.specs.laws.Exact.{exact_rounds, RoundsAreExact}
+use Rattle.mcs_table.specs.Rounds.{jobs_of, responses_of, greatest, missed_in, is_late, late_in}
+use Rattle.mcs_table.specs.laws.Exact.{RoundsAreExact}
 use Rattle.mcs_table.proofs.Ended.{known_job}
 
 -- a response is no longer than the time up to the round's end

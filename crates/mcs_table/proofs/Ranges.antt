@@ -1,5 +1,5 @@
 -- Counts by number, and one more at one of them.
-use Rattle.std.proofs.Common.{◌≡◌, ◌≢◌, ℕ, zero, suc, ◌+◌, ◌-◌, ◌^◌, ◌<◌, ◌≤◌, min, ◌⊎◌, inl, inr, Bool, true, false, eqb, cond, List, [], ◌∷◌, length, get_or, set, map, replicate, Option, Some, None, refl, sym, ap, ◌∙◌, arith}
+use Rattle.std.proofs.Common.{◌≡◌, ◌≢◌, ℕ, ◌+◌, ◌-◌, ◌^◌, ◌<◌, ◌≤◌, min, ◌⊎◌, inl, inr, Bool, true, false, eqb, cond, List, length, get_or, set, map, replicate, Option, Some, None, refl, sym, ap, ◌∙◌, arith}
 use Rattle.std.specs.List.{range_with_len}
 use Rattle.std.proofs.Math.Nat.{zero-add}
 use Rattle.std.proofs.lemmas.Bool.{cases_eq, eq-eqb, ne_eqb}
@@ -68,6 +68,11 @@ pub counts-past : (before : ℕ → ℕ) (notes y : ℕ) (counts : List ℕ) →
 counts-past before notes y counts e past =
     let long : length counts ≡ notes = ap length e ∙ length-map-range_with_len (λ k. capped (before k)) 0 notes in
     e ∙ same_numbers (λ k. capped (before k)) (λ k. capped (more (Some y) before k)) notes (λ k h. other before y k (λ same. omega arith))
+
+-- at none
+pub counts-none : (before : ℕ → ℕ) (notes : ℕ) → counts_of before notes ≡ counts_of (more None before) notes
+counts-none before notes =
+    same_numbers (λ k. capped (before k)) (λ k. capped (more None before k)) notes (λ k h. not_here false (before k) refl)
 
 -- before the first row
 pub counts-first : (notes : ℕ) → replicate notes 0 ≡ counts_of (λ note. 0) notes

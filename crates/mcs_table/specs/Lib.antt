@@ -5,3 +5,4 @@ pub mod Shares
 pub mod Unused
 pub mod Figures
 pub mod Table
+pub mod laws

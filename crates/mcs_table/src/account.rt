@@ -29,7 +29,11 @@ fn is_above(deadline: u64, ticks: u64) -> bool
 fn counted(count: u64, is_so: bool) -> u64
     ensures { (before : ℕ) → count ≡ capped before → result ≡ capped ((if is_so then 1 else 0) + before) }
 {
-    if is_so { count.saturating_add(1) } else { count }
+    if is_so {
+        count.saturating_add(1)
+    } else {
+        count
+    }
 }
 
 // The greatest of responses and one more.

@@ -6,10 +6,12 @@ mod account;
 mod all;
 mod counts;
 mod figures;
+mod laws;
 mod shares;
 mod table;
 mod unused;
 
 pub use all::tabulate;
 pub use figures::{Figures, Margin, Rounds, Share, Signals};
+pub use laws::{jobs_are_the_runs, rounds_are_exact};
 pub use table::Table;

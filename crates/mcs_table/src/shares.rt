@@ -10,9 +10,7 @@ use mcs_ticks::Tick;
 fn millionths(part: u64, whole: u64) -> u64
     ensures { part ≤ 2 ^ 42 → result ≡ millionths part whole }
 {
-    part.wrapping_mul(1_000_000)
-        .checked_div(whole)
-        .unwrap_or(0)
+    part.wrapping_mul(1_000_000).checked_div(whole).unwrap_or(0)
 }
 
 /// What a context with this configuration grants of its core, and what running so many ticks comes to.

@@ -93,9 +93,9 @@ impl Table {
         })
     }
 
-    /// One row more, in constant time and without memory. A watch over the same rows tells of it the round that it ends, what is found, and
-    /// whether it merges a signal.
-    pub fn see(&mut self, job: Option<Job>, found: Option<Finding>, is_merged: bool, row: &Row)
+    // The same of any row. It stands apart, so that other rows, which are most, copy no job.
+    #[inline(never)]
+    fn see_any(&mut self, job: Option<Job>, found: Option<Finding>, is_merged: bool, row: &Row)
         ensures { (system : TheSystem) (horizon : ℕ) (past : List TheRow) → self.old ≡ table_of system horizon past →
             job ≡ job_of system past row.now.moment row.now.what → found ≡ finding system past row.now.moment row.now.what →
             is_merged ≡ merges system past row.now.what →
@@ -103,7 +103,25 @@ impl Table {
     {
         end_round(self.accounts.as_mut_slice(), job, row);
         count_at(self.lost.as_mut_slice(), lost_note(found));
-        count_at(self.merged.as_mut_slice(), merged_note(is_merged, &row.what));
+        count_at(
+            self.merged.as_mut_slice(),
+            merged_note(is_merged, &row.what),
+        );
+    }
+
+    /// One row more, in constant time and without memory. A watch over the same rows tells of it the round that it ends, what is found, and
+    /// whether it merges a signal.
+    #[inline(always)]
+    pub fn see(&mut self, job: Option<Job>, found: Option<Finding>, is_merged: bool, row: &Row)
+        ensures { (system : TheSystem) (horizon : ℕ) (past : List TheRow) → self.old ≡ table_of system horizon past →
+            job ≡ job_of system past row.now.moment row.now.what → found ≡ finding system past row.now.moment row.now.what →
+            is_merged ≡ merges system past row.now.what →
+            self.new ≡ table_of system horizon (row.now ∷ past) }
+    {
+        // others end no round, and change no count
+        if let What::Round { .. } | What::Hold { .. } = row.what {
+            self.see_any(job, found, is_merged, row);
+        }
     }
 
     // Of the notification for which a script waits first.

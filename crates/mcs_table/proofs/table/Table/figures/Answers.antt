@@ -11,7 +11,6 @@ use Rattle.mcs_table.specs.Rounds.{responses_of, late_in, greatest, margin}
 use Rattle.mcs_table.specs.Shares.{share_of}
 use Rattle.mcs_table.specs.Signals.{signals_for}
 use Rattle.mcs_table.specs.Table.{Table, account_of}
-use Rattle.mcs_table.proofs.Ended.{account_kept}
 use Rattle.mcs_table.proofs.Kept.{same_figures, running-le, read_account}
 use Rattle.mcs_table.proofs.table.Table.figures.Goals as goal
 

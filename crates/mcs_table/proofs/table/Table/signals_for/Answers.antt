@@ -32,8 +32,9 @@ returns-else-note-len c system horizon past e =
     (ap (λ (table : Table). table.merged) (c.self.view_is ∙ e))
     in
     let not : length system.notes ≤ c.note.inside.0 =
-    elim c.else-note-len.branch
-      [ else-note-len-via-then-note-len+else-note-len-2 w ↦ omega (arith, w.if-note-len-2.false, w.len-then-note-len.ensures, merged)
-      | else-note-len-via-else-note-len w ↦ omega (arith, w.if-note-len.false, c.len.ensures, lost) ]
+    elim c.else-note-len.branch [
+      | else-note-len-via-then-note-len+else-note-len-2 w ↦ omega (arith, w.if-note-len-2.false, w.len-then-note-len.ensures, merged)
+      | else-note-len-via-else-note-len w ↦ omega (arith, w.if-note-len.false, c.len.ensures, lost)
+    ]
     in
     signals_unknown system c.note.inside.0 c.args.waits past at not
