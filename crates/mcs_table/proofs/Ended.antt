@@ -48,6 +48,9 @@ same_account deadline deadline' missed missed' late late' greatest greatest' res
     ∙ ap (λ x. account deadline' greatest' x late responses) m ∙ ap (λ x. account deadline' greatest' missed' x responses) l
     ∙ ap (λ x. account deadline' greatest' missed' late' x) r
 
+abbrev pub row_at : ℕ → ℕ → What → Row
+row_at m core what = record { moment = m; core = core; what = what }
+
 -- ---- the rounds that a row ends
 ends_none : (b : Bool) (k : ℕ) (job : Job) (jobs : List Job) → eqb job.thread k ≡ false
     → filter (λ job. eqb job.thread k) (option_to_list (cond b (Some job) None)) ++ jobs ≡ jobs
@@ -72,38 +75,48 @@ same_with system horizon k r past jobs late deadline =
 
 -- a round of another thread
 same_other : (system : System) (horizon k m core x number response : ℕ) (past : List Row) → x ≢ k
-    → IsSame system horizon (record { moment = m; core = core; what = row.Round x number response }) past k
+    → IsSame system horizon (row_at m core (row.Round x number response)) past k
 same_other system horizon k m core x number response past differ =
-    same_with system horizon k (record { moment = m; core = core; what = row.Round x number response }) past
+    same_with system horizon k (row_at m core (row.Round x number response)) past
     (ends_none (ltb x (length system.threads)) k (job system past m x number) (jobs_of system k past) (ne_eqb x k differ))
     (λ deadline. ap (λ (b : Bool). b && is_above deadline response) (ne_eqb x k differ))
 
 -- no round
 pub same_row : (system : System) (horizon k m core : ℕ) (what : What) (past : List Row) → ((x n response : ℕ) → what ≡ row.Round x n response → ⊥)
-    → IsSame system horizon (record { moment = m; core = core; what = what }) past k
-same_row system horizon k m core (row.Release x) past differs = same_with system horizon k (record { moment = m; core = core; what = row.Release x }) past refl (λ d. refl)
-same_row system horizon k m core (row.Run x) past differs = same_with system horizon k (record { moment = m; core = core; what = row.Run x }) past refl (λ d. refl)
-same_row system horizon k m core (row.Stop x cause charged until) past differs = same_with system horizon k (record { moment = m; core = core; what = row.Stop x cause charged until }) past refl (λ d. refl)
-same_row system horizon k m core (row.Signal x note badge) past differs = same_with system horizon k (record { moment = m; core = core; what = row.Signal x note badge }) past refl (λ d. refl)
-same_row system horizon k m core (row.Arrive note badge maker) past differs = same_with system horizon k (record { moment = m; core = core; what = row.Arrive note badge maker }) past refl (λ d. refl)
-same_row system horizon k m core (row.Wake x note word) past differs = same_with system horizon k (record { moment = m; core = core; what = row.Wake x note word }) past refl (λ d. refl)
-same_row system horizon k m core (row.Hold note word) past differs = same_with system horizon k (record { moment = m; core = core; what = row.Hold note word }) past refl (λ d. refl)
-same_row system horizon k m core (row.Got x note word) past differs = same_with system horizon k (record { moment = m; core = core; what = row.Got x note word }) past refl (λ d. refl)
+    → IsSame system horizon (row_at m core what) past k
+same_row system horizon k m core (row.Release x) past differs =
+    same_with system horizon k (row_at m core (row.Release x)) past refl (λ d. refl)
+same_row system horizon k m core (row.Run x) past differs =
+    same_with system horizon k (row_at m core (row.Run x)) past refl (λ d. refl)
+same_row system horizon k m core (row.Stop x cause charged until) past differs =
+    same_with system horizon k (row_at m core (row.Stop x cause charged until)) past refl (λ d. refl)
+same_row system horizon k m core (row.Signal x note badge) past differs =
+    same_with system horizon k (row_at m core (row.Signal x note badge)) past refl (λ d. refl)
+same_row system horizon k m core (row.Arrive note badge maker) past differs =
+    same_with system horizon k (row_at m core (row.Arrive note badge maker)) past refl (λ d. refl)
+same_row system horizon k m core (row.Wake x note word) past differs =
+    same_with system horizon k (row_at m core (row.Wake x note word)) past refl (λ d. refl)
+same_row system horizon k m core (row.Hold note word) past differs =
+    same_with system horizon k (row_at m core (row.Hold note word)) past refl (λ d. refl)
+same_row system horizon k m core (row.Got x note word) past differs =
+    same_with system horizon k (row_at m core (row.Got x note word)) past refl (λ d. refl)
 same_row system horizon k m core (row.Round x number response) past differs = absurd (differs x number response refl)
-same_row system horizon k m core (row.Order context) past differs = same_with system horizon k (record { moment = m; core = core; what = row.Order context }) past refl (λ d. refl)
+same_row system horizon k m core (row.Order context) past differs =
+    same_with system horizon k (row_at m core (row.Order context)) past refl (λ d. refl)
 
 -- a round of this thread
 own : (system : System) (horizon deadline k m core number response : ℕ) (past : List Row) → k < length system.threads
     → account_with horizon deadline ((job system past m k number).response ∷ responses_of system k past)
     (cond (is_above deadline response) 1 0 + late_in deadline k past)
-    ≡ account_of system horizon deadline k (record { moment = m; core = core; what = row.Round k number response } ∷ past)
+    ≡ account_of system horizon deadline k (row_at m core (row.Round k number response) ∷ past)
 own system horizon deadline k m core number response past known =
-    let r : Row = record { moment = m; core = core; what = row.Round k number response } in
+    let r : Row = row_at m core (row.Round k number response) in
     let late : late_in deadline k (r ∷ past) ≡ cond (is_above deadline response) 1 0 + late_in deadline k past =
     late-more deadline k r past ∙ ap (λ (b : Bool). cond (b && is_above deadline response) 1 0 + late_in deadline k past) (eq-eqb k k refl)
     in
     let jobs : jobs_of system k (r ∷ past) ≡ job system past m k number ∷ jobs_of system k past =
-    ends_one (ltb k (length system.threads)) k (job system past m k number) (jobs_of system k past) (lt-ltb k (length system.threads) known) (eq-eqb k k refl)
+    ends_one (ltb k (length system.threads)) k (job system past m k number) (jobs_of system k past) (lt-ltb k (length system.threads) known)
+    (eq-eqb k k refl)
     in
     sym
     (ap (λ jobs. account_with horizon deadline (map (λ (job : Job). job.response) jobs) (late_in deadline k (r ∷ past))) jobs
@@ -123,7 +136,8 @@ accounts_same system horizon n (part ∷ parts) r past h =
     in
     cc
 
-accounts_at : (system : System) (horizon x n y : ℕ) (parts : List ThreadPart) (r : Row) (past : List Row) (new : Account) → x ≡ n + y → y < length parts
+accounts_at : (system : System) (horizon x n y : ℕ) (parts : List ThreadPart) (r : Row) (past : List Row) (new : Account) → x ≡ n + y
+    → y < length parts
     → new ≡ account_of system horizon (get_or parts y no_thread).deadline x (r ∷ past)
     → ((k : ℕ) → k ≢ x → IsSame system horizon r past k)
     → set (accounts_of system horizon n parts past) y new ≡ accounts_of system horizon n parts (r ∷ past)
@@ -137,7 +151,9 @@ accounts_at system horizon x n zero (part ∷ parts) r past new e has is same =
     in
     cc
 accounts_at system horizon x n (suc y) (part ∷ parts) r past new e has is same =
-    let first : account_of system horizon part.deadline n (r ∷ past) ≡ account_of system horizon part.deadline n past = same n (λ h. omega arith) part.deadline in
+    let first : account_of system horizon part.deadline n (r ∷ past) ≡ account_of system horizon part.deadline n past =
+    same n (λ h. omega arith) part.deadline
+    in
     let rest : set (accounts_of system horizon (suc n) parts past) y new ≡ accounts_of system horizon (suc n) parts (r ∷ past) =
     accounts_at system horizon x (suc n) y parts r past new (omega arith) (omega arith) is same
     in
@@ -180,7 +196,7 @@ told_round : (system : System) (horizon m core x number response y : ℕ) (past 
     → old ≡ get_or accounts y old
     → ((horizon deadline late : ℕ) (responses : List ℕ) → old ≡ account_with horizon deadline responses late
     → new ≡ account_with horizon deadline (found.response ∷ responses) (cond (is_above deadline response) 1 0 + late))
-    → set accounts y new ≡ accounts_of system horizon 0 system.threads (record { moment = m; core = core; what = row.Round x number response } ∷ past)
+    → set accounts y new ≡ accounts_of system horizon 0 system.threads (row_at m core (row.Round x number response) ∷ past)
 told_round system horizon m core x number response y past accounts found old new e known at was is =
     let both = known_job (ltb x (length system.threads)) found (job system past m x number) known in
     let has : x < length system.threads = below x (length system.threads) both.0 in
@@ -190,16 +206,20 @@ told_round system horizon m core x number response y past accounts found old new
     was ∙ ap (λ xs. get_or xs y old) e ∙ ap (λ k. get_or (accounts_of system horizon 0 system.threads past) k old) same
     ∙ account_kept system horizon x system.threads past old has
     in
-    let made : new ≡ account_of system horizon deadline x (record { moment = m; core = core; what = row.Round x number response } ∷ past) =
+    let made : new ≡ account_of system horizon deadline x (row_at m core (row.Round x number response) ∷ past) =
     is horizon deadline (late_in deadline x past) (responses_of system x past) kept
-    ∙ ap (λ (j : Job). account_with horizon deadline (j.response ∷ responses_of system x past) (cond (is_above deadline response) 1 0 + late_in deadline x past)) both.1
+    ∙ ap
+    (λ (j : Job).
+    account_with horizon deadline (j.response ∷ responses_of system x past) (cond (is_above deadline response) 1 0 + late_in deadline x past))
+    both.1
     ∙ own system horizon deadline x m core number response past has
     in
     ap (λ xs. set xs y new) e ∙ ap (λ k. set (accounts_of system horizon 0 system.threads past) k new) same
-    ∙ accounts_at system horizon x 0 x system.threads (record { moment = m; core = core; what = row.Round x number response }) past new (omega arith) has made
+    ∙ accounts_at system horizon x 0 x system.threads (row_at m core (row.Round x number response)) past new (omega arith) has made
     (λ k differ. same_other system horizon k m core x number response past (λ s. differ (sym s)))
 
-pub round_told : (system : System) (horizon x number response y : ℕ) (r : Row) (past : List Row) (accounts : List Account) (found : Job) (old new : Account)
+pub round_told : (system : System) (horizon x number response y : ℕ) (r : Row) (past : List Row) (accounts : List Account) (found : Job)
+    (old new : Account)
     → accounts ≡ accounts_of system horizon 0 system.threads past → Some found ≡ job_of system past r.moment r.what
     → r.what ≡ row.Round x number response → y ≡ found.thread → old ≡ get_or accounts y old
     → ((horizon deadline late : ℕ) (responses : List ℕ) → old ≡ account_with horizon deadline responses late
@@ -210,7 +230,8 @@ round_told system horizon x number response y r past accounts found old new e kn
     λ what. Some found ≡ job_of system past r.moment what
     → set accounts y new ≡ accounts_of system horizon 0 system.threads (record { moment = r.moment; core = r.core; what = what } ∷ past)
     in
-    subst P (sym is_round) (λ known. told_round system horizon r.moment r.core x number response y past accounts found old new e known at was is) known
+    subst P (sym is_round)
+    (λ known. told_round system horizon r.moment r.core x number response y past accounts found old new e known at was is) known
 
 -- the thread is one of those of which there is an account
 pub round_known : (system : System) (horizon x number response y : ℕ) (r : Row) (past : List Row) (accounts : List Account) (found : Job)
@@ -244,19 +265,23 @@ pub is_round : (system : System) (m : ℕ) (past : List Row) (what : What) (foun
 is_round system m past what found e differs = let none = no_job system m past what differs in absurd (cc)
 
 none_told : (system : System) (horizon m core : ℕ) (what : What) (past : List Row) → None ≡ job_of system past m what
-    → (k : ℕ) → k < length system.threads → IsSame system horizon (record { moment = m; core = core; what = what }) past k
+    → (k : ℕ) → k < length system.threads → IsSame system horizon (row_at m core what) past k
 none_told system horizon m core (row.Release x) past e k has = same_row system horizon k m core (row.Release x) past (λ a b c e. cc)
 none_told system horizon m core (row.Run x) past e k has = same_row system horizon k m core (row.Run x) past (λ a b c e. cc)
 none_told system horizon m core (row.Stop x cause charged until) past e k has =
     same_row system horizon k m core (row.Stop x cause charged until) past (λ a b c e. cc)
-none_told system horizon m core (row.Signal x note badge) past e k has = same_row system horizon k m core (row.Signal x note badge) past (λ a b c e. cc)
-none_told system horizon m core (row.Arrive note badge maker) past e k has = same_row system horizon k m core (row.Arrive note badge maker) past (λ a b c e. cc)
+none_told system horizon m core (row.Signal x note badge) past e k has =
+    same_row system horizon k m core (row.Signal x note badge) past (λ a b c e. cc)
+none_told system horizon m core (row.Arrive note badge maker) past e k has =
+    same_row system horizon k m core (row.Arrive note badge maker) past (λ a b c e. cc)
 none_told system horizon m core (row.Wake x note word) past e k has = same_row system horizon k m core (row.Wake x note word) past (λ a b c e. cc)
 none_told system horizon m core (row.Hold note word) past e k has = same_row system horizon k m core (row.Hold note word) past (λ a b c e. cc)
 none_told system horizon m core (row.Got x note word) past e k has = same_row system horizon k m core (row.Got x note word) past (λ a b c e. cc)
 none_told system horizon m core (row.Order context) past e k has = same_row system horizon k m core (row.Order context) past (λ a b c e. cc)
 none_told system horizon m core (row.Round x number response) past e k has =
-    let past_all : length system.threads ≤ x = not_below x (length system.threads) (unknown_job (ltb x (length system.threads)) (job system past m x number) e) in
+    let past_all : length system.threads ≤ x =
+    not_below x (length system.threads) (unknown_job (ltb x (length system.threads)) (job system past m x number) e)
+    in
     same_other system horizon k m core x number response past (λ s. omega arith)
 
 -- a row that ends no round of a thread that the system has

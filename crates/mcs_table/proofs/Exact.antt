@@ -35,7 +35,8 @@ within system m past (row.Round x number response) found e =
     let is : found.response ≡ (job system past m x number).response = ap (λ (job : Job). job.response) both.1 in
     omega (arith, is)
 
-all_within : (system : System) (horizon thread : ℕ) (past : List Row) → UpTo horizon past → All (λ (n : ℕ). n ≤ horizon) (responses_of system thread past)
+all_within : (system : System) (horizon thread : ℕ) (past : List Row) → UpTo horizon past
+    → All (λ (n : ℕ). n ≤ horizon) (responses_of system thread past)
 all_within system horizon thread [] up = λ k d h. absurd (omega arith)
 all_within system horizon thread (r ∷ past) up =
     by (job_of system past r.moment r.what) refl (all_within system horizon thread past up.1)

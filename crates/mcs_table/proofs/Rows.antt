@@ -15,7 +15,8 @@ pub record Follows (system : System) (horizon : ℕ) (past rows rest : List Row)
   pub past_is : past_of seen rest ≡ past_of past rows
 
 -- one row more
-pub follows-row : (system : System) (horizon : ℕ) (past rows rest more : List Row) (r : Row) (watch watch' : Watch) (table table' : Table) → rest ≡ r ∷ more
+pub follows-row : (system : System) (horizon : ℕ) (past rows rest more : List Row) (r : Row) (watch watch' : Watch) (table table' : Table)
+    → rest ≡ r ∷ more
     → Follows system horizon past rows rest watch table
     → ((seen : List Row) → watch ≡ watch_of system seen → UpTo r.moment seen → watch' ≡ watch_of system (r ∷ seen))
     → ((seen : List Row) → watch ≡ watch_of system seen → table ≡ table_of system horizon seen → UpTo r.moment seen

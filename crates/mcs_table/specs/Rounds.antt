@@ -1,5 +1,6 @@
 -- The rounds of a thread that ended, by the rows so far, the latest first.
-use Rattle.std.specs.Prelude.{ℕ, Bool, false, ◌==◌, ◌&&◌, nat_lt, max, if◌then◌else◌, List, [], ◌∷◌, ◌++◌, length, map, filter, count_by, Option, Some, None, option_to_list, ◌-◌}
+use Rattle.std.specs.Prelude.{ℕ, ◌-◌, max, Bool, false, ◌==◌, ◌&&◌, nat_lt, if◌then◌else◌, Option, Some, None, option_to_list}
+use Rattle.std.specs.Prelude.{List, [], ◌∷◌, ◌++◌, length, map, filter, count_by}
 use Rattle.std.specs.List.{reduce}
 use Rattle.mcs_ticks.specs.declared.row.Row.{Row}
 use Rattle.mcs_ticks.specs.declared.row.What.{What}

@@ -12,7 +12,9 @@ returns-then-job-accounts c system horizon past e is =
     (ap (λ (job : Job). job.thread) c.job.view_is) c.index-accounts-job.is
     (λ horizon deadline late responses h.
     c.end.ensures horizon deadline late responses (sym c.index-accounts-job.is ∙ h)
-    ∙ ap (λ (job : Job). account_with horizon deadline (job.response ∷ responses) (cond (is_above deadline c.in-Round.response) 1 0 + late)) c.job.view_is)
+    ∙ ap
+    (λ (job : Job). account_with horizon deadline (job.response ∷ responses) (cond (is_above deadline c.in-Round.response) 1 0 + late))
+    c.job.view_is)
 
 pub returns-else-job-accounts : goal.returns-else-job-accounts
 returns-else-job-accounts c system horizon past e is =

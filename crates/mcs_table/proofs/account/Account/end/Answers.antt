@@ -26,4 +26,5 @@ returns c horizon deadline late responses e =
     let h : c.record.new.self ≡ histogram_of horizon (c.args.response ∷ responses) =
     c.record.ensures horizon responses (ap (λ (account : Account). account.responses) e)
     in
-    same_account c.args.self.now.deadline deadline c.counted-self.result _ c.counted-self-2.result _ c.or_greater-self.result _ c.record.new.self _ d g m l h
+    same_account c.args.self.now.deadline deadline c.counted-self.result _ c.counted-self-2.result _ c.or_greater-self.result _
+    c.record.new.self _ d g m l h

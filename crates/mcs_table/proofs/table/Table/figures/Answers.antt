@@ -38,7 +38,8 @@ returns c past kept watched up =
     c.context.ensures ∙ ap (λ system. context_part system c.thread-part.result.now.context) same
     ∙ ap (λ (part : ThreadPart). context_part system part.context) part
     in
-    let share : c.share.result ≡ share_of (context_part system (thread_part system thread).context).config horizon (stood_in thread past 0 horizon).running =
+    let share :
+    c.share.result ≡ share_of (context_part system (thread_part system thread).context).config horizon (stood_in thread past 0 horizon).running =
     c.share.ensures small ∙ ap (λ (context : ContextPart). share_of context.config c.self.inside.horizon c.stood-stood.result.running) context
     ∙ ap (λ horizon. share_of (context_part system (thread_part system thread).context).config horizon c.stood-stood.result.running) until
     ∙ ap (λ (stood : Stood). share_of (context_part system (thread_part system thread).context).config horizon stood.running) stood
@@ -47,7 +48,10 @@ returns c past kept watched up =
     read_account system horizon c.thread.inside.0 thread c.self.inside.accounts.items past c.index-account.result.now
     (ap (λ (table : Table). table.accounts) (c.self.view_is ∙ kept)) c.thread.view_is c.requires.known c.index-account.ensures
     in
-    let rounds = c.rounds.ensures horizon (thread_part system thread).deadline (late_in (thread_part system thread).deadline thread past) (responses_of system thread past) account in
+    let rounds =
+    c.rounds.ensures horizon (thread_part system thread).deadline (late_in (thread_part system thread).deadline thread past)
+    (responses_of system thread past) account
+    in
     let far : c.margin.result ≡ margin (thread_part system thread).deadline (greatest (responses_of system thread past)) =
     c.margin.ensures ∙ ap (λ (part : ThreadPart). margin part.deadline c.index-account.result.now.greatest) part
     ∙ ap (λ (account : Account). margin (thread_part system thread).deadline account.greatest) account

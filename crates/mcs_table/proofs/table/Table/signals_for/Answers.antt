@@ -11,7 +11,8 @@ returns-then-note-len-2 c system horizon past e =
     let at : c.args.waits ≡ Some c.note.inside.0 = c.in_ok-note.was ∙ ap Some (sym c.note.view_is) in
     let lost =
     counted_at (λ note. times_at (lost_by system) note past) (length system.notes) c.note.inside.0 c.index.result.now c.index.result.now
-    c.self.inside.lost.items (ap (λ (table : Table). table.lost) (c.self.view_is ∙ e)) (omega (arith, c.if-note-len.true, c.len.ensures)) c.index.ensures
+    c.self.inside.lost.items (ap (λ (table : Table). table.lost) (c.self.view_is ∙ e))
+    (omega (arith, c.if-note-len.true, c.len.ensures)) c.index.ensures
     in
     let merged =
     counted_at (λ note. times_at (merged_by system) note past) (length system.notes) c.note.inside.0 c.index-then-note-len-2.result.now
