@@ -72,13 +72,7 @@ fn round(thread: usize, number: u64, response: u64) -> What {
     }
 }
 
-fn figures(
-    rt: &impl Abort,
-    system: &System,
-    watch: &Watch,
-    table: &Table,
-    thread: usize,
-) -> Figures
+fn figures(rt: &impl Abort, system: &System, watch: &Watch, table: &Table, thread: usize) -> Figures
     requires watched { length watch.now.accounts ≡ length system.now.threads }
     requires kept { length table.now.accounts ≡ length system.now.threads }
 {
