@@ -62,7 +62,7 @@ module _ (system : System) (group : ℕ → Bool) (shifts : Shifts) where
     words : (n : ℕ) → group (note_part system n).core ≡ true → held n past' ≡ held n past
 
   -- a row is about the thread that it names
-  is_about-own : (c x : ℕ) (what : What) → IsOfOwn system c what → is_about x what ≡ true → home x ≡ c
+  pub is_about-own : (c x : ℕ) (what : What) → IsOfOwn system c what → is_about x what ≡ true → home x ≡ c
   is_about-own c x (row.Release y) o e = ap home (sym (equal y x e)) ∙ o.home
   is_about-own c x (row.Run y) o e = ap home (sym (equal y x e)) ∙ o.home
   is_about-own c x (row.Stop y cause k until) o e = ap home (sym (equal y x e)) ∙ o.home

@@ -1,5 +1,5 @@
 -- What is found comes again, and where nothing is found in the first period nothing is found ever.
-use Rattle.std.proofs.Common.{◌≡◌, ℕ, zero, suc, ◌+◌, ◌-◌, ◌<◌, ◌≤◌, Bool, true, false, cond, List, [], ◌∷◌, ◌++◌, length, map, refl, sym, ap, subst, ◌∙◌, Option, Some, None, option_map, arith}
+use Rattle.std.proofs.Common.{◌≡◌, ℕ, zero, suc, ◌+◌, ◌-◌, ◌<◌, ◌≤◌, ◌⊎◌, inl, inr, Bool, true, false, cond, List, [], ◌∷◌, ◌++◌, length, map, refl, sym, ap, subst, ◌∙◌, Option, Some, None, option_map, arith}
 use Rattle.std.specs.Prelude.{filter, nat_lt, ◌==◌, All}
 use Rattle.std.specs.List.{slice_get}
 use Rattle.std.proofs.lemmas.Bool.Decides.{nat_tests}
@@ -21,14 +21,15 @@ use Rattle.mcs_verdict.specs.Rounds.{waited_on, first_wait}
 use Rattle.mcs_verdict.specs.Findings.{found_in}
 use Rattle.mcs_verdict.proofs.Kept.{account_at}
 use Rattle.mcs_verdict_laws.proofs.Order.{in_order}
-use Rattle.mcs_forever.specs.Recurs.{shift_of}
+use Rattle.mcs_forever.specs.Recurs.{Shifts, shift_of}
 use Rattle.mcs_verdict_forever.specs.Later.{later_moment, later_finding, later_found}
-use Rattle.mcs_verdict_forever.specs.Recurs.{past_before}
+use Rattle.mcs_verdict_forever.specs.Recurs.{past_before, WordIsLater, WordIsNotSet, FindingsRecur}
 use Rattle.mcs_verdict_forever.specs.laws.Repeats.{rows_at, found_at_moment, FindingsRepeat, NothingIsFound, OverdueRepeats}
 use Rattle.mcs_verdict_forever.proofs.Accounts.{account-overdue}
 use Rattle.mcs_verdict_forever.proofs.Kept.{overdue-kept}
 use Rattle.mcs_verdict_forever.proofs.Alike.{Alike, held-known}
-use Rattle.mcs_verdict_forever.proofs.Moments.{Later, Set, found_in-append, alike, later-thread, later-word, found-later}
+use Rattle.mcs_verdict_forever.proofs.Carried.{not-set}
+use Rattle.mcs_verdict_forever.proofs.Moments.{word-kept, Later, Set, found_in-append, alike, later-thread, later-word, found-later}
 
 pub findings-repeat : FindingsRepeat
 findings-repeat system group shifts from well recur t l = found-later system group shifts from well recur t l
@@ -119,6 +120,22 @@ yet-later d s held more e f = by s
     by Blocked = set
     by Woken = set
 
+-- at word 0 none is
+pub yet-none : (s : Standing) (held : Held) → held.word ≡ 0 → yet_to_begin s held ≡ None
+yet-none s held e = by s
+  where
+    set : set_at held ≡ None
+    set = ap (λ word. cond (word == 0) None (Some held.since)) e
+
+    by : (s : Standing) → yet_to_begin s held ≡ None
+    by Done = refl
+    by Pending = set
+    by Ready = set
+    by Running = set
+    by Throttled = set
+    by Blocked = set
+    by Woken = set
+
 none-later : (d : ℕ) (s : Standing) → yet_to_begin s no_word ≡ later_moment d (yet_to_begin s no_word)
 none-later d Done = refl
 none-later d Pending = refl
@@ -130,7 +147,7 @@ none-later d Woken = refl
 
 -- the notification for which a script waits first is one of the thread's core
 module _ (system : System) where
-  waits-first : (core : ℕ) (items : List Item) (note : ℕ) → All (IsItem system core) items → waited_on (slice_get items 0) ≡ Some note → (note < length system.notes) × ((note_part system note).core ≡ core)
+  pub waits-first : (core : ℕ) (items : List Item) (note : ℕ) → All (IsItem system core) items → waited_on (slice_get items 0) ≡ Some note → (note < length system.notes) × ((note_part system note).core ≡ core)
   waits-first core [] note h e = cc
   waits-first core (Compute ticks ∷ items) note h e = cc
   waits-first core (Signal other badge ∷ items) note h e = cc
@@ -139,6 +156,12 @@ module _ (system : System) where
       let same : other ≡ note = cc in
       let P : ℕ → Type 0 = λ n. (n < length system.notes) × ((note_part system n).core ≡ core) in
       subst P same (All-head (IsItem system core) (Wait other) items h)
+
+-- a word that is not set stays so
+module _ (system : System) (group : ℕ → Bool) (shifts : Shifts) (from : ℕ) (well : IsWellFormed system) (recur : FindingsRecur system group shifts from) where
+  pub word-none : (n : ℕ) → n < length system.notes → group (note_part system n).core ≡ true → WordIsNotSet system shifts.by from n → (t : ℕ) → from ≤ t → (held n (past_before system t)).word ≡ 0
+  word-none n known mine none t l =
+      not-set system group shifts from well recur n mine none.holds (sym (ap (λ (held : Held). held.word) (word-kept system well from n no_word known)) ∙ none.none no_word) t l
 
 pub overdue-repeats : OverdueRepeats
 overdue-repeats system group shifts from well recur thread known own later first horizon l =
@@ -171,5 +194,13 @@ overdue-repeats system group shifts from well recur thread known own later first
           held-known note (length system.notes) (past_before system (suc (horizon + shifts.by))) there.0,
           held-known note (length system.notes) (past_before system (suc horizon)) there.0,
         )
-        (yet-later shifts.by s (held note (past_before system (suc horizon))) (held note (past_before system (suc (horizon + shifts.by))))
-        (like.words note there.0 mine) (like.sets note there.0 mine (later-word system group shifts from well recur note there.0 (first note e))))
+        (by note there.0 mine (first note e))
+      where
+        by : (n : ℕ) → n < length system.notes → group (note_part system n).core ≡ true → WordIsLater system shifts.by from n ⊎ WordIsNotSet system shifts.by from n →
+            yet_to_begin s (held n (past_before system (suc (horizon + shifts.by)))) ≡ later_moment shifts.by (yet_to_begin s (held n (past_before system (suc horizon))))
+        by n known mine (inl set) =
+            yet-later shifts.by s (held n (past_before system (suc horizon))) (held n (past_before system (suc (horizon + shifts.by))))
+            (like.words n known mine) (like.sets n known mine (later-word system group shifts from well recur n known set))
+        by n known mine (inr none) =
+            yet-none s (held n (past_before system (suc (horizon + shifts.by)))) (word-none system group shifts from well recur n known mine none (suc (horizon + shifts.by)) (omega (arith, l)))
+            ∙ ap (later_moment shifts.by) (sym (yet-none s (held n (past_before system (suc horizon))) (word-none system group shifts from well recur n known mine none (suc horizon) (omega (arith, l)))))

@@ -2,5 +2,7 @@ pub mod Accounts
 pub mod Kept
 pub mod Alike
 pub mod Moments
+pub mod Carried
 pub mod Findings
+pub mod Ends
 pub mod Worked

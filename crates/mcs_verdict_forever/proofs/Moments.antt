@@ -61,10 +61,10 @@ module _ (system : System) (well : IsWellFormed system) where
   up_to (suc t) = up_to-more t (suc t) (past_before system (suc t)) (omega arith) (in_order system well t).1
 
   -- what is kept of a thread and of a word
-  account-kept : (t x : ℕ) (d : Account) → x < length system.threads → get_or (accounts_of (length system.notes) 0 system.threads (past_before system t)) x d ≡ account_at system x (past_before system t)
+  pub account-kept : (t x : ℕ) (d : Account) → x < length system.threads → get_or (accounts_of (length system.notes) 0 system.threads (past_before system t)) x d ≡ account_at system x (past_before system t)
   account-kept t x d l = account_kept (length system.notes) x system.threads (past_before system t) d l
 
-  word-kept : (t n : ℕ) (d : Held) → n < length system.notes → get_or (words_of 0 system.notes (past_before system t)) n d ≡ held n (past_before system t)
+  pub word-kept : (t n : ℕ) (d : Held) → n < length system.notes → get_or (words_of 0 system.notes (past_before system t)) n d ≡ held n (past_before system t)
   word-kept t n d l =
       let m = length-words 0 system.notes (past_before system t) in
       word_kept n system.notes (past_before system t) (words_of 0 system.notes (past_before system t)) d refl (omega (arith, l, m))

@@ -1,4 +1,4 @@
-ghost use Rattle.mcs_verdict_forever.specs.laws.Repeats.{FindingsRepeat, NothingIsFound, OverdueRepeats};
+ghost use Rattle.mcs_verdict_forever.specs.laws.Repeats.{FindingsRepeat, NothingIsFound, OverdueRepeats, NothingIsEverFound};
 
 /// A law of schedules: where a group of cores recurs in what is kept of its rows, each missed deadline and each lost signal comes again a
 /// period later, without end, and no other comes.
@@ -16,4 +16,10 @@ pub fn nothing_is_found()
 /// and no other is.
 pub fn overdue_repeats()
     ensures { OverdueRepeats }
+{}
+
+/// A law of schedules: where a group of cores recurs in what is kept of its rows, and what horizons tell of its threads does so, too: where nothing
+/// at all is found of them at each horizon of the first period, nothing is found at any horizon from then on.
+pub fn nothing_is_ever_found()
+    ensures { NothingIsEverFound }
 {}

@@ -6,12 +6,11 @@ use Rattle.mcs_system.specs.WellFormed.{IsWellFormed}
 use Rattle.mcs_core.specs.Clock.{rows_of, schedule}
 use Rattle.mcs_laws.specs.Turns.{cores}
 use Rattle.mcs_verdict.specs.declared.finding.Found.{Found}
-use Rattle.mcs_verdict.specs.Findings.{past_of, found_in}
+use Rattle.mcs_verdict.specs.Findings.{past_of, found_in, findings}
 use Rattle.mcs_verdict.specs.Misses.{overdue}
-use Rattle.mcs_verdict.specs.Rounds.{first_wait}
 use Rattle.mcs_forever.specs.Recurs.{Shifts, shift_of}
 use Rattle.mcs_verdict_forever.specs.Later.{later_finding, later_found}
-use Rattle.mcs_verdict_forever.specs.Recurs.{past_before, ThreadIsLater, WordIsLater, FindingsRecur}
+use Rattle.mcs_verdict_forever.specs.Recurs.{past_before, ThreadIsLater, FirstWordRecurs, EndRecurs, FindingsRecur}
 
 module _ (system : System) where
   -- the rows of moment t
@@ -27,6 +26,10 @@ module _ (system : System) where
     abbrev pub found_up_to : ℕ → List Found
     found_up_to horizon = filter (λ (found : Found). group found.core) (found_in system [] (schedule system horizon))
 
+    -- and all that is found of the group in a run to the horizon, what is overdue or was never activated among it
+    abbrev pub all_found : ℕ → List Found
+    all_found horizon = filter (λ (found : Found). group found.core) (findings system horizon (schedule system horizon))
+
 -- from then on each finding comes again, a period later, and no other comes
 abbrev pub FindingsRepeat : Type 0
 FindingsRepeat =
@@ -39,14 +42,23 @@ NothingIsFound =
     (system : System) (group : ℕ → Bool) (shifts : Shifts) (from : ℕ) → IsWellFormed system → FindingsRecur system group shifts from →
     found_up_to system group (from + shifts.by) ≡ [] → (horizon : ℕ) → found_up_to system group horizon ≡ []
 
--- a thread of the group that is later, as is the word for which its script waits first, is overdue a period later where it is overdue
+-- a thread of the group that is later is overdue a period later where it is overdue
 abbrev pub OverdueRepeats : Type 0
 OverdueRepeats =
     (system : System) (group : ℕ → Bool) (shifts : Shifts) (from : ℕ) → IsWellFormed system → FindingsRecur system group shifts from →
     (thread : ℕ) → thread < length system.threads → group (core_of system (thread_part system thread)) ≡ true →
-    ThreadIsLater system shifts.by from thread →
-    ((note : ℕ) → first_wait (thread_part system thread) ≡ Some note → WordIsLater system shifts.by from note) →
+    ThreadIsLater system shifts.by from thread → FirstWordRecurs system shifts.by from thread →
     (horizon : ℕ) → from ≤ horizon →
     overdue system (past_of [] (schedule system (horizon + shifts.by))) (horizon + shifts.by) thread
     ≡ option_map (later_finding (shift_of shifts (core_of system (thread_part system thread))))
     (overdue system (past_of [] (schedule system horizon)) horizon thread)
+
+-- where the ends of all the group's threads recur, and nothing at all is found of them at each horizon of the first period, nothing is found at
+-- any horizon from then on
+abbrev pub NothingIsEverFound : Type 0
+NothingIsEverFound =
+    (system : System) (group : ℕ → Bool) (shifts : Shifts) (from : ℕ) → IsWellFormed system → FindingsRecur system group shifts from →
+    ((thread : ℕ) → thread < length system.threads → group (core_of system (thread_part system thread)) ≡ true →
+    EndRecurs system shifts.by from thread) →
+    ((horizon : ℕ) → from ≤ horizon → horizon ≤ from + shifts.by → all_found system group horizon ≡ []) →
+    (horizon : ℕ) → from ≤ horizon → all_found system group horizon ≡ []
