@@ -48,11 +48,11 @@ abbrev pub all : ℕ → Bool
 all c = true
 
 -- what holds of n moments from a on
-abbrev AllIn : (ℕ → Type 0) → ℕ → ℕ → Type 0
+abbrev pub AllIn : (ℕ → Type 0) → ℕ → ℕ → Type 0
 AllIn P a zero = Unit {0}
 AllIn P a (suc n) = P a × AllIn P (a + 1) n
 
-between : (P : ℕ → Type 0) (n a t : ℕ) → AllIn P a n → a ≤ t → t < a + n → P t
+pub between : (P : ℕ → Type 0) (n a t : ℕ) → AllIn P a n → a ≤ t → t < a + n → P t
 between P zero a t h l m = absurd (omega (arith, l, m))
 between P (suc n) a t h l m = by (a == t) refl (λ p q. between P n (a + 1) t h.1 p q)
   where

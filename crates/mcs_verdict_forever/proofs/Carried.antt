@@ -1,6 +1,6 @@
 -- What each row from some moment on keeps is so before each moment from then on: a word that is not set stays so, and what is kept of a thread of
 -- which no row tells. And a thread was ready or running for no fewer ticks later.
-use Rattle.std.proofs.Common.{◌≡◌, ℕ, zero, suc, ◌+◌, ◌-◌, ◌<◌, ◌≤◌, Bool, true, false, cond, ◌&&◌, List, [], ◌∷◌, length, map, refl, sym, ap, subst, ◌∙◌, Option, Some, None, arith}
+use Rattle.std.proofs.Common.{◌≡◌, ℕ, zero, suc, ◌+◌, ◌-◌, ◌<◌, ◌≤◌, Bool, true, false, cond, ◌&&◌, List, [], ◌∷◌, length, refl, sym, ap, subst, ◌∙◌, Option, Some, None, arith}
 use Rattle.std.specs.Prelude.{flat_map, ◌==◌, nat_le}
 use Rattle.std.specs.List.{range_with_len, AllByRecursion}
 use Rattle.std.proofs.lemmas.Bool.Decides.{nat_tests}
@@ -20,7 +20,7 @@ use Rattle.mcs_verdict.specs.Standing.{woken_before, settled}
 use Rattle.mcs_verdict.specs.Stood.{counted}
 use Rattle.mcs_verdict.specs.Words.{held, held_with, taken}
 use Rattle.mcs_verdict.specs.Findings.{UpTo, past_of}
-use Rattle.mcs_verdict.specs.Account.{total_at, told, ends, preempted, given, given_by, begins, seen_own, set_for, is_about}
+use Rattle.mcs_verdict.specs.Account.{total_at, told, given, given_by, seen_own, set_for, is_about}
 use Rattle.mcs_verdict.proofs.Accounts.{same, own}
 use Rattle.mcs_verdict.proofs.Counts.{counted_none}
 use Rattle.mcs_verdict.proofs.Watches.{since-up_to}
@@ -34,7 +34,7 @@ use Rattle.mcs_forever.proofs.Repeats.{forever}
 use Rattle.mcs_verdict_forever.specs.Recurs.{past_before, holds_word, HoldsNoSignal, IsNotTold, FindingsRecur}
 use Rattle.mcs_verdict_forever.specs.laws.Repeats.{rows_at}
 use Rattle.mcs_verdict_forever.proofs.Alike.{at, is_about-own}
-use Rattle.mcs_verdict_forever.proofs.Moments.{past_of-append, past-next, up_to, up_to-more}
+use Rattle.mcs_verdict_forever.proofs.Moments.{past_of-append, past-next, up_to}
 
 equal : (a b : ℕ) → (a == b) ≡ true → a ≡ b
 equal a b e = grind (arith, nat_tests)

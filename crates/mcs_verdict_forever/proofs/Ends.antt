@@ -1,11 +1,11 @@
 -- What horizons tell: where the ends of all the group's threads recur, and nothing is found in the first period, nothing is found ever.
 use Rattle.std.proofs.Common.{◌≡◌, ℕ, zero, suc, ◌+◌, ◌-◌, ◌<◌, ◌≤◌, ◌⊎◌, inl, inr, Bool, true, false, cond, not, ◌&&◌, ◌||◌, List, [], ◌∷◌, ◌++◌, length, get_or, refl, sym, ap, subst, ◌∙◌, Option, Some, None, option_map, arith}
-use Rattle.std.specs.Prelude.{filter, nat_lt, nat_le, ◌==◌, is_some}
+use Rattle.std.specs.Prelude.{filter, nat_le, ◌==◌, is_some}
 use Rattle.std.proofs.lemmas.Bool.Decides.{nat_tests}
 use Rattle.std.proofs.lemmas.List.Elements.{filter-append}
 use Rattle.mcs_ticks.specs.declared.row.Row.{Row}
 use Rattle.mcs_system.specs.declared.part.ThreadPart.{ThreadPart}
-use Rattle.mcs_system.specs.System.{System, no_thread, thread_part, note_part, core_of}
+use Rattle.mcs_system.specs.System.{System, no_thread, thread_part, core_of}
 use Rattle.mcs_system.specs.WellFormed.{IsWellFormed}
 use Rattle.mcs_core.specs.Clock.{schedule}
 use Rattle.mcs_verdict.specs.declared.account.Account.{Account}
@@ -13,12 +13,11 @@ use Rattle.mcs_verdict.specs.declared.finding.Finding.{Finding}
 use Rattle.mcs_verdict.specs.declared.finding.Finding.TheVariants.{Never}
 use Rattle.mcs_verdict.specs.declared.finding.Found.{Found}
 use Rattle.mcs_verdict.specs.declared.held.Held.{Held}
-use Rattle.mcs_verdict.specs.declared.standing.Standing.{Standing}
 use Rattle.mcs_verdict.specs.declared.standing.Standing.TheVariants.{Done}
 use Rattle.mcs_verdict.specs.declared.standing.Stood.{Stood}
 use Rattle.mcs_verdict.specs.Standing.{standing_at, telling}
 use Rattle.mcs_verdict.specs.Stood.{no_ticks, stood_in}
-use Rattle.mcs_verdict.specs.Words.{no_word, held}
+use Rattle.mcs_verdict.specs.Words.{held}
 use Rattle.mcs_verdict.specs.Rounds.{first_wait, begun_of, called_of, activated}
 use Rattle.mcs_verdict.specs.Jobs.{preemptions_of}
 use Rattle.mcs_verdict.specs.Misses.{overdue_at, yet_to_begin, word_for, first_word, overdue_since, overdue, was_activated, never_at, never, first_of, unended}
@@ -36,7 +35,7 @@ use Rattle.mcs_verdict_forever.specs.laws.Repeats.{found_up_to, all_found, Nothi
 use Rattle.mcs_verdict_forever.proofs.Kept.{overdue-kept}
 use Rattle.mcs_verdict_forever.proofs.Alike.{Alike, held-known}
 use Rattle.mcs_verdict_forever.proofs.Moments.{Later, Set, account-kept, alike, later-thread}
-use Rattle.mcs_verdict_forever.proofs.Carried.{active_by, active-more, stays}
+use Rattle.mcs_verdict_forever.proofs.Carried.{active-more, stays}
 use Rattle.mcs_verdict_forever.proofs.Findings.{yet-none, waits-first, word-none, overdue-repeats, nothing-is-found}
 
 -- what was never activated, by what is kept

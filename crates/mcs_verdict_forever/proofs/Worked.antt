@@ -20,11 +20,13 @@ use Rattle.mcs_verdict.specs.declared.standing.Standing.TheVariants.{Ready, Runn
 use Rattle.mcs_verdict.specs.declared.standing.Stood.{Stood}
 use Rattle.mcs_forever.specs.Later.{KeepsUp, later_core, later_mail}
 use Rattle.mcs_forever.specs.Recurs.{Shifts, shift_of, is_for}
-use Rattle.mcs_forever.proofs.Worked.{worked, shifts, all, recurs, only}
+use Rattle.mcs_forever.specs.laws.Repeats.{EndsNoRound}
+use Rattle.mcs_forever.proofs.Worked.{worked, shifts, all, recurs, only, AllIn, between, ended, at_rest, rests}
 use Rattle.mcs_verdict_forever.specs.Later.{later_account, without_total, later_found}
-use Rattle.mcs_verdict_forever.specs.Recurs.{FindingsRecur, ThreadIsLater, TakesNoWord, watch_before}
-use Rattle.mcs_verdict_forever.specs.laws.Repeats.{found_at_moment, found_up_to}
+use Rattle.mcs_verdict_forever.specs.Recurs.{FindingsRecur, ThreadIsLater, ThreadIsIdle, FirstWordRecurs, TakesNoWord, watch_before}
+use Rattle.mcs_verdict_forever.specs.laws.Repeats.{found_at_moment, found_up_to, all_found}
 use Rattle.mcs_verdict_forever.proofs.Findings.{findings-repeat, nothing-is-found}
+use Rattle.mcs_verdict_forever.proofs.Ends.{nothing-is-ever-found}
 
 abbrev parts : ℕ → ℕ → ℕ → Stood
 parts ready running throttled = record { pending = 0; ready = ready; running = running; throttled = throttled; blocked = 0; woken = 0; done = 0 }
@@ -62,19 +64,19 @@ L-25 : (deadline : ℕ) (d : Account) → kept (worked deadline) 25 1 d ≡ acco
 L-25 deadline d = refl
 
 -- what is kept of them before 25 is what was kept before 13, but later
+later : (deadline x : ℕ) → x < 2 → ThreadIsLater (worked deadline) 12 13 x
+later deadline zero l d = H-25 deadline d ∙ ap (later_account 12) (sym (H-13 deadline d))
+later deadline (suc zero) l d = L-25 deadline d ∙ ap (later_account 12) (sym (L-13 deadline d))
+later deadline (suc (suc x)) l d = absurd (omega (arith, l))
+
 pub findings-recur : (deadline : ℕ) → FindingsRecur (worked deadline) all shifts 13
 findings-recur deadline =
     record {
       recurs = recurs deadline;
-      threads = λ x known own. inl (thread x known);
+      threads = λ x known own. inl (later deadline x known);
       words = λ n known own. absurd (omega (arith, known));
       taken = λ n known own. absurd (omega (arith, known));
     }
-  where
-    thread : (x : ℕ) → x < 2 → ThreadIsLater (worked deadline) 12 13 x
-    thread zero l d = H-25 deadline d ∙ ap (later_account 12) (sym (H-13 deadline d))
-    thread (suc zero) l d = L-25 deadline d ∙ ap (later_account 12) (sym (L-13 deadline d))
-    thread (suc (suc x)) l d = absurd (omega (arith, l))
 
 -- with a deadline of 6 each other round of L misses it
 third : found_at_moment (worked 6) all 19 ≡ record { moment = 19; core = 0; finding = Miss 1 3 7 6 12 0 (parts 4 3 0) } ∷ []
@@ -89,6 +91,37 @@ fifth = refl
 -- with one of 7 nothing is found up to 25, and so nothing ever
 pub nothing : IsWellFormed (worked 7) → (horizon : ℕ) → found_up_to (worked 7) all horizon ≡ []
 nothing well horizon = nothing-is-found (worked 7) all shifts 13 well (findings-recur 7) refl horizon
+
+-- from 13 on it is found of no horizon, either: neither H nor L is overdue at one of the first period
+at-each : AllIn (λ h. all_found (worked 7) all h ≡ []) 13 13
+at-each = (refl, (refl, (refl, (refl, (refl, (refl, (refl, (refl, (refl, (refl, (refl, (refl, (refl, tt)))))))))))))
+
+pub nothing-at-all : IsWellFormed (worked 7) → (horizon : ℕ) → 13 ≤ horizon → all_found (worked 7) all horizon ≡ []
+nothing-at-all well =
+    nothing-is-ever-found (worked 7) all shifts 13 well (findings-recur 7) (λ x known own. inr (inl (ends x known)))
+    (λ h l m. between (λ h. all_found (worked 7) all h ≡ []) 13 13 h at-each l (omega (arith, m)))
+  where
+    ends : (x : ℕ) → x < 2 → ThreadIsLater (worked 7) 12 13 x × FirstWordRecurs (worked 7) 12 13 x
+    ends zero l = (later 7 0 l, λ note e. cc)
+    ends (suc zero) l = (later 7 1 l, λ note e. cc)
+    ends (suc (suc x)) l = absurd (omega (arith, l))
+
+-- a thread that is done is idle: it is no more overdue than it was
+idle : ThreadIsIdle ended 1 2 0
+idle = record { told = (refl, (refl, (refl, (refl, tt)))); begun = λ d. refl; waits = inl (λ d. refl) }
+
+pub at-rest : IsWellFormed ended → (horizon : ℕ) → 2 ≤ horizon → all_found ended all horizon ≡ []
+at-rest well = nothing-is-ever-found ended all at_rest 2 well done (λ x known own. inr (inr (let P : ℕ → Type 0 = λ x. ThreadIsIdle ended 1 2 x in subst P (only x known) idle)))
+    (λ h l m. between (λ h. all_found ended all h ≡ []) 2 2 h (refl, (refl, tt)) l (omega (arith, m)))
+  where
+    done : FindingsRecur ended all at_rest 2
+    done =
+        record {
+          recurs = rests;
+          threads = λ x known own. inr (let P : ℕ → Type 0 = λ x. EndsNoRound ended x 2 3 in subst P (only x known) (refl, (refl, (refl, (refl, tt)))));
+          words = λ n known own. absurd (omega (arith, known));
+          taken = λ n known own. absurd (omega (arith, known));
+        }
 
 -- S signals in each of its periods a notification on which nobody waits: each signal but the first is lost
 abbrev pub signals : System

@@ -1,5 +1,5 @@
 -- Where a group of cores recurs in what is kept of its rows, what is found in them comes again, without end.
-use Rattle.std.specs.Prelude.{◌≡◌, ℕ, ◌+◌, ◌<◌, ◌≤◌, Bool, true, List, [], filter, map, flat_map, length, Some, option_map}
+use Rattle.std.specs.Prelude.{◌≡◌, ℕ, ◌+◌, ◌<◌, ◌≤◌, Bool, true, List, [], filter, map, flat_map, length, option_map}
 use Rattle.mcs_ticks.specs.declared.row.Row.{Row}
 use Rattle.mcs_system.specs.System.{System, thread_part, core_of}
 use Rattle.mcs_system.specs.WellFormed.{IsWellFormed}
