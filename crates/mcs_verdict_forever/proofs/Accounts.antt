@@ -10,6 +10,7 @@ use Rattle.mcs_verdict.specs.declared.account.Account.{Account}
 use Rattle.mcs_verdict.specs.declared.finding.Finding.{Finding}
 use Rattle.mcs_verdict.specs.declared.finding.Finding.TheVariants.{Miss, Overdue}
 use Rattle.mcs_verdict.specs.declared.held.Held.{Held}
+use Rattle.mcs_verdict.specs.declared.job.Job.{Job}
 use Rattle.mcs_verdict.specs.declared.standing.Standing.{Standing}
 use Rattle.mcs_verdict.specs.declared.standing.Standing.TheVariants.{Pending, Ready, Running, Throttled, Blocked, Woken, Done}
 use Rattle.mcs_verdict.specs.declared.standing.Stood.{Stood}
@@ -19,9 +20,9 @@ use Rattle.mcs_verdict.specs.Stood.{no_ticks, counted}
 use Rattle.mcs_verdict.specs.Rounds.{begun_at, activated_by}
 use Rattle.mcs_verdict.specs.Jobs.{with_preemption, or_now, ended}
 use Rattle.mcs_verdict.specs.Misses.{is_above, is_reached, missed, overdue_at, yet_to_begin}
-use Rattle.mcs_verdict.specs.Account.{stood_since, or_first, active_since, told, ends, preempted, given_by, given, seen_own, activated_since, miss_by, overdue_from, overdue_by}
+use Rattle.mcs_verdict.specs.Account.{stood_since, or_first, active_since, told, ends, preempted, given_by, given, seen_own, activated_since, job_by, overdue_from, overdue_by}
 use Rattle.mcs_forever.specs.Later.{Shift, later_what, more_rounds}
-use Rattle.mcs_verdict_forever.specs.Later.{later_moment, later_account, without_total, IsLaterAccount, later_finding}
+use Rattle.mcs_verdict_forever.specs.Later.{later_moment, later_account, without_total, IsLaterAccount, later_job, later_finding}
 
 module _ (shift : Shift) where
   abbrev d : ℕ
@@ -243,40 +244,30 @@ module _ (shift : Shift) where
   now-later m None = refl
   now-later m (Some earlier) = refl
 
-  -- a miss, by the beginning, the activation and the ticks of the round
-  abbrev miss_of : ℕ → ℕ → ℕ → ℕ → ℕ → ℕ → ℕ → Stood → Option Finding
-  miss_of deadline m x number begun activated preemptions stood = missed deadline (ended m x number begun activated preemptions stood)
-
-  miss_of-later : (deadline m x number begun activated preemptions : ℕ) (stood : Stood) →
-      miss_of deadline (m + d) x (more_rounds (shift.rounds x) number) (begun + d) (activated + d) preemptions stood
-      ≡ option_map (later_finding shift) (miss_of deadline m x number begun activated preemptions stood)
-  miss_of-later deadline m x number begun activated preemptions stood =
-      ap (λ n. cond (is_above deadline n) (tells n (begun + d - (activated + d))) None) (moved m activated)
-      ∙ ap (λ n. cond (is_above deadline (m - activated)) (tells (m - activated) n) None) (moved begun activated)
-      ∙ by (is_above deadline (m - activated))
+  -- a round that ends, by its beginning, its activation and its ticks
+  ended-later : (m x number begun activated preemptions : ℕ) (stood : Stood) →
+      ended (m + d) x (more_rounds (shift.rounds x) number) (begun + d) (activated + d) preemptions stood ≡ later_job shift (ended m x number begun activated preemptions stood)
+  ended-later m x number begun activated preemptions stood =
+      ap (λ response. record job { response = response; queued = begun + d - (activated + d) }) (moved m activated)
+      ∙ ap (λ queued. record job { queued = queued }) (moved begun activated)
     where
-      tells : ℕ → ℕ → Option Finding
-      tells response queued = Some (Miss x (more_rounds (shift.rounds x) number) response deadline (activated + d) queued stood)
+      job : Job
+      job = later_job shift (ended m x number begun activated preemptions stood)
 
       moved : (a b : ℕ) → a + d - (b + d) ≡ a - b
       moved a b = omega arith
 
-      by : (b : Bool) → cond b (tells (m - activated) (begun - activated)) None
-          ≡ option_map (later_finding shift) (cond b (Some (Miss x number (m - activated) deadline activated (begun - activated) stood)) None)
-      by true = refl
-      by false = refl
+  job-bare : (m x number : ℕ) (a : Account) → job_by m x number (bare a) ≡ job_by m x number a
+  job-bare m x number a =
+      ap (λ active. ended m x number (or_now m a.begun) (or_now m (activated_by a.waits a.called active)) a.preemptions (stood_since a.begun m a.standing (bare a))) (active-bare a.begun m a.standing a)
+      ∙ ap (ended m x number (or_now m a.begun) (or_now m (activated_since m a)) a.preemptions) (stood-bare a.begun m a.standing a)
 
-  miss-bare : (m x number : ℕ) (a : Account) → miss_by m x number (bare a) ≡ miss_by m x number a
-  miss-bare m x number a =
-      ap (λ active. miss_of a.deadline m x number (or_now m a.begun) (or_now m (activated_by a.waits a.called active)) a.preemptions (stood_since a.begun m a.standing (bare a))) (active-bare a.begun m a.standing a)
-      ∙ ap (miss_of a.deadline m x number (or_now m a.begun) (or_now m (activated_since m a)) a.preemptions) (stood-bare a.begun m a.standing a)
-
-  miss-later : (m x number : ℕ) (a : Account) → miss_by (m + d) x (more_rounds (shift.rounds x) number) (later a) ≡ option_map (later_finding shift) (miss_by m x number a)
-  miss-later m x number a =
-      ap (λ begun. miss_of a.deadline (m + d) x more begun (or_now (m + d) (activated_since (m + d) (later a))) a.preemptions (stood_since (later_moment d a.begun) (m + d) a.standing (later a))) (now-later m a.begun)
-      ∙ ap (λ activated. miss_of a.deadline (m + d) x more (or_now m a.begun + d) activated a.preemptions (stood_since (later_moment d a.begun) (m + d) a.standing (later a))) activated
-      ∙ ap (miss_of a.deadline (m + d) x more (or_now m a.begun + d) (or_now m (activated_since m a) + d) a.preemptions) (stood-later a.begun m a.standing a)
-      ∙ miss_of-later a.deadline m x number (or_now m a.begun) (or_now m (activated_since m a)) a.preemptions (stood_since a.begun m a.standing a)
+  job-later : (m x number : ℕ) (a : Account) → job_by (m + d) x (more_rounds (shift.rounds x) number) (later a) ≡ later_job shift (job_by m x number a)
+  job-later m x number a =
+      ap (λ begun. ended (m + d) x more begun (or_now (m + d) (activated_since (m + d) (later a))) a.preemptions (stood_since (later_moment d a.begun) (m + d) a.standing (later a))) (now-later m a.begun)
+      ∙ ap (λ activated. ended (m + d) x more (or_now m a.begun + d) activated a.preemptions (stood_since (later_moment d a.begun) (m + d) a.standing (later a))) activated
+      ∙ ap (ended (m + d) x more (or_now m a.begun + d) (or_now m (activated_since m a) + d) a.preemptions) (stood-later a.begun m a.standing a)
+      ∙ ended-later m x number (or_now m a.begun) (or_now m (activated_since m a)) a.preemptions (stood_since a.begun m a.standing a)
     where
       more : ℕ
       more = more_rounds (shift.rounds x) number
@@ -287,13 +278,23 @@ module _ (shift : Shift) where
           ∙ ap (or_now (m + d)) (activated-later a.waits a.called (active_since a.begun m a.standing a))
           ∙ now-later m (activated_since m a)
 
-  pub account-misses : (m x number : ℕ) (a b : Account) → IsLaterAccount d a b →
-      miss_by (m + d) x (more_rounds (shift.rounds x) number) b ≡ option_map (later_finding shift) (miss_by m x number a)
-  account-misses m x number a b h =
-      sym (miss-bare (m + d) x (more_rounds (shift.rounds x) number) b)
-      ∙ ap (miss_by (m + d) x (more_rounds (shift.rounds x) number)) h
-      ∙ miss-later m x number (bare a)
-      ∙ ap (option_map (later_finding shift)) (miss-bare m x number a)
+  pub account-jobs : (m x number : ℕ) (a b : Account) → IsLaterAccount d a b → job_by (m + d) x (more_rounds (shift.rounds x) number) b ≡ later_job shift (job_by m x number a)
+  account-jobs m x number a b h =
+      sym (job-bare (m + d) x (more_rounds (shift.rounds x) number) b)
+      ∙ ap (job_by (m + d) x (more_rounds (shift.rounds x) number)) h
+      ∙ job-later m x number (bare a)
+      ∙ ap (later_job shift) (job-bare m x number a)
+
+  -- the same round, later, missed its deadline or did not
+  pub missed-later : (deadline : ℕ) (job : Job) → missed deadline (later_job shift job) ≡ option_map (later_finding shift) (missed deadline job)
+  missed-later deadline job = by (is_above deadline job.response)
+    where
+      tells : Option Finding
+      tells = Some (Miss job.thread (more_rounds (shift.rounds job.thread) job.number) job.response deadline (job.activated + d) job.queued job.stood)
+
+      by : (b : Bool) → cond b tells None ≡ option_map (later_finding shift) (cond b (Some (Miss job.thread job.number job.response deadline job.activated job.queued job.stood)) None)
+      by true = refl
+      by false = refl
 
   -- what is overdue
   overdue_at-later : (h x deadline begun : ℕ) (stood : Stood) (activated : Option ℕ) →

@@ -1,6 +1,6 @@
 -- Rows of a group of cores that come again: what is kept of the group's threads and words stays later, and what is found is found later.
 use Rattle.std.proofs.Common.{◌≡◌, ℕ, ◌+◌, ◌<◌, Bool, true, false, cond, List, [], ◌∷◌, ◌++◌, length, map, refl, sym, ap, subst, ◌∙◌, Option, Some, None, option_map, arith}
-use Rattle.std.specs.Prelude.{filter, ◌==◌, nat_lt}
+use Rattle.std.specs.Prelude.{filter, ◌==◌, nat_lt, IfSome, option_to_list}
 use Rattle.std.specs.List.{AllByRecursion}
 use Rattle.std.proofs.lemmas.Bool.Decides.{nat_tests}
 use Rattle.mcs_ticks.specs.declared.row.Row.{Row}
@@ -14,6 +14,9 @@ use Rattle.mcs_verdict.specs.declared.finding.Finding.TheVariants.{Lost}
 use Rattle.mcs_verdict.specs.declared.finding.Found.{Found}
 use Rattle.mcs_verdict.specs.declared.held.Held.{Held}
 use Rattle.mcs_verdict.specs.Words.{no_word, held_with, taken, held, held_of, leaves}
+use Rattle.mcs_verdict.specs.declared.job.Job.{Job}
+use Rattle.mcs_verdict.specs.Jobs.{job, job_of, jobs_in}
+use Rattle.mcs_verdict.specs.Misses.{missed}
 use Rattle.mcs_verdict.specs.Findings.{finding, UpTo, past_of, found_at, found_in}
 use Rattle.mcs_verdict.specs.Account.{set_for, is_about, seen_own}
 use Rattle.mcs_verdict.proofs.Accounts.{same, own}
@@ -21,10 +24,11 @@ use Rattle.mcs_verdict.proofs.Watches.{since-up_to}
 use Rattle.mcs_verdict.proofs.Kept.{account_at}
 use Rattle.mcs_forever.specs.Later.{Shift, later_what, more_rounds}
 use Rattle.mcs_forever.specs.Recurs.{Shifts, shift_of}
-use Rattle.mcs_forever.specs.laws.Home.{IsOfOwn}
-use Rattle.mcs_verdict_forever.specs.Later.{IsLaterAccount, later_finding, later_found}
-use Rattle.mcs_verdict_forever.proofs.Accounts.{later_set, account-seen, account-misses}
-use Rattle.mcs_verdict_forever.proofs.Kept.{miss-kept}
+use Rattle.mcs_forever.specs.laws.Home.{IsOwnThread, IsOfOwn}
+use Rattle.mcs_verdict_forever.specs.Later.{IsLaterAccount, later_job, later_finding, later_found}
+use Rattle.mcs_verdict_forever.specs.laws.Repeats.{later_job_of}
+use Rattle.mcs_verdict_forever.proofs.Accounts.{later_set, account-seen, account-jobs, missed-later}
+use Rattle.mcs_verdict_forever.proofs.Kept.{job-kept}
 
 equal : (a b : ℕ) → (a == b) ≡ true → a ≡ b
 equal a b e = grind (arith, nat_tests)
@@ -146,6 +150,53 @@ module _ (system : System) (group : ℕ → Bool) (shifts : Shifts) where
       by (Some found) i =
           ap (λ b. cond b (record { moment = t; core = c; finding = found } ∷ filter of_group (found_in system (at t c what ∷ past) (stamped c t whats)))
           (filter of_group (found_in system (at t c what ∷ past) (stamped c t whats)))) own ∙ ap (λ others. record { moment = t; core = c; finding = found } ∷ others) i
+
+  -- the round of a thread that there is
+  job-known : (x number t : ℕ) (past : List Row) → x < length system.threads → job_of system past t (row.Round x number 0) ≡ Some (job system past t x number)
+  job-known x number t past l =
+      let b : nat_lt x (length system.threads) ≡ true = grind (arith, nat_tests) in
+      ap (λ b. cond b (Some (job system past t x number)) None) b
+
+  -- the rounds that a core's rows end are its own threads'
+  of-core : (c t : ℕ) (what : What) (past : List Row) → IsOfOwn system c what → IfSome (job_of system past t what) (λ job. home job.thread ≡ c)
+  of-core c t (row.Round x number response) past o = by (nat_lt x (length system.threads))
+    where
+      by : (b : Bool) → IfSome (cond b (Some (job system past t x number)) None) (λ job. home job.thread ≡ c)
+      by true = o.home
+      by false = tt
+  of-core c t (row.Release x) past o = tt
+  of-core c t (row.Run x) past o = tt
+  of-core c t (row.Stop x cause j until) past o = tt
+  of-core c t (row.Signal x note badge) past o = tt
+  of-core c t (row.Arrive note badge maker) past o = tt
+  of-core c t (row.Wake x note word) past o = tt
+  of-core c t (row.Hold note word) past o = tt
+  of-core c t (row.Got x note word) past o = tt
+  of-core c t (row.Order context) past o = tt
+
+  abbrev is_own_job : Job → Bool
+  is_own_job job = group (home job.thread)
+
+  jobs-foreign : (c t : ℕ) (whats : List What) (past : List Row) → group c ≡ false → AllByRecursion (IsOfOwn system c) whats → filter is_own_job (jobs_in system past (stamped c t whats)) ≡ []
+  jobs-foreign c t [] past away o = refl
+  jobs-foreign c t (what ∷ whats) past away o = by (job_of system past t what) (of-core c t what past o.0) (jobs-foreign c t whats (at t c what ∷ past) away o.1)
+    where
+      by : (o : Option Job) → IfSome o (λ job. home job.thread ≡ c) → filter is_own_job (jobs_in system (at t c what ∷ past) (stamped c t whats)) ≡ [] →
+          filter is_own_job (option_to_list o ++ jobs_in system (at t c what ∷ past) (stamped c t whats)) ≡ []
+      by None f i = i
+      by (Some job) f i =
+          ap (λ b. cond b (job ∷ filter is_own_job (jobs_in system (at t c what ∷ past) (stamped c t whats))) (filter is_own_job (jobs_in system (at t c what ∷ past) (stamped c t whats)))) (ap group f ∙ away) ∙ i
+
+  jobs-own : (c t : ℕ) (whats : List What) (past : List Row) → group c ≡ true → AllByRecursion (IsOfOwn system c) whats → filter is_own_job (jobs_in system past (stamped c t whats)) ≡ jobs_in system past (stamped c t whats)
+  jobs-own c t [] past own o = refl
+  jobs-own c t (what ∷ whats) past own o = by (job_of system past t what) (of-core c t what past o.0) (jobs-own c t whats (at t c what ∷ past) own o.1)
+    where
+      by : (o : Option Job) → IfSome o (λ job. home job.thread ≡ c) → filter is_own_job (jobs_in system (at t c what ∷ past) (stamped c t whats)) ≡ jobs_in system (at t c what ∷ past) (stamped c t whats) →
+          filter is_own_job (option_to_list o ++ jobs_in system (at t c what ∷ past) (stamped c t whats)) ≡ option_to_list o ++ jobs_in system (at t c what ∷ past) (stamped c t whats)
+      by None f i = i
+      by (Some job) f i =
+          ap (λ b. cond b (job ∷ filter is_own_job (jobs_in system (at t c what ∷ past) (stamped c t whats))) (filter is_own_job (jobs_in system (at t c what ∷ past) (stamped c t whats)))) (ap group f ∙ own)
+          ∙ ap (λ others. job ∷ others) i
 
   module _ (Later Set : ℕ → Type 0) where
     abbrev Like : ℕ → List Row → List Row → Type 0
@@ -297,13 +348,35 @@ module _ (system : System) (group : ℕ → Bool) (shifts : Shifts) where
             after = (omega arith, l.after);
           }
 
+      -- the round that a row ends
+      round-later : (x number : ℕ) (past past' : List Row) → IsOwnThread system c x → Later x → Like t past past' →
+          job system past' (t + d) x (more_rounds (shift.rounds x) number) ≡ later_job shift (job system past t x number)
+      round-later x number past past' o k l =
+          sym (job-kept system x past' (t + d) (more_rounds (shift.rounds x) number) l.after)
+          ∙ account-jobs shift t x number (account_at system x past) (account_at system x past') (l.threads x o.known (ap group o.home ∙ own_core) k)
+          ∙ ap (later_job shift) (job-kept system x past t number l.before)
+
+      job-later : (what : What) (past past' : List Row) → IsOfOwn system c what → Counts what → Like t past past' →
+          job_of system past' (t + d) (later_what shift what) ≡ option_map (later_job shift) (job_of system past t what)
+      job-later (row.Round x number response) past past' o k l =
+          job-known x (more_rounds (shift.rounds x) number) (t + d) past' o.known ∙ ap Some (round-later x number past past' o k l)
+          ∙ ap (option_map (later_job shift)) (sym (job-known x number t past o.known))
+      job-later (row.Release x) past past' o k l = refl
+      job-later (row.Run x) past past' o k l = refl
+      job-later (row.Stop x cause j until) past past' o k l = refl
+      job-later (row.Signal x note badge) past past' o k l = refl
+      job-later (row.Arrive note badge maker) past past' o k l = refl
+      job-later (row.Wake x note word) past past' o k l = refl
+      job-later (row.Hold note word) past past' o k l = refl
+      job-later (row.Got x note word) past past' o k l = refl
+      job-later (row.Order context) past past' o k l = refl
+
       -- what the row tells
       finding-later : (what : What) (past past' : List Row) → IsOfOwn system c what → Counts what → Like t past past' →
           finding system past' (t + d) (later_what shift what) ≡ option_map (later_finding shift) (finding system past t what)
       finding-later (row.Round x number response) past past' o k l =
-          sym (miss-kept system x past' (t + d) (more_rounds (shift.rounds x) number) l.after)
-          ∙ account-misses shift t x number (account_at system x past) (account_at system x past') (l.threads x o.known (ap group o.home ∙ own_core) k)
-          ∙ ap (option_map (later_finding shift)) (miss-kept system x past t number l.before)
+          ap (missed (thread_part system x).deadline) (round-later x number past past' o k l)
+          ∙ missed-later shift (thread_part system x).deadline (job system past t x number)
       finding-later (row.Hold n word) past past' o k l =
           ap (λ (held : Held). cond (leaves held.word word) (Some (Lost n word)) None) (held-known n (length system.notes) past' o.known)
           ∙ ap (λ w. cond (leaves w word) (Some (Lost n word)) None) (l.words n o.known (own-note n o.home))
@@ -348,6 +421,26 @@ module _ (system : System) (group : ℕ → Bool) (shifts : Shifts) where
           by None e = e
           by (Some found) e = ap (λ more. record { moment = t + d; core = c; finding = later_finding shift found } ∷ more) e
 
+      jobs-later : (whats : List What) (past past' : List Row) → AllByRecursion (IsOfOwn system c) whats → AllByRecursion Counts whats → Like t past past' →
+          jobs_in system past' (stamped c (t + d) (map (later_what shift) whats)) ≡ map (later_job_of system shifts) (jobs_in system past (stamped c t whats))
+      jobs-later [] past past' o k l = refl
+      jobs-later (what ∷ whats) past past' o k l =
+          ap (λ job. option_to_list job ++ others') (job-later what past past' o.0 k.0 l)
+          ∙ by (job_of system past t what) (of-core c t what past o.0)
+          (jobs-later whats (at t c what ∷ past) (at (t + d) c (later_what shift what) ∷ past') o.1 k.1 (alike-row what past past' o.0 k.0 l))
+        where
+          others : List Job
+          others = jobs_in system (at t c what ∷ past) (stamped c t whats)
+
+          others' : List Job
+          others' = jobs_in system (at (t + d) c (later_what shift what) ∷ past') (stamped c (t + d) (map (later_what shift) whats))
+
+          by : (o : Option Job) → IfSome o (λ job. home job.thread ≡ c) → others' ≡ map (later_job_of system shifts) others →
+              option_to_list (option_map (later_job shift) o) ++ others' ≡ map (later_job_of system shifts) (option_to_list o ++ others)
+          by None f e = e
+          by (Some job) f e =
+              ap (λ c. later_job (shift_of shifts c) job ∷ others') (sym f) ∙ ap (λ more. later_job_of system shifts job ∷ more) e
+
     -- a turn, of whichever core
     pub alike-turn : (c t : ℕ) (whats whats' : List What) (past past' : List Row) → AllByRecursion (IsOfOwn system c) whats → AllByRecursion (IsOfOwn system c) whats' →
         (group c ≡ true → AllByRecursion Counts whats) → (group c ≡ true → whats' ≡ map (later_what (shift_of shifts c)) whats) → Like t past past' →
@@ -373,3 +466,17 @@ module _ (system : System) (group : ℕ → Bool) (shifts : Shifts) where
             ∙ found-later c t own whats past past' o (k own) l
             ∙ ap (map (later_found shifts)) (sym (found-own c t whats past own))
         by false away = found-foreign c (t + d) whats' past' away ∙ ap (map (later_found shifts)) (sym (found-foreign c t whats past away))
+
+    pub jobs-turn : (c t : ℕ) (whats whats' : List What) (past past' : List Row) → AllByRecursion (IsOfOwn system c) whats → AllByRecursion (IsOfOwn system c) whats' →
+        (group c ≡ true → AllByRecursion Counts whats) → (group c ≡ true → whats' ≡ map (later_what (shift_of shifts c)) whats) → Like t past past' →
+        filter is_own_job (jobs_in system past' (stamped c (t + d) whats')) ≡ map (later_job_of system shifts) (filter is_own_job (jobs_in system past (stamped c t whats)))
+    jobs-turn c t whats whats' past past' o o' k e l = by (group c) refl
+      where
+        by : (b : Bool) → group c ≡ b →
+            filter is_own_job (jobs_in system past' (stamped c (t + d) whats')) ≡ map (later_job_of system shifts) (filter is_own_job (jobs_in system past (stamped c t whats)))
+        by true own =
+            jobs-own c (t + d) whats' past' own o'
+            ∙ ap (λ ws. jobs_in system past' (stamped c (t + d) ws)) (e own)
+            ∙ jobs-later c t own whats past past' o (k own) l
+            ∙ ap (map (later_job_of system shifts)) (sym (jobs-own c t whats past own o))
+        by false away = jobs-foreign c (t + d) whats' past' away o' ∙ ap (map (later_job_of system shifts)) (sym (jobs-foreign c t whats past away o))

@@ -3,17 +3,17 @@ use Rattle.std.proofs.Common.{◌≡◌, ℕ, ◌-◌, List, Option, Some, None,
 use Rattle.mcs_ticks.specs.declared.row.Row.{Row}
 use Rattle.mcs_system.specs.System.{System, thread_part}
 use Rattle.mcs_verdict.specs.declared.account.Account.{Account}
-use Rattle.mcs_verdict.specs.declared.finding.Finding.{Finding}
+use Rattle.mcs_verdict.specs.declared.job.Job.{Job}
 use Rattle.mcs_verdict.specs.declared.standing.Standing.{Standing}
 use Rattle.mcs_verdict.specs.declared.standing.Stood.{Stood}
 use Rattle.mcs_verdict.specs.Standing.{telling}
 use Rattle.mcs_verdict.specs.Activation.{first_active}
 use Rattle.mcs_verdict.specs.Stood.{stood_in}
 use Rattle.mcs_verdict.specs.Rounds.{first_wait, begun_of, called_of, activated_by}
-use Rattle.mcs_verdict.specs.Jobs.{preemptions_of, or_now, ended}
-use Rattle.mcs_verdict.specs.Misses.{missed, miss, overdue_at, yet_to_begin, first_word, overdue_since, overdue}
+use Rattle.mcs_verdict.specs.Jobs.{preemptions_of, or_now, ended, job}
+use Rattle.mcs_verdict.specs.Misses.{overdue_at, yet_to_begin, first_word, overdue_since, overdue}
 use Rattle.mcs_verdict.specs.Findings.{UpTo}
-use Rattle.mcs_verdict.specs.Account.{kept, standing_of, stood_since, active_since, miss_by, overdue_from, overdue_by}
+use Rattle.mcs_verdict.specs.Account.{kept, standing_of, stood_since, active_since, job_by, overdue_from, overdue_by}
 use Rattle.mcs_verdict.proofs.Accounts.{none_passed, none_active, since-now, active-now}
 use Rattle.mcs_verdict.proofs.Watches.{since-up_to}
 use Rattle.mcs_verdict.proofs.Kept.{account_at, stands}
@@ -27,14 +27,13 @@ module _ (system : System) (thread : ℕ) (past : List Row) where
   keeps began =
       kept (thread_part system thread).deadline (first_wait (thread_part system thread)) began (called_of system thread past) (preemptions_of system thread past) (telling thread past)
 
-  pub miss-kept : (moment number : ℕ) → UpTo moment past → miss_by moment thread number (account_at system thread past) ≡ miss system past moment thread number
-  miss-kept moment number up = by (begun_of system thread past)
+  pub job-kept : (moment number : ℕ) → UpTo moment past → job_by moment thread number (account_at system thread past) ≡ job system past moment thread number
+  job-kept moment number up = by (begun_of system thread past)
     where
-      tells : ℕ → Option ℕ → Stood → Option Finding
+      tells : ℕ → Option ℕ → Stood → Job
       tells begun active stood =
-          missed (thread_part system thread).deadline
-          (ended moment thread number begun (or_now moment (activated_by (first_wait (thread_part system thread)) (called_of system thread past) active))
-          (preemptions_of system thread past) stood)
+          ended moment thread number begun (or_now moment (activated_by (first_wait (thread_part system thread)) (called_of system thread past) active))
+          (preemptions_of system thread past) stood
 
       by : (began : Option ℕ)
           → tells (or_now moment began) (active_since began moment standing (keeps began)) (stood_since began moment standing (keeps began))

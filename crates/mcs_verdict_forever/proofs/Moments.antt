@@ -1,6 +1,6 @@
 -- The watch of a group that recurs: before each moment from then on what is kept of its threads and words is what it was a period earlier, but later.
 use Rattle.std.proofs.Common.{◌≡◌, ℕ, zero, suc, ◌+◌, ◌-◌, ◌<◌, ◌≤◌, ◌⊎◌, inl, inr, Bool, true, false, ◌&&◌, List, [], ◌∷◌, ◌++◌, length, get_or, map, refl, sym, ap, subst, ◌∙◌, append_assoc, arith}
-use Rattle.std.specs.Prelude.{filter, flat_map, ◌==◌, nat_le}
+use Rattle.std.specs.Prelude.{filter, flat_map, ◌==◌, nat_le, option_to_list}
 use Rattle.std.specs.List.{range_with_len, AllByRecursion}
 use Rattle.std.proofs.lemmas.Bool.Decides.{nat_tests}
 use Rattle.std.proofs.lemmas.List.{map-append}
@@ -17,6 +17,8 @@ use Rattle.mcs_verdict.specs.declared.account.Account.{Account}
 use Rattle.mcs_verdict.specs.declared.held.Held.{Held}
 use Rattle.mcs_verdict.specs.declared.finding.Found.{Found}
 use Rattle.mcs_verdict.specs.Words.{no_word, held}
+use Rattle.mcs_verdict.specs.declared.job.Job.{Job}
+use Rattle.mcs_verdict.specs.Jobs.{job_of, jobs_in}
 use Rattle.mcs_verdict.specs.Findings.{UpTo, past_of, found_at, found_in, finding}
 use Rattle.mcs_verdict.specs.Watch.{accounts_of, words_of}
 use Rattle.mcs_verdict.proofs.Kept.{account_at}
@@ -33,8 +35,8 @@ use Rattle.mcs_forever.proofs.Schedules.{each-turn}
 use Rattle.mcs_forever.proofs.Repeats.{forever}
 use Rattle.mcs_verdict_forever.specs.Later.{IsLaterAccount, later_found}
 use Rattle.mcs_verdict_forever.specs.Recurs.{takes_word, TakesNoWord, past_before, ThreadIsLater, WordIsSame, WordIsLater, FindingsRecur}
-use Rattle.mcs_verdict_forever.specs.laws.Repeats.{rows_at}
-use Rattle.mcs_verdict_forever.proofs.Alike.{Alike, Counts, alike-turn, found-turn}
+use Rattle.mcs_verdict_forever.specs.laws.Repeats.{rows_at, later_job_of}
+use Rattle.mcs_verdict_forever.proofs.Alike.{Alike, Counts, alike-turn, found-turn, jobs-turn}
 
 -- some rows and then others
 pub past_of-append : (past xs ys : List Row) → past_of past (xs ++ ys) ≡ past_of (past_of past xs) ys
@@ -46,6 +48,12 @@ found_in-append system past [] ys = refl
 found_in-append system past (x ∷ xs) ys =
     ap (λ found. found_at x.moment x.core (finding system past x.moment x.what) ++ found) (found_in-append system (x ∷ past) xs ys)
     ∙ sym (append_assoc (found_at x.moment x.core (finding system past x.moment x.what)) (found_in system (x ∷ past) xs) (found_in system (past_of (x ∷ past) xs) ys))
+
+pub jobs_in-append : (system : System) (past xs ys : List Row) → jobs_in system past (xs ++ ys) ≡ jobs_in system past xs ++ jobs_in system (past_of past xs) ys
+jobs_in-append system past [] ys = refl
+jobs_in-append system past (x ∷ xs) ys =
+    ap (λ jobs. option_to_list (job_of system past x.moment x.what) ++ jobs) (jobs_in-append system (x ∷ past) xs ys)
+    ∙ sym (append_assoc (option_to_list (job_of system past x.moment x.what)) (jobs_in system (x ∷ past) xs) (jobs_in system (past_of (x ∷ past) xs) ys))
 
 pub up_to-more : (m n : ℕ) (past : List Row) → m ≤ n → UpTo m past → UpTo n past
 up_to-more m n [] h up = tt
@@ -174,57 +182,50 @@ module _ (system : System) (group : ℕ → Bool) (shifts : Shifts) (from : ℕ)
   count-all : (t c : ℕ) → from ≤ t → c < system.cores → group c ≡ true → AllByRecursion Count (whats t c)
   count-all t c l known own = forever system group shifts from well recur.recurs (λ c what. Count what) count-later from (omega arith) count-first t c l known own
 
+  -- the turn of core c
+  alike-core : (c t : ℕ) (rows rows' : List Row) → from ≤ t → c < system.cores → Like t rows rows' → Like t (past_of rows (rows_of system c t)) (past_of rows' (rows_of system c (t + d)))
+  alike-core c t rows rows' l known h =
+      alike-turn system group shifts Later Set c t (whats t c) (whats (t + d) c) rows rows' (rows-of-own system well c t known) (rows-of-own system well c (t + d) known)
+      (λ own. count-all t c l known own) (λ own. rows-again system group shifts from well recur.recurs t c l known own) h
+
   -- all turns of a moment, from core a on
   alike-cores : (n a t : ℕ) (rows rows' : List Row) → from ≤ t → a + n ≤ system.cores → Like t rows rows' →
       Like t (past_of rows (flat_map (λ c. rows_of system c t) (range_with_len a n))) (past_of rows' (flat_map (λ c. rows_of system c (t + d)) (range_with_len a n)))
   alike-cores zero a t rows rows' l few h = h
   alike-cores (suc n) a t rows rows' l few h =
-      let known : a < system.cores = omega (arith, few) in
-      let first = alike-turn system group shifts Later Set a t (whats t a) (whats (t + d) a) rows rows' (rows-of-own system well a t known) (rows-of-own system well a (t + d) known)
-      (λ own. count-all t a l known own) (λ own. rows-again system group shifts from well recur.recurs t a l known own) h
-      in
       rw (
         past_of-append rows (rows_of system a t) (flat_map (λ c. rows_of system c t) (range_with_len (a + 1) n)),
         past_of-append rows' (rows_of system a (t + d)) (flat_map (λ c. rows_of system c (t + d)) (range_with_len (a + 1) n)),
-      ) (alike-cores n (a + 1) t (past_of rows (rows_of system a t)) (past_of rows' (rows_of system a (t + d))) l (omega (arith, few)) first)
+      ) (alike-cores n (a + 1) t (past_of rows (rows_of system a t)) (past_of rows' (rows_of system a (t + d))) l (omega (arith, few)) (alike-core a t rows rows' l (omega (arith, few)) h))
 
-  abbrev of_group : Found → Bool
-  of_group found = group found.core
+  -- what is told of rows, by those before them
+  module _ {A : Type 0} (tells : List Row → List Row → List A) (later : A → A) (nothing : (rows : List Row) → tells rows [] ≡ [])
+      (append : (rows xs ys : List Row) → tells rows (xs ++ ys) ≡ tells rows xs ++ tells (past_of rows xs) ys)
+      (turn : (c t : ℕ) (rows rows' : List Row) → from ≤ t → c < system.cores → Like t rows rows' → tells rows' (rows_of system c (t + shifts.by)) ≡ map later (tells rows (rows_of system c t))) where
+    told-cores : (n a t : ℕ) (rows rows' : List Row) → from ≤ t → a + n ≤ system.cores → Like t rows rows' →
+        tells rows' (flat_map (λ c. rows_of system c (t + d)) (range_with_len a n)) ≡ map later (tells rows (flat_map (λ c. rows_of system c t) (range_with_len a n)))
+    told-cores zero a t rows rows' l few h = nothing rows' ∙ ap (map later) (sym (nothing rows))
+    told-cores (suc n) a t rows rows' l few h =
+        let known : a < system.cores = omega (arith, few) in
+        append rows' now' others'
+        ∙ both _ _ _ _ (turn a t rows rows' l known h) (told-cores n (a + 1) t (past_of rows now) (past_of rows' now') l (omega (arith, few)) (alike-core a t rows rows' l known h))
+        ∙ sym (map-append later (tells rows now) (tells (past_of rows now) others))
+        ∙ ap (map later) (sym (append rows now others))
+      where
+        now : List Row
+        now = rows_of system a t
 
-  found-cores : (n a t : ℕ) (rows rows' : List Row) → from ≤ t → a + n ≤ system.cores → Like t rows rows' →
-      filter of_group (found_in system rows' (flat_map (λ c. rows_of system c (t + d)) (range_with_len a n)))
-      ≡ map (later_found shifts) (filter of_group (found_in system rows (flat_map (λ c. rows_of system c t) (range_with_len a n))))
-  found-cores zero a t rows rows' l few h = refl
-  found-cores (suc n) a t rows rows' l few h =
-      let known : a < system.cores = omega (arith, few) in
-      let first = alike-turn system group shifts Later Set a t (whats t a) (whats (t + d) a) rows rows' (rows-of-own system well a t known) (rows-of-own system well a (t + d) known)
-      (λ own. count-all t a l known own) (λ own. rows-again system group shifts from well recur.recurs t a l known own) h
-      in
-      split (found_in system rows' (now' ++ others')) (found_in system rows' now') (found_in system (past_of rows' now') others') (found_in-append system rows' now' others')
-      ∙ both _ _ _ _
-      (found-turn system group shifts Later Set a t (whats t a) (whats (t + d) a) rows rows' (rows-of-own system well a t known) (rows-of-own system well a (t + d) known)
-      (λ own. count-all t a l known own) (λ own. rows-again system group shifts from well recur.recurs t a l known own) h)
-      (found-cores n (a + 1) t (past_of rows now) (past_of rows' now') l (omega (arith, few)) first)
-      ∙ sym (map-append (later_found shifts) (filter of_group (found_in system rows now)) (filter of_group (found_in system (past_of rows now) others)))
-      ∙ ap (map (later_found shifts)) (sym (split (found_in system rows (now ++ others)) (found_in system rows now) (found_in system (past_of rows now) others) (found_in-append system rows now others)))
-    where
-      now : List Row
-      now = rows_of system a t
+        now' : List Row
+        now' = rows_of system a (t + d)
 
-      now' : List Row
-      now' = rows_of system a (t + d)
+        others : List Row
+        others = flat_map (λ c. rows_of system c t) (range_with_len (a + 1) n)
 
-      others : List Row
-      others = flat_map (λ c. rows_of system c t) (range_with_len (a + 1) n)
+        others' : List Row
+        others' = flat_map (λ c. rows_of system c (t + d)) (range_with_len (a + 1) n)
 
-      others' : List Row
-      others' = flat_map (λ c. rows_of system c (t + d)) (range_with_len (a + 1) n)
-
-      split : (all xs ys : List Found) → all ≡ xs ++ ys → filter of_group all ≡ filter of_group xs ++ filter of_group ys
-      split all xs ys e = ap (filter of_group) e ∙ filter-append of_group xs ys
-
-      both : (xs ys us vs : List Found) → xs ≡ ys → us ≡ vs → xs ++ us ≡ ys ++ vs
-      both xs ys us vs e f = cc
+        both : (xs ys us vs : List A) → xs ≡ ys → us ≡ vs → xs ++ us ≡ ys ++ vs
+        both xs ys us vs e f = cc
 
   abbrev LikeAt : ℕ → Type 0
   LikeAt t = Like t (past_before system t) (past_before system (t + shifts.by))
@@ -265,7 +266,36 @@ module _ (system : System) (group : ℕ → Bool) (shifts : Shifts) (from : ℕ)
   pub alike : (t : ℕ) → from ≤ t → LikeAt t
   alike t l = let e : from + (t - from) ≡ t = omega (arith, l) in subst LikeAt e (alike-from (t - from))
 
+  abbrev of_group : Found → Bool
+  of_group found = group found.core
+
+  abbrev is_own_job : Job → Bool
+  is_own_job job = group (home job.thread)
+
+  found-core : (c t : ℕ) (rows rows' : List Row) → from ≤ t → c < system.cores → Like t rows rows' →
+      filter of_group (found_in system rows' (rows_of system c (t + d))) ≡ map (later_found shifts) (filter of_group (found_in system rows (rows_of system c t)))
+  found-core c t rows rows' l known h =
+      found-turn system group shifts Later Set c t (whats t c) (whats (t + d) c) rows rows' (rows-of-own system well c t known) (rows-of-own system well c (t + d) known)
+      (λ own. count-all t c l known own) (λ own. rows-again system group shifts from well recur.recurs t c l known own) h
+
+  jobs-core : (c t : ℕ) (rows rows' : List Row) → from ≤ t → c < system.cores → Like t rows rows' →
+      filter is_own_job (jobs_in system rows' (rows_of system c (t + d))) ≡ map (later_job_of system shifts) (filter is_own_job (jobs_in system rows (rows_of system c t)))
+  jobs-core c t rows rows' l known h =
+      jobs-turn system group shifts Later Set c t (whats t c) (whats (t + d) c) rows rows' (rows-of-own system well c t known) (rows-of-own system well c (t + d) known)
+      (λ own. count-all t c l known own) (λ own. rows-again system group shifts from well recur.recurs t c l known own) h
+
   pub found-later : (t : ℕ) → from ≤ t →
       filter of_group (found_in system (past_before system (t + shifts.by)) (rows_at system (t + shifts.by)))
       ≡ map (later_found shifts) (filter of_group (found_in system (past_before system t) (rows_at system t)))
-  found-later t l = found-cores system.cores 0 t (past t) (past (t + d)) l (omega arith) (alike t l)
+  found-later t l =
+      told-cores (λ past rows. filter of_group (found_in system past rows)) (later_found shifts) (λ past. refl)
+      (λ past xs ys. ap (filter of_group) (found_in-append system past xs ys) ∙ filter-append of_group (found_in system past xs) (found_in system (past_of past xs) ys))
+      found-core system.cores 0 t (past t) (past (t + d)) l (omega arith) (alike t l)
+
+  pub jobs-later : (t : ℕ) → from ≤ t →
+      filter is_own_job (jobs_in system (past_before system (t + shifts.by)) (rows_at system (t + shifts.by)))
+      ≡ map (later_job_of system shifts) (filter is_own_job (jobs_in system (past_before system t) (rows_at system t)))
+  jobs-later t l =
+      told-cores (λ past rows. filter is_own_job (jobs_in system past rows)) (later_job_of system shifts) (λ past. refl)
+      (λ past xs ys. ap (filter is_own_job) (jobs_in-append system past xs ys) ∙ filter-append is_own_job (jobs_in system past xs) (jobs_in system (past_of past xs) ys))
+      jobs-core system.cores 0 t (past t) (past (t + d)) l (omega arith) (alike t l)

@@ -4,6 +4,7 @@ use Rattle.mcs_verdict.specs.declared.account.Account.{Account}
 use Rattle.mcs_verdict.specs.declared.finding.Finding.{Finding}
 use Rattle.mcs_verdict.specs.declared.finding.Finding.TheVariants.{Miss, Overdue, Lost, Never}
 use Rattle.mcs_verdict.specs.declared.finding.Found.{Found}
+use Rattle.mcs_verdict.specs.declared.job.Job.{Job}
 use Rattle.mcs_verdict.specs.Stood.{no_ticks}
 use Rattle.mcs_forever.specs.Later.{Shift, more_rounds}
 use Rattle.mcs_forever.specs.Recurs.{Shifts, shift_of}
@@ -27,6 +28,16 @@ without_total account = record account { total = no_ticks }
 
 abbrev pub IsLaterAccount : ℕ → Account → Account → Type 0
 IsLaterAccount by before after = without_total after ≡ later_account by (without_total before)
+
+-- a round that ended: as many rounds before it more, and its response and its parts are the same
+abbrev pub later_job : Shift → Job → Job
+later_job shift job =
+    record job {
+      number = more_rounds (shift.rounds job.thread) job.number;
+      activated = job.activated + shift.by;
+      begun = job.begun + shift.by;
+      ended = job.ended + shift.by;
+    }
 
 -- a finding: the round that missed its deadline has so many rounds before it more
 abbrev pub later_finding : Shift → Finding → Finding

@@ -1,4 +1,4 @@
-ghost use Rattle.mcs_verdict_forever.specs.laws.Repeats.{FindingsRepeat, NothingIsFound, OverdueRepeats, NothingIsEverFound};
+ghost use Rattle.mcs_verdict_forever.specs.laws.Repeats.{FindingsRepeat, NothingIsFound, OverdueRepeats, NothingIsEverFound, JobsRepeat, JobTestsAreForever};
 
 /// A law of schedules: where a group of cores recurs in what is kept of its rows, each missed deadline and each lost signal comes again a
 /// period later, without end, and no other comes.
@@ -22,4 +22,16 @@ pub fn overdue_repeats()
 /// at all is found of them at each horizon of the first period, nothing is found at any horizon from then on.
 pub fn nothing_is_ever_found()
     ensures { NothingIsEverFound }
+{}
+
+/// A law of schedules: where a group of cores recurs in what is kept of its rows, each round that ends comes again a period later, without end, with
+/// the same response and the same parts, and no other comes.
+pub fn jobs_repeat()
+    ensures { JobsRepeat }
+{}
+
+/// A law of schedules: where a group of cores recurs in what is kept of its rows, a test of rounds that does not ask when, and that all rounds of the
+/// group pass up to the end of the first period, is passed by all of them up to any horizon.
+pub fn job_tests_are_forever()
+    ensures { JobTestsAreForever }
 {}

@@ -4,4 +4,6 @@
 
 mod laws;
 
-pub use laws::{findings_repeat, nothing_is_ever_found, nothing_is_found, overdue_repeats};
+pub use laws::{
+    findings_repeat, job_tests_are_forever, jobs_repeat, nothing_is_ever_found, nothing_is_found, overdue_repeats,
+};

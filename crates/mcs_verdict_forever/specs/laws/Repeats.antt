@@ -1,15 +1,18 @@
 -- Where a group of cores recurs in what is kept of its rows, what is found in them comes again, without end.
 use Rattle.std.specs.Prelude.{◌≡◌, ℕ, ◌+◌, ◌<◌, ◌≤◌, Bool, true, List, [], filter, map, flat_map, length, option_map}
+use Rattle.std.specs.List.{AllByRecursion}
 use Rattle.mcs_ticks.specs.declared.row.Row.{Row}
 use Rattle.mcs_system.specs.System.{System, thread_part, core_of}
 use Rattle.mcs_system.specs.WellFormed.{IsWellFormed}
 use Rattle.mcs_core.specs.Clock.{rows_of, schedule}
 use Rattle.mcs_laws.specs.Turns.{cores}
 use Rattle.mcs_verdict.specs.declared.finding.Found.{Found}
+use Rattle.mcs_verdict.specs.declared.job.Job.{Job}
 use Rattle.mcs_verdict.specs.Findings.{past_of, found_in, findings}
+use Rattle.mcs_verdict.specs.Jobs.{jobs_in}
 use Rattle.mcs_verdict.specs.Misses.{overdue}
 use Rattle.mcs_forever.specs.Recurs.{Shifts, shift_of}
-use Rattle.mcs_verdict_forever.specs.Later.{later_finding, later_found}
+use Rattle.mcs_verdict_forever.specs.Later.{later_job, later_finding, later_found}
 use Rattle.mcs_verdict_forever.specs.Recurs.{past_before, ThreadIsLater, FirstWordRecurs, EndRecurs, FindingsRecur}
 
 module _ (system : System) where
@@ -29,6 +32,16 @@ module _ (system : System) where
     -- and all that is found of the group in a run to the horizon, what is overdue or was never activated among it
     abbrev pub all_found : ℕ → List Found
     all_found horizon = filter (λ (found : Found). group found.core) (findings system horizon (schedule system horizon))
+
+    -- the rounds of the group's threads that the rows of moment t end, and that its rows up to the horizon do
+    abbrev pub is_of_group : Job → Bool
+    is_of_group job = group (core_of system (thread_part system job.thread))
+
+    abbrev pub jobs_at_moment : ℕ → List Job
+    jobs_at_moment t = filter is_of_group (jobs_in system (past_before system t) (rows_at t))
+
+    abbrev pub jobs_up_to : ℕ → List Job
+    jobs_up_to horizon = filter is_of_group (jobs_in system [] (schedule system horizon))
 
 -- from then on each finding comes again, a period later, and no other comes
 abbrev pub FindingsRepeat : Type 0
@@ -62,3 +75,22 @@ NothingIsEverFound =
     EndRecurs system shifts.by from thread) →
     ((horizon : ℕ) → from ≤ horizon → horizon ≤ from + shifts.by → all_found system group horizon ≡ []) →
     (horizon : ℕ) → from ≤ horizon → all_found system group horizon ≡ []
+
+-- a round that ended, later as its thread's core is
+abbrev pub later_job_of : System → Shifts → Job → Job
+later_job_of system shifts job = later_job (shift_of shifts (core_of system (thread_part system job.thread))) job
+
+-- from then on each round that ends comes again, a period later, with the same response and the same parts, and no other does
+abbrev pub JobsRepeat : Type 0
+JobsRepeat =
+    (system : System) (group : ℕ → Bool) (shifts : Shifts) (from : ℕ) → IsWellFormed system → FindingsRecur system group shifts from →
+    (t : ℕ) → from ≤ t → jobs_at_moment system group (t + shifts.by) ≡ map (later_job_of system shifts) (jobs_at_moment system group t)
+
+-- a test of rounds that does not ask when, nor how many there were before, and that all pass up to the end of the first period: all pass it up to
+-- any horizon. So the greatest response of each thread up to then is the greatest ever
+abbrev pub JobTestsAreForever : Type 0
+JobTestsAreForever =
+    (system : System) (group : ℕ → Bool) (shifts : Shifts) (from : ℕ) → IsWellFormed system → FindingsRecur system group shifts from →
+    (test : Job → Bool) → ((job : Job) → test job ≡ true → test (later_job_of system shifts job) ≡ true) →
+    AllByRecursion (λ job. test job ≡ true) (jobs_up_to system group (from + shifts.by)) →
+    (horizon : ℕ) → AllByRecursion (λ job. test job ≡ true) (jobs_up_to system group horizon)
