@@ -1,7 +1,7 @@
 -- Worked systems that recur in what is kept of their rows, with what is found in them. In the first one H has 2 ticks of 4, and L has what is left: its
 -- rounds of 3 ticks end at 7, 12, 19 and 24, 12 ticks later at 31 and 36, and so on, each after 7 or 5 ticks.
 use Rattle.std.proofs.Common.{◌≡◌, ℕ, zero, suc, ◌+◌, ◌<◌, ◌≤◌, ◌⊎◌, inl, inr, Bool, true, false, [], ◌∷◌, get_or, map, refl, sym, ap, subst, ◌∙◌, Some, None, arith}
-use Rattle.std.specs.Prelude.{◌==◌, filter}
+use Rattle.std.specs.Prelude.{◌==◌, filter, ◌||◌, not, nat_le}
 use Rattle.std.specs.List.{AllByRecursion}
 use Rattle.std.proofs.lemmas.Bool.Decides.{nat_tests}
 use Rattle.mcs_control.specs.declared.config.Mode.TheVariants.{Sporadic}
@@ -14,6 +14,7 @@ use Rattle.mcs_core.specs.Clock.{turn_of, world, core_at}
 use Rattle.mcs_core.specs.declared.standing.Standing.TheVariants.{Pending}
 use Rattle.mcs_verdict.specs.declared.account.Account.{Account}
 use Rattle.mcs_verdict.specs.declared.held.Held.{Held}
+use Rattle.mcs_verdict.specs.declared.job.Job.{Job}
 use Rattle.mcs_verdict.specs.declared.finding.Finding.TheVariants.{Miss, Lost}
 use Rattle.mcs_verdict.specs.declared.standing.Standing.{Standing}
 use Rattle.mcs_verdict.specs.declared.standing.Standing.TheVariants.{Ready, Running, Throttled}
@@ -24,8 +25,8 @@ use Rattle.mcs_forever.specs.laws.Repeats.{EndsNoRound}
 use Rattle.mcs_forever.proofs.Worked.{worked, shifts, all, recurs, only, AllIn, between, ended, at_rest, rests}
 use Rattle.mcs_verdict_forever.specs.Later.{later_account, without_total, later_found}
 use Rattle.mcs_verdict_forever.specs.Recurs.{FindingsRecur, ThreadIsLater, ThreadIsIdle, FirstWordRecurs, TakesNoWord, watch_before}
-use Rattle.mcs_verdict_forever.specs.laws.Repeats.{found_at_moment, found_up_to, all_found}
-use Rattle.mcs_verdict_forever.proofs.Findings.{findings-repeat, nothing-is-found}
+use Rattle.mcs_verdict_forever.specs.laws.Repeats.{found_at_moment, found_up_to, all_found, later_job_of, jobs_at_moment, jobs_up_to}
+use Rattle.mcs_verdict_forever.proofs.Findings.{findings-repeat, nothing-is-found, jobs-repeat, job-tests-are-forever}
 use Rattle.mcs_verdict_forever.proofs.Ends.{nothing-is-ever-found}
 
 abbrev parts : ℕ → ℕ → ℕ → Stood
@@ -122,6 +123,24 @@ at-rest well = nothing-is-ever-found ended all at_rest 2 well done (λ x known o
           words = λ n known own. absurd (omega (arith, known));
           taken = λ n known own. absurd (omega (arith, known));
         }
+
+-- the round of L that ends at 19 comes again at 31, with the same parts
+third-job : jobs_at_moment (worked 7) all 19
+    ≡ record { thread = 1; number = 3; activated = 12; begun = 12; ended = 19; response = 7; queued = 0; preemptions = 1; stood = parts 4 3 0 } ∷ []
+third-job = refl
+
+fifth-job : IsWellFormed (worked 7) → jobs_at_moment (worked 7) all 31
+    ≡ record { thread = 1; number = 5; activated = 24; begun = 24; ended = 31; response = 7; queued = 0; preemptions = 1; stood = parts 4 3 0 } ∷ []
+fifth-job well = jobs-repeat (worked 7) all shifts 13 well (findings-recur 7) 19 (omega arith) ∙ ap (map (later_job_of (worked 7) shifts)) third-job
+
+-- no response of L is ever above 7
+abbrev within : Job → Bool
+within job = not (job.thread == 1) || nat_le job.response 7
+
+pub never-above : IsWellFormed (worked 7) → (horizon : ℕ) → AllByRecursion (λ job. within job ≡ true) (jobs_up_to (worked 7) all horizon)
+never-above well =
+    job-tests-are-forever (worked 7) all shifts 13 well (findings-recur 7) within (λ job h. h)
+    (refl, (refl, (refl, (refl, (refl, (refl, (refl, (refl, (refl, (refl, tt))))))))))
 
 -- S signals in each of its periods a notification on which nobody waits: each signal but the first is lost
 abbrev pub signals : System

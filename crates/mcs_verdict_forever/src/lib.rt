@@ -5,5 +5,6 @@
 mod laws;
 
 pub use laws::{
-    findings_repeat, job_tests_are_forever, jobs_repeat, nothing_is_ever_found, nothing_is_found, overdue_repeats,
+    findings_repeat, job_tests_are_forever, jobs_repeat, nothing_is_ever_found, nothing_is_found,
+    overdue_repeats,
 };
