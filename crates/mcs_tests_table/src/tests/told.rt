@@ -28,7 +28,7 @@ cores = 1
 delay = 1
 context = [{ name = "a", core = 0, budget = 3, period = 10 }, { name = "b", core = 0, budget = 20, period = 20 }]
 thread = [
-  { name = "A", context = "a", priority = 6, deadline = 4, script = ["compute 1"] },
+  { name = "A", context = "a", priority = 6, deadline = 3, script = ["compute 1"] },
   { name = "B", context = "b", priority = 5, script = ["compute 1"] },
 ]
 order = [{ at = 30, core = 0, context = "a", budget = 4, period = 10 }]
@@ -42,12 +42,6 @@ fn row(moment: u64, what: What) -> Row
         moment: Tick::new(moment).unwrap(),
         core: CoreId(0),
         what,
-    }
-}
-
-fn release(thread: usize) -> What {
-    What::Release {
-        thread: ThreadId(thread),
     }
 }
 
@@ -93,10 +87,10 @@ fn unused(
     table.unused(system, watch, ContextId(context))
 }
 
-fn stood(ready: u64, running: u64) -> Stood {
+fn stood(pending: u64, running: u64) -> Stood {
     Stood {
-        pending: 0,
-        ready,
+        pending,
+        ready: 0,
         running,
         throttled: 0,
         blocked: 0,
@@ -105,24 +99,22 @@ fn stood(ready: u64, running: u64) -> Stood {
     }
 }
 
-// The word is set at 1 and the round ends at 16, 15 ticks later; it begins at 2, from where its row counts 14.
+// The word is set at 1 and the round ends at 16, 15 ticks later; it begins at 4, from where its row counts 12.
 #[test]
 fn a_round_that_waits_in_line(rt: HostRuntime) -> Result<(), Fail> {
     let system = load(rt.alloc(), WAITS.as_bytes())?;
     let got = What::Got {
         thread: ThreadId(1),
         note: NoteId(0),
-        word: 1,
+        word: 3,
     };
     let rows = [
-        row(0, release(1)),
         row(1, hold(1)),
         row(1, run(1)),
-        row(2, got),
-        row(11, hold(1)),
-        row(12, hold(1)),
-        row(13, hold(3)),
-        row(16, round(1, 1, 14)),
+        row(2, hold(1)),
+        row(3, hold(3)),
+        row(4, got),
+        row(16, round(1, 1, 12)),
     ];
     let horizon = Tick::new(20).unwrap();
     let (watch, table) = tabulate(rt.alloc(), &system, horizon, rows.as_slice())?;
@@ -156,20 +148,15 @@ fn a_round_that_waits_in_line(rt: HostRuntime) -> Result<(), Fail> {
     Ok(())
 }
 
-// Responses of 1, 4, 2, 5 and 3 ticks: the third in rising order is the 50th percentile, and the last the 90th and the 99th.
+// Responses of 1, 4 and 2 ticks: the second in rising order is the 50th percentile, and the last the 90th and the 99th.
 #[test]
-fn rounds_of_two_threads(rt: HostRuntime) -> Result<(), Fail> {
+fn rounds_of_one_thread(rt: HostRuntime) -> Result<(), Fail> {
     let system = load(rt.alloc(), COMPUTES.as_bytes())?;
     let rows = [
-        row(0, release(0)),
-        row(0, release(1)),
         row(0, run(0)),
         row(1, round(0, 1, 1)),
         row(5, round(0, 2, 4)),
         row(7, round(0, 3, 2)),
-        row(12, round(0, 4, 5)),
-        row(15, round(0, 5, 3)),
-        row(18, round(1, 1, 18)),
     ];
     let horizon = Tick::new(18).unwrap();
     let (watch, table) = tabulate(rt.alloc(), &system, horizon, rows.as_slice())?;
@@ -183,23 +170,25 @@ fn rounds_of_two_threads(rt: HostRuntime) -> Result<(), Fail> {
             used: 1_000_000,
         },
         rounds: Rounds {
-            ended: 5,
-            greatest: Some(5),
-            fiftieth: Some(3),
-            ninetieth: Some(5),
-            ninety_ninth: Some(5),
+            ended: 3,
+            greatest: Some(4),
+            fiftieth: Some(2),
+            ninetieth: Some(4),
+            ninety_ninth: Some(4),
             missed: 1,
             late: 1,
         },
-        deadline: 4,
+        deadline: 3,
         margin: Some(Margin::Over(1)),
         signals: None,
         stood: stood(0, 18),
     };
     assert_eq!(rt; figures(&rt, &system, &watch, &table, 0), wanted);
     let other = figures(&rt, &system, &watch, &table, 1);
-    assert_eq!(rt; (other.rounds.greatest, other.margin), (Some(18), None));
-    assert_eq!(rt; other.stood, stood(18, 0));
+    assert_eq!(rt;
+        (other.rounds.ended, other.rounds.greatest, other.margin),
+        (0, None, None)
+    );
     // an order names the first context, and the second one let nothing run
     assert_eq!(rt; unused(&rt, &system, &watch, &table, 0), None);
     assert_eq!(rt; unused(&rt, &system, &watch, &table, 1), Some(18));
