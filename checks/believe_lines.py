@@ -368,6 +368,7 @@ WORDS = {
     'is_some': 'whether there is one',
     'unwrap_or': 'the one that there is, or else this',
     'option_map': 'the one that there is, changed, or `None`',
+    'option_to_list': 'a list of the one that there is, or of none',
     'option_and_then': 'what this makes of the one that there is, or `None`',
     'Result': '`Ok x` or `Err e`',
     'Ok': 'the answer of a call that succeeded',

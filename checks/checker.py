@@ -17,7 +17,7 @@ import sys
 import tempfile
 import threading
 from collections.abc import Iterator
-from typing import BinaryIO
+from typing import BinaryIO, NamedTuple
 
 sys.dont_write_bytecode = True
 import common
@@ -56,11 +56,18 @@ script = ["compute 2"]
 SHORT, FAR = 2**21, 2**31
 
 
-def example() -> tuple[bytes, list[str], bytes]:
-    """The system of docs/FORMAT.md, the words of its run, and what that writes."""
+class Example(NamedTuple):
+    """The system of docs/FORMAT.md, and of each run the words and what it writes: its findings, and its jobs."""
+
+    system: bytes
+    runs: list[tuple[list[str], bytes]]
+
+
+def example() -> Example:
     text = (TOP / 'docs' / 'FORMAT.md').read_text().partition('\n### An example\n')[2].partition('\n### ')[0]
-    (_, system), (_, written) = blocks_in(text)
-    return system.encode(), re.search(r'`mcscheck late\.toml (.*?)`', text)[1].split(), written.encode()
+    (_, system), *blocks = blocks_in(text)
+    words = [words.split() for words in re.findall(r'`mcscheck late\.toml (.*?)`', text)]
+    return Example(system.encode(), [(asked, written.encode()) for asked, (_, written) in zip(words, blocks, strict=True)])
 
 
 def unknown(name: str, said: str) -> bytes:
@@ -73,14 +80,21 @@ def hinted(many: int) -> bytes:
 
 def cases_of_findings() -> Iterator[Case]:
     """Systems with findings, with hints alone, and with none."""
-    system, words, written = example()
-    yield Case('the example', words, system, exactly(written), NOTHING, 5)
-    yield Case('two workers', [*words, '--workers', '2'], system, exactly(written), NOTHING, 5)
+    system, runs = example()
+    for words, written in runs:
+        yield Case(f'the example with {words}', words, system, exactly(written), NOTHING, 5)
+        yield Case(f'two workers with {words}', [*words, '--workers', '2'], system, exactly(written), NOTHING, 5)
+    words, written = runs[0]
+    yield Case('findings', [*words, '--show', 'findings'], system, exactly(written), NOTHING, 5)
     allowed = b''.join(line for line in written.splitlines(keepends=True) if b' lost tick ' not in line)
     allowed = allowed.replace(b'lost 2', b'lost 0').replace(b'allowed 0', b'allowed 2')
     yield Case('allowed', [*words, '--allow-lost', 'tick', '--allow-lost', 'fire'], system, exactly(allowed), NOTHING, 5)
     yield Case('hints', [], EMPTY, exactly(hinted(1)), NOTHING, 0)
     yield Case('hints that count', ['--strict'], EMPTY, exactly(hinted(1)), NOTHING, 5)
+    yield Case('jobs of no thread', ['--show=jobs', '--strict'], EMPTY, exactly((CLEAN % 1).encode()), NOTHING, 5)
+    yield Case('no row of CSV', ['--show=jobs', '--format=csv'], EMPTY, begins(b'moment,core,kind,thread,number,'), NOTHING, 0)
+    hint = b'{"kind":"hint","hint":"unbound","context":"a"}\n{"kind":"counts",'
+    yield Case('hints as JSON', ['--format=json'], EMPTY, begins(hint, b'"hints":1}\n'), NOTHING, 0)
     yield Case('nothing', ['--strict'], EMPTY.partition(b'context')[0], exactly(hinted(0)), NOTHING, 0)
 
 
@@ -100,7 +114,7 @@ def cases_of_files(folder: pathlib.Path) -> Iterator[Case]:
 def cases_of_words(folder: pathlib.Path) -> Iterator[Case]:
     """Words that are refused, names that are not known, and the help."""
     not_text = b'error: invalid UTF-8 was detected in one or more arguments\n'
-    for words in (['--workers', '65'], ['--horizon', '1099511627777'], ['--show', 'both'], ['--strict', '--strict'], ['--allow-lost'], ['a', 'b']):
+    for words in (['--workers', '65'], ['--horizon', '1099511627777'], ['--show', 'both'], ['--show'], ['--format', 'yaml'], ['--show', 'jobs', '--show', 'jobs'], ['--strict', '--strict'], ['--allow-lost'], ['a', 'b']):
         yield Case(f'{words}, and no such file', [folder / 'none.toml', *words], b'', NOTHING, begins(b'error: ', words[0].encode()), 2)
     yield Case('a word that is not UTF-8', [b'\xff'], b'', NOTHING, exactly(not_text), 2)
     for name, near in (('tack', 'tick'), ('tocks', 'tock'), ('', 'tick'), ('TOCK', 'tick'), ('-n', 'tick')):
@@ -115,8 +129,9 @@ def cases_of_words(folder: pathlib.Path) -> Iterator[Case]:
 
 def cases_of_targets() -> Iterator[Case]:
     """A device that takes nothing."""
-    system, words, _ = example()
-    yield Case('findings on a full device', words, system, NOTHING, WRITE_FAILED, 3, '/dev/full')
+    system, runs = example()
+    for words, _ in runs:
+        yield Case(f'{words} on a full device', words, system, NOTHING, WRITE_FAILED, 3, '/dev/full')
     yield Case('help on a full device', ['--help'], b'', NOTHING, WRITE_FAILED, 3, '/dev/full')
     yield Case('a fault of the file and a full device', [], b'', NOTHING, exactly(b'mcscheck: missing key at top version\n'), 1, '/dev/full')
 

@@ -170,8 +170,8 @@ def main() -> None:
     trial = Trial({name: simulator if name == 'mcsim' else common.beside(simulator, name) for name in common.PROGRAMS})
     every = (
         Pages(Page('mcsim'), (0, 1), 'reports', ('--show', 'reports'), b''),
-        # the second command ends with tail
-        Pages(Page('mcscheck'), (5, 0, 2), 'found', (), b'system.toml\n'),
+        # the second command ends with tail, and the third with grep
+        Pages(Page('mcscheck'), (5, 0, 0, 2), 'found', (), b'system.toml\n'),
     )
     for pages in every:
         trial.lists(pages.page)

@@ -6,7 +6,10 @@ from __future__ import annotations
 
 import bisect
 import collections
+import csv
 import functools
+import io
+import json
 from collections.abc import Iterator, Sequence
 from typing import Any, NamedTuple, Optional
 
@@ -17,6 +20,13 @@ OF_THREADS = (*TELLING, 'got', 'round')
 PARTS = ('ready', 'running', 'throttled', 'blocked', 'woken')
 KINDS = ('missed', 'overdue', 'lost', 'never', 'merged', 'allowed', 'hints')
 FOUND = KINDS[:4]
+# the words of a line before those that have their name before them
+FIRST = {'miss': ('thread', 'number', 'response'), 'overdue': ('thread',), 'lost': ('note', 'word'), 'never': ('thread',), 'job': ('thread', 'number')}
+COLUMNS = {
+    'findings': ('moment', 'core', 'kind', 'thread', 'note', 'word', 'number', 'response', 'deadline', 'activated', 'queued', *PARTS),
+    'jobs': ('moment', 'core', 'kind', 'thread', 'number', 'activated', 'begun', 'response', 'queued', 'preemptions', *PARTS),
+}
+HINTS = {'note': 'unsignalled', 'context': 'unbound', 'core': 'overcommitted'}
 
 
 class Row(NamedTuple):
@@ -113,11 +123,26 @@ class Schedule:
 
 
 class Round(NamedTuple):
-    """A round: when it began, when it was activated, and how the thread stood in each tick from its beginning up to a moment."""
+    """A round: when it began, when it was activated, how the thread stood in each tick from its beginning up to a moment, and its rows."""
 
     begun: int
     activated: Optional[int]
     standings: list[str]
+    rows: Sequence[Row]
+
+    @property
+    def queued(self) -> int:
+        return max(self.begun - (self.activated or 0), 0)
+
+    @property
+    def preemptions(self) -> int:
+        return sum(row.kind == 'stop' and row.what[2] == 'preempt' for row in self.rows)
+
+    @property
+    def parts(self) -> str:
+        """How many ticks the thread stood in each way, as words."""
+        parts = collections.Counter(self.standings)
+        return ' '.join(f'{part} {parts[part]}' for part in PARTS)
 
 
 class Wanted(NamedTuple):
@@ -163,15 +188,16 @@ class Reading:
         begun = own[last].moment if last >= 0 else self.threads[thread].get('start', 0)
         standings = past.standings(thread, begun, moment)
         active = (begun + place for place, standing in enumerate(standings) if standing in ('ready', 'running'))
-        return Round(begun, next(active, None), standings)
+        return Round(begun, next(active, None), standings, own[last + 1:])
 
     def round_of_word(self, past: Past, thread: str, own: Sequence[Row], moment: int) -> Optional[Round]:
         """The same where the script begins with a wait, by the thread's rows after its last round."""
-        first = next((row for row in own if row.kind in ('got', 'wake')), None)
-        if first is None:
+        place = next((place for place, row in enumerate(own) if row.kind in ('got', 'wake')), None)
+        if place is None:
             return None
+        first = own[place]
         activated = first.moment if first.kind == 'wake' else self.past(first).word(first.what[2])[1]
-        return Round(first.moment, activated, past.standings(thread, first.moment, moment))
+        return Round(first.moment, activated, past.standings(thread, first.moment, moment), own[place:])
 
     @functools.cached_property
     def ended(self) -> dict[int, Optional[Round]]:
@@ -181,10 +207,7 @@ class Reading:
 
     def late(self, thread: str, round_: Round) -> str:
         """The words of a round that is late, from its deadline on."""
-        parts = collections.Counter(round_.standings)
-        queued = max(round_.begun - round_.activated, 0)
-        shown = ' '.join(f'{part} {parts[part]}' for part in PARTS)
-        return f'deadline {self.deadline(thread)} activated {round_.activated} queued {queued} {shown}'
+        return f'deadline {self.deadline(thread)} activated {round_.activated} queued {round_.queued} {round_.parts}'
 
     def found(self, row: Row) -> Optional[tuple[str, str]]:
         """What a row tells: its kind and its line; of a merged signal there is no line."""
@@ -206,7 +229,7 @@ class Reading:
         waits = self.first_wait(thread)
         pending = self.round_at(self.whole, thread, self.horizon)
         if pending is None and waits and not self.whole.is_done(thread):
-            pending = Round(self.horizon, self.whole.word(waits)[1], [])
+            pending = Round(self.horizon, self.whole.word(waits)[1], [], [])
         if pending is None or pending.activated is None:
             return None
         return pending if 0 < self.deadline(thread) <= self.horizon - pending.activated else None
@@ -230,6 +253,15 @@ class Reading:
         """The kind and the line of all that is found."""
         return list(filter(None, [*map(self.found, self.rows), *map(self.found_at_end, self.threads)]))
 
+    def jobs(self) -> Iterator[str]:
+        """The line of each round that ended."""
+        for row in self.rows:
+            if row.kind == 'round':
+                _, thread, number, _ = row.what
+                job = self.ended[row.place]
+                times = f'activated {job.activated} begun {job.begun} response {row.moment - job.activated} queued {job.queued}'
+                yield f'{row.moment} {row.core} job {thread} {number} {times} preemptions {job.preemptions} {job.parts}'
+
     def hints(self) -> Iterator[str]:
         items = [item.split() for thread in self.threads.values() for item in thread['script']]
         used = {thread['context'] for thread in self.threads.values()}
@@ -243,8 +275,8 @@ class Reading:
             if granted > 1_000_000:
                 yield f'hint core {core} grants {granted} of 1000000'
 
-    def wanted(self, allowed: Sequence[str] = ()) -> Wanted:
-        """What is written of all this, where these notifications may lose signals."""
+    def wanted(self, allowed: Sequence[str] = (), show: str = 'findings', form: str = 'text') -> Wanted:
+        """What is written of all this, where these notifications may lose signals: findings and hints, or jobs, and what is counted."""
         counts, lines, hints = dict.fromkeys(KINDS, 0), [], list(self.hints())
         for kind, line in self.all_found:
             if kind == 'lost' and line.split()[3] in allowed:
@@ -252,8 +284,38 @@ class Reading:
             counts[kind] += 1
             lines += [line] if line else []
         counts['hints'] = len(hints)
-        lines += [*hints, ' '.join(f'{kind} {many}' for kind, many in counts.items())]
-        return Wanted(''.join(f'{line}\n' for line in lines), counts)
+        shown, hinted = (lines, hints) if show == 'findings' else ([*self.jobs()], [])
+        if form == 'csv':
+            return Wanted(rows_text(COLUMNS[show], shown), counts)
+        if form == 'json':
+            objects = [*map(values_of, shown), *map(values_of_hint, hinted), {'kind': 'counts', **counts}]
+            return Wanted(''.join(json.dumps(each, separators=(',', ':')) + '\n' for each in objects), counts)
+        told = [*shown, *hinted, ' '.join(f'{kind} {many}' for kind, many in counts.items())]
+        return Wanted(''.join(f'{line}\n' for line in told), counts)
+
+
+def values_of(line: str) -> dict[str, int | str]:
+    """The values of a line of a finding or a job, by their names."""
+    moment, core, kind, *words = line.split()
+    first = FIRST[kind]
+    pairs = [*zip(first, words), *zip(words[len(first)::2], words[len(first) + 1::2])]
+    numbers = {name: int(word) if name not in ('thread', 'note') else word for name, word in pairs}
+    return {'moment': int(moment), 'core': int(core), 'kind': kind, **numbers}
+
+
+def values_of_hint(line: str) -> dict[str, int | str]:
+    _, what, name, *rest = line.split()
+    values = {'core': int(name), 'grants': int(rest[1])} if what == 'core' else {what: name}
+    return {'kind': 'hint', 'hint': HINTS[what], **values}
+
+
+def rows_text(columns: Sequence[str], lines: Sequence[str]) -> str:
+    """These lines as rows of CSV."""
+    text = io.StringIO()
+    writer = csv.DictWriter(text, columns, lineterminator='\n')
+    writer.writeheader()
+    writer.writerows(map(values_of, lines))
+    return text.getvalue()
 
 
 def distance(name: str, other: str) -> int:

@@ -1,9 +1,10 @@
 #!/usr/bin/env python3
 """Tells whether mcscheck finds what a second, plain reading finds in the rows that mcsim writes, byte by byte, and its statuses.
 
-Each random system has deadlines, signals that are lost or merged, orders, and contexts without a thread; it is checked as it is, and once more with
-some of the words --workers, --strict and --allow-lost, and some with a notification that it has not. A system that mcsim refuses is refused with the
-same fault. Two laws of schedules are tried meanwhile on what is written: a round's parts are the ticks of its response in its `round` row, and
+Each random system has deadlines, signals that are lost or merged, orders, and contexts without a thread; it is checked as it is, once more with
+some of the words --workers, --strict and --allow-lost, and with the rounds that ended in place of findings, and some with a notification that it has
+not. A system that mcsim refuses is refused with the same fault. Two laws of schedules are tried meanwhile on what is written: a round's parts are
+the ticks of its response in its `round` row, and
 the ticks in which the rows say that a thread runs are those of the reports. Then come systems of this repository whose findings are known. A kind of
 finding, of a part or of a status that was seen nowhere is a failure: a test that sees nothing of it tells nothing."""
 from __future__ import annotations
@@ -52,6 +53,8 @@ SEEN = (
     *reading.KINDS, 'hint note', 'hint context', 'hint core', 'status 0', 'status 1', 'status 2', 'status 5', 'found by hints alone',
     'lost only where it is allowed', 'the nearest is', 'there is none', 'activated late', 'yet to begin',
     *(f'miss {part}' for part in ('queued', *reading.PARTS[:4])), *(f'overdue {part}' for part in ('queued', *reading.PARTS)),
+    *(f'job {part}' for part in ('queued', 'preemptions', *reading.PARTS[:4])), 'jobs that are preempted twice',
+    *(f'{show} as {form}' for show in ('findings', 'jobs') for form in ('csv', 'json')),
 )
 
 
@@ -151,6 +154,8 @@ class Trial:
         self.tell(plain, found)
         self.wants(system, [], answer(plain))
         self.with_words(system, found, rng)
+        self.with_jobs(system, found, rng)
+        self.with_format(system, found, rng)
         if rng.random() < 0.2:
             self.unknown(system, found.notes, rng)
 
@@ -166,6 +171,27 @@ class Trial:
         self.seen['lost only where it is allowed'] += wanted.status() != found.wanted().status()
         self.wants(system, words, answer(wanted, is_strict))
 
+    def with_jobs(self, system: System, found: Reading, rng: random.Random) -> None:
+        """The rounds that ended, with some of the words that matter to what is found."""
+        allowed = [note for note in found.notes if rng.random() < 0.3]
+        is_strict = rng.random() < 0.3
+        words = ['--show=jobs', *allowing(allowed), *['--strict'] * is_strict, *['--workers=2'] * (rng.random() < 0.3)]
+        rng.shuffle(words)
+        wanted = found.wanted(allowed, 'jobs')
+        self.tell_parts(wanted)
+        self.seen['jobs that are preempted twice'] += sum(bool(job) and job.preemptions > 1 for job in found.ended.values())
+        self.wants(system, words, answer(wanted, is_strict))
+
+    def with_format(self, system: System, found: Reading, rng: random.Random) -> None:
+        """Findings or jobs as CSV or JSON."""
+        show, form = rng.choice(['findings', 'jobs']), rng.choice(['csv', 'json'])
+        allowed = [note for note in found.notes if rng.random() < 0.3]
+        words = [f'--show={show}', f'--format={form}', *allowing(allowed)]
+        rng.shuffle(words)
+        wanted = found.wanted(allowed, show, form)
+        self.seen[f'{show} as {form}'] += wanted.text.count('\n') > 1
+        self.wants(system, words, answer(wanted))
+
     def unknown(self, system: System, notes: Sequence[str], rng: random.Random) -> None:
         """A notification that the system has not, behind one that it has: a name of another system, or one that is changed in a place."""
         near = rng.choice([*NAMES, *notes])
@@ -180,16 +206,20 @@ class Trial:
     def tell(self, wanted: Wanted, found: Reading) -> None:
         """Counts what was seen of each kind."""
         self.seen.update(wanted.counts)
+        self.tell_parts(wanted)
+        for thread in found.threads:
+            if (late := found.overdue(thread)) and not late.standings:
+                self.seen['yet to begin'] += 1
+        self.seen['activated late'] += sum(bool(ended) and (ended.activated or 0) > ended.begun for ended in found.ended.values())
+
+    def tell_parts(self, wanted: Wanted) -> None:
+        """Counts the lines that have some of each part, and the kinds of hints."""
         for line in wanted.text.splitlines():
             words = line.split()
             self.seen[' '.join(words[:2])] += words[0] == 'hint'
             if 'activated' in words:
                 pairs = words[words.index('activated'):]
                 self.seen.update(f'{words[2]} {part}' for part, many in zip(pairs[::2], pairs[1::2]) if many != '0')
-        for thread in found.threads:
-            if (late := found.overdue(thread)) and not late.standings:
-                self.seen['yet to begin'] += 1
-        self.seen['activated late'] += sum(bool(ended) and (ended.activated or 0) > ended.begun for ended in found.ended.values())
 
     def known(self) -> None:
         """The systems whose findings are known."""

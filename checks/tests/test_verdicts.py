@@ -50,6 +50,26 @@ FOUND = '''5 0 lost x 1
 9 0 overdue A deadline 5 activated 3 queued 5 ready 0 running 1 throttled 0 blocked 0 woken 0
 9 1 never C deadline 3
 '''
+JOBS = '''8 0 job A 1 activated 1 begun 1 response 7 queued 0 preemptions 0 ready 1 running 3 throttled 3 blocked 0 woken 0
+'''
+# A is preempted before its word is taken, then in its first round, at its beginning and later, and after it; its second round has no preemption
+PREEMPTS = '''0 0 release A
+0 0 run A
+1 0 stop A preempt 1
+1 0 hold x 1
+2 0 run A
+2 0 got A x 1
+2 0 stop A preempt 0
+3 0 run A
+4 0 stop A preempt 1
+5 0 run A
+6 0 round A 1 4
+6 0 stop A preempt 1
+6 0 hold x 1
+7 0 run A
+7 0 got A x 1
+9 0 round A 2 2
+'''
 HINTS = '''hint note x is waited on and no script signals it
 hint context n has no thread
 '''
@@ -63,6 +83,29 @@ class Readings(unittest.TestCase):
     def test_what_is_found(self) -> None:
         self.assertEqual(read().wanted().text, FOUND + HINTS + 'missed 1 overdue 1 lost 1 never 1 merged 1 allowed 0 hints 2\n')
         self.assertEqual(read().wanted().status(), 5)
+
+    def test_the_rounds_that_ended(self) -> None:
+        wanted = read().wanted(show='jobs')
+        self.assertEqual(wanted.text, JOBS + 'missed 1 overdue 1 lost 1 never 1 merged 1 allowed 0 hints 2\n')
+        self.assertEqual(wanted.status(), 5)
+
+    def test_findings_as_json(self) -> None:
+        lines = read().wanted(form='json').text.splitlines()
+        self.assertEqual(lines[0], '{"moment":5,"core":0,"kind":"lost","note":"x","word":1}')
+        self.assertEqual(lines[3], '{"moment":9,"core":1,"kind":"never","thread":"C","deadline":3}')
+        self.assertEqual(lines[4:6], ['{"kind":"hint","hint":"unsignalled","note":"x"}', '{"kind":"hint","hint":"unbound","context":"n"}'])
+        self.assertEqual(lines[6], '{"kind":"counts","missed":1,"overdue":1,"lost":1,"never":1,"merged":1,"allowed":0,"hints":2}')
+
+    def test_jobs_and_findings_as_csv(self) -> None:
+        head, *rows = read().wanted(show='jobs', form='csv').text.splitlines()
+        self.assertEqual(rows, ['8,0,job,A,1,1,1,7,0,0,1,3,3,0,0'])
+        self.assertEqual(head.count(','), rows[0].count(','))
+        self.assertEqual(read().wanted(form='csv').text.splitlines()[1:3], ['5,0,lost,,x,1,,,,,,,,,,', '8,0,miss,A,,,1,7,5,1,0,1,3,3,0,0'])
+
+    def test_preemptions_are_those_of_the_round(self) -> None:
+        found = reading.Reading(tomllib.loads(TEXT), PREEMPTS, 9)
+        jobs = [(job.begun, job.activated, job.preemptions) for job in found.ended.values()]
+        self.assertEqual(jobs, [(2, 1, 2), (7, 6, 0)])
 
     def test_lost_signals_that_are_allowed_are_counted_and_not_told(self) -> None:
         wanted = read().wanted(['x'])
@@ -99,7 +142,9 @@ class WrongCheckers(unittest.TestCase):
             if command[0] == 'mcsim':
                 return Ran(0, (rows + reports).encode(), b'')
             allowed = [word.partition('=')[2] for word in command if word.startswith('--allow-lost')]
-            return wrong(verdicts.answer(wanted.wanted(allowed), '--strict' in command))
+            show = 'jobs' if '--show=jobs' in command else 'findings'
+            form = next((word.partition('=')[2] for word in command if word.startswith('--format')), 'text')
+            return wrong(verdicts.answer(wanted.wanted(allowed, show, form), '--strict' in command))
 
         trial = verdicts.Trial('mcsim', 'mcscheck')
         with tempfile.TemporaryDirectory() as folder, mock.patch('common.run', ran), mock.patch('tempfile.tempdir', folder):
@@ -111,13 +156,16 @@ class WrongCheckers(unittest.TestCase):
         self.assertEqual(self.failed(lambda ran: ran), 0)
 
     def test_another_status(self) -> None:
-        self.assertEqual(self.failed(lambda ran: ran._replace(status=0)), 2)
+        self.assertEqual(self.failed(lambda ran: ran._replace(status=0)), 4)
 
     def test_a_line_that_is_not_there(self) -> None:
         self.assertEqual(self.failed(lambda ran: ran._replace(stdout=ran.stdout.replace(b'hint context n has no thread\n', b''))), 2)
 
     def test_words_on_standard_error(self) -> None:
-        self.assertEqual(self.failed(lambda ran: ran._replace(stderr=b'mcscheck: 1 of 9\n')), 2)
+        self.assertEqual(self.failed(lambda ran: ran._replace(stderr=b'mcscheck: 1 of 9\n')), 4)
+
+    def test_a_job_that_is_not_there(self) -> None:
+        self.assertEqual(self.failed(lambda ran: ran._replace(stdout=ran.stdout.replace(JOBS.encode(), b''))), 1)
 
     def test_a_report_that_tells_another_time(self) -> None:
         self.assertEqual(self.failed(lambda ran: ran, reports='thread A ran 5 late 1\nthread C ran 0 late 0\n'), 1)

@@ -8,6 +8,14 @@ _mcscheck() {
         before=${COMP_WORDS[COMP_CWORD - 2]}
     fi
     case $before in
+        --show)
+            mapfile -t COMPREPLY < <(compgen -W 'findings jobs' -- "$word")
+            return
+            ;;
+        --format)
+            mapfile -t COMPREPLY < <(compgen -W 'text csv json' -- "$word")
+            return
+            ;;
         --horizon | --workers | --allow-lost)
             COMPREPLY=()
             return
@@ -19,7 +27,7 @@ _mcscheck() {
             ;;
     esac
     if [[ $word == -* ]]; then
-        mapfile -t COMPREPLY < <(compgen -W '--horizon --workers --allow-lost --strict --help --version --install --uninstall --prove' -- "$word")
+        mapfile -t COMPREPLY < <(compgen -W '--horizon --workers --allow-lost --strict --show --format --help --version --install --uninstall --prove' -- "$word")
     else
         compopt -o filenames
         mapfile -t COMPREPLY < <(compgen -f -X '!*.toml' -- "$word"; compgen -d -- "$word")

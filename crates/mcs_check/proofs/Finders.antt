@@ -7,10 +7,14 @@ use Rattle.mcs_verdict.specs.Findings.{InOrder, UpTo, past_of}
 use Rattle.mcs_verdict.specs.Watch.{watch_of}
 use Rattle.mcs_cli.specs.Devices.{AppendsPrefix}
 use Rattle.mcs_cli.specs.Flow.{AppendsBefore, TakesLine}
+use Rattle.mcs_check_words.specs.declared.asked.Format.{Format}
+use Rattle.mcs_check_words.specs.declared.asked.Show.{Show}
 use Rattle.mcs_check.specs.declared.counts.Counts.{Counts}
 use Rattle.mcs_check.specs.declared.finder.Finder.{Finder}
 use Rattle.mcs_check.specs.Counts.{no_counts}
-use Rattle.mcs_check.specs.stored.Rows.{counted_at, counts_in, failed_after, lines_in, told_at}
+use Rattle.mcs_check.specs.Formats.{head_text}
+use Rattle.mcs_check.specs.stored.Rows.{counted_at, counts_in, failed_after, lines_in, rows_text, told_at}
+use Rattle.mcs_check.proofs.Results.{moved}
 use Rattle.mcs_check.proofs.Rows.{given-tells, some-tells, until-tells}
 
 -- what is counted of rows so far, the latest first
@@ -29,6 +33,8 @@ module _ {W P : Type 0} (contents : W → Option (List ℕ)) (failed : W → Boo
   Takes before row taken after =
       (after.lines.target.ghost_name ≡ before.lines.target.ghost_name)
       × (after.seen.ghost_name ≡ before.seen.ghost_name)
+      × (after.show ≡ before.show)
+      × (after.format ≡ before.format)
       × (after.system ≡ before.system)
       × (after.allowed ≡ before.allowed)
       × (taken ≡ true → failed after.lines.target.now ≡ failed before.lines.target.now)
@@ -37,7 +43,7 @@ module _ {W P : Type 0} (contents : W → Option (List ℕ)) (failed : W → Boo
       (after.seen.now.watch ≡ watch_of before.system.now (row ∷ past))
       × (after.seen.now.counts ≡ counted_at before.system.now before.allowed.now past row before.seen.now.counts)
       × TakesLine (contents before.lines.target.now) (contents after.lines.target.now) before.seen.now.text.items after.seen.now.text.items
-      (told_at before.system.now before.allowed.now past row) taken)
+      (told_at before.system.now before.allowed.now before.format before.show past row) taken)
 
   -- before the first row
   module _ (first : Finder W P) where
@@ -47,10 +53,18 @@ module _ {W P : Type 0} (contents : W → Option (List ℕ)) (failed : W → Boo
     abbrev allowed : List Bool
     allowed = first.allowed.now
 
+    abbrev asked : Show
+    asked = first.show
+
+    abbrev how : Format
+    how = first.format
+
     -- after these rows the sink is still over the same target and system, and has looked at each of them
     pub record IsAfter (past : List Row) (f : Finder W P) : Type 0 where
       pub target_is : f.lines.target.ghost_name ≡ first.lines.target.ghost_name
       pub seen_is : f.seen.ghost_name ≡ first.seen.ghost_name
+      pub show_is : f.show ≡ first.show
+      pub format_is : f.format ≡ first.format
       pub system_is : f.system ≡ first.system
       pub allowed_is : f.allowed ≡ first.allowed
       pub working : failed f.lines.target.now ≡ failed first.lines.target.now
@@ -65,29 +79,29 @@ module _ {W P : Type 0} (contents : W → Option (List ℕ)) (failed : W → Boo
     said : (past : List Row) (s t : Finder W P) (row : Row) (taken : Bool) → IsAfter past s → UpTo row.moment past → Takes s row taken t →
         (t.seen.now.watch ≡ watch_of system (row ∷ past))
         × (t.seen.now.counts ≡ counted_at system allowed past row s.seen.now.counts)
-        × TakesLine (contents s.lines.target.now) (contents t.lines.target.now) s.seen.now.text.items t.seen.now.text.items (told_at system allowed past row) taken
+        × TakesLine (contents s.lines.target.now) (contents t.lines.target.now) s.seen.now.text.items t.seen.now.text.items (told_at system allowed how asked past row) taken
     said past s t row taken k up takes =
         let e : s.system.now ≡ system = ap (λ b. b.now) k.system_is in
         let a : s.allowed.now ≡ allowed = ap (λ b. b.now) k.allowed_is in
-        let told = takes.6 past (subst (λ sys. s.seen.now.watch ≡ watch_of sys past) (sym e) k.watch_is) up in
-        let by_system = subst (λ sys. (t.seen.now.watch ≡ watch_of sys (row ∷ past))
-        × (t.seen.now.counts ≡ counted_at sys s.allowed.now past row s.seen.now.counts)
-        × TakesLine (contents s.lines.target.now) (contents t.lines.target.now) s.seen.now.text.items t.seen.now.text.items (told_at sys s.allowed.now past row) taken) e told in
-        subst (λ flags. (t.seen.now.watch ≡ watch_of system (row ∷ past))
-        × (t.seen.now.counts ≡ counted_at system flags past row s.seen.now.counts)
-        × TakesLine (contents s.lines.target.now) (contents t.lines.target.now) s.seen.now.text.items t.seen.now.text.items (told_at system flags past row) taken) a by_system
+        let told = takes.8 past (subst (λ sys. s.seen.now.watch ≡ watch_of sys past) (sym e) k.watch_is) up in
+        moved (λ sys flags show form. (t.seen.now.watch ≡ watch_of sys (row ∷ past))
+        × (t.seen.now.counts ≡ counted_at sys flags past row s.seen.now.counts)
+        × TakesLine (contents s.lines.target.now) (contents t.lines.target.now) s.seen.now.text.items t.seen.now.text.items (told_at sys flags form show past row) taken)
+        _ _ _ _ _ _ _ _ e a k.show_is k.format_is told
 
     step : (past : List Row) (s t : Finder W P) (row : Row) → IsAfter past s → UpTo row.moment past → Takes s row true t →
         IsAfter (row ∷ past) t
-        × AppendsBefore (contents s.lines.target.now) (contents t.lines.target.now) (s.seen.now.text.items ++ told_at system allowed past row) t.seen.now.text.items
+        × AppendsBefore (contents s.lines.target.now) (contents t.lines.target.now) (s.seen.now.text.items ++ told_at system allowed how asked past row) t.seen.now.text.items
     step past s t row k up takes =
         let told = said past s t row true k up takes in (
           record {
             target_is = takes.0 ∙ k.target_is;
             seen_is = takes.1 ∙ k.seen_is;
-            system_is = takes.2 ∙ k.system_is;
-            allowed_is = takes.3 ∙ k.allowed_is;
-            working = takes.4 refl ∙ k.working;
+            show_is = takes.2 ∙ k.show_is;
+            format_is = takes.3 ∙ k.format_is;
+            system_is = takes.4 ∙ k.system_is;
+            allowed_is = takes.5 ∙ k.allowed_is;
+            working = takes.6 refl ∙ k.working;
             watch_is = told.0;
             counts_are = told.1 ∙ ap (counted_at system allowed past row) k.counts_are;
           },
@@ -96,30 +110,30 @@ module _ {W P : Type 0} (contents : W → Option (List ℕ)) (failed : W → Boo
 
     refuse : (past : List Row) (s t : Finder W P) (row : Row) → IsAfter past s → UpTo row.moment past → Takes s row false t →
         HasRefused t
-        × AppendsPrefix (contents s.lines.target.now) (contents t.lines.target.now) (s.seen.now.text.items ++ told_at system allowed past row)
+        × AppendsPrefix (contents s.lines.target.now) (contents t.lines.target.now) (s.seen.now.text.items ++ told_at system allowed how asked past row)
     refuse past s t row k up takes =
         let told = said past s t row false k up takes in (
-          record { target_is = takes.0 ∙ k.target_is; failed_is = takes.5 refl ∙ ap (failed_after t.lines.is_out_of_memory) k.working },
+          record { target_is = takes.0 ∙ k.target_is; failed_is = takes.7 refl ∙ ap (failed_after t.lines.is_out_of_memory) k.working },
           told.2,
         )
 
-    -- nothing waits and nothing is counted at first
+    -- the first line waits and nothing is counted at first
     module _ (last : Finder W P) (rows : List Row) (order : InOrder [] rows)
-        (empty : first.seen.now.text.items ≡ []) (watch_is : first.seen.now.watch ≡ watch_of system []) (none : first.seen.now.counts ≡ no_counts) where
+        (headed : first.seen.now.text.items ≡ head_text how asked) (watch_is : first.seen.now.watch ≡ watch_of system []) (none : first.seen.now.counts ≡ no_counts) where
       begun : first.seen.now.counts ≡ counts_so_far system allowed []
       begun = none
 
       abbrev before-rows : IsAfter [] first
-      before-rows = record { target_is = refl; seen_is = refl; system_is = refl; allowed_is = refl; working = refl; watch_is = watch_is; counts_are = begun }
+      before-rows = record { target_is = refl; seen_is = refl; show_is = refl; format_is = refl; system_is = refl; allowed_is = refl; working = refl; watch_is = watch_is; counts_are = begun }
 
-      text-is : first.seen.now.text.items ++ lines_in system allowed [] rows ≡ lines_in system allowed [] rows
-      text-is = ap (λ l. l ++ lines_in system allowed [] rows) empty
+      text-is : first.seen.now.text.items ++ lines_in system allowed how asked [] rows ≡ rows_text system allowed how asked rows
+      text-is = ap (λ l. l ++ lines_in system allowed how asked [] rows) headed
 
       pub rows-given : Given Takes first rows last →
           IsAfter (past_of [] rows) last × (last.seen.now.counts ≡ counts_in system allowed [] rows no_counts)
-          × AppendsBefore (contents first.lines.target.now) (contents last.lines.target.now) (lines_in system allowed [] rows) last.seen.now.text.items
+          × AppendsBefore (contents first.lines.target.now) (contents last.lines.target.now) (rows_text system allowed how asked rows) last.seen.now.text.items
       rows-given given =
-          let ended = given-tells Takes (λ f. contents f.lines.target.now) (λ f. f.seen.now.text.items) (told_at system allowed) IsAfter HasRefused step refuse
+          let ended = given-tells Takes (λ f. contents f.lines.target.now) (λ f. f.seen.now.text.items) (told_at system allowed how asked) IsAfter HasRefused step refuse
           [] first last rows before-rows order given in (
             ended.0,
             ended.0.counts_are ∙ counts-so-far system allowed [] rows,
@@ -127,16 +141,16 @@ module _ {W P : Type 0} (contents : W → Option (List ℕ)) (failed : W → Boo
           )
 
       pub rows-until : GivenUntil Takes first rows last →
-          HasRefused last × AppendsPrefix (contents first.lines.target.now) (contents last.lines.target.now) (lines_in system allowed [] rows)
+          HasRefused last × AppendsPrefix (contents first.lines.target.now) (contents last.lines.target.now) (rows_text system allowed how asked rows)
       rows-until given =
-          let ended = until-tells Takes (λ f. contents f.lines.target.now) (λ f. f.seen.now.text.items) (told_at system allowed) IsAfter HasRefused step refuse
+          let ended = until-tells Takes (λ f. contents f.lines.target.now) (λ f. f.seen.now.text.items) (told_at system allowed how asked) IsAfter HasRefused step refuse
           [] first last rows before-rows order given in
           (ended.0, subst (AppendsPrefix (contents first.lines.target.now) (contents last.lines.target.now)) text-is ended.1)
 
       pub rows-some : GivenSome Takes first rows last →
           ((past : List Row) × IsAfter past last)
-          × AppendsPrefix (contents first.lines.target.now) (contents last.lines.target.now) (lines_in system allowed [] rows)
+          × AppendsPrefix (contents first.lines.target.now) (contents last.lines.target.now) (rows_text system allowed how asked rows)
       rows-some given =
-          let ended = some-tells Takes (λ f. contents f.lines.target.now) (λ f. f.seen.now.text.items) (told_at system allowed) IsAfter HasRefused step refuse
+          let ended = some-tells Takes (λ f. contents f.lines.target.now) (λ f. f.seen.now.text.items) (told_at system allowed how asked) IsAfter HasRefused step refuse
           [] first last rows before-rows order given in
           (ended.0, subst (AppendsPrefix (contents first.lines.target.now) (contents last.lines.target.now)) text-is ended.1)

@@ -7,4 +7,5 @@ mod Names
 mod Results
 mod Texts
 mod Unknown
+mod Values
 mod Worked

@@ -1,39 +1,55 @@
 -- The text of a check: what rows tell, and then the rest.
-use Rattle.std.proofs.Common.{◌≡◌, ◌∙◌, ◌++◌, [], ℕ, Bool, List, length, flat_map, ap, sym, append_assoc}
+use Rattle.std.proofs.Common.{◌≡◌, ◌∙◌, ◌++◌, [], ℕ, Bool, List, length, flat_map, ap, sym, append_assoc, append-nil}
 use Rattle.mcs_system.specs.System.{System}
 use Rattle.mcs_core.specs.Clock.{schedule}
 use Rattle.mcs_verdict.specs.Findings.{found_at_end, found_in, past_of}
+use Rattle.mcs_check_words.specs.declared.asked.Format.{Format}
+use Rattle.mcs_check_words.specs.declared.asked.Show.{Show}
+use Rattle.mcs_check_words.specs.declared.asked.Show.TheVariants as show
 use Rattle.mcs_hints.specs.Hints.{hints_of}
 use Rattle.mcs_check.specs.declared.counts.Counts.{Counts}
 use Rattle.mcs_check.specs.Allowed.{flags_of}
-use Rattle.mcs_check.specs.Check.{check_text, counts_of, found_of}
+use Rattle.mcs_check.specs.Check.{check_text, counts_of, found_of, shown_lines}
 use Rattle.mcs_check.specs.Counts.{no_counts, with_hints}
-use Rattle.mcs_check.specs.Lines.{counts_text, hint_text}
+use Rattle.mcs_check.specs.Formats.{counts_line, head_text, hint_line}
 use Rattle.mcs_check.specs.Told.{counts_with, found_lines, merged_in}
-use Rattle.mcs_check.specs.stored.Rows.{counts_found, counts_in, lines_in}
-use Rattle.mcs_check.proofs.Told.{lines-append, lines-are}
+use Rattle.mcs_check.specs.stored.Rows.{counts_found, counts_in, lines_in, rest_lines, rows_text}
+use Rattle.mcs_check.proofs.Told.{jobs-are, lines-append, lines-are}
 use Rattle.mcs_check.proofs.Sums.{none-within, rows-within, sums-all, sums-found, sums-rows}
 
--- what is told after the last row
-abbrev pub rest_text : List (List ℕ) → System → ℕ → Counts → List ℕ
-rest_text names system horizon counts =
-    found_lines system (flags_of names system.notes) (found_at_end system (past_of [] (schedule system horizon)) horizon 0 system.threads)
-    ++ flat_map (hint_text system) (hints_of system) ++ counts_text counts
+-- what is shown after the last row
+abbrev pub rest_of : Format → Show → List (List ℕ) → System → ℕ → List ℕ
+rest_of how asked names system horizon =
+    rest_lines how asked system (flags_of names system.notes) (found_at_end system (past_of [] (schedule system horizon)) horizon 0 system.threads)
+
+-- and then the counts
+abbrev pub rest_text : Format → Show → List (List ℕ) → System → ℕ → Counts → List ℕ
+rest_text how asked names system horizon counts = rest_of how asked names system horizon ++ counts_line how counts
 
 module _ (names : List (List ℕ)) (system : System) (horizon : ℕ) where
   abbrev flags : List Bool
   flags = flags_of names system.notes
 
-  pub text-is : lines_in system flags [] (schedule system horizon) ++ rest_text names system horizon (counts_of names system horizon) ≡ check_text names system horizon
-  text-is =
+  shown-is : (how : Format) (asked : Show) → lines_in system flags how asked [] (schedule system horizon) ++ rest_of how asked names system horizon ≡ shown_lines names system horizon how asked
+  shown-is how show.Findings =
       let rows = found_in system [] (schedule system horizon) in
       let ends = found_at_end system (past_of [] (schedule system horizon)) horizon 0 system.threads in
-      let hinted = flat_map (hint_text system) (hints_of system) in
-      let counted = counts_text (counts_of names system horizon) in
-      ap (λ l. l ++ (found_lines system flags ends ++ hinted ++ counted)) (lines-are system flags [] (schedule system horizon))
-      ∙ sym (append_assoc (found_lines system flags rows) (found_lines system flags ends ++ hinted) counted)
-      ∙ ap (λ l. l ++ counted) (sym (append_assoc (found_lines system flags rows) (found_lines system flags ends) hinted)
-      ∙ ap (λ l. l ++ hinted) (sym (lines-append system flags rows ends)))
+      let hinted = flat_map (hint_line how system) (hints_of system) in
+      ap (λ l. l ++ (found_lines how system flags ends ++ hinted)) (lines-are how system flags [] (schedule system horizon))
+      ∙ sym (append_assoc (found_lines how system flags rows) (found_lines how system flags ends) hinted)
+      ∙ ap (λ l. l ++ hinted) (sym (lines-append how system flags rows ends))
+  shown-is how show.Jobs = append-nil _ ∙ jobs-are how system flags [] (schedule system horizon)
+
+  pub text-is : (how : Format) (asked : Show)
+      → rows_text system flags how asked (schedule system horizon) ++ rest_text how asked names system horizon (counts_of names system horizon)
+      ≡ check_text names system horizon how asked
+  text-is how asked =
+      let lines = lines_in system flags how asked [] (schedule system horizon) in
+      let rest = rest_of how asked names system horizon in
+      let counted = counts_line how (counts_of names system horizon) in
+      append_assoc (head_text how asked) lines (rest ++ counted)
+      ∙ ap (λ l. head_text how asked ++ l) (sym (append_assoc lines rest counted) ∙ ap (λ l. l ++ counted) (shown-is how asked))
+      ∙ sym (append_assoc (head_text how asked) (shown_lines names system horizon how asked) counted)
 
   pub counts-are : with_hints (length (hints_of system))
       (counts_found flags (found_at_end system (past_of [] (schedule system horizon)) horizon 0 system.threads)
@@ -47,16 +63,13 @@ module _ (names : List (List ℕ)) (system : System) (horizon : ℕ) where
       ∙ sym (sums-all flags (found_in system [] rows) ends (merged_in system [] rows) (length (hints_of system)) no_counts)
 
   -- what stands behind the lines of rows, with the flags, the system and the counts that the code has
-  pub behind : (text before : List ℕ) (allowed : List Bool) (own : System) (counts : Counts) → allowed ≡ flags → own ≡ system → counts ≡ counts_of names system horizon
-      → text ≡ before ++ found_lines own allowed (found_at_end own (past_of [] (schedule system horizon)) horizon 0 own.threads)
-      ++ flat_map (hint_text own) (hints_of own) ++ counts_text counts
-      → text ≡ before ++ rest_text names system horizon (counts_of names system horizon)
-  behind text before allowed own counts flags_are system_is counts_are put =
+  pub behind : (how : Format) (asked : Show) (text before : List ℕ) (allowed : List Bool) (own : System) (counts : Counts)
+      → allowed ≡ flags → own ≡ system → counts ≡ counts_of names system horizon
+      → text ≡ before ++ rest_lines how asked own allowed (found_at_end own (past_of [] (schedule system horizon)) horizon 0 own.threads) ++ counts_line how counts
+      → text ≡ before ++ rest_text how asked names system horizon (counts_of names system horizon)
+  behind how asked text before allowed own counts flags_are system_is counts_are put =
       let mine = rw (flags_are, system_is, counts_are) at put in
-      let ends = found_lines system flags (found_at_end system (past_of [] (schedule system horizon)) horizon 0 system.threads) in
-      let hinted = flat_map (hint_text system) (hints_of system) in
-      let counted = counts_text (counts_of names system horizon) in
-      mine ∙ ap (λ l. l ++ counted) (append_assoc before ends hinted) ∙ append_assoc before (ends ++ hinted) counted
+      mine ∙ append_assoc before (rest_of how asked names system horizon) (counts_line how (counts_of names system horizon))
 
   -- and how much is counted
   pub counts-put : (allowed : List Bool) (own : System) (kept counts : Counts) → allowed ≡ flags → own ≡ system

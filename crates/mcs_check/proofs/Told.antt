@@ -1,45 +1,59 @@
--- The lines of what is found, put together as the rows go by, are those of all that is found.
+-- The lines of what is shown, put together as the rows go by, are those of all that is found, or of all rounds that ended.
 use Rattle.std.proofs.Common.{◌≡◌, ◌∙◌, ◌++◌, ◌∷◌, [], ℕ, Bool, true, false, List, Option, Some, None, refl, ap, sym, append_assoc, append-nil, flat_map}
+use Rattle.std.specs.Prelude.{option_to_list}
+use Rattle.std.proofs.lemmas.List.Concat.{flat_map-append}
 use Rattle.mcs_ticks.specs.declared.row.Row.{Row}
 use Rattle.mcs_system.specs.System.{System}
 use Rattle.mcs_verdict.specs.declared.finding.Finding.{Finding}
 use Rattle.mcs_verdict.specs.declared.finding.Found.{Found}
+use Rattle.mcs_verdict.specs.declared.job.Job.{Job}
 use Rattle.mcs_verdict.specs.Findings.{finding, found_at, found_in}
+use Rattle.mcs_verdict.specs.Jobs.{job_of, jobs_in}
+use Rattle.mcs_check_words.specs.declared.asked.Format.{Format}
+use Rattle.mcs_check_words.specs.declared.asked.Show.TheVariants as show
 use Rattle.mcs_check.specs.Counts.{is_allowed, told_of}
-use Rattle.mcs_check.specs.Lines.{found_text}
-use Rattle.mcs_check.specs.Told.{found_lines}
-use Rattle.mcs_check.specs.stored.Rows.{lines_in, told_at, told_line}
+use Rattle.mcs_check.specs.Formats.{found_line, job_line}
+use Rattle.mcs_check.specs.Told.{found_lines, job_lines}
+use Rattle.mcs_check.specs.stored.Rows.{lines_in, shown_found, shown_job, told_at, told_line}
 
-module _ (system : System) (allowed : List Bool) where
+module _ (how : Format) (system : System) (allowed : List Bool) where
   append-one : (x : Found) (xs ys : List Found) (b : Bool) → is_allowed allowed x.finding ≡ b
-      → found_lines system allowed (xs ++ ys) ≡ found_lines system allowed xs ++ found_lines system allowed ys
-      → found_lines system allowed ((x ∷ xs) ++ ys) ≡ found_lines system allowed (x ∷ xs) ++ found_lines system allowed ys
+      → found_lines how system allowed (xs ++ ys) ≡ found_lines how system allowed xs ++ found_lines how system allowed ys
+      → found_lines how system allowed ((x ∷ xs) ++ ys) ≡ found_lines how system allowed (x ∷ xs) ++ found_lines how system allowed ys
   append-one x xs ys true e rest = rw e rest
   append-one x xs ys false e rest =
-      rw e (ap (λ l. found_text system x ++ l) rest ∙ sym (append_assoc (found_text system x) (found_lines system allowed xs) (found_lines system allowed ys)))
+      rw e (ap (λ l. found_line how system x ++ l) rest ∙ sym (append_assoc (found_line how system x) (found_lines how system allowed xs) (found_lines how system allowed ys)))
 
-  pub lines-append : (xs ys : List Found) → found_lines system allowed (xs ++ ys) ≡ found_lines system allowed xs ++ found_lines system allowed ys
+  pub lines-append : (xs ys : List Found) → found_lines how system allowed (xs ++ ys) ≡ found_lines how system allowed xs ++ found_lines how system allowed ys
   lines-append [] ys = refl
   lines-append (x ∷ xs) ys = append-one x xs ys (is_allowed allowed x.finding) refl (lines-append xs ys)
 
   one-line : (moment core : ℕ) (f : Finding) (b : Bool) → is_allowed allowed f ≡ b
-      → found_lines system allowed (found_at moment core (Some f)) ≡ told_line system moment core (told_of allowed (Some f))
+      → found_lines how system allowed (found_at moment core (Some f)) ≡ told_line how system (shown_found moment core (told_of allowed (Some f)))
   one-line moment core f true e = rw e refl
   one-line moment core f false e = rw e (append-nil _)
 
-  pub line-is : (moment core : ℕ) (f : Option Finding) → found_lines system allowed (found_at moment core f) ≡ told_line system moment core (told_of allowed f)
+  pub line-is : (moment core : ℕ) (f : Option Finding) → found_lines how system allowed (found_at moment core f) ≡ told_line how system (shown_found moment core (told_of allowed f))
   line-is moment core None = refl
   line-is moment core (Some f) = one-line moment core f (is_allowed allowed f) refl
 
-  pub lines-are : (past rows : List Row) → lines_in system allowed past rows ≡ found_lines system allowed (found_in system past rows)
+  pub lines-are : (past rows : List Row) → lines_in system allowed how show.Findings past rows ≡ found_lines how system allowed (found_in system past rows)
   lines-are past [] = refl
   lines-are past (r ∷ rows) =
       let first = line-is r.moment r.core (finding system past r.moment r.what) in
-      ap (λ l. told_at system allowed past r ++ l) (lines-are (r ∷ past) rows)
-      ∙ ap (λ l. l ++ found_lines system allowed (found_in system (r ∷ past) rows)) (sym first)
+      ap (λ l. told_at system allowed how show.Findings past r ++ l) (lines-are (r ∷ past) rows)
+      ∙ ap (λ l. l ++ found_lines how system allowed (found_in system (r ∷ past) rows)) (sym first)
       ∙ sym (lines-append (found_at r.moment r.core (finding system past r.moment r.what)) (found_in system (r ∷ past) rows))
 
-  -- one finding more, of a list
-  pub lines-cons : (f : Found) (found : List Found)
-      → found_lines system allowed (f ∷ found) ≡ told_line system f.moment f.core (told_of allowed (Some f.finding)) ++ found_lines system allowed found
-  lines-cons f found = lines-append (f ∷ []) found ∙ ap (λ l. l ++ found_lines system allowed found) (line-is f.moment f.core (Some f.finding))
+  one-job : (j : Option Job) → job_lines how system (option_to_list j) ≡ told_line how system (shown_job j)
+  one-job None = refl
+  one-job (Some job) = append-nil (job_line how system job)
+
+  pub jobs-are : (past rows : List Row) → lines_in system allowed how show.Jobs past rows ≡ job_lines how system (jobs_in system past rows)
+  jobs-are past [] = refl
+  jobs-are past (r ∷ rows) =
+      let own = option_to_list (job_of system past r.moment r.what) in
+      let rest = jobs_in system (r ∷ past) rows in
+      ap (λ l. told_at system allowed how show.Jobs past r ++ l) (jobs-are (r ∷ past) rows)
+      ∙ ap (λ l. l ++ job_lines how system rest) (sym (one-job (job_of system past r.moment r.what)))
+      ∙ sym (flat_map-append (job_line how system) own rest)

@@ -1,6 +1,7 @@
 -- What is written of what is found, worked by hand.
-use Rattle.std.specs.Prelude.{◌≡◌, ◌++◌, ℕ, Bool, true, false, List, [], ◌∷◌, Some, None, codes, refl}
+use Rattle.std.specs.Prelude.{◌≡◌, ◌++◌, ℕ, Bool, true, false, List, [], ◌∷◌, Some, None, codes, map, refl}
 use Rattle.std.specs.Fmt.{digits}
+use Rattle.serde_json.proofs.OnLiterals.{serde_json_on_literals}
 use Rattle.mcs_script.specs.declared.item.Item.TheVariants.{Compute}
 use Rattle.mcs_control.specs.declared.config.Mode.TheVariants as mode
 use Rattle.mcs_system.specs.declared.part.NotePart.{NotePart}
@@ -10,11 +11,16 @@ use Rattle.mcs_hints.specs.declared.hint.Hint.TheVariants.{Unsignalled, Unbound,
 use Rattle.mcs_verdict.specs.declared.finding.Finding.{Finding}
 use Rattle.mcs_verdict.specs.declared.finding.Finding.TheVariants.{Miss, Overdue, Lost, Never}
 use Rattle.mcs_verdict.specs.declared.finding.Found.{Found}
+use Rattle.mcs_verdict.specs.declared.job.Job.{Job}
 use Rattle.mcs_verdict.specs.declared.standing.Stood.{Stood}
+use Rattle.mcs_check_words.specs.declared.asked.Format.TheVariants as format
+use Rattle.mcs_check_words.specs.declared.asked.Show.TheVariants as show
 use Rattle.mcs_check.specs.Allowed.{first_unknown, flags_of, nearest_of}
 use Rattle.mcs_check.specs.Check.{check_text}
 use Rattle.mcs_check.specs.Counts.{is_clean, no_counts}
-use Rattle.mcs_check.specs.Lines.{found_text, hint_text}
+use Rattle.mcs_check.specs.Fields.{found_fields, job_fields}
+use Rattle.mcs_check.specs.Formats.{column_names, found_line, hint_line}
+use Rattle.mcs_check.specs.Lines.{found_text, hint_text, job_text}
 use Rattle.mcs_check.specs.Told.{counts_with, found_lines}
 
 abbrev note : List ℕ → NotePart
@@ -48,23 +54,100 @@ abbrev found : ℕ → ℕ → Finding → Found
 found moment core finding = record { moment = moment; core = core; finding = finding }
 
 -- The round runs in [0, 2), [5, 7) and [10, 11): with a deadline of 10 it misses it by one tick ..
-whole_text : check_text [] (system 10) 20
+whole_text : check_text [] (system 10) 20 format.Text show.Findings
     ≡ codes "11 0 miss A 1 11 deadline 10 activated 0 queued 0 ready 0 running 5 throttled 6 blocked 0 woken 0\n"
     ++ codes "missed 1 overdue 0 lost 0 never 0 merged 0 allowed 0 hints 0\n"
 unfolding system digits
 whole_text = refl
 
 -- .. and with one of 11 it is in time
-in_time : check_text [] (system 11) 20 ≡ codes "missed 0 overdue 0 lost 0 never 0 merged 0 allowed 0 hints 0\n"
+in_time : check_text [] (system 11) 20 format.Text show.Findings ≡ codes "missed 0 overdue 0 lost 0 never 0 merged 0 allowed 0 hints 0\n"
 unfolding system digits
 in_time = refl
 
 -- at horizon 10 it is not ended, its deadline ago
-not_ended : check_text [] (system 10) 10
+not_ended : check_text [] (system 10) 10 format.Text show.Findings
     ≡ codes "10 0 overdue A deadline 10 activated 0 queued 0 ready 0 running 4 throttled 6 blocked 0 woken 0\n"
     ++ codes "missed 0 overdue 1 lost 0 never 0 merged 0 allowed 0 hints 0\n"
 unfolding system digits
 not_ended = refl
+
+-- as a job the round is told whether it is in time or not, and is counted as before
+as_a_job : check_text [] (system 10) 20 format.Text show.Jobs
+    ≡ codes "11 0 job A 1 activated 0 begun 0 response 11 queued 0 preemptions 0 ready 0 running 5 throttled 6 blocked 0 woken 0\n"
+    ++ codes "missed 1 overdue 0 lost 0 never 0 merged 0 allowed 0 hints 0\n"
+unfolding system digits
+as_a_job = refl
+
+in_time_as_a_job : check_text [] (system 11) 20 format.Text show.Jobs
+    ≡ codes "11 0 job A 1 activated 0 begun 0 response 11 queued 0 preemptions 0 ready 0 running 5 throttled 6 blocked 0 woken 0\n"
+    ++ codes "missed 0 overdue 0 lost 0 never 0 merged 0 allowed 0 hints 0\n"
+unfolding system digits
+in_time_as_a_job = refl
+
+-- at horizon 10 no round has ended
+no_job : check_text [] (system 10) 10 format.Text show.Jobs ≡ codes "missed 0 overdue 1 lost 0 never 0 merged 0 allowed 0 hints 0\n"
+unfolding system digits
+no_job = refl
+
+-- In CSV the values that a finding has, and nothing but rows; in JSON an object a line, the counts too.
+as_rows : check_text [] (system 10) 20 format.Csv show.Findings
+    ≡ codes "moment,core,kind,thread,note,word,number,response,deadline,activated,queued,ready,running,throttled,blocked,woken\n"
+    ++ codes "11,0,miss,A,,,1,11,10,0,0,0,5,6,0,0\n"
+unfolding system digits
+as_rows = refl
+
+job_rows : check_text [] (system 10) 20 format.Csv show.Jobs
+    ≡ codes "moment,core,kind,thread,number,activated,begun,response,queued,preemptions,ready,running,throttled,blocked,woken\n"
+    ++ codes "11,0,job,A,1,0,0,11,0,0,0,5,6,0,0\n"
+unfolding system digits
+job_rows = refl
+
+as_objects : check_text [] (system 10) 10 format.Json show.Findings
+    ≡ codes "{\"moment\":10,\"core\":0,\"kind\":\"overdue\",\"thread\":\"A\",\"deadline\":10,\"activated\":0,\"queued\":0,\"ready\":0,"
+    ++ codes "\"running\":4,\"throttled\":6,\"blocked\":0,\"woken\":0}\n"
+    ++ codes "{\"kind\":\"counts\",\"missed\":0,\"overdue\":1,\"lost\":0,\"never\":0,\"merged\":0,\"allowed\":0,\"hints\":0}\n"
+unfolding system digits serde_json_on_literals
+as_objects = refl
+
+lost_row : found_line format.Csv (system 0) (found 12 3 (Lost 1 6)) ≡ codes "12,3,lost,,tock,6,,,,,,,,,,\n"
+unfolding system digits
+lost_row = refl
+
+never_object : found_line format.Json (system 0) (found 40 0 (Never 0 7))
+    ≡ codes "{\"moment\":40,\"core\":0,\"kind\":\"never\",\"thread\":\"A\",\"deadline\":7}\n"
+unfolding system digits serde_json_on_literals
+never_object = refl
+
+unbound_object : hint_line format.Json (system 0) (Unbound 0) ≡ codes "{\"kind\":\"hint\",\"hint\":\"unbound\",\"context\":\"a\"}\n"
+unfolding system serde_json_on_literals
+unbound_object = refl
+
+-- all rows of CSV have the same columns, whatever is found
+found_columns : (system : System) (f : Found) → map (λ field. field.0) (found_fields system f) ≡ column_names show.Findings
+found_columns system f = refl
+
+job_columns : (system : System) (j : Job) → map (λ field. field.0) (job_fields system j) ≡ column_names show.Jobs
+job_columns system j = refl
+
+-- a round that was activated 4 ticks before it began, and preempted twice
+abbrev called : Job
+called = record {
+  thread = 0;
+  number = 3;
+  activated = 30;
+  begun = 34;
+  ended = 50;
+  response = 20;
+  queued = 4;
+  preemptions = 2;
+  stood = parts 1 2 3 10 0;
+}
+
+job_line : job_text (system 0) called
+    ≡ codes "50 0 job A 3 activated 30 begun 34 response 20 queued 4 preemptions 2 ready 1 running 2 throttled 3 blocked 10 woken 0\n"
+unfolding system digits
+job_line = refl
 
 lost_line : found_text (system 0) (found 12 3 (Lost 1 6)) ≡ codes "12 3 lost tock 6\n"
 unfolding system digits
@@ -99,7 +182,7 @@ two_lost = found 5 0 (Lost 0 1) ∷ found 6 0 (Lost 1 1) ∷ []
 abbrev flags : List (List ℕ) → List Bool
 flags names = flags_of names (note (codes "tick") ∷ note (codes "tock") ∷ [])
 
-one_is_told : found_lines (system 0) (flags (codes "tick" ∷ [])) two_lost ≡ codes "6 0 lost tock 1\n"
+one_is_told : found_lines format.Text (system 0) (flags (codes "tick" ∷ [])) two_lost ≡ codes "6 0 lost tock 1\n"
 unfolding system digits
 one_is_told = refl
 

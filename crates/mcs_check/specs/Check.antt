@@ -7,17 +7,21 @@ use Rattle.mcs_load.specs.Memory.{no_memory}
 use Rattle.mcs_hints.specs.Hints.{hints_of}
 use Rattle.mcs_verdict.specs.declared.finding.Found.{Found}
 use Rattle.mcs_verdict.specs.Findings.{findings}
+use Rattle.mcs_verdict.specs.Jobs.{jobs_in}
 use Rattle.mcs_cli.specs.Devices.{AppendsPrefix}
 use Rattle.mcs_cli.specs.Run.{IsFaultOfInput, IsRead, IsTooLong}
 use Rattle.mcs_cli.specs.declared.fault.RunFault.TheVariants as run
+use Rattle.mcs_check_words.specs.declared.asked.Format.{Format}
 use Rattle.mcs_check_words.specs.declared.asked.Options.{Options}
+use Rattle.mcs_check_words.specs.declared.asked.Show.{Show}
+use Rattle.mcs_check_words.specs.declared.asked.Show.TheVariants as show
 use Rattle.mcs_check.specs.declared.counts.Counts.{Counts}
 use Rattle.mcs_check.specs.declared.fault.CheckFault.{CheckFault}
 use Rattle.mcs_check.specs.declared.fault.CheckFault.TheVariants.{Run, Unknown}
 use Rattle.mcs_check.specs.Allowed.{IsUnknownFault, first_unknown, flags_of}
 use Rattle.mcs_check.specs.Counts.{no_counts}
-use Rattle.mcs_check.specs.Lines.{counts_text, hint_text}
-use Rattle.mcs_check.specs.Told.{counts_with, found_lines, merged_in}
+use Rattle.mcs_check.specs.Formats.{counts_line, head_text, hint_line}
+use Rattle.mcs_check.specs.Told.{counts_with, found_lines, job_lines, merged_in}
 
 -- what is found in the schedule of the one clock over all cores
 abbrev pub found_of : System → ℕ → List Found
@@ -30,11 +34,15 @@ module _ (names : List (List ℕ)) (system : System) (horizon : ℕ) where
       counts_with (flags_of names system.notes) (found_of system horizon)
       (merged_in system [] (schedule system horizon)) (length (hints_of system)) no_counts
 
-  -- the lines of what is found, of hints, and of counts
-  abbrev pub check_text : List ℕ
-  check_text =
-      found_lines system (flags_of names system.notes) (found_of system horizon)
-      ++ flat_map (hint_text system) (hints_of system) ++ counts_text counts_of
+  -- the lines of what is found and of hints, or those of the rounds that ended
+  abbrev pub shown_lines : Format → Show → List ℕ
+  shown_lines how show.Findings =
+      found_lines how system (flags_of names system.notes) (found_of system horizon) ++ flat_map (hint_line how system) (hints_of system)
+  shown_lines how show.Jobs = job_lines how system (jobs_in system [] (schedule system horizon))
+
+  -- the first line, where there is one, these, and that of counts
+  abbrev pub check_text : Format → Show → List ℕ
+  check_text how asked = head_text how asked ++ shown_lines how asked ++ counts_line how counts_of
 
 -- the notifications at which lost signals are allowed, by the names that were asked for
 abbrev pub names_of : Options → List (List ℕ)
@@ -44,17 +52,17 @@ names_of options = map (λ name. string_bytes name) options.allowed.items
 module _ (read_old read_new : Option (List ℕ)) (given_old given_new : ℕ) (read_failed : Bool) where
   -- the bytes that a target knows before and after the check, whether it has failed, and what is asked for
   module _ (write_old write_new : Option (List ℕ)) (write_failed : Bool) (options : Options) where
-    -- the names that are asked for are known, and what was written is what is found for the bytes that were read, and nothing else
+    -- the names that are asked for are known, and what was written is what is shown of the bytes that were read, and nothing else
     abbrev pub IsDone : Counts → Type 0
     IsDone counts = (system : System) × IsRead read_old read_new given_old given_new system
         × (first_unknown system.notes (names_of options) ≡ None)
-        × Appends write_old write_new (check_text (names_of options) system options.horizon)
+        × Appends write_old write_new (check_text (names_of options) system options.horizon options.format options.show)
         × (counts ≡ counts_of (names_of options) system options.horizon)
 
     -- what was written is a first part of that
     abbrev pub IsBegun : Type 0
     IsBegun = (system : System) × IsRead read_old read_new given_old given_new system
-        × AppendsPrefix write_old write_new (check_text (names_of options) system options.horizon)
+        × AppendsPrefix write_old write_new (check_text (names_of options) system options.horizon options.format options.show)
 
     -- a name that is asked for is not known: the first of them, and the nearest that is
     abbrev pub IsUnknown : CheckFault → Type 0

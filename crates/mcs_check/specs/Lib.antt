@@ -1,6 +1,8 @@
 pub mod Allowed
 pub mod Counts
 pub mod Lines
+pub mod Fields
+pub mod Formats
 pub mod Told
 pub mod Check
 pub mod Fault

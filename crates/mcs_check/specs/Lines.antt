@@ -1,21 +1,26 @@
 -- The lines of what is found in a schedule.
 use Rattle.std.specs.Prelude.{ℕ, List, [], ◌∷◌, ◌++◌, codes, decimal}
-use Rattle.mcs_system.specs.System.{System}
+use Rattle.mcs_system.specs.System.{System, core_of, thread_part}
 use Rattle.mcs_text.specs.Text.{context_name, counted, line, note_name, thread_name}
 use Rattle.mcs_hints.specs.declared.hint.Hint.{Hint}
 use Rattle.mcs_hints.specs.declared.hint.Hint.TheVariants.{Unsignalled, Unbound, Overcommitted}
 use Rattle.mcs_verdict.specs.declared.finding.Finding.{Finding}
 use Rattle.mcs_verdict.specs.declared.finding.Finding.TheVariants.{Miss, Overdue, Lost, Never}
 use Rattle.mcs_verdict.specs.declared.finding.Found.{Found}
+use Rattle.mcs_verdict.specs.declared.job.Job.{Job}
 use Rattle.mcs_verdict.specs.declared.standing.Stood.{Stood}
 use Rattle.mcs_check.specs.declared.counts.Counts.{Counts}
 
--- a round's deadline, when it was activated, and its parts: how long it was queued, and how long the thread stood in each way since it began
+-- how long a thread stood in each way since its round began
+abbrev pub ways : Stood → List (List ℕ × ℕ)
+ways stood =
+    (codes "ready", stood.ready) ∷ (codes "running", stood.running) ∷ (codes "throttled", stood.throttled)
+    ∷ (codes "blocked", stood.blocked) ∷ (codes "woken", stood.woken) ∷ []
+
+-- a round's deadline, when it was activated, and its parts: how long it was queued, and how long the thread stood in each way
 abbrev pub late_words : ℕ → ℕ → ℕ → Stood → List (List ℕ)
 late_words deadline activated queued stood =
-    counted ((codes "deadline", deadline) ∷ (codes "activated", activated) ∷ (codes "queued", queued)
-    ∷ (codes "ready", stood.ready) ∷ (codes "running", stood.running) ∷ (codes "throttled", stood.throttled)
-    ∷ (codes "blocked", stood.blocked) ∷ (codes "woken", stood.woken) ∷ [])
+    counted ((codes "deadline", deadline) ∷ (codes "activated", activated) ∷ (codes "queued", queued) ∷ ways stood)
 
 -- what was found, and its numbers
 abbrev pub found_words : System → Finding → List (List ℕ)
@@ -29,6 +34,20 @@ found_words system (Never thread deadline) = codes "never" ∷ thread_name syste
 -- the line of a finding: its moment, its core and what was found
 abbrev pub found_text : System → Found → List ℕ
 found_text system found = line (decimal found.moment) (decimal found.core ∷ found_words system found.finding)
+
+-- of a round that ended when it was activated and when it began, its response, and its parts, with how often it was preempted
+abbrev pub job_times : Job → List (List ℕ)
+job_times job =
+    counted ((codes "activated", job.activated) ∷ (codes "begun", job.begun) ∷ (codes "response", job.response)
+    ∷ (codes "queued", job.queued) ∷ (codes "preemptions", job.preemptions) ∷ ways job.stood)
+
+-- its thread, its number, and these
+abbrev pub job_words : System → Job → List (List ℕ)
+job_words system job = codes "job" ∷ thread_name system job.thread ∷ decimal job.number ∷ job_times job
+
+-- the line of a job: when it ended, its thread's core and what it was
+abbrev pub job_text : System → Job → List ℕ
+job_text system job = line (decimal job.ended) (decimal (core_of system (thread_part system job.thread)) ∷ job_words system job)
 
 -- the line of counts
 abbrev pub counts_text : Counts → List ℕ

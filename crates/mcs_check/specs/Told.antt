@@ -5,18 +5,24 @@ use Rattle.mcs_system.specs.System.{System}
 use Rattle.mcs_verdict.specs.declared.finding.Finding.{Finding}
 use Rattle.mcs_verdict.specs.declared.finding.Finding.TheVariants.{Miss, Overdue, Lost, Never}
 use Rattle.mcs_verdict.specs.declared.finding.Found.{Found}
+use Rattle.mcs_verdict.specs.declared.job.Job.{Job}
 use Rattle.mcs_verdict.specs.Words.{merges}
+use Rattle.mcs_check_words.specs.declared.asked.Format.{Format}
 use Rattle.mcs_check.specs.declared.counts.Counts.{Counts}
 use Rattle.mcs_check.specs.Counts.{is_allowed}
-use Rattle.mcs_check.specs.Lines.{found_text}
+use Rattle.mcs_check.specs.Formats.{found_line, job_line}
 
 -- all but lost signals of notifications at which this is allowed
 abbrev pub told : List Bool → List Found → List Found
 told allowed found = filter (λ f. not (is_allowed allowed f.finding)) found
 
 -- their lines
-abbrev pub found_lines : System → List Bool → List Found → List ℕ
-found_lines system allowed found = flat_map (found_text system) (told allowed found)
+abbrev pub found_lines : Format → System → List Bool → List Found → List ℕ
+found_lines how system allowed found = flat_map (found_line how system) (told allowed found)
+
+-- and those of rounds that ended
+abbrev pub job_lines : Format → System → List Job → List ℕ
+job_lines how system jobs = flat_map (job_line how system) jobs
 
 -- the kind of a finding
 abbrev pub is_miss : Finding → Bool

@@ -94,7 +94,7 @@ impl Counts {
 }
 
 /// Whether it is a lost signal of a notification at which this is allowed.
-fn is_allowed(allowed: &[bool], finding: &Finding) -> bool
+pub(crate) fn is_allowed(allowed: &[bool], finding: &Finding) -> bool
     ensures { result ≡ is_allowed allowed.now finding.now }
 {
     match *finding {

@@ -1,19 +1,20 @@
-//! The sink that finds what the rows of a schedule tell, and writes its lines.
+//! The sink that finds what the rows of a schedule tell, and writes the lines of what is shown of them.
 ghost use Rattle.std.specs.Prelude.{◌≡◌, ◌∷◌, List, true, false, is_ok, OnOk, OnErr};
 ghost use Rattle.mcs_ticks.specs.declared.row.Row.{Row as TheRow};
 ghost use Rattle.mcs_verdict.specs.Findings.{UpTo};
 ghost use Rattle.mcs_verdict.specs.Watch.{watch_of};
 ghost use Rattle.mcs_cli.specs.Flow.{TakesLine};
-ghost use Rattle.mcs_check.specs.Lines.{found_text};
-ghost use Rattle.mcs_check.specs.stored.Rows.{counted_at, failed_after, told_at};
+ghost use Rattle.mcs_check.specs.stored.Rows.{counted_at, failed_after, shown_text, told_at};
 
 use crate::Progress;
-use crate::line::put_found;
+use crate::format::put_shown;
 use crate::seen::Seen;
+use crate::shown::Shown;
+use mcs_check_words::{Format, Options, Show};
 use mcs_cli::{Target, write_bytes};
 use mcs_system::System;
 use mcs_ticks::{Refused, Row, Sink};
-use mcs_verdict::Found;
+use std::alloc::Global;
 
 /// Lines are written in pieces of at most this many bytes and one line more.
 const FULL: usize = 65_536;
@@ -46,19 +47,21 @@ impl<'t, T: Target> Lines<'t, T> {
     /// One line more, behind a text that waits.
     fn put<P: Progress>(
         &mut self,
+        alloc: Global,
         text: &mut Vec<u8>,
+        format: Format,
         system: &System,
-        found: &Found,
+        shown: &Shown,
         progress: &mut P,
     ) -> Result<(), Refused>
         ensures target { self.new.target.ghost_name ≡ self.old.target.ghost_name }
         ensures line { TakesLine (T.contents self.old.target.now) (T.contents self.new.target.now) text.old.items text.new.items
-            (found_text system.now found.now) (is_ok result) }
+            (shown_text format system.now shown.now) (is_ok result) }
         ensures working { OnOk result (T.has_failed self.new.target.now ≡ T.has_failed self.old.target.now) }
         ensures refused { OnErr result
             (T.has_failed self.new.target.now ≡ failed_after self.new.is_out_of_memory (T.has_failed self.old.target.now)) }
     {
-        if put_found(text, system, found).is_err() {
+        if put_shown(alloc, text, format, system, shown).is_err() {
             self.is_out_of_memory = true;
             return Err(Refused);
         }
@@ -76,10 +79,13 @@ impl<'t, T: Target> Lines<'t, T> {
     }
 }
 
-/// Looks at each row as it comes, and tells what is found.
+/// Looks at each row as it comes, and tells what is shown of it.
 #[derive(Drop)]
 pub(crate) struct Finder<'t, 's, 'k, 'p, T: Target, P: Progress> {
     pub(crate) lines: Lines<'t, T>,
+    alloc: Global,
+    show: Show,
+    format: Format,
     system: &'s System,
     /// Of each notification whether lost signals are allowed.
     allowed: &'s [bool],
@@ -92,12 +98,16 @@ pub(crate) struct Finder<'t, 's, 'k, 'p, T: Target, P: Progress> {
 impl<'t, 's, 'k, 'p, T: Target, P: Progress> Finder<'t, 's, 'k, 'p, T, P> {
     pub(crate) fn new(
         lines: Lines<'t, T>,
+        alloc: Global,
+        options: &Options,
         system: &'s System,
         allowed: &'s [bool],
         seen: &'k mut Seen,
         progress: &'p mut P,
     ) -> Self
         ensures lines { result.lines ≡ lines.entry }
+        ensures show { result.show ≡ options.now.show }
+        ensures format { result.format ≡ options.now.format }
         ensures system { result.system ≡ system.entry }
         ensures allowed { result.allowed ≡ allowed.entry }
         ensures seen { result.seen.ghost_name ≡ seen.entry.ghost_name }
@@ -105,6 +115,9 @@ impl<'t, 's, 'k, 'p, T: Target, P: Progress> Finder<'t, 's, 'k, 'p, T, P> {
     {
         Finder {
             lines,
+            alloc,
+            show: options.show,
+            format: options.format,
             system,
             allowed,
             seen,
@@ -117,6 +130,8 @@ impl<'t, 's, 'k, 'p, T: Target, P: Progress> Finder<'t, 's, 'k, 'p, T, P> {
     #[inline(always)]
     fn pass(&mut self, row: &Row)
         ensures lines { self.new.lines ≡ self.old.lines }
+        ensures show { self.new.show ≡ self.old.show }
+        ensures format { self.new.format ≡ self.old.format }
         ensures system { self.new.system ≡ self.old.system }
         ensures allowed { self.new.allowed ≡ self.old.allowed }
         ensures seen { self.new.seen.ghost_name ≡ self.old.seen.ghost_name }
@@ -134,6 +149,8 @@ impl<T: Target, P: Progress> Sink for Finder<'_, '_, '_, '_, T, P> {
     ghost takes = { λ before row taken after.
         (after.lines.target.ghost_name ≡ before.lines.target.ghost_name)
         × (after.seen.ghost_name ≡ before.seen.ghost_name)
+        × (after.show ≡ before.show)
+        × (after.format ≡ before.format)
         × (after.system ≡ before.system)
         × (after.allowed ≡ before.allowed)
         × (taken ≡ true → T.has_failed after.lines.target.now ≡ T.has_failed before.lines.target.now)
@@ -143,20 +160,21 @@ impl<T: Target, P: Progress> Sink for Finder<'_, '_, '_, '_, T, P> {
         (after.seen.now.watch ≡ watch_of before.system.now (row ∷ past))
         × (after.seen.now.counts ≡ counted_at before.system.now before.allowed.now past row before.seen.now.counts)
         × TakesLine (T.contents before.lines.target.now) (T.contents after.lines.target.now) before.seen.now.text.items
-        after.seen.now.text.items (told_at before.system.now before.allowed.now past row) taken) };
+        after.seen.now.text.items (told_at before.system.now before.allowed.now before.format before.show past row) taken) };
 
     #[inline(always)]
     fn row(&mut self, row: &Row) -> Result<(), Refused> {
         self.pass(row);
-        let Some(finding) = self.seen.see(self.allowed, row) else {
+        let Some(shown) = self.seen.see(self.show, self.allowed, row) else {
             return Ok(());
         };
-        let found = Found {
-            moment: row.moment,
-            core: row.core,
-            finding,
-        };
-        self.lines
-            .put(&mut self.seen.text, self.system, &found, self.progress)
+        self.lines.put(
+            self.alloc,
+            &mut self.seen.text,
+            self.format,
+            self.system,
+            &shown,
+            self.progress,
+        )
     }
 }

@@ -4,15 +4,18 @@
 mod allowed;
 mod counts;
 mod fault;
+mod fields;
 mod finder;
+mod format;
 mod line;
 mod progress;
 mod rest;
 mod run;
 mod seen;
+mod shown;
 
 pub use counts::Counts;
 pub use fault::CheckFault;
-pub use line::{put_counts, put_found, put_hint};
+pub use line::{put_counts, put_found, put_hint, put_job};
 pub use progress::{Progress, Quiet};
 pub use run::{check, check_with};

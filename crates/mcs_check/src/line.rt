@@ -1,16 +1,17 @@
 //! The lines of what is found, and of counts.
 ghost use Rattle.std.specs.Prelude.{◌≡◌, ◌++◌, ◌∷◌, [], OnOk, OnErr, decimal};
 ghost use Rattle.std.specs.Io.{StartsWith};
+ghost use Rattle.mcs_system.specs.System.{core_of, thread_part};
 ghost use Rattle.mcs_text.specs.Text.{after};
-ghost use Rattle.mcs_check.specs.Lines.{counts_text, found_text, found_words, hint_text, hint_words, late_words};
+ghost use Rattle.mcs_check.specs.Lines.{counts_text, found_text, found_words, hint_text, hint_words, job_text, job_times, job_words, late_words};
 
 use crate::Counts;
 use itoa::Buffer;
 use mcs_hints::Hint;
 use mcs_system::System;
 use mcs_text::{append_counts, append_number, append_word, context_name, note_name, thread_name};
-use mcs_ticks::{NoMemory, Tick};
-use mcs_verdict::{Finding, Found, Stood};
+use mcs_ticks::{ContextId, CoreId, NoMemory, ThreadId, Tick};
+use mcs_verdict::{Finding, Found, Job, Stood};
 
 /// Appends the line of a finding: `<moment> <core>` and what was found, with the names that the system has. After a refusal the text is
 /// as it was.
@@ -118,6 +119,81 @@ fn append_late(
         ("throttled", stood.throttled),
         ("blocked", stood.blocked),
         ("woken", stood.woken),
+    ];
+    append_counts(text, &numbers)
+}
+
+/// Appends the line of a job: `<moment> <core>` and what the round was, with the name that the system has. After a refusal the text is as
+/// it was.
+pub fn put_job(text: &mut Vec<u8>, system: &System, job: &Job) -> Result<(), NoMemory>
+    ensures ok { OnOk result (text.new.items ≡ text.old.items ++ job_text system.now job.now) }
+    ensures err { OnErr result (text.new.items ≡ text.old.items) }
+{
+    let start = text.len();
+    let result = append_job(text, system, job);
+    if result.is_err() {
+        text.truncate(start);
+    }
+    result
+}
+
+fn append_job(text: &mut Vec<u8>, system: &System, job: &Job) -> Result<(), NoMemory>
+    ensures ok { OnOk result (text.new.items ≡ text.old.items ++ job_text system.now job.now) }
+    ensures kept { StartsWith text.new.items text.old.items }
+{
+    append_digits(text, job.ended.get())?;
+    append_number(text, core_of(system, job.thread).0 as u64)?;
+    append_round(text, system, job)?;
+    text.push(b'\n')?;
+    Ok(())
+}
+
+/// The core of a thread, or where the system has no such thread that of its first context.
+pub(crate) fn core_of(system: &System, thread: ThreadId) -> CoreId
+    ensures { result ≡ core_of system.now (thread_part system.now thread) }
+{
+    let parts = system.parts();
+    let context = match parts.threads.as_slice().get(thread.0) {
+        Some(part) => part.context,
+        None => ContextId(0),
+    };
+    parts.core_of_context(context)
+}
+
+/// Appends what a round was.
+fn append_round(text: &mut Vec<u8>, system: &System, job: &Job) -> Result<(), NoMemory>
+    ensures ok { OnOk result (text.new.items ≡ text.old.items ++ after (job_words system.now job.now)) }
+    ensures kept { StartsWith text.new.items text.old.items }
+{
+    append_named(text, "job", thread_name(system, job.thread))?;
+    append_number(text, job.number)?;
+    append_times(text, job)
+}
+
+/// Appends when a round was activated and when it began, its response and its parts.
+fn append_times(text: &mut Vec<u8>, job: &Job) -> Result<(), NoMemory>
+    ensures ok { OnOk result (text.new.items ≡ text.old.items ++ after (job_times job.now)) }
+    ensures kept { StartsWith text.new.items text.old.items }
+{
+    let Stood {
+        ready,
+        running,
+        throttled,
+        blocked,
+        woken,
+        ..
+    } = job.stood;
+    let numbers = [
+        ("activated", job.activated.get()),
+        ("begun", job.begun.get()),
+        ("response", job.response),
+        ("queued", job.queued),
+        ("preemptions", job.preemptions),
+        ("ready", ready),
+        ("running", running),
+        ("throttled", throttled),
+        ("blocked", blocked),
+        ("woken", woken),
     ];
     append_counts(text, &numbers)
 }

@@ -5,83 +5,115 @@ ghost use Rattle.mcs_verdict.specs.Findings.{UpTo, found_at_end};
 ghost use Rattle.mcs_verdict.specs.Watch.{watch_of};
 ghost use Rattle.mcs_hints.specs.Hints.{hints_of};
 ghost use Rattle.mcs_check.specs.Counts.{with_hints};
-ghost use Rattle.mcs_check.specs.Lines.{counts_text, hint_text};
+ghost use Rattle.mcs_check.specs.Formats.{counts_line, hint_line};
 ghost use Rattle.mcs_check.specs.Told.{found_lines};
-ghost use Rattle.mcs_check.specs.stored.Rows.{counts_found};
+ghost use Rattle.mcs_check.specs.stored.Rows.{counts_found, rest_lines};
 
 use crate::Counts;
-use crate::line::{put_counts, put_found, put_hint};
+use crate::counts::is_allowed;
+use crate::format::{put_counts_as, put_found_as, put_hint_as};
 use crate::seen::Seen;
+use mcs_check_words::{Format, Options, Show};
 use mcs_hints::{Hint, hints};
 use mcs_system::System;
-use mcs_ticks::{NoMemory, Tick};
+use mcs_ticks::NoMemory;
 use mcs_verdict::{Found, find_unended};
 use std::alloc::Global;
 
-/// Puts what is found at the horizon behind the text, then the hints and the counts.
+/// Puts what is shown after the last row behind the text, and then the counts: where findings are, those at the horizon and hints.
 pub(crate) fn put_rest(
     alloc: Global,
+    options: &Options,
     seen: &mut Seen,
     system: &System,
     allowed: &[bool],
-    horizon: Tick,
 ) -> Result<(), NoMemory>
-    ensures text { (past : List TheRow) → seen.old.watch ≡ watch_of system.now past → UpTo horizon past →
+    ensures text { (past : List TheRow) → seen.old.watch ≡ watch_of system.now past → UpTo options.now.horizon past →
         OnOk result (seen.new.text.items ≡ seen.old.text.items
-        ++ found_lines system.now allowed.now (found_at_end system.now past horizon 0 system.now.threads)
-        ++ flat_map (hint_text system.now) (hints_of system.now) ++ counts_text seen.new.counts) }
-    ensures counts { (past : List TheRow) → seen.old.watch ≡ watch_of system.now past → UpTo horizon past →
+        ++ rest_lines options.now.format options.now.show system.now allowed.now (found_at_end system.now past options.now.horizon 0 system.now.threads)
+        ++ counts_line options.now.format seen.new.counts) }
+    ensures counts { (past : List TheRow) → seen.old.watch ≡ watch_of system.now past → UpTo options.now.horizon past →
         OnOk result (seen.new.counts ≡ with_hints (length (hints_of system.now))
-        (counts_found allowed.now (found_at_end system.now past horizon 0 system.now.threads) seen.old.counts)) }
+        (counts_found allowed.now (found_at_end system.now past options.now.horizon 0 system.now.threads) seen.old.counts)) }
 {
-    let unended = find_unended(alloc, system, &seen.watch, horizon)?;
+    let unended = find_unended(alloc, system, &seen.watch, options.horizon)?;
     let hints = hints(alloc, system)?;
-    put_all(
+    put_ends(
+        alloc,
+        options,
         &mut seen.text,
-        &mut seen.counts,
         system,
         allowed,
         unended.as_slice(),
+        hints.as_slice(),
     )?;
-    put_hints(&mut seen.text, system, hints.as_slice())?;
+    count_all(&mut seen.counts, allowed, unended.as_slice());
     seen.counts.hint(hints.len());
-    put_counts(&mut seen.text, &seen.counts)
+    put_counts_as(alloc, &mut seen.text, options.format, &seen.counts)
 }
 
-/// Counts what was found, and puts its lines behind the text.
-fn put_all(
+/// Puts what is shown of what was found at the horizon and of hints behind the text.
+fn put_ends(
+    alloc: Global,
+    options: &Options,
     text: &mut Vec<u8>,
-    counts: &mut Counts,
+    system: &System,
+    allowed: &[bool],
+    all: &[Found],
+    hints: &[Hint],
+) -> Result<(), NoMemory>
+    requires { hints.now ≡ hints_of system.now }
+    ensures { OnOk result (text.new.items ≡ text.old.items ++ rest_lines options.now.format options.now.show system.now allowed.now all.now) }
+{
+    match options.show {
+        Show::Findings => {
+            put_all(alloc, text, options.format, system, allowed, all)?;
+            put_hints(alloc, text, options.format, system, hints)
+        }
+        Show::Jobs => Ok(()),
+    }
+}
+
+/// Puts the lines of what was found behind the text.
+fn put_all(
+    alloc: Global,
+    text: &mut Vec<u8>,
+    format: Format,
     system: &System,
     allowed: &[bool],
     all: &[Found],
 ) -> Result<(), NoMemory>
-    ensures text { OnOk result (text.new.items ≡ text.old.items ++ found_lines system.now allowed.now all.now) }
-    ensures counts { OnOk result (counts.new ≡ counts_found allowed.now all.now counts.old) }
+    ensures { OnOk result (text.new.items ≡ text.old.items ++ found_lines format system.now allowed.now all.now) }
 {
     for found in all {
-        if let Some(finding) = counts.take(allowed, Some(found.finding)) {
-            let Found { moment, core, .. } = *found;
-            put_found(
-                text,
-                system,
-                &Found {
-                    moment,
-                    core,
-                    finding,
-                },
-            )?;
+        if !is_allowed(allowed, &found.finding) {
+            put_found_as(alloc, text, format, system, found)?;
         }
     }
     Ok(())
 }
 
+/// Counts what was found.
+fn count_all(counts: &mut Counts, allowed: &[bool], all: &[Found])
+    ensures { counts.new ≡ counts_found allowed.now all.now counts.old }
+{
+    for found in all {
+        counts.take(allowed, Some(found.finding));
+    }
+}
+
 /// Puts the lines of hints behind the text.
-fn put_hints(text: &mut Vec<u8>, system: &System, hints: &[Hint]) -> Result<(), NoMemory>
-    ensures { OnOk result (text.new.items ≡ text.old.items ++ flat_map (hint_text system.now) hints.now) }
+fn put_hints(
+    alloc: Global,
+    text: &mut Vec<u8>,
+    format: Format,
+    system: &System,
+    hints: &[Hint],
+) -> Result<(), NoMemory>
+    ensures { OnOk result (text.new.items ≡ text.old.items ++ flat_map (hint_line format system.now) hints.now) }
 {
     for hint in hints {
-        put_hint(text, system, hint)?;
+        put_hint_as(alloc, text, format, system, hint)?;
     }
     Ok(())
 }

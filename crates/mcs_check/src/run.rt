@@ -8,11 +8,13 @@ ghost use Rattle.mcs_cli.specs.Flow.{AppendsBefore, IsWriteFault};
 ghost use Rattle.mcs_cli.specs.declared.fault.RunFault.TheVariants as fault;
 ghost use Rattle.mcs_check.specs.Check.{IsCheck, check_text, counts_of, names_of};
 ghost use Rattle.mcs_check.specs.Counts.{no_counts};
+ghost use Rattle.mcs_check.specs.Formats.{head_text};
 ghost use Rattle.mcs_check.specs.declared.fault.CheckFault.TheVariants.{Run};
-ghost use Rattle.mcs_check.specs.stored.Rows.{counts_in, lines_in, refusal};
+ghost use Rattle.mcs_check.specs.stored.Rows.{counts_in, refusal, rows_text};
 
 use crate::allowed::{flags_of, refuse_unknown};
 use crate::finder::{Finder, Lines};
+use crate::format::put_head;
 use crate::rest::put_rest;
 use crate::seen::Seen;
 use crate::{CheckFault, Counts, Progress};
@@ -20,6 +22,7 @@ use mcs_check_words::Options;
 use mcs_cli::{FromRead, Open, RunFault, Source, Target, read_system, write_text};
 use mcs_system::System;
 use mcs_team::{FlowFault, SimFault, schedule_to};
+use mcs_ticks::NoMemory;
 use mcs_verdict::Watch;
 use mcs_verdict_laws::schedules_are_in_order;
 use std::alloc::Global;
@@ -29,7 +32,7 @@ use std::sync::{Arc, Wait};
 use std::thread::Threads;
 
 /// Checks the file that the options name, or the input where they name none. A file that is not opened has failed. No contract knows the
-/// bytes of a file: what is written is what is found for some text.
+/// bytes of a file: what is written is what is shown of some text.
 pub fn check_with<H: Files + Threads + Wait + Sync, S: Source, T: Target, P: Progress>(
     rt: &H,
     alloc: Global,
@@ -66,8 +69,9 @@ pub fn check_with<H: Files + Threads + Wait + Sync, S: Source, T: Target, P: Pro
     }
 }
 
-/// Reads a file to its end, simulates the system that it describes by as many workers as the options say, and writes what is found in its
-/// schedule: lines of rows as the rows come, then what is found at the horizon, hints, and how much was found, which it answers. For every
+/// Reads a file to its end, simulates the system that it describes by as many workers as the options say, and writes what they ask to be shown
+/// of its schedule, lines of rows as the rows come, and how much was found, which it answers. Where findings are shown, what is found at
+/// the horizon and hints come behind those of rows; where rounds that ended are, nothing does. For every
 /// number of workers the same bytes are written. Neither device may have failed before, and one is blamed only where it has failed since.
 /// After `Read`, `Load` and `Unknown` nothing was written, and after `Sim` and `Write` a first part of that.
 pub fn check<H: Threads + Wait + Sync, S: Source, T: Target, P: Progress>(
@@ -87,12 +91,12 @@ pub fn check<H: Threads + Wait + Sync, S: Source, T: Target, P: Progress>(
 {
     let system = read_system(alloc, source)?;
     refuse_unknown(alloc, system.parts(), options.allowed.as_slice())?;
-    let counts = write_findings(rt, alloc, target, system, options, progress)?;
+    let counts = write_check(rt, alloc, target, system, options, progress)?;
     Ok(counts)
 }
 
-/// Simulates a system, and writes what is found.
-fn write_findings<H: Threads + Wait + Sync, T: Target, P: Progress>(
+/// Simulates a system, and writes what is shown of it and how much is found.
+fn write_check<H: Threads + Wait + Sync, T: Target, P: Progress>(
     rt: &H,
     alloc: Global,
     target: &mut T,
@@ -102,12 +106,12 @@ fn write_findings<H: Threads + Wait + Sync, T: Target, P: Progress>(
 ) -> Result<Counts, RunFault>
     requires { T.has_failed target.old ≡ false }
     ensures ok { OnOk result
-        (Appends (T.contents target.old) (T.contents target.new) (check_text (names_of options.now) system options.now.horizon)) }
+        (Appends (T.contents target.old) (T.contents target.new) (check_text (names_of options.now) system options.now.horizon options.now.format options.now.show)) }
     ensures counted { IfOk result (λ counts. counts ≡ counts_of (names_of options.now) system options.now.horizon) }
     ensures working { OnOk result (T.has_failed target.new ≡ false) }
     ensures fault { IfErr result
         (IsWriteFault (T.contents target.old) (T.contents target.new) (T.has_failed target.new)
-        (check_text (names_of options.now) system options.now.horizon)) }
+        (check_text (names_of options.now) system options.now.horizon options.now.format options.now.show)) }
 {
     let Ok(system) = Arc::new(alloc, system) else {
         return Err(RunFault::Sim(SimFault::NoMemory));
@@ -119,14 +123,14 @@ fn write_findings<H: Threads + Wait + Sync, T: Target, P: Progress>(
     let found = find_rows(rt, alloc, target, &system, allowed, options, progress);
     progress.wipe();
     let mut seen = found?;
-    if put_rest(alloc, &mut seen, &system, allowed, options.horizon).is_err() {
+    if put_rest(alloc, options, &mut seen, &system, allowed).is_err() {
         return Err(RunFault::Sim(SimFault::NoMemory));
     }
     write_text(target, seen.text.as_slice())?;
     Ok(seen.counts)
 }
 
-/// Finds what the rows of a system's schedule tell, and writes its lines as the rows come, but for the last ones.
+/// Finds what the rows of a system's schedule tell, and writes the lines of what is shown of them as they come, but for the last ones.
 fn find_rows<'s, H: Threads + Wait + Sync, T: Target, P: Progress>(
     rt: &H,
     alloc: Global,
@@ -138,7 +142,7 @@ fn find_rows<'s, H: Threads + Wait + Sync, T: Target, P: Progress>(
 ) -> Result<Seen, RunFault>
     requires { T.has_failed target.old ≡ false }
     ensures ok { IfOk result (λ seen. AppendsBefore (T.contents target.old) (T.contents target.new)
-        (lines_in (arc_value system.now) allowed.now [] (schedule (arc_value system.now) options.now.horizon)) seen.text.items) }
+        (rows_text (arc_value system.now) allowed.now options.now.format options.now.show (schedule (arc_value system.now) options.now.horizon)) seen.text.items) }
     ensures watch { IfOk result (λ seen. seen.watch
         ≡ watch_of (arc_value system.now) (past_of [] (schedule (arc_value system.now) options.now.horizon))) }
     ensures counts { IfOk result (λ seen. seen.counts
@@ -147,7 +151,7 @@ fn find_rows<'s, H: Threads + Wait + Sync, T: Target, P: Progress>(
     ensures working { OnOk result (T.has_failed target.new ≡ false) }
     ensures fault { IfErr result
         (IsWriteFault (T.contents target.old) (T.contents target.new) (T.has_failed target.new)
-        (lines_in (arc_value system.now) allowed.now [] (schedule (arc_value system.now) options.now.horizon))) }
+        (rows_text (arc_value system.now) allowed.now options.now.format options.now.show (schedule (arc_value system.now) options.now.horizon))) }
 {
     schedules_are_in_order();
     let _parts = system.parts();
@@ -157,12 +161,16 @@ fn find_rows<'s, H: Threads + Wait + Sync, T: Target, P: Progress>(
     let Ok(watch) = Watch::new(alloc, system) else {
         return Err(RunFault::Sim(SimFault::NoMemory));
     };
+    let Ok(text) = head(alloc, options) else {
+        return Err(RunFault::Sim(SimFault::NoMemory));
+    };
     let mut seen = Seen {
         watch,
         counts: Counts::new(),
-        text: Vec::new(alloc),
+        text,
     };
-    let mut finder = Finder::new(Lines::new(target), system, allowed, &mut seen, progress);
+    let lines = Lines::new(target);
+    let mut finder = Finder::new(lines, alloc, options, system, allowed, &mut seen, progress);
     let (horizon, workers) = (options.horizon, options.workers);
     let result = schedule_to(rt, alloc, shared, horizon, workers, &Open, &mut finder);
     match result {
@@ -170,6 +178,15 @@ fn find_rows<'s, H: Threads + Wait + Sync, T: Target, P: Progress>(
         Err(FlowFault::NoMemory) => Err(RunFault::Sim(SimFault::NoMemory)),
         Err(FlowFault::Sink) => Err(refusal(finder.lines.is_out_of_memory)),
     }
+}
+
+/// The first line, where the format has one.
+fn head(alloc: Global, options: &Options) -> Result<Vec<u8>, NoMemory>
+    ensures { IfOk result (λ text. text.items ≡ head_text options.now.format options.now.show) }
+{
+    let mut text = Vec::new(alloc);
+    put_head(&mut text, options.format, options.show)?;
+    Ok(text)
 }
 
 /// Why a line was refused.

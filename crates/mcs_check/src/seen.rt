@@ -4,11 +4,13 @@ ghost use Rattle.mcs_system.specs.System.{System as TheSystem};
 ghost use Rattle.mcs_verdict.specs.Findings.{finding, UpTo};
 ghost use Rattle.mcs_verdict.specs.Watch.{watch_of};
 ghost use Rattle.mcs_check.specs.Counts.{told_of};
-ghost use Rattle.mcs_check.specs.stored.Rows.{counted_at};
+ghost use Rattle.mcs_check.specs.stored.Rows.{counted_at, shown_at, shown_found, shown_job};
 
 use crate::Counts;
+use crate::shown::Shown;
+use mcs_check_words::Show;
 use mcs_ticks::Row;
-use mcs_verdict::{Finding, Watch};
+use mcs_verdict::{Finding, Found, Job, Watch};
 
 /// What is kept of the rows that went by: what threads and notifications came to, how much was found, and its lines.
 #[derive(Drop)]
@@ -20,9 +22,30 @@ pub(crate) struct Seen {
 }
 
 impl Seen {
-    /// One row more, in constant time and without memory: what is told of it, where lost signals are allowed at these notifications.
+    /// One row more, in constant time and without memory: what is shown of it, where lost signals are allowed at these notifications.
     #[inline(always)]
-    pub(crate) fn see(&mut self, allowed: &[bool], row: &Row) -> Option<Finding>
+    pub(crate) fn see(&mut self, show: Show, allowed: &[bool], row: &Row) -> Option<Shown>
+        ensures text { self.new.text ≡ self.old.text }
+        ensures kept { (system : TheSystem) (past : List TheRow) → self.old.watch ≡ watch_of system past → UpTo row.now.moment past →
+            self.new.watch ≡ watch_of system (row.now ∷ past) }
+        ensures counted { (system : TheSystem) (past : List TheRow) → self.old.watch ≡ watch_of system past → UpTo row.now.moment past →
+            self.new.counts ≡ counted_at system allowed.now past row.now self.old.counts }
+        ensures told { (system : TheSystem) (past : List TheRow) → self.old.watch ≡ watch_of system past → UpTo row.now.moment past →
+            result ≡ shown_at system allowed.now show past row.now }
+    {
+        match show {
+            Show::Findings => shown_found(row, self.find(allowed, row)),
+            Show::Jobs => {
+                let job = self.watch.job(row);
+                self.find(allowed, row);
+                shown_job(job)
+            }
+        }
+    }
+
+    /// What is told of one row more.
+    #[inline(always)]
+    fn find(&mut self, allowed: &[bool], row: &Row) -> Option<Finding>
         ensures text { self.new.text ≡ self.old.text }
         ensures kept { (system : TheSystem) (past : List TheRow) → self.old.watch ≡ watch_of system past → UpTo row.now.moment past →
             self.new.watch ≡ watch_of system (row.now ∷ past) }
@@ -37,4 +60,24 @@ impl Seen {
         let found = self.watch.see(row);
         self.counts.take(allowed, found)
     }
+}
+
+/// What is told of a row, as it is shown.
+#[inline(always)]
+fn shown_found(row: &Row, finding: Option<Finding>) -> Option<Shown>
+    ensures { result ≡ shown_found row.now.moment row.now.core finding }
+{
+    finding.map(|finding| {
+        Shown::Found(Found {
+            moment: row.moment,
+            core: row.core,
+            finding,
+        })
+    })
+}
+
+fn shown_job(job: Option<Job>) -> Option<Shown>
+    ensures { result ≡ shown_job job }
+{
+    job.map(Shown::Job)
 }

@@ -1,74 +1,104 @@
 -- What the command line makes of some words.
-use Rattle.std.proofs.Common.{◌≡◌, refl, true, false, List, codes, [], ◌∷◌, Some, None}
-use Rattle.clap.specs.Words.{Text, fault_of, first_of, matches_of, takes}
+use Rattle.std.proofs.Common.{◌≡◌, refl, true, false, List, codes, [], ◌∷◌, map, Some, None}
+use Rattle.std.specs.Borrow.{Bor}
+use Rattle.clap.specs.Words.{App, Text, fault_of, first_of, matches_of, takes}
 use Rattle.clap.specs.declared.error.kind.ErrorKind.TheVariants as kind
 use Rattle.clap.proofs.OnLiterals.{clap_on_literals}
-use Rattle.mcs_cli.specs.CommandLine.{number_of}
-use Rattle.mcs_check_words.specs.CommandLine.{command_line, is_set, texts_of}
+use Rattle.mcs_cli.specs.CommandLine.{number_of, text_of}
+use Rattle.mcs_check_words.specs.declared.asked.Show.TheVariants as show
+use Rattle.mcs_check_words.specs.declared.asked.Format.TheVariants as format
+use Rattle.mcs_check_words.specs.CommandLine.{command_line, format_named, format_words, is_set, show_named, show_words, texts_of}
 
-no_words : (takes command_line [] ≡ true)
-    × (first_of (codes "FILE") (matches_of command_line []) ≡ None)
-    × (number_of (codes "horizon") (matches_of command_line []) ≡ 1000)
-    × (number_of (codes "workers") (matches_of command_line []) ≡ 1)
-    × (texts_of (codes "allow-lost") (matches_of command_line []) ≡ [])
-    × (is_set (codes "strict") (matches_of command_line []) ≡ false)
+abbrev at : {X : Type 0} → X → Bor X
+at x = record { ref_ptr = (0, 0); now = x }
+
+abbrev line : App
+line = command_line (at (map at show_words)) (at (map at format_words))
+
+no_words : (takes line [] ≡ true)
+    × (first_of (codes "FILE") (matches_of line []) ≡ None)
+    × (number_of (codes "horizon") (matches_of line []) ≡ 1000)
+    × (number_of (codes "workers") (matches_of line []) ≡ 1)
+    × (texts_of (codes "allow-lost") (matches_of line []) ≡ [])
+    × (is_set (codes "strict") (matches_of line []) ≡ false)
+    × (show_named (text_of (codes "show") (matches_of line [])) ≡ show.Findings)
+    × (format_named (text_of (codes "format") (matches_of line [])) ≡ format.Text)
 unfolding clap_on_literals
-no_words = (refl, refl, refl, refl, refl, refl)
+no_words = (refl, refl, refl, refl, refl, refl, refl, refl)
 
--- `--allow-lost irq in.toml --horizon=10 --strict --allow-lost=timer --workers 2`
+-- `--allow-lost irq in.toml --horizon=10 --strict --allow-lost=timer --workers 2 --show jobs --format csv`
 abbrev all_words : List Text
-all_words = codes "--allow-lost" ∷ codes "irq" ∷ codes "in.toml" ∷ codes "--horizon=10" ∷ codes "--strict" ∷ codes "--allow-lost=timer" ∷ codes "--workers" ∷ codes "2" ∷ []
+all_words = codes "--allow-lost" ∷ codes "irq" ∷ codes "in.toml" ∷ codes "--horizon=10" ∷ codes "--strict" ∷ codes "--allow-lost=timer" ∷ codes "--workers" ∷ codes "2"
+    ∷ codes "--show" ∷ codes "jobs" ∷ codes "--format" ∷ codes "csv" ∷ []
 
-many : (takes command_line all_words ≡ true)
-    × (first_of (codes "FILE") (matches_of command_line all_words) ≡ Some (codes "in.toml"))
-    × (number_of (codes "horizon") (matches_of command_line all_words) ≡ 10)
-    × (number_of (codes "workers") (matches_of command_line all_words) ≡ 2)
-    × (texts_of (codes "allow-lost") (matches_of command_line all_words) ≡ codes "irq" ∷ codes "timer" ∷ [])
-    × (is_set (codes "strict") (matches_of command_line all_words) ≡ true)
+many : (takes line all_words ≡ true)
+    × (first_of (codes "FILE") (matches_of line all_words) ≡ Some (codes "in.toml"))
+    × (number_of (codes "horizon") (matches_of line all_words) ≡ 10)
+    × (number_of (codes "workers") (matches_of line all_words) ≡ 2)
+    × (texts_of (codes "allow-lost") (matches_of line all_words) ≡ codes "irq" ∷ codes "timer" ∷ [])
+    × (is_set (codes "strict") (matches_of line all_words) ≡ true)
+    × (show_named (text_of (codes "show") (matches_of line all_words)) ≡ show.Jobs)
+    × (format_named (text_of (codes "format") (matches_of line all_words)) ≡ format.Csv)
 unfolding clap_on_literals
-many = (refl, refl, refl, refl, refl, refl)
+many = (refl, refl, refl, refl, refl, refl, refl, refl)
 
 abbrev two_allowed : List Text
 two_allowed = codes "--allow-lost" ∷ codes "b" ∷ codes "--allow-lost" ∷ codes "a" ∷ []
 
-allowed_twice : (takes command_line two_allowed ≡ true)
-    × (texts_of (codes "allow-lost") (matches_of command_line two_allowed) ≡ codes "b" ∷ codes "a" ∷ [])
-    × (is_set (codes "strict") (matches_of command_line two_allowed) ≡ false)
+allowed_twice : (takes line two_allowed ≡ true)
+    × (texts_of (codes "allow-lost") (matches_of line two_allowed) ≡ codes "b" ∷ codes "a" ∷ [])
+    × (is_set (codes "strict") (matches_of line two_allowed) ≡ false)
 unfolding clap_on_literals
 allowed_twice = (refl, refl, refl)
 
-help : fault_of command_line (codes "--help" ∷ []) ≡ kind.DisplayHelp ∷ []
+help : fault_of line (codes "--help" ∷ []) ≡ kind.DisplayHelp ∷ []
 unfolding clap_on_literals
 help = refl
 
-short_help : fault_of command_line (codes "-h" ∷ []) ≡ kind.DisplayHelp ∷ []
+short_help : fault_of line (codes "-h" ∷ []) ≡ kind.DisplayHelp ∷ []
 unfolding clap_on_literals
 short_help = refl
 
-zero_workers : fault_of command_line (codes "--workers" ∷ codes "0" ∷ []) ≡ kind.ValueValidation ∷ []
+zero_workers : fault_of line (codes "--workers" ∷ codes "0" ∷ []) ≡ kind.ValueValidation ∷ []
 unfolding clap_on_literals
 zero_workers = refl
 
-too_far : fault_of command_line (codes "--horizon" ∷ codes "1099511627777" ∷ []) ≡ kind.ValueValidation ∷ []
+too_far : fault_of line (codes "--horizon" ∷ codes "1099511627777" ∷ []) ≡ kind.ValueValidation ∷ []
 unfolding clap_on_literals
 too_far = refl
 
-strict_twice : fault_of command_line (codes "--strict" ∷ codes "--strict" ∷ []) ≡ kind.ArgumentConflict ∷ []
+strict_twice : fault_of line (codes "--strict" ∷ codes "--strict" ∷ []) ≡ kind.ArgumentConflict ∷ []
 unfolding clap_on_literals
 strict_twice = refl
 
-strict_with_a_value : fault_of command_line (codes "--strict=true" ∷ []) ≡ kind.TooManyValues ∷ []
+strict_with_a_value : fault_of line (codes "--strict=true" ∷ []) ≡ kind.TooManyValues ∷ []
 unfolding clap_on_literals
 strict_with_a_value = refl
 
-two_files : fault_of command_line (codes "a.toml" ∷ codes "b.toml" ∷ []) ≡ kind.UnknownArgument ∷ []
+two_files : fault_of line (codes "a.toml" ∷ codes "b.toml" ∷ []) ≡ kind.UnknownArgument ∷ []
 unfolding clap_on_literals
 two_files = refl
 
-unknown : fault_of command_line (codes "--show" ∷ codes "both" ∷ []) ≡ kind.UnknownArgument ∷ []
+shows_all : fault_of line (codes "--show" ∷ codes "all" ∷ []) ≡ kind.InvalidValue ∷ []
+unfolding clap_on_literals
+shows_all = refl
+
+as_json : format_named (text_of (codes "format") (matches_of line (codes "--format=json" ∷ []))) ≡ format.Json
+unfolding clap_on_literals
+as_json = refl
+
+as_yaml : fault_of line (codes "--format=yaml" ∷ []) ≡ kind.InvalidValue ∷ []
+unfolding clap_on_literals
+as_yaml = refl
+
+shows_twice : fault_of line (codes "--show=jobs" ∷ codes "--show=jobs" ∷ []) ≡ kind.ArgumentConflict ∷ []
+unfolding clap_on_literals
+shows_twice = refl
+
+unknown : fault_of line (codes "--list" ∷ codes "both" ∷ []) ≡ kind.UnknownArgument ∷ []
 unfolding clap_on_literals
 unknown = refl
 
-nothing_allowed : fault_of command_line (codes "--allow-lost" ∷ []) ≡ kind.InvalidValue ∷ []
+nothing_allowed : fault_of line (codes "--allow-lost" ∷ []) ≡ kind.InvalidValue ∷ []
 unfolding clap_on_literals
 nothing_allowed = refl

@@ -1,16 +1,22 @@
 -- The command line of `mcscheck`, as clap reads it.
-use Rattle.std.specs.Prelude.{◌≡◌, ◌^◌, Bool, true, List, [], map, codes, Some, option_map, unwrap_or, Result, IfOk, IfErr, string_bytes}
+use Rattle.std.specs.Prelude.{◌≡◌, ◌^◌, Bool, true, List, [], ◌∷◌, map, codes, Some, option_map, unwrap_or, if◌then◌else◌, Result, IfOk, IfErr, string_bytes}
 use Rattle.std.specs.Str.{bytes_eq}
+use Rattle.std.specs.Borrow.{Bor}
 use Rattle.clap.specs.Words.{App, FailsBy, IsParsedFrom, Row, Rule, Text, all_of, app_of, fault_of, first_of, found_of, kind_of, matches_of, new_app, new_rule, one_of, rows_of, takes, with_rule}
 use Rattle.clap.specs.declared.ArgMatches.{ArgMatches}
 use Rattle.clap.specs.declared.Error.{Error}
 use Rattle.clap.specs.declared.Command.{Command}
-use Rattle.clap.specs.declared.builder.ArgAction.TheVariants.{Append, SetTrue}
+use Rattle.clap.specs.declared.builder.ArgAction.TheVariants.{Append, Set, SetTrue}
+use Rattle.clap.specs.declared.builder.ValueParser.TheVariants as parser
 use Rattle.clap.specs.declared.error.kind.ErrorKind.TheVariants as kind
-use Rattle.mcs_cli.specs.CommandLine.{HasNumber, IsFaultOf, file_rule, horizon_rule, number_of, workers_rule}
+use Rattle.mcs_cli.specs.CommandLine.{HasNumber, IsFaultOf, file_rule, horizon_rule, number_of, text_of, workers_rule}
 use Rattle.mcs_cli.specs.declared.asked.WordsFault.{WordsFault}
 use Rattle.mcs_cli.specs.declared.asked.WordsFault.TheVariants as fault
 use Rattle.mcs_check_words.specs.declared.asked.Options.{Options}
+use Rattle.mcs_check_words.specs.declared.asked.Format.{Format}
+use Rattle.mcs_check_words.specs.declared.asked.Format.TheVariants as format
+use Rattle.mcs_check_words.specs.declared.asked.Show.{Show}
+use Rattle.mcs_check_words.specs.declared.asked.Show.TheVariants as show
 
 -- `--allow-lost NOTE`, which may be given again
 abbrev pub allow_lost_rule : Rule
@@ -23,13 +29,40 @@ allow_lost_rule = record (new_rule (codes "allow-lost")) {
 abbrev pub strict_rule : Rule
 strict_rule = record (new_rule (codes "strict")) { long = Some (codes "strict"); action = Some SetTrue }
 
+-- what `--show` takes
+abbrev pub show_words : List Text
+show_words = codes "findings" ∷ codes "jobs" ∷ []
+
+-- and `--format`
+abbrev pub format_words : List Text
+format_words = codes "text" ∷ codes "csv" ∷ codes "json" ∷ []
+
+-- an option that takes one of these words
+abbrev pub choice_rule : Text → Text → Bor (List (Bor Text)) → Rule
+choice_rule name default words = record (new_rule name) {
+  long = Some name;
+  action = Some Set;
+  value_names = 1;
+  defaults = default ∷ [];
+  parser = Some (parser.Names words);
+}
+
 -- words without the program's name
 abbrev pub bare_line : App
 bare_line = let start = new_app (codes "mcscheck") in record { top = record start.top { no_binary_name = true }; subs = [] }
 
--- `[FILE] [--horizon N] [--workers W] [--allow-lost NOTE].. [--strict]`
-abbrev pub command_line : App
-command_line = with_rule (with_rule (with_rule (with_rule (with_rule bare_line file_rule) horizon_rule) workers_rule) allow_lost_rule) strict_rule
+module _ (shows formats : Bor (List (Bor Text))) where
+  abbrev pub show_rule : Rule
+  show_rule = choice_rule (codes "show") (codes "findings") shows
+
+  abbrev pub format_rule : Rule
+  format_rule = choice_rule (codes "format") (codes "text") formats
+
+  -- `[FILE] [--horizon N] [--workers W] [--allow-lost NOTE].. [--strict] [--show findings|jobs] [--format text|csv|json]`
+  abbrev pub command_line : App
+  command_line =
+      let numbers = with_rule (with_rule (with_rule bare_line file_rule) horizon_rule) workers_rule in
+      with_rule (with_rule (with_rule (with_rule numbers allow_lost_rule) strict_rule) show_rule) format_rule
 
 -- the texts of all values of the id, in the order of the words
 abbrev pub texts_of : Text → List Row → List Text
@@ -39,17 +72,36 @@ texts_of id rows = unwrap_or (all_of id rows) []
 abbrev pub is_set : Text → List Row → Bool
 is_set id rows = bytes_eq (unwrap_or (one_of id rows) []) (codes "true")
 
+-- what a word asks to be shown
+abbrev pub show_named : Text → Show
+show_named word = if bytes_eq word (codes "jobs") then show.Jobs else show.Findings
+
+-- and how it is written
+abbrev pub format_named : Text → Format
+format_named word = if bytes_eq word (codes "csv") then format.Csv
+    else if bytes_eq word (codes "json") then format.Json else format.Text
+
 -- a command with this command line, of which a parse that succeeds has both numbers
 pub record IsCommandLine (c : Command) : Type 0 where
-  pub app : app_of c ≡ command_line
+  -- the words of the two options, wherever they lie
+  pub shows : Bor (List (Bor Text))
+  pub formats : Bor (List (Bor Text))
+  pub are_shows : map (λ name. name.now) shows.now ≡ show_words
+  pub are_formats : map (λ name. name.now) formats.now ≡ format_words
+  pub app : app_of c ≡ command_line shows formats
   pub horizon : (m : ArgMatches) → IsParsedFrom c m → HasNumber (codes "horizon") 0 (2 ^ 40) (rows_of (found_of m))
   pub workers : (m : ArgMatches) → IsParsedFrom c m → HasNumber (codes "workers") 1 64 (rows_of (found_of m))
 
 -- what a parse of the words gives
 pub record IsParse (words : List Text) (r : Result ArgMatches Error) : Type 0 where
-  pub rows : IfOk r (λ m. rows_of (found_of m) ≡ matches_of command_line words)
-  pub taken : takes command_line words ≡ true → IfErr r (λ e. kind_of e ≡ kind.OutOfMemory)
-  pub kinds : FailsBy (fault_of command_line words) r
+  -- the words of the two options, wherever they lie
+  pub shows : Bor (List (Bor Text))
+  pub formats : Bor (List (Bor Text))
+  pub are_shows : map (λ name. name.now) shows.now ≡ show_words
+  pub are_formats : map (λ name. name.now) formats.now ≡ format_words
+  pub rows : IfOk r (λ m. rows_of (found_of m) ≡ matches_of (command_line shows formats) words)
+  pub taken : takes (command_line shows formats) words ≡ true → IfErr r (λ e. kind_of e ≡ kind.OutOfMemory)
+  pub kinds : FailsBy (fault_of (command_line shows formats) words) r
 
 -- the options have the values of these matches
 pub record HasValues (rows : List Row) (o : Options) : Type 0 where
@@ -58,11 +110,18 @@ pub record HasValues (rows : List Row) (o : Options) : Type 0 where
   pub workers : o.workers ≡ number_of (codes "workers") rows
   pub allowed : map string_bytes o.allowed.items ≡ texts_of (codes "allow-lost") rows
   pub strict : o.strict ≡ is_set (codes "strict") rows
+  pub shown : o.show ≡ show_named (text_of (codes "show") rows)
+  pub written : o.format ≡ format_named (text_of (codes "format") rows)
 
 -- What the words are answered: the values that the command line gives them, where they have no fault; where it takes them, nothing but
 -- being out of memory; else help where help is among their faults, or the text of another of them.
 pub record IsAnswer (words : List Text) (r : Result Options WordsFault) : Type 0 where
-  pub values : IfOk r (HasValues (matches_of command_line words))
-  pub accepted : IfOk r (λ _. fault_of command_line words ≡ [])
-  pub taken : takes command_line words ≡ true → IfErr r (λ e. e ≡ fault.NoMemory)
-  pub refused : IfErr r (IsFaultOf (fault_of command_line words))
+  -- the words of the two options, wherever they lie
+  pub shows : Bor (List (Bor Text))
+  pub formats : Bor (List (Bor Text))
+  pub are_shows : map (λ name. name.now) shows.now ≡ show_words
+  pub are_formats : map (λ name. name.now) formats.now ≡ format_words
+  pub values : IfOk r (HasValues (matches_of (command_line shows formats) words))
+  pub accepted : IfOk r (λ _. fault_of (command_line shows formats) words ≡ [])
+  pub taken : takes (command_line shows formats) words ≡ true → IfErr r (λ e. e ≡ fault.NoMemory)
+  pub refused : IfErr r (IsFaultOf (fault_of (command_line shows formats) words))

@@ -2,6 +2,26 @@ ghost use Rattle.std.specs.Prelude.{◌≤◌, ◌^◌};
 
 use mcs_ticks::Tick;
 
+/// What is written of a schedule.
+#[derive(Clone, Copy, Debug, PartialEq, Eq)]
+pub enum Show {
+    /// What is found in it.
+    Findings,
+    /// Its rounds that ended.
+    Jobs,
+}
+
+/// How it is written.
+#[derive(Clone, Copy, Debug, PartialEq, Eq)]
+pub enum Format {
+    /// Lines of words, and then hints and counts.
+    Text,
+    /// Rows of CSV behind one of names, and nothing else.
+    Csv,
+    /// JSON objects, one a line.
+    Json,
+}
+
 /// What the words of the command line ask for.
 #[derive(Debug, Drop)]
 pub struct Options {
@@ -16,6 +36,8 @@ pub struct Options {
     pub allowed: Vec<String>,
     /// Hints count as found, too.
     pub strict: bool,
+    pub show: Show,
+    pub format: Format,
     ghost horizon_in_range: { horizon ≤ 2 ^ 40 },
     ghost workers_in_range: { (1 ≤ workers) × (workers ≤ 64) },
 }

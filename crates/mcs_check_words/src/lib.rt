@@ -4,6 +4,6 @@
 mod asked;
 mod words;
 
-pub use asked::Options;
+pub use asked::{Format, Options, Show};
 pub use mcs_cli::WordsFault;
 pub use words::options;

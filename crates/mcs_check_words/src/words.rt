@@ -1,14 +1,19 @@
-ghost use Rattle.std.specs.Prelude.{◌≡◌, ◌^◌, map, codes, string_bytes, IfOk};
+ghost use Rattle.std.specs.Prelude.{◌≡◌, ◌^◌, ℕ, List, map, codes, string_bytes, IfOk};
+ghost use Rattle.std.specs.Borrow.{Bor};
 ghost use Rattle.clap.specs.Built.{FitsChain};
 ghost use Rattle.clap.specs.Words.{found_of, rows_of, rule_of};
-ghost use Rattle.mcs_cli.specs.CommandLine.{HasNumber};
-ghost use Rattle.mcs_check_words.specs.CommandLine.{HasValues, IsAnswer, IsCommandLine, IsParse, allow_lost_rule, is_set, strict_rule, texts_of};
+ghost use Rattle.mcs_cli.specs.CommandLine.{HasNumber, text_of};
+ghost use Rattle.mcs_check_words.specs.CommandLine.{HasValues, IsAnswer, IsCommandLine, IsParse, allow_lost_rule, choice_rule, format_named, format_words, is_set, show_named, show_words, strict_rule, texts_of};
 
-use crate::Options;
+use crate::{Format, Options, Show};
 use clap::{Arg, ArgAction, ArgMatches, Command, Error};
 use mcs_cli::{WordsFault, fault_of, file_argument, file_of, number_argument, number_of};
 use mcs_ticks::Tick;
 use std::alloc::{AllocError, Global};
+
+static SHOWS: [&str; 2] = ["findings", "jobs"];
+
+static FORMATS: [&str; 3] = ["text", "csv", "json"];
 
 const ABOUT: &str =
     "Tells which deadlines a system misses, which signals are lost, and what never happens";
@@ -25,8 +30,9 @@ Exit status:
   4  no memory
   5  something is found";
 
-/// What the words after the program's name ask for: `[FILE] [--horizon N] [--workers W] [--allow-lost NOTE].. [--strict]`, as
-/// clap reads them. Words that are not understood and words that ask for help are refused with the text that says so.
+/// What the words after the program's name ask for: `[FILE] [--horizon N] [--workers W] [--allow-lost NOTE].. [--strict]
+/// [--show findings|jobs] [--format text|csv|json]`, as clap reads them. Words that are not understood and words that ask for help are refused with the text that
+/// says so.
 pub fn options(alloc: Global, words: &[String]) -> Result<Options, WordsFault>
     ensures { IsAnswer (map (λ word. string_bytes word) words.now) result }
 {
@@ -59,7 +65,8 @@ fn command_line<'a>(alloc: Global) -> Result<Command<'a>, AllocError>
         .about(ABOUT)
         .after_help(AFTER);
     let line = bare.arg(file_argument(alloc))?.arg(horizon)?.arg(workers)?;
-    line.arg(allow_lost(alloc))?.arg(strict(alloc))
+    let line = line.arg(allow_lost(alloc))?.arg(strict(alloc))?;
+    line.arg(show(alloc))?.arg(format(alloc))
 }
 
 /// `--allow-lost`.
@@ -85,6 +92,38 @@ fn strict<'a>(alloc: Global) -> Arg<'a>
         .help("Hints count as found, too")
 }
 
+/// `--show`.
+fn show<'a>(alloc: Global) -> Arg<'a>
+    ensures rule { (shows : Bor (List (Bor (List ℕ)))) × (map (λ s. s.now) shows.now ≡ show_words)
+        × (rule_of result ≡ choice_rule (codes "show") (codes "findings") shows) }
+    ensures fits { FitsChain result }
+    ensures id { result.id.now ≡ codes "show" }
+{
+    Arg::new(alloc, "show")
+        .long("show")
+        .action(ArgAction::Set)
+        .value_name("WHAT")
+        .default_value("findings")
+        .value_parser(SHOWS.as_slice())
+        .help("What is written before the counts: what is found, or each round that ended")
+}
+
+/// `--format`.
+fn format<'a>(alloc: Global) -> Arg<'a>
+    ensures rule { (formats : Bor (List (Bor (List ℕ)))) × (map (λ s. s.now) formats.now ≡ format_words)
+        × (rule_of result ≡ choice_rule (codes "format") (codes "text") formats) }
+    ensures fits { FitsChain result }
+    ensures id { result.id.now ≡ codes "format" }
+{
+    Arg::new(alloc, "format")
+        .long("format")
+        .action(ArgAction::Set)
+        .value_name("HOW")
+        .default_value("text")
+        .value_parser(FORMATS.as_slice())
+        .help("How it is written; csv has no counts, and json an object a line")
+}
+
 fn options_of(alloc: Global, matches: &ArgMatches<'_>) -> Result<Options, AllocError>
     requires horizon { HasNumber (codes "horizon") 0 (2 ^ 40) (rows_of (found_of matches.now)) }
     requires workers { HasNumber (codes "workers") 1 64 (rows_of (found_of matches.now)) }
@@ -95,12 +134,16 @@ fn options_of(alloc: Global, matches: &ArgMatches<'_>) -> Result<Options, AllocE
     let workers = number_of(matches, "workers", 1, 64) as usize;
     let allowed = texts_of(alloc, matches, "allow-lost")?;
     let strict = is_set(matches, "strict");
+    let show = show_named(text_of(matches, "show"));
+    let format = format_named(text_of(matches, "format"));
     Ok(Options {
         file,
         horizon: Tick::new(horizon).unwrap(),
         workers,
         allowed,
         strict,
+        show,
+        format,
     })
 }
 
@@ -129,4 +172,30 @@ fn is_set(matches: &ArgMatches<'_>, id: &str) -> bool
     ensures { result ≡ is_set id.now (rows_of (found_of matches.now)) }
 {
     matches.get_one::<bool>(id).unwrap_or(false)
+}
+
+/// The text that an option has.
+fn text_of<'a>(matches: &ArgMatches<'a>, id: &str) -> &'a str
+    ensures { result.now ≡ text_of id.now (rows_of (found_of matches.now)) }
+{
+    matches.get_str(id).unwrap_or("")
+}
+
+fn show_named(word: &str) -> Show
+    ensures { result ≡ show_named word.now }
+{
+    match word {
+        "jobs" => Show::Jobs,
+        _ => Show::Findings,
+    }
+}
+
+fn format_named(word: &str) -> Format
+    ensures { result ≡ format_named word.now }
+{
+    match word {
+        "csv" => Format::Csv,
+        "json" => Format::Json,
+        _ => Format::Text,
+    }
 }

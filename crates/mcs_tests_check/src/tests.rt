@@ -1,7 +1,7 @@
 ghost use Rattle.std.specs.Prelude.{◌≤◌, ◌^◌};
 
 use mcs_check::{CheckFault, Counts, Progress, Quiet, check, check_with};
-use mcs_check_words::Options;
+use mcs_check_words::{Format, Options, Show};
 use mcs_cli::{FromRead, IntoWrite, RunFault};
 use mcs_hints::{Hint, hints};
 use mcs_load::load;
@@ -45,6 +45,18 @@ const WHAT_IS_LOST: &str = "\
 missed 0 overdue 0 lost 2 never 0 merged 0 allowed 0 hints 0
 ";
 
+/// The one round of `LATE`, and the three of `SIGNALS` that end up to 5, each of which begins where the one before ended.
+const LATE_JOBS: &str = "\
+11 0 job A 1 activated 0 begun 0 response 11 queued 0 preemptions 0 ready 0 running 5 throttled 6 blocked 0 woken 0
+missed 1 overdue 0 lost 0 never 0 merged 0 allowed 0 hints 0
+";
+
+const SIGNAL_JOBS: &str = "\
+2 0 job A 1 activated 0 begun 0 response 2 queued 0 preemptions 0 ready 0 running 2 throttled 0 blocked 0 woken 0
+4 0 job A 2 activated 2 begun 2 response 2 queued 0 preemptions 0 ready 0 running 2 throttled 0 blocked 0 woken 0
+missed 0 overdue 0 lost 2 never 0 merged 0 allowed 0 hints 0
+";
+
 const WHAT_IS_ALLOWED: &str = "missed 0 overdue 0 lost 0 never 0 merged 0 allowed 2 hints 0\n";
 
 fn options(alloc: Global, horizon: u64, workers: usize, allowed: &[&str]) -> Result<Options, Fail>
@@ -61,6 +73,8 @@ fn options(alloc: Global, horizon: u64, workers: usize, allowed: &[&str]) -> Res
         workers,
         allowed: names,
         strict: false,
+        show: Show::Findings,
+        format: Format::Text,
     })
 }
 
@@ -108,6 +122,50 @@ fn lost_signals_are_written_or_allowed(rt: HostRuntime) -> Result<(), Fail> {
         &options(rt.alloc(), 5, 1, &["tick"])?,
     )?;
     assert_eq!(rt; text.as_str(), WHAT_IS_ALLOWED);
+    Ok(())
+}
+
+// No finding is written, and what is found is counted.
+#[test]
+fn rounds_that_ended_are_written(rt: HostRuntime) -> Result<(), Fail> {
+    for (system, horizon, want) in [(LATE, 20, LATE_JOBS), (SIGNALS, 5, SIGNAL_JOBS)] {
+        let mut options = options(rt.alloc(), horizon, 1, &[])?;
+        options.show = Show::Jobs;
+        let text = written(&rt, rt.alloc(), system, &options)?;
+        assert_eq!(rt; text.as_str(), want);
+    }
+    Ok(())
+}
+
+const LATE_ROWS: &str = "\
+moment,core,kind,thread,note,word,number,response,deadline,activated,queued,ready,running,throttled,blocked,woken
+11,0,miss,A,,,1,11,10,0,0,0,5,6,0,0
+";
+
+const LATE_OBJECTS: &str = "\
+{\"moment\":11,\"core\":0,\"kind\":\"miss\",\"thread\":\"A\",\"number\":1,\"response\":11,\"deadline\":10,\"activated\":0,\
+\"queued\":0,\"ready\":0,\"running\":5,\"throttled\":6,\"blocked\":0,\"woken\":0}
+{\"kind\":\"counts\",\"missed\":1,\"overdue\":0,\"lost\":0,\"never\":0,\"merged\":0,\"allowed\":0,\"hints\":0}
+";
+
+const LATE_JOB_ROWS: &str = "\
+moment,core,kind,thread,number,activated,begun,response,queued,preemptions,ready,running,throttled,blocked,woken
+11,0,job,A,1,0,0,11,0,0,0,5,6,0,0
+";
+
+#[test]
+fn other_formats_are_written(rt: HostRuntime) -> Result<(), Fail> {
+    for (show, format, want) in [
+        (Show::Findings, Format::Csv, LATE_ROWS),
+        (Show::Findings, Format::Json, LATE_OBJECTS),
+        (Show::Jobs, Format::Csv, LATE_JOB_ROWS),
+    ] {
+        let mut options = options(rt.alloc(), 20, 1, &[])?;
+        options.show = show;
+        options.format = format;
+        let text = written(&rt, rt.alloc(), LATE, &options)?;
+        assert_eq!(rt; text.as_str(), want);
+    }
     Ok(())
 }
 

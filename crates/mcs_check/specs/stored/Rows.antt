@@ -1,22 +1,51 @@
 -- What is told and counted as rows go by.
-use Rattle.std.specs.Prelude.{ℕ, Bool, true, if◌then◌else◌, List, [], ◌∷◌, ◌++◌, Option, Some, None}
+use Rattle.std.specs.Prelude.{ℕ, Bool, true, if◌then◌else◌, List, [], ◌∷◌, ◌++◌, flat_map, Option, Some, None}
 use Rattle.mcs_ticks.specs.declared.row.Row.{Row}
 use Rattle.mcs_system.specs.System.{System}
 use Rattle.mcs_verdict.specs.declared.finding.Finding.{Finding}
 use Rattle.mcs_verdict.specs.declared.finding.Found.{Found}
+use Rattle.mcs_verdict.specs.declared.job.Job.{Job}
 use Rattle.mcs_verdict.specs.Findings.{finding}
+use Rattle.mcs_verdict.specs.Jobs.{job_of}
 use Rattle.mcs_verdict.specs.Words.{merges}
 use Rattle.mcs_cli.specs.declared.fault.RunFault.{RunFault}
 use Rattle.mcs_cli.specs.declared.fault.RunFault.TheVariants as fault
 use Rattle.mcs_team.specs.declared.fault.SimFault.TheVariants.{NoMemory}
+use Rattle.mcs_check_words.specs.declared.asked.Format.{Format}
+use Rattle.mcs_check_words.specs.declared.asked.Show.{Show}
+use Rattle.mcs_check_words.specs.declared.asked.Show.TheVariants as show
 use Rattle.mcs_check.specs.declared.counts.Counts.{Counts}
+use Rattle.mcs_check.specs.declared.shown.Shown.{Shown}
+use Rattle.mcs_check.specs.declared.shown.Shown.TheVariants as shown
 use Rattle.mcs_check.specs.Counts.{one_more, taken, told_of}
-use Rattle.mcs_check.specs.Lines.{found_text}
+use Rattle.mcs_check.specs.Formats.{found_line, head_text, hint_line, job_line}
+use Rattle.mcs_check.specs.Told.{found_lines}
+use Rattle.mcs_hints.specs.Hints.{hints_of}
 
--- the line of what was found, if anything was
-abbrev pub told_line : System → ℕ → ℕ → Option Finding → List ℕ
-told_line system moment core None = []
-told_line system moment core (Some found) = found_text system (record { moment = moment; core = core; finding = found })
+-- what is found, as it is shown
+abbrev pub shown_found : ℕ → ℕ → Option Finding → Option Shown
+shown_found moment core None = None
+shown_found moment core (Some found) = Some (shown.Found (record { moment = moment; core = core; finding = found }))
+
+-- and a round that ended
+abbrev pub shown_job : Option Job → Option Shown
+shown_job None = None
+shown_job (Some job) = Some (shown.Job job)
+
+-- its line
+abbrev pub shown_text : Format → System → Shown → List ℕ
+shown_text how system (shown.Found found) = found_line how system found
+shown_text how system (shown.Job job) = job_line how system job
+
+-- if there is one
+abbrev pub told_line : Format → System → Option Shown → List ℕ
+told_line how system None = []
+told_line how system (Some entry) = shown_text how system entry
+
+-- what is shown after the last row, where this is found at the horizon
+abbrev pub rest_lines : Format → Show → System → List Bool → List Found → List ℕ
+rest_lines how show.Findings system allowed found = found_lines how system allowed found ++ flat_map (hint_line how system) (hints_of system)
+rest_lines how show.Jobs system allowed found = []
 
 -- whether a target has failed, where a line was refused
 abbrev pub failed_after : Bool → Bool → Bool
@@ -32,9 +61,13 @@ lines_of line past [] = []
 lines_of line past (r ∷ rows) = line past r ++ lines_of line (r ∷ past) rows
 
 module _ (system : System) (allowed : List Bool) where
-  -- of a row that comes after these
-  abbrev pub told_at : List Row → Row → List ℕ
-  told_at past r = told_line system r.moment r.core (told_of allowed (finding system past r.moment r.what))
+  -- what is shown of a row that comes after these
+  abbrev pub shown_at : Show → List Row → Row → Option Shown
+  shown_at show.Findings past r = shown_found r.moment r.core (told_of allowed (finding system past r.moment r.what))
+  shown_at show.Jobs past r = shown_job (job_of system past r.moment r.what)
+
+  abbrev pub told_at : Format → Show → List Row → Row → List ℕ
+  told_at how asked past r = told_line how system (shown_at asked past r)
 
   abbrev pub counted_at : List Row → Row → Counts → Counts
   counted_at past r counts =
@@ -42,8 +75,12 @@ module _ (system : System) (allowed : List Bool) where
       (if merges system past r.what then record counts { merged = one_more counts.merged } else counts)
 
   -- of these rows, each after those before it
-  abbrev pub lines_in : List Row → List Row → List ℕ
-  lines_in past rows = lines_of told_at past rows
+  abbrev pub lines_in : Format → Show → List Row → List Row → List ℕ
+  lines_in how asked past rows = lines_of (told_at how asked) past rows
+
+  -- of all rows, behind the first line
+  abbrev pub rows_text : Format → Show → List Row → List ℕ
+  rows_text how asked rows = head_text how asked ++ lines_in how asked [] rows
 
   abbrev pub counts_in : List Row → List Row → Counts → Counts
   counts_in past [] counts = counts

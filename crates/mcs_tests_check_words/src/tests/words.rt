@@ -1,8 +1,8 @@
-use mcs_check_words::{WordsFault, options};
+use mcs_check_words::{Format, Show, WordsFault, options};
 use std::alloc::{AllocError, Global};
 use std::test::Fail;
 
-/// What words are answered: the file, the horizon, the workers, the names that are allowed and whether hints count, or the
+/// What words are answered: the file, the horizon, the workers, the names that are allowed, whether hints count and what is shown, or the
 /// status and the text of their fault.
 fn answer(alloc: Global, words: &[String]) -> Result<String, AllocError> {
     match options(alloc, words) {
@@ -12,7 +12,16 @@ fn answer(alloc: Global, words: &[String]) -> Result<String, AllocError> {
             let workers = options.workers;
             let allowed = &options.allowed;
             let strict = options.strict;
-            format!(in alloc; "{file} {horizon} {workers} {allowed:?} {strict}")
+            let show = match options.show {
+                Show::Findings => "findings",
+                Show::Jobs => "jobs",
+            };
+            let format = match options.format {
+                Format::Text => "text",
+                Format::Csv => "csv",
+                Format::Json => "json",
+            };
+            format!(in alloc; "{file} {horizon} {workers} {allowed:?} {strict} {show} {format}")
         }
         Err(fault) => refusal(alloc, &fault),
     }
@@ -35,18 +44,29 @@ fn answer_to(alloc: Global, line: &str) -> Result<String, AllocError> {
     answer(alloc, words.as_slice())
 }
 
-static TAKEN: [(&str, &str); 5] = [
-    ("", " 1000 1 [] false"),
+static TAKEN: [(&str, &str); 8] = [
+    ("", " 1000 1 [] false findings text"),
     (
         "--allow-lost irq in.toml --horizon=1099511627776 --strict --allow-lost=timer --workers 64",
-        "in.toml 1099511627776 64 [\"irq\", \"timer\"] true",
+        "in.toml 1099511627776 64 [\"irq\", \"timer\"] true findings text",
     ),
     (
         "--strict --horizon 0 --allow-lost b --allow-lost a --allow-lost b -- -",
-        "- 0 1 [\"b\", \"a\", \"b\"] true",
+        "- 0 1 [\"b\", \"a\", \"b\"] true findings text",
     ),
-    ("--allow-lost= --horizon +7", " 7 1 [\"\"] false"),
-    ("--allow-lost x,y in.toml", "in.toml 1000 1 [\"x,y\"] false"),
+    (
+        "--allow-lost= --horizon +7",
+        " 7 1 [\"\"] false findings text",
+    ),
+    (
+        "--allow-lost x,y in.toml",
+        "in.toml 1000 1 [\"x,y\"] false findings text",
+    ),
+    ("--show=jobs --strict", " 1000 1 [] true jobs text"),
+    (
+        "--show findings in.toml",
+        "in.toml 1000 1 [] false findings text",
+    ),
 ];
 
 #[test]
@@ -59,7 +79,7 @@ fn words_are_taken(rt: HostRuntime) -> Result<(), Fail> {
 }
 
 // Each line is not understood, and its text says what is wrong.
-static REFUSED: [(&str, &str); 11] = [
+static REFUSED: [(&str, &str); 15] = [
     ("--workers 65", "65"),
     ("--workers 0", "0"),
     ("--horizon 1099511627777", "1099511627777"),
@@ -69,7 +89,11 @@ static REFUSED: [(&str, &str); 11] = [
     ("--allow-lost --strict", "--allow-lost"),
     ("--strict --strict", "--strict"),
     ("--strict=true", "true"),
-    ("--show both", "--show"),
+    ("--show all", "all"),
+    ("--format yaml", "yaml"),
+    ("--show", "--show"),
+    ("--show jobs --show jobs", "--show"),
+    ("--list both", "--list"),
     ("one two", "two"),
 ];
 
@@ -83,7 +107,7 @@ fn other_words_are_refused(rt: HostRuntime) -> Result<(), Fail> {
     Ok(())
 }
 
-static HELP: [&str; 12] = [
+static HELP: [&str; 16] = [
     "Tells which deadlines a system misses, which signals are lost, and what never happens",
     "Usage: mcscheck [OPTIONS] [FILE]",
     "--horizon <N>",
@@ -92,6 +116,10 @@ static HELP: [&str; 12] = [
     "1 to 64 [default: 1]",
     "--allow-lost <NOTE>",
     "--strict",
+    "--show <WHAT>",
+    "[default: findings] [possible values: findings, jobs]",
+    "--format <HOW>",
+    "[default: text] [possible values: text, csv, json]",
     "mcscheck system.toml --horizon 100000",
     "Exit status:",
     "0  nothing is found, or this help",

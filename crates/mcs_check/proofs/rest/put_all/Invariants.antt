@@ -1,10 +1,7 @@
 use Rattle.std.proofs.Common.{◌≡◌, ◌++◌, drop}
 use Rattle.mcs_check.specs.Told.{found_lines}
-use Rattle.mcs_check.specs.stored.Rows.{counts_found}
 use Rattle.mcs_check.proofs.rest.put_all.Given as goal
 
 abbrev pub invariant-loop-found : goal.invariant-loop-found
-invariant-loop-found l = record {
-  text : l.text.items ++ found_lines l.system l.allowed (drop l.found-index l.all) ≡ l.initial.text.items ++ found_lines l.system l.allowed l.all;
-  counts : counts_found l.allowed (drop l.found-index l.all) l.counts ≡ counts_found l.allowed l.all l.initial.counts;
-}
+invariant-loop-found l =
+    l.text.items ++ found_lines l.format l.system l.allowed (drop l.found-index l.all) ≡ l.initial.text.items ++ found_lines l.format l.system l.allowed l.all

@@ -1,7 +1,7 @@
 use Rattle.std.proofs.Common.{◌≡◌, ◌++◌, drop, flat_map}
-use Rattle.mcs_check.specs.Lines.{hint_text}
+use Rattle.mcs_check.specs.Formats.{hint_line}
 use Rattle.mcs_check.proofs.rest.put_hints.Given as goal
 
 abbrev pub invariant-loop-hint : goal.invariant-loop-hint
 invariant-loop-hint l =
-    l.text.items ++ flat_map (hint_text l.system) (drop l.hint-index l.hints) ≡ l.initial.text.items ++ flat_map (hint_text l.system) l.hints
+    l.text.items ++ flat_map (hint_line l.format l.system) (drop l.hint-index l.hints) ≡ l.initial.text.items ++ flat_map (hint_line l.format l.system) l.hints

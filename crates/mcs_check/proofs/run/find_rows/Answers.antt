@@ -1,4 +1,4 @@
-use Rattle.std.proofs.Common.{rules, ◌≡◌, ◌∙◌, [], false, true, Err, ap, sym, subst}
+use Rattle.std.proofs.Common.{rules, ◌≡◌, ◌∙◌, [], false, true, Err, ap, ap₂, sym, subst}
 use Rattle.std.specs.Arc.{arc_value}
 use Rattle.mcs_ticks.specs.declared.sink.FlowFault.TheVariants as fault
 use Rattle.mcs_core.specs.Clock.{schedule}
@@ -8,7 +8,8 @@ use Rattle.mcs_cli.specs.Devices.{AppendsPrefix}
 use Rattle.mcs_cli.specs.Flow.{AppendsBefore, IsWriteFault}
 use Rattle.mcs_cli.proofs.Rows.{at-last, at-target, err-is}
 use Rattle.mcs_check.specs.Counts.{no_counts}
-use Rattle.mcs_check.specs.stored.Rows.{counts_in, failed_after, lines_in}
+use Rattle.mcs_check.specs.Formats.{head_text}
+use Rattle.mcs_check.specs.stored.Rows.{counts_in, failed_after, rows_text}
 use Rattle.mcs_check.proofs.Finders.{rows-given, rows-some, rows-until}
 use Rattle.mcs_check.proofs.Results.{moved, refused-fault}
 use Rattle.mcs_check.proofs.run.find_rows.Goals as goal
@@ -20,23 +21,31 @@ returns-in-Ok-result-clause-ok g c =
     let first = c.new-finder.result in
     let last = c.schedule_to-result.new.sink in
     let horizon = c.args.options.now.horizon in
+    let asked = c.args.options.now.show in
+    let how = c.args.options.now.format in
     let system = arc_value c.args.system.now in
     let shared_is : arc_value c.in-Ok.shared ≡ arc_value c.args.system.now = search rules in
     let ordered : InOrder [] (schedule (arc_value c.args.system.now) horizon) = search rules in
     let order = subst (λ s. InOrder [] (schedule s horizon)) (sym shared_is) ordered in
-    let empty : c.new-finder.result.seen.now.text.items ≡ [] = search rules in
+    let headed_here : c.new-finder.result.seen.now.text.items ≡ head_text c.args.options.now.format c.args.options.now.show = search rules in
     let none : c.new-finder.result.seen.now.counts ≡ no_counts = search rules in
     let system_is : c.new-finder.result.system.now ≡ arc_value c.args.system.now = search rules in
     let allowed_is : c.new-finder.result.allowed.now ≡ c.args.allowed.now = search rules in
+    let show_is : c.new-finder.result.show ≡ c.args.options.now.show = search rules in
+    let format_is : c.new-finder.result.format ≡ c.args.options.now.format = search rules in
+    let headed = headed_here ∙ sym (ap₂ head_text format_is show_is) in
     let watch : c.new-finder.result.seen.now.watch ≡ watch_of (arc_value c.args.system.now) [] = search rules in
     let watch_is = subst (λ s. c.new-finder.result.seen.now.watch ≡ watch_of s []) (sym system_is) watch in
     let begun : c.new-finder.result.lines.target.now ≡ c.args.target.now = search rules in
-    let ended = rows-given held failed first last (schedule (arc_value c.in-Ok.shared) horizon) order empty watch_is none c.in-Ok-result.ensures.given in
+    let ended = rows-given held failed first last (schedule (arc_value c.in-Ok.shared) horizon) order headed watch_is none c.in-Ok-result.ensures.given in
     let target_is : c.schedule_to-result.new.sink.lines.target.ghost_name ≡ c.new-finder.result.lines.target.ghost_name = ended.0.target_is in
     let seen_is : c.schedule_to-result.new.sink.seen.ghost_name ≡ c.new-finder.result.seen.ghost_name = ended.0.seen_is in
-    let told : AppendsBefore (held c.args.target.now) (held last.lines.target.now) (lines_in system c.args.allowed.now [] (schedule system horizon)) last.seen.now.text.items = moved (λ w flags sys own. AppendsBefore (held w) (held last.lines.target.now) (lines_in sys flags [] (schedule own horizon)) last.seen.now.text.items)
-    _ _ _ _ _ _ _ _ begun allowed_is system_is shared_is ended.2 in
-    at-last (λ w text. AppendsBefore (held c.args.target.now) (held w) (lines_in system c.args.allowed.now [] (schedule system horizon)) text)
+    let told : AppendsBefore (held c.args.target.now) (held last.lines.target.now) (rows_text system c.args.allowed.now how asked (schedule system horizon)) last.seen.now.text.items =
+    subst (λ form. AppendsBefore (held c.args.target.now) (held last.lines.target.now) (rows_text system c.args.allowed.now form asked (schedule system horizon)) last.seen.now.text.items) format_is
+    (subst (λ show. AppendsBefore (held c.args.target.now) (held last.lines.target.now) (rows_text system c.args.allowed.now first.format show (schedule system horizon)) last.seen.now.text.items) show_is
+    (moved (λ w flags sys own. AppendsBefore (held w) (held last.lines.target.now) (rows_text sys flags first.format first.show (schedule own horizon)) last.seen.now.text.items)
+    _ _ _ _ _ _ _ _ begun allowed_is system_is shared_is ended.2)) in
+    at-last (λ w text. AppendsBefore (held c.args.target.now) (held w) (rows_text system c.args.allowed.now how asked (schedule system horizon)) text)
     last.lines.target.now _ last.seen.now.text.items _ (search rules) (search rules) told
 
 pub returns-in-Ok-result-clause-watch : goal.returns-in-Ok-result-clause-watch
@@ -46,18 +55,23 @@ returns-in-Ok-result-clause-watch g c =
     let first = c.new-finder.result in
     let last = c.schedule_to-result.new.sink in
     let horizon = c.args.options.now.horizon in
+    let asked = c.args.options.now.show in
+    let how = c.args.options.now.format in
     let system = arc_value c.args.system.now in
     let shared_is : arc_value c.in-Ok.shared ≡ arc_value c.args.system.now = search rules in
     let ordered : InOrder [] (schedule (arc_value c.args.system.now) horizon) = search rules in
     let order = subst (λ s. InOrder [] (schedule s horizon)) (sym shared_is) ordered in
-    let empty : c.new-finder.result.seen.now.text.items ≡ [] = search rules in
+    let headed_here : c.new-finder.result.seen.now.text.items ≡ head_text c.args.options.now.format c.args.options.now.show = search rules in
     let none : c.new-finder.result.seen.now.counts ≡ no_counts = search rules in
     let system_is : c.new-finder.result.system.now ≡ arc_value c.args.system.now = search rules in
     let allowed_is : c.new-finder.result.allowed.now ≡ c.args.allowed.now = search rules in
+    let show_is : c.new-finder.result.show ≡ c.args.options.now.show = search rules in
+    let format_is : c.new-finder.result.format ≡ c.args.options.now.format = search rules in
+    let headed = headed_here ∙ sym (ap₂ head_text format_is show_is) in
     let watch : c.new-finder.result.seen.now.watch ≡ watch_of (arc_value c.args.system.now) [] = search rules in
     let watch_is = subst (λ s. c.new-finder.result.seen.now.watch ≡ watch_of s []) (sym system_is) watch in
     let begun : c.new-finder.result.lines.target.now ≡ c.args.target.now = search rules in
-    let ended = rows-given held failed first last (schedule (arc_value c.in-Ok.shared) horizon) order empty watch_is none c.in-Ok-result.ensures.given in
+    let ended = rows-given held failed first last (schedule (arc_value c.in-Ok.shared) horizon) order headed watch_is none c.in-Ok-result.ensures.given in
     let target_is : c.schedule_to-result.new.sink.lines.target.ghost_name ≡ c.new-finder.result.lines.target.ghost_name = ended.0.target_is in
     let seen_is : c.schedule_to-result.new.sink.seen.ghost_name ≡ c.new-finder.result.seen.ghost_name = ended.0.seen_is in
     let told : last.seen.now.watch ≡ watch_of system (past_of [] (schedule system horizon)) = moved (λ w flags sys own. last.seen.now.watch ≡ watch_of sys (past_of [] (schedule own horizon)))
@@ -71,18 +85,23 @@ returns-in-Ok-result-clause-counts g c =
     let first = c.new-finder.result in
     let last = c.schedule_to-result.new.sink in
     let horizon = c.args.options.now.horizon in
+    let asked = c.args.options.now.show in
+    let how = c.args.options.now.format in
     let system = arc_value c.args.system.now in
     let shared_is : arc_value c.in-Ok.shared ≡ arc_value c.args.system.now = search rules in
     let ordered : InOrder [] (schedule (arc_value c.args.system.now) horizon) = search rules in
     let order = subst (λ s. InOrder [] (schedule s horizon)) (sym shared_is) ordered in
-    let empty : c.new-finder.result.seen.now.text.items ≡ [] = search rules in
+    let headed_here : c.new-finder.result.seen.now.text.items ≡ head_text c.args.options.now.format c.args.options.now.show = search rules in
     let none : c.new-finder.result.seen.now.counts ≡ no_counts = search rules in
     let system_is : c.new-finder.result.system.now ≡ arc_value c.args.system.now = search rules in
     let allowed_is : c.new-finder.result.allowed.now ≡ c.args.allowed.now = search rules in
+    let show_is : c.new-finder.result.show ≡ c.args.options.now.show = search rules in
+    let format_is : c.new-finder.result.format ≡ c.args.options.now.format = search rules in
+    let headed = headed_here ∙ sym (ap₂ head_text format_is show_is) in
     let watch : c.new-finder.result.seen.now.watch ≡ watch_of (arc_value c.args.system.now) [] = search rules in
     let watch_is = subst (λ s. c.new-finder.result.seen.now.watch ≡ watch_of s []) (sym system_is) watch in
     let begun : c.new-finder.result.lines.target.now ≡ c.args.target.now = search rules in
-    let ended = rows-given held failed first last (schedule (arc_value c.in-Ok.shared) horizon) order empty watch_is none c.in-Ok-result.ensures.given in
+    let ended = rows-given held failed first last (schedule (arc_value c.in-Ok.shared) horizon) order headed watch_is none c.in-Ok-result.ensures.given in
     let target_is : c.schedule_to-result.new.sink.lines.target.ghost_name ≡ c.new-finder.result.lines.target.ghost_name = ended.0.target_is in
     let seen_is : c.schedule_to-result.new.sink.seen.ghost_name ≡ c.new-finder.result.seen.ghost_name = ended.0.seen_is in
     let told : last.seen.now.counts ≡ counts_in system c.args.allowed.now [] (schedule system horizon) no_counts = moved (λ w flags sys own. last.seen.now.counts ≡ counts_in sys flags [] (schedule own horizon) no_counts)
@@ -96,18 +115,23 @@ returns-in-Ok-result-clause-working g c =
     let first = c.new-finder.result in
     let last = c.schedule_to-result.new.sink in
     let horizon = c.args.options.now.horizon in
+    let asked = c.args.options.now.show in
+    let how = c.args.options.now.format in
     let system = arc_value c.args.system.now in
     let shared_is : arc_value c.in-Ok.shared ≡ arc_value c.args.system.now = search rules in
     let ordered : InOrder [] (schedule (arc_value c.args.system.now) horizon) = search rules in
     let order = subst (λ s. InOrder [] (schedule s horizon)) (sym shared_is) ordered in
-    let empty : c.new-finder.result.seen.now.text.items ≡ [] = search rules in
+    let headed_here : c.new-finder.result.seen.now.text.items ≡ head_text c.args.options.now.format c.args.options.now.show = search rules in
     let none : c.new-finder.result.seen.now.counts ≡ no_counts = search rules in
     let system_is : c.new-finder.result.system.now ≡ arc_value c.args.system.now = search rules in
     let allowed_is : c.new-finder.result.allowed.now ≡ c.args.allowed.now = search rules in
+    let show_is : c.new-finder.result.show ≡ c.args.options.now.show = search rules in
+    let format_is : c.new-finder.result.format ≡ c.args.options.now.format = search rules in
+    let headed = headed_here ∙ sym (ap₂ head_text format_is show_is) in
     let watch : c.new-finder.result.seen.now.watch ≡ watch_of (arc_value c.args.system.now) [] = search rules in
     let watch_is = subst (λ s. c.new-finder.result.seen.now.watch ≡ watch_of s []) (sym system_is) watch in
     let begun : c.new-finder.result.lines.target.now ≡ c.args.target.now = search rules in
-    let ended = rows-given held failed first last (schedule (arc_value c.in-Ok.shared) horizon) order empty watch_is none c.in-Ok-result.ensures.given in
+    let ended = rows-given held failed first last (schedule (arc_value c.in-Ok.shared) horizon) order headed watch_is none c.in-Ok-result.ensures.given in
     let target_is : c.schedule_to-result.new.sink.lines.target.ghost_name ≡ c.new-finder.result.lines.target.ghost_name = ended.0.target_is in
     let seen_is : c.schedule_to-result.new.sink.seen.ghost_name ≡ c.new-finder.result.seen.ghost_name = ended.0.seen_is in
     at-target (λ w. failed w ≡ false) last.lines.target.now _ (search rules) (ended.0.working ∙ ap failed begun ∙ c.requires)
@@ -119,24 +143,32 @@ returns-in-Err-NoMemory-clause-fault g c =
     let first = c.new-finder.result in
     let last = c.schedule_to-result.new.sink in
     let horizon = c.args.options.now.horizon in
+    let asked = c.args.options.now.show in
+    let how = c.args.options.now.format in
     let system = arc_value c.args.system.now in
     let shared_is : arc_value c.in-Ok.shared ≡ arc_value c.args.system.now = search rules in
     let ordered : InOrder [] (schedule (arc_value c.args.system.now) horizon) = search rules in
     let order = subst (λ s. InOrder [] (schedule s horizon)) (sym shared_is) ordered in
-    let empty : c.new-finder.result.seen.now.text.items ≡ [] = search rules in
+    let headed_here : c.new-finder.result.seen.now.text.items ≡ head_text c.args.options.now.format c.args.options.now.show = search rules in
     let none : c.new-finder.result.seen.now.counts ≡ no_counts = search rules in
     let system_is : c.new-finder.result.system.now ≡ arc_value c.args.system.now = search rules in
     let allowed_is : c.new-finder.result.allowed.now ≡ c.args.allowed.now = search rules in
+    let show_is : c.new-finder.result.show ≡ c.args.options.now.show = search rules in
+    let format_is : c.new-finder.result.format ≡ c.args.options.now.format = search rules in
+    let headed = headed_here ∙ sym (ap₂ head_text format_is show_is) in
     let watch : c.new-finder.result.seen.now.watch ≡ watch_of (arc_value c.args.system.now) [] = search rules in
     let watch_is = subst (λ s. c.new-finder.result.seen.now.watch ≡ watch_of s []) (sym system_is) watch in
     let begun : c.new-finder.result.lines.target.now ≡ c.args.target.now = search rules in
     let is : c.schedule_to-result.result ≡ Err fault.NoMemory = search rules in
-    let ended = rows-some held failed first last (schedule (arc_value c.in-Ok.shared) horizon) order empty watch_is none
+    let ended = rows-some held failed first last (schedule (arc_value c.in-Ok.shared) horizon) order headed watch_is none
     (err-is _ c.schedule_to-result.result fault.NoMemory is c.schedule_to-result.ensures.fault) in
     let target_is : c.schedule_to-result.new.sink.lines.target.ghost_name ≡ c.new-finder.result.lines.target.ghost_name = ended.0.1.target_is in
-    let told : AppendsPrefix (held c.args.target.now) (held last.lines.target.now) (lines_in system c.args.allowed.now [] (schedule system horizon)) = moved (λ w flags sys own. AppendsPrefix (held w) (held last.lines.target.now) (lines_in sys flags [] (schedule own horizon)))
-    _ _ _ _ _ _ _ _ begun allowed_is system_is shared_is ended.1 in
-    at-target (λ w. (failed w ≡ false) × AppendsPrefix (held c.args.target.now) (held w) (lines_in system c.args.allowed.now [] (schedule system horizon)))
+    let told : AppendsPrefix (held c.args.target.now) (held last.lines.target.now) (rows_text system c.args.allowed.now how asked (schedule system horizon)) =
+    subst (λ form. AppendsPrefix (held c.args.target.now) (held last.lines.target.now) (rows_text system c.args.allowed.now form asked (schedule system horizon))) format_is
+    (subst (λ show. AppendsPrefix (held c.args.target.now) (held last.lines.target.now) (rows_text system c.args.allowed.now first.format show (schedule system horizon))) show_is
+    (moved (λ w flags sys own. AppendsPrefix (held w) (held last.lines.target.now) (rows_text sys flags first.format first.show (schedule own horizon)))
+    _ _ _ _ _ _ _ _ begun allowed_is system_is shared_is ended.1)) in
+    at-target (λ w. (failed w ≡ false) × AppendsPrefix (held c.args.target.now) (held w) (rows_text system c.args.allowed.now how asked (schedule system horizon)))
     last.lines.target.now _ (search rules) (ended.0.1.working ∙ ap failed begun ∙ c.requires, told)
 
 pub returns-clause-fault : goal.returns-clause-fault
@@ -146,23 +178,31 @@ returns-clause-fault g c =
     let first = c.new-finder.result in
     let last = c.schedule_to-result.new.sink in
     let horizon = c.args.options.now.horizon in
+    let asked = c.args.options.now.show in
+    let how = c.args.options.now.format in
     let system = arc_value c.args.system.now in
     let shared_is : arc_value c.in-Ok.shared ≡ arc_value c.args.system.now = search rules in
     let ordered : InOrder [] (schedule (arc_value c.args.system.now) horizon) = search rules in
     let order = subst (λ s. InOrder [] (schedule s horizon)) (sym shared_is) ordered in
-    let empty : c.new-finder.result.seen.now.text.items ≡ [] = search rules in
+    let headed_here : c.new-finder.result.seen.now.text.items ≡ head_text c.args.options.now.format c.args.options.now.show = search rules in
     let none : c.new-finder.result.seen.now.counts ≡ no_counts = search rules in
     let system_is : c.new-finder.result.system.now ≡ arc_value c.args.system.now = search rules in
     let allowed_is : c.new-finder.result.allowed.now ≡ c.args.allowed.now = search rules in
+    let show_is : c.new-finder.result.show ≡ c.args.options.now.show = search rules in
+    let format_is : c.new-finder.result.format ≡ c.args.options.now.format = search rules in
+    let headed = headed_here ∙ sym (ap₂ head_text format_is show_is) in
     let watch : c.new-finder.result.seen.now.watch ≡ watch_of (arc_value c.args.system.now) [] = search rules in
     let watch_is = subst (λ s. c.new-finder.result.seen.now.watch ≡ watch_of s []) (sym system_is) watch in
     let begun : c.new-finder.result.lines.target.now ≡ c.args.target.now = search rules in
     let is : c.schedule_to-result.result ≡ Err fault.Sink = search rules in
-    let ended = rows-until held failed first last (schedule (arc_value c.in-Ok.shared) horizon) order empty watch_is none
+    let ended = rows-until held failed first last (schedule (arc_value c.in-Ok.shared) horizon) order headed watch_is none
     (err-is _ c.schedule_to-result.result fault.Sink is c.schedule_to-result.ensures.fault) in
     let target_is : c.schedule_to-result.new.sink.lines.target.ghost_name ≡ c.new-finder.result.lines.target.ghost_name = ended.0.target_is in
-    let told : AppendsPrefix (held c.args.target.now) (held last.lines.target.now) (lines_in system c.args.allowed.now [] (schedule system horizon)) = moved (λ w flags sys own. AppendsPrefix (held w) (held last.lines.target.now) (lines_in sys flags [] (schedule own horizon)))
-    _ _ _ _ _ _ _ _ begun allowed_is system_is shared_is ended.1 in
+    let told : AppendsPrefix (held c.args.target.now) (held last.lines.target.now) (rows_text system c.args.allowed.now how asked (schedule system horizon)) =
+    subst (λ form. AppendsPrefix (held c.args.target.now) (held last.lines.target.now) (rows_text system c.args.allowed.now form asked (schedule system horizon))) format_is
+    (subst (λ show. AppendsPrefix (held c.args.target.now) (held last.lines.target.now) (rows_text system c.args.allowed.now first.format show (schedule system horizon))) show_is
+    (moved (λ w flags sys own. AppendsPrefix (held w) (held last.lines.target.now) (rows_text sys flags first.format first.show (schedule own horizon)))
+    _ _ _ _ _ _ _ _ begun allowed_is system_is shared_is ended.1)) in
     let was = ended.0.failed_is ∙ ap (failed_after last.lines.is_out_of_memory) (ap failed begun ∙ c.requires) in
-    at-target (λ w. IsWriteFault (held c.args.target.now) (held w) (failed w) (lines_in system c.args.allowed.now [] (schedule system horizon)) c.refusal.result)
+    at-target (λ w. IsWriteFault (held c.args.target.now) (held w) (failed w) (rows_text system c.args.allowed.now how asked (schedule system horizon)) c.refusal.result)
     last.lines.target.now _ (search rules) (refused-fault _ _ _ _ c.refusal.result last.lines.is_out_of_memory c.refusal.ensures was told)

@@ -1,32 +1,47 @@
-use Rattle.std.proofs.Common.{◌≡◌, map, refl, rules, true}
+use Rattle.std.proofs.Common.{rules, refl, true, map, List, ◌≡◌}
+use Rattle.std.specs.Borrow.{Bor}
 use Rattle.std.specs.Prelude.{string_bytes}
-use Rattle.clap.specs.Words.{is_simple, is_simple_and_free}
+use Rattle.clap.specs.Words.{Text, is_simple, is_simple_and_free}
 use Rattle.clap.proofs.OnLiterals.{clap_on_literals}
+use Rattle.mcs_check_words.specs.CommandLine.{command_line, format_words, show_words}
 use Rattle.mcs_cli.proofs.Parsed.{faults_of_line, memory_fails, rows_of_line, taken_by_line}
-use Rattle.mcs_check_words.specs.CommandLine.{command_line}
 use Rattle.mcs_check_words.proofs.words.matches_of.Goals as goal
 
-free : is_simple_and_free command_line ≡ true
+-- wherever the names lie
+free : (shows formats : Bor (List (Bor Text))) → is_simple_and_free (command_line shows formats) ≡ true
 unfolding clap_on_literals
-free = refl
+free shows formats = refl
 
-simple : is_simple command_line ≡ true
+simple : (shows formats : Bor (List (Bor Text))) → is_simple (command_line shows formats) ≡ true
 unfolding clap_on_literals
-simple = refl
+simple shows formats = refl
 
 pub returns-clause-parse : goal.returns-clause-parse
 returns-clause-parse c =
-    let app = c.in_ok-command.ensures.app in
+    let made = c.in_ok-command.ensures in
     let parse = c.try_get_matches_from in
+    let line = command_line made.shows made.formats in
     let words = map (λ word. string_bytes word) c.args.words.now in
     record {
-      rows = rows_of_line _ command_line words parse.result app simple parse.ensures.matches;
-      taken = taken_by_line _ command_line words parse.result app parse.ensures.passes;
-      kinds = faults_of_line _ command_line words parse.result app free parse.ensures.kinds;
+      shows = made.shows;
+      formats = made.formats;
+      are_shows = made.are_shows;
+      are_formats = made.are_formats;
+      rows = rows_of_line _ line words parse.result made.app (simple made.shows made.formats) parse.ensures.matches;
+      taken = taken_by_line _ line words parse.result made.app parse.ensures.passes;
+      kinds = faults_of_line _ line words parse.result made.app (free made.shows made.formats) parse.ensures.kinds;
     }
+
+-- a reference to these names, at no place in particular
+abbrev at : {X : Type 0} → X → Bor X
+at x = record { ref_ptr = (0, 0); now = x }
 
 pub returns-in_err-command-clause-parse : goal.returns-in_err-command-clause-parse
 returns-in_err-command-clause-parse c = record {
+  shows = at (map at show_words);
+  formats = at (map at format_words);
+  are_shows = refl;
+  are_formats = refl;
   rows = search rules;
   taken = λ taken. search rules;
   kinds = memory_fails c.from_residual.result _ c.from_residual.ensures.1;

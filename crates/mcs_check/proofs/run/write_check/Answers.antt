@@ -11,10 +11,10 @@ use Rattle.mcs_cli.proofs.Flow.{before-all, before-longer, fault-longer, fault-t
 use Rattle.mcs_check.specs.Allowed.{flags_of}
 use Rattle.mcs_check.specs.Check.{check_text, counts_of, names_of}
 use Rattle.mcs_check.specs.Counts.{no_counts}
-use Rattle.mcs_check.specs.stored.Rows.{counts_in, lines_in}
+use Rattle.mcs_check.specs.stored.Rows.{counts_in, rows_text}
 use Rattle.mcs_check.proofs.Results.{ok-holds}
 use Rattle.mcs_check.proofs.Texts.{behind, counts-put, rest_text, text-is}
-use Rattle.mcs_check.proofs.run.write_findings.Goals as goal
+use Rattle.mcs_check.proofs.run.write_check.Goals as goal
 
 pub returns-in_err-seen-clause-fault : goal.returns-in_err-seen-clause-fault
 returns-in_err-seen-clause-fault g c =
@@ -23,13 +23,15 @@ returns-in_err-seen-clause-fault g c =
     let names = names_of c.args.options.now in
     let system = c.args.system in
     let horizon = c.args.options.now.horizon in
+    let asked = c.args.options.now.show in
+    let how = c.args.options.now.format in
     let flags_are : c.as_slice-allowed.result.now ≡ flags_of names system.notes = search rules in
     let system_is : arc_value c.in-Ok.system ≡ system = search rules in
     let short : IfErr c.from_residual.result (IsWriteFault (held c.args.target.now) (held c.find_rows-found.new.target) (failed c.find_rows-found.new.target)
-    (lines_in (arc_value c.in-Ok.system) c.as_slice-allowed.result.now [] (schedule (arc_value c.in-Ok.system) horizon))) = search rules in
+    (rows_text (arc_value c.in-Ok.system) c.as_slice-allowed.result.now how asked (schedule (arc_value c.in-Ok.system) horizon))) = search rules in
     IfErr-weaker c.from_residual.result _ _ (λ f fault.
-    subst (λ text. IsWriteFault (held c.args.target.now) (held c.find_rows-found.new.target) (failed c.find_rows-found.new.target) text f) (text-is names system horizon)
-    (fault-longer _ _ _ _ (rest_text names system horizon (counts_of names system horizon)) f (rw (flags_are, system_is) at fault))) short
+    subst (λ text. IsWriteFault (held c.args.target.now) (held c.find_rows-found.new.target) (failed c.find_rows-found.new.target) text f) (text-is names system horizon how asked)
+    (fault-longer _ _ _ _ (rest_text how asked names system horizon (counts_of names system horizon)) f (rw (flags_are, system_is) at fault))) short
 
 pub returns-then-is_err-clause-fault : goal.returns-then-is_err-clause-fault
 returns-then-is_err-clause-fault g c =
@@ -37,13 +39,15 @@ returns-then-is_err-clause-fault g c =
     let names = names_of c.args.options.now in
     let system = c.args.system in
     let horizon = c.args.options.now.horizon in
+    let asked = c.args.options.now.show in
+    let how = c.args.options.now.format in
     let flags_are : c.as_slice-allowed.result.now ≡ flags_of names system.notes = search rules in
     let system_is : arc_value c.in-Ok.system ≡ system = search rules in
-    let begun : AppendsPrefix (held c.args.target.now) (held c.find_rows-found.new.target) (lines_in system (flags_of names system.notes) [] (schedule system horizon)) =
+    let begun : AppendsPrefix (held c.args.target.now) (held c.find_rows-found.new.target) (rows_text system (flags_of names system.notes) how asked (schedule system horizon)) =
     rw (← flags_are, ← system_is) (prefix-before _ _ _ _ c.in_ok-seen.ensures.ok) in (
       c.in_ok-seen.ensures.working,
-      subst (AppendsPrefix (held c.args.target.now) (held c.find_rows-found.new.target)) (text-is names system horizon)
-          (prefix-longer _ _ _ (rest_text names system horizon (counts_of names system horizon)) begun),
+      subst (AppendsPrefix (held c.args.target.now) (held c.find_rows-found.new.target)) (text-is names system horizon how asked)
+          (prefix-longer _ _ _ (rest_text how asked names system horizon (counts_of names system horizon)) begun),
     )
 
 pub returns-in_err-write_text-clause-fault : goal.returns-in_err-write_text-clause-fault
@@ -52,6 +56,8 @@ returns-in_err-write_text-clause-fault g c =
     let names = names_of c.args.options.now in
     let system = c.args.system in
     let horizon = c.args.options.now.horizon in
+    let asked = c.args.options.now.show in
+    let how = c.args.options.now.format in
     let flags_are : c.as_slice-allowed.result.now ≡ flags_of names system.notes = search rules in
     let system_is : arc_value c.in-Ok.system ≡ c.args.system = search rules in
     let own_is : c.deref-2.result.now ≡ c.args.system = search rules in
@@ -62,16 +68,16 @@ returns-in_err-write_text-clause-fault g c =
     let counted = ok-holds c.put_rest.result done (c.put_rest.ensures.counts (past_of [] (schedule system horizon)) watch in_time) in
     let counts_are = counts-put names system horizon _ _ _ _ flags_are own_is kept_are counted in
     let put = ok-holds c.put_rest.result done (c.put_rest.ensures.text (past_of [] (schedule system horizon)) watch in_time) in
-    let rest_is = behind names system horizon _ _ _ _ _ flags_are own_is counts_are put in
-    let told = subst (λ flags. AppendsBefore (held c.args.target.now) (held c.find_rows-found.new.target) (lines_in system flags [] (schedule system horizon)) c.in_ok-seen.seen.text.items) flags_are
-    (subst (λ s. AppendsBefore (held c.args.target.now) (held c.find_rows-found.new.target) (lines_in s c.as_slice-allowed.result.now [] (schedule s horizon)) c.in_ok-seen.seen.text.items) system_is c.in_ok-seen.ensures.ok) in
-    let longer = before-longer _ _ _ _ (rest_text names system horizon (counts_of names system horizon)) told in
-    let all = subst (λ text. AppendsBefore (held c.args.target.now) (held c.find_rows-found.new.target) text c.put_rest.new.seen.text.items) (text-is names system horizon)
-    (subst (λ rest. AppendsBefore (held c.args.target.now) (held c.find_rows-found.new.target) (lines_in system (flags_of names system.notes) [] (schedule system horizon) ++ rest_text names system horizon (counts_of names system horizon)) rest) (sym rest_is) longer) in
+    let rest_is = behind names system horizon how asked _ _ _ _ _ flags_are own_is counts_are put in
+    let told = subst (λ flags. AppendsBefore (held c.args.target.now) (held c.find_rows-found.new.target) (rows_text system flags how asked (schedule system horizon)) c.in_ok-seen.seen.text.items) flags_are
+    (subst (λ s. AppendsBefore (held c.args.target.now) (held c.find_rows-found.new.target) (rows_text s c.as_slice-allowed.result.now how asked (schedule s horizon)) c.in_ok-seen.seen.text.items) system_is c.in_ok-seen.ensures.ok) in
+    let longer = before-longer _ _ _ _ (rest_text how asked names system horizon (counts_of names system horizon)) told in
+    let all = subst (λ text. AppendsBefore (held c.args.target.now) (held c.find_rows-found.new.target) text c.put_rest.new.seen.text.items) (text-is names system horizon how asked)
+    (subst (λ rest. AppendsBefore (held c.args.target.now) (held c.find_rows-found.new.target) (rows_text system (flags_of names system.notes) how asked (schedule system horizon) ++ rest_text how asked names system horizon (counts_of names system horizon)) rest) (sym rest_is) longer) in
     let prefix : OnErr c.write_text.result (AppendsPrefix (held c.find_rows-found.new.target) (held c.write_text.new.target) c.put_rest.new.seen.text.items) =
     subst (λ text. OnErr c.write_text.result (AppendsPrefix (held c.find_rows-found.new.target) (held c.write_text.new.target) text)) c.as_slice-2.ensures.value c.write_text.ensures.prefix in
     let whole : IfErr c.write_text.result (IsWriteFault (held c.args.target.now) (held c.write_text.new.target) (g.T.Target.has_failed c.write_text.new.target)
-    (check_text (names_of c.args.options.now) c.args.system c.args.options.now.horizon)) =
+    (check_text (names_of c.args.options.now) c.args.system c.args.options.now.horizon c.args.options.now.format c.args.options.now.show)) =
     fault-then _ _ _ _ _ _ c.write_text.result all prefix c.write_text.ensures.fault in
     search rules
 
@@ -81,6 +87,8 @@ returns-clause-ok g c =
     let names = names_of c.args.options.now in
     let system = c.args.system in
     let horizon = c.args.options.now.horizon in
+    let asked = c.args.options.now.show in
+    let how = c.args.options.now.format in
     let flags_are : c.as_slice-allowed.result.now ≡ flags_of names system.notes = search rules in
     let system_is : arc_value c.in-Ok.system ≡ c.args.system = search rules in
     let own_is : c.deref-2.result.now ≡ c.args.system = search rules in
@@ -91,12 +99,12 @@ returns-clause-ok g c =
     let counted = ok-holds c.put_rest.result done (c.put_rest.ensures.counts (past_of [] (schedule system horizon)) watch in_time) in
     let counts_are = counts-put names system horizon _ _ _ _ flags_are own_is kept_are counted in
     let put = ok-holds c.put_rest.result done (c.put_rest.ensures.text (past_of [] (schedule system horizon)) watch in_time) in
-    let rest_is = behind names system horizon _ _ _ _ _ flags_are own_is counts_are put in
-    let told = subst (λ flags. AppendsBefore (held c.args.target.now) (held c.find_rows-found.new.target) (lines_in system flags [] (schedule system horizon)) c.in_ok-seen.seen.text.items) flags_are
-    (subst (λ s. AppendsBefore (held c.args.target.now) (held c.find_rows-found.new.target) (lines_in s c.as_slice-allowed.result.now [] (schedule s horizon)) c.in_ok-seen.seen.text.items) system_is c.in_ok-seen.ensures.ok) in
-    let longer = before-longer _ _ _ _ (rest_text names system horizon (counts_of names system horizon)) told in
-    let all = subst (λ text. AppendsBefore (held c.args.target.now) (held c.find_rows-found.new.target) text c.put_rest.new.seen.text.items) (text-is names system horizon)
-    (subst (λ rest. AppendsBefore (held c.args.target.now) (held c.find_rows-found.new.target) (lines_in system (flags_of names system.notes) [] (schedule system horizon) ++ rest_text names system horizon (counts_of names system horizon)) rest) (sym rest_is) longer) in
+    let rest_is = behind names system horizon how asked _ _ _ _ _ flags_are own_is counts_are put in
+    let told = subst (λ flags. AppendsBefore (held c.args.target.now) (held c.find_rows-found.new.target) (rows_text system flags how asked (schedule system horizon)) c.in_ok-seen.seen.text.items) flags_are
+    (subst (λ s. AppendsBefore (held c.args.target.now) (held c.find_rows-found.new.target) (rows_text s c.as_slice-allowed.result.now how asked (schedule s horizon)) c.in_ok-seen.seen.text.items) system_is c.in_ok-seen.ensures.ok) in
+    let longer = before-longer _ _ _ _ (rest_text how asked names system horizon (counts_of names system horizon)) told in
+    let all = subst (λ text. AppendsBefore (held c.args.target.now) (held c.find_rows-found.new.target) text c.put_rest.new.seen.text.items) (text-is names system horizon how asked)
+    (subst (λ rest. AppendsBefore (held c.args.target.now) (held c.find_rows-found.new.target) (rows_text system (flags_of names system.notes) how asked (schedule system horizon) ++ rest_text how asked names system horizon (counts_of names system horizon)) rest) (sym rest_is) longer) in
     let rest : Appends (held c.find_rows-found.new.target) (held c.write_text.new.target) c.put_rest.new.seen.text.items =
     subst (Appends (held c.find_rows-found.new.target) (held c.write_text.new.target)) c.as_slice-2.ensures.value c.in_ok-write_text.ensures.ok in
     before-all _ _ _ _ _ all rest

@@ -1,0 +1,52 @@
+-- The lines of what is shown, in each format.
+use Rattle.std.specs.Prelude.{ℕ, List, [], ◌∷◌, codes, map}
+use Rattle.mcs_fields.specs.Fields.{Text, names_text, object_text, row_text}
+use Rattle.mcs_system.specs.System.{System}
+use Rattle.mcs_hints.specs.declared.hint.Hint.{Hint}
+use Rattle.mcs_verdict.specs.declared.finding.Found.{Found}
+use Rattle.mcs_verdict.specs.declared.job.Job.{Job}
+use Rattle.mcs_check_words.specs.declared.asked.Format.{Format}
+use Rattle.mcs_check_words.specs.declared.asked.Format.TheVariants as format
+use Rattle.mcs_check_words.specs.declared.asked.Show.{Show}
+use Rattle.mcs_check_words.specs.declared.asked.Show.TheVariants as show
+use Rattle.mcs_check.specs.declared.counts.Counts.{Counts}
+use Rattle.mcs_check.specs.Fields.{Fields, counts_fields, found_fields, hint_fields, job_fields}
+use Rattle.mcs_check.specs.Lines.{counts_text, found_text, hint_text, job_text}
+
+-- words as they are, a row of values, or an object of them
+abbrev pub written : Format → Text → Fields → Text
+written format.Text words fields = words
+written format.Csv words fields = row_text (map (λ f. f.1) fields)
+written format.Json words fields = object_text fields
+
+abbrev pub found_line : Format → System → Found → Text
+found_line how system found = written how (found_text system found) (found_fields system found)
+
+abbrev pub job_line : Format → System → Job → Text
+job_line how system job = written how (job_text system job) (job_fields system job)
+
+-- CSV has rows of one kind alone
+abbrev pub unless_rows : Format → Text → Fields → Text
+unless_rows format.Csv words fields = []
+unless_rows how words fields = written how words fields
+
+abbrev pub hint_line : Format → System → Hint → Text
+hint_line how system hint = unless_rows how (hint_text system hint) (hint_fields system hint)
+
+abbrev pub counts_line : Format → Counts → Text
+counts_line how counts = unless_rows how (counts_text counts) (counts_fields counts)
+
+-- what the values of such rows are called
+abbrev pub column_names : Show → List Text
+column_names show.Findings =
+    codes "moment" ∷ codes "core" ∷ codes "kind" ∷ codes "thread" ∷ codes "note" ∷ codes "word" ∷ codes "number" ∷ codes "response"
+    ∷ codes "deadline" ∷ codes "activated" ∷ codes "queued" ∷ codes "ready" ∷ codes "running" ∷ codes "throttled" ∷ codes "blocked"
+    ∷ codes "woken" ∷ []
+column_names show.Jobs =
+    codes "moment" ∷ codes "core" ∷ codes "kind" ∷ codes "thread" ∷ codes "number" ∷ codes "activated" ∷ codes "begun" ∷ codes "response"
+    ∷ codes "queued" ∷ codes "preemptions" ∷ codes "ready" ∷ codes "running" ∷ codes "throttled" ∷ codes "blocked" ∷ codes "woken" ∷ []
+
+-- the first line of CSV
+abbrev pub head_text : Format → Show → Text
+head_text format.Csv asked = names_text (column_names asked)
+head_text _ asked = []

@@ -1,0 +1,10 @@
+use mcs_verdict::{Found, Job};
+
+/// What a line is of.
+#[derive(Clone, Copy, Debug, PartialEq, Eq)]
+pub(crate) enum Shown {
+    /// A finding.
+    Found(Found),
+    /// A round that ended.
+    Job(Job),
+}

@@ -1,0 +1,62 @@
+-- Named values as a line.
+use Rattle.std.specs.Prelude.{ℕ, Bool, true, false, List, [], ◌∷◌, ◌++◌, map, decimal}
+use Rattle.std.specs.Borrow.{Bor}
+use Rattle.serde_json.specs.Data.{Members, member, no_members, number, object, string, unsigned}
+use Rattle.serde_json.specs.Written.{comma_if, compact_text}
+use Rattle.mcs_fields.specs.declared.cell.Cell.{Cell}
+use Rattle.mcs_fields.specs.declared.cell.Cell.TheVariants as cell
+
+abbrev pub Text : Type 0
+Text = List ℕ
+
+-- a number, a name, or none of both
+pub data Value : Type 0 where
+  amount : ℕ → Value
+  name : Text → Value
+  empty : Value
+
+-- as the code has it
+abbrev pub value_of : Cell → Value
+value_of (cell.Number n) = amount n
+value_of (cell.Name text) = name text.now
+value_of cell.Empty = empty
+
+abbrev pub is_empty : Cell → Bool
+is_empty cell.Empty = true
+is_empty _ = false
+
+abbrev pub field_of : Bor Text × Cell → Text × Value
+field_of f = (f.0.now, value_of f.1)
+
+-- texts with a comma between two of them, and a line feed
+abbrev pub parts_text : Bool → List Text → Text
+parts_text later [] = 10 ∷ []
+parts_text later (part ∷ parts) = comma_if later ++ (part ++ parts_text true parts)
+
+-- a value stands as it is: names have no comma, no quote and no line feed
+abbrev pub value_text : Value → Text
+value_text (amount n) = decimal n
+value_text (name text) = text
+value_text empty = []
+
+-- a row of CSV
+abbrev pub row_text : List Value → Text
+row_text values = parts_text false (map value_text values)
+
+-- its first line
+abbrev pub names_text : List Text → Text
+names_text names = parts_text false names
+
+-- the members of an object, in this order: what is empty is none
+abbrev pub with_member : Text → Value → Members → Members
+with_member key (amount n) members = member key (number (unsigned n)) members
+with_member key (name text) members = member key (string text) members
+with_member key empty members = members
+
+abbrev pub members_of : List (Text × Value) → Members
+members_of [] = no_members
+members_of (f ∷ fields) = with_member f.0 f.1 (members_of fields)
+
+-- a JSON object in a line
+abbrev pub object_text : List (Text × Value) → Text
+object_text fields = compact_text (object (members_of fields)) ++ 10 ∷ []

@@ -1,0 +1,37 @@
+ghost use Rattle.std.specs.Prelude.{◌≡◌, ◌++◌, decimal, OnOk};
+ghost use Rattle.std.specs.Io.{StartsWith};
+ghost use Rattle.mcs_fields.specs.Fields.{is_empty};
+
+use itoa::Buffer;
+use mcs_ticks::NoMemory;
+
+/// A value of a line.
+#[derive(Clone, Copy, Debug, PartialEq, Eq)]
+pub enum Cell<'a> {
+    Number(u64),
+    /// A name of the system, or a word of this program: letters, digits, `_` and `-`.
+    Name(&'a str),
+    /// This line has no such value.
+    Empty,
+}
+
+impl Cell<'_> {
+    pub(crate) fn is_empty(&self) -> bool
+        ensures { result ≡ is_empty self.now }
+    {
+        matches!(self, Cell::Empty)
+    }
+}
+
+/// A value and what it is called.
+pub type Field<'a> = (&'static str, Cell<'a>);
+
+/// Appends a number. After a refusal a first part of it may stand behind the text.
+pub(crate) fn append_number(text: &mut Vec<u8>, number: u64) -> Result<(), NoMemory>
+    ensures ok { OnOk result (text.new.items ≡ text.old.items ++ decimal number) }
+    ensures kept { StartsWith text.new.items text.old.items }
+{
+    let mut buffer = Buffer::new();
+    text.extend_from_slice(buffer.format(number).as_bytes())?;
+    Ok(())
+}

@@ -1,0 +1,10 @@
+//! Named values as a line: a row of CSV, or a JSON object.
+#![tactic(auto)]
+
+mod cell;
+mod object;
+mod row;
+
+pub use cell::{Cell, Field};
+pub use object::put_object;
+pub use row::{put_names, put_row};
