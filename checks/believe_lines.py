@@ -300,6 +300,24 @@ SAYS = {
         'is_never': 'whether a finding is that a thread was never activated',
         'is_lost': 'whether a finding is a lost signal',
     },
+    'mcs_fields/specs/Fields.antt': {
+        'Text': 'bytes',
+        'members_of': 'those of these fields',
+    },
+    'mcs_check/specs/Fields.antt': {
+        'Fields': 'values, each with its name before it',
+        'note_of': 'the notification of a lost signal',
+        'word_of': 'and the word that it left as it was',
+        'number_of': 'the number of a round that missed its deadline',
+        'response_of': 'and its response',
+        'deadline_of': 'the deadline of what is late, or never came',
+    },
+    'mcs_check/specs/Formats.antt': {
+        'found_line': 'the line of a finding',
+        'job_line': 'the line of a round that ended',
+        'hint_line': 'the line of a hint',
+        'counts_line': 'the line of counts',
+    },
 }
 
 # by name, as the library writes it
@@ -368,6 +386,14 @@ WORDS = {
     'is_some': 'whether there is one',
     'unwrap_or': 'the one that there is, or else this',
     'option_map': 'the one that there is, changed, or `None`',
+    'comma_if': 'a comma where this is so, else nothing',
+    'compact_text': 'the JSON text of a value that has no fraction, with no space, as the crate `serde_json` has it',
+    'number': 'a JSON number',
+    'unsigned': 'of at least 0',
+    'string': 'a JSON text',
+    'object': 'a JSON object of these members',
+    'member': 'a member, its key and its value, and then others',
+    'no_members': 'none',
     'option_to_list': 'a list of the one that there is, or of none',
     'option_and_then': 'what this makes of the one that there is, or `None`',
     'Result': '`Ok x` or `Err e`',

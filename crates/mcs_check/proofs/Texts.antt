@@ -9,7 +9,7 @@ use Rattle.mcs_check_words.specs.declared.asked.Show.TheVariants as show
 use Rattle.mcs_hints.specs.Hints.{hints_of}
 use Rattle.mcs_check.specs.declared.counts.Counts.{Counts}
 use Rattle.mcs_check.specs.Allowed.{flags_of}
-use Rattle.mcs_check.specs.Check.{check_text, counts_of, found_of, shown_lines}
+use Rattle.mcs_check.specs.Check.{check_text, counts_of, shown_lines}
 use Rattle.mcs_check.specs.Counts.{no_counts, with_hints}
 use Rattle.mcs_check.specs.Formats.{counts_line, head_text, hint_line}
 use Rattle.mcs_check.specs.Told.{counts_with, found_lines, merged_in}

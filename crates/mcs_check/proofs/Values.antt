@@ -1,5 +1,5 @@
 -- The values of fields, as the code has them and as the definitions do.
-use Rattle.std.proofs.Common.{◌≡◌, ◌∙◌, ◌∷◌, [], List, ap, map, refl, sym}
+use Rattle.std.proofs.Common.{◌≡◌, ◌∙◌, ◌∷◌, [], List, ap, map, refl}
 use Rattle.std.specs.Borrow.{Bor}
 use Rattle.mcs_fields.specs.declared.cell.Cell.{Cell}
 use Rattle.mcs_fields.specs.Fields.{Text, field_of, value_of}

@@ -4,7 +4,6 @@ use Rattle.std.specs.List.{list_any}
 use Rattle.std.specs.Str.{bytes_eq, chars}
 use Rattle.strsim.specs.Edits.{levenshtein_row}
 use Rattle.mcs_system.specs.declared.part.NotePart.{NotePart}
-use Rattle.mcs_cli.specs.declared.fault.RunFault.{RunFault}
 use Rattle.mcs_cli.specs.declared.fault.RunFault.TheVariants as run
 use Rattle.mcs_check.specs.declared.fault.CheckFault.{CheckFault}
 use Rattle.mcs_check.specs.declared.fault.CheckFault.TheVariants.{Run, Unknown}

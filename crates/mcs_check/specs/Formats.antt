@@ -1,5 +1,5 @@
 -- The lines of what is shown, in each format.
-use Rattle.std.specs.Prelude.{ℕ, List, [], ◌∷◌, codes, map}
+use Rattle.std.specs.Prelude.{List, [], ◌∷◌, codes, map}
 use Rattle.mcs_fields.specs.Fields.{Text, names_text, object_text, row_text}
 use Rattle.mcs_system.specs.System.{System}
 use Rattle.mcs_hints.specs.declared.hint.Hint.{Hint}

@@ -1,5 +1,5 @@
 -- What is told of what was found, and how much of each kind there is.
-use Rattle.std.specs.Prelude.{ℕ, ◌+◌, ◌-◌, ◌^◌, min, Bool, true, false, not, if◌then◌else◌, List, [], ◌∷◌, ◌++◌, count_by, filter, flat_map, cond}
+use Rattle.std.specs.Prelude.{ℕ, ◌+◌, ◌-◌, ◌^◌, min, Bool, true, false, not, if◌then◌else◌, List, [], ◌∷◌, count_by, filter, flat_map}
 use Rattle.mcs_ticks.specs.declared.row.Row.{Row}
 use Rattle.mcs_system.specs.System.{System}
 use Rattle.mcs_verdict.specs.declared.finding.Finding.{Finding}

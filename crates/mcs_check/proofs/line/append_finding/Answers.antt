@@ -1,6 +1,6 @@
-use Rattle.std.proofs.Common.{◌≡◌, ◌++◌, ◌∷◌, [], List, ℕ, codes, decimal}
+use Rattle.std.proofs.Common.{◌∷◌, [], codes, decimal}
 use Rattle.std.proofs.lemmas.Result.{on_ok_weaker}
-use Rattle.mcs_text.specs.Text.{after, thread_name}
+use Rattle.mcs_text.specs.Text.{thread_name}
 use Rattle.mcs_check.specs.Lines.{late_words}
 use Rattle.mcs_check.proofs.Words.{then-word, then-words}
 use Rattle.mcs_check.proofs.line.append_finding.Goals as goal

@@ -1,4 +1,4 @@
-use Rattle.std.proofs.Common.{◌≡◌, ◌∙◌, ◌∷◌, ap, ap₂, sym, subst, is_ok}
+use Rattle.std.proofs.Common.{◌≡◌, ◌∙◌, ap, ap₂, sym, subst, is_ok}
 use Rattle.mcs_verdict.specs.Watch.{watch_of}
 use Rattle.mcs_cli.specs.Flow.{TakesLine}
 use Rattle.mcs_check.specs.stored.Rows.{counted_at, failed_after, shown_at, shown_text, told_at, told_line}
