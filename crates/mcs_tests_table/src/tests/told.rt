@@ -5,6 +5,7 @@ use mcs_system::System;
 use mcs_table::{Figures, Margin, Rounds, Share, Signals, Table, tabulate};
 use mcs_ticks::{ContextId, CoreId, NoteId, Row, ThreadId, Tick, What};
 use mcs_verdict::{Stood, Watch};
+use std::alloc::Global;
 use std::process::Abort;
 use std::test::Fail;
 
@@ -66,25 +67,33 @@ fn round(thread: usize, number: u64, response: u64) -> What {
     }
 }
 
-fn figures(rt: &impl Abort, system: &System, watch: &Watch, table: &Table, thread: usize) -> Figures
+fn is_told(
+    rt: &impl Abort,
+    system: &System,
+    watch: &Watch,
+    table: &Table,
+    thread: usize,
+    wanted: &Figures,
+)
     requires watched { length watch.now.accounts ≡ length system.now.threads }
     requires kept { length table.now.accounts ≡ length system.now.threads }
 {
     assert!(rt; thread < system.parts().threads.len());
-    table.figures(system, watch, ThreadId(thread))
+    assert!(rt; table.figures(system, watch, ThreadId(thread)) == *wanted);
 }
 
-fn unused(
+fn is_unused(
     rt: &impl Abort,
     system: &System,
     watch: &Watch,
     table: &Table,
     context: usize,
-) -> Option<u64>
+    wanted: Option<u64>,
+)
     requires watched { length watch.now.accounts ≡ length system.now.threads }
 {
     assert!(rt; context < system.parts().contexts.len());
-    table.unused(system, watch, ContextId(context))
+    assert!(rt; table.unused(system, watch, ContextId(context)) == wanted);
 }
 
 fn stood(pending: u64, running: u64) -> Stood {
@@ -99,26 +108,9 @@ fn stood(pending: u64, running: u64) -> Stood {
     }
 }
 
-// The word is set at 1 and the round ends at 16, 15 ticks later; it begins at 4, from where its row counts 12.
-#[test]
-fn a_round_that_waits_in_line(rt: HostRuntime) -> Result<(), Fail> {
-    let system = load(rt.alloc(), WAITS.as_bytes())?;
-    let got = What::Got {
-        thread: ThreadId(1),
-        note: NoteId(0),
-        word: 3,
-    };
-    let rows = [
-        row(1, hold(1)),
-        row(1, run(1)),
-        row(2, hold(1)),
-        row(3, hold(3)),
-        row(4, got),
-        row(16, round(1, 1, 12)),
-    ];
-    let horizon = Tick::new(20).unwrap();
-    let (watch, table) = tabulate(rt.alloc(), &system, horizon, rows.as_slice())?;
-    let wanted = Figures {
+// It is activated when the word is set, at 1, begins at 4, from where its row counts, and ends at 16. It runs from 1 on.
+fn rounds_of_waits() -> Figures {
+    Figures {
         core: CoreId(0),
         priority: 5,
         share: Share {
@@ -140,27 +132,40 @@ fn a_round_that_waits_in_line(rt: HostRuntime) -> Result<(), Fail> {
         margin: Some(Margin::Over(1)),
         signals: Some(Signals { lost: 1, merged: 1 }),
         stood: stood(1, 19),
+    }
+}
+
+fn waits_are_told(rt: &impl Abort, alloc: Global, system: &System) -> Result<(), Fail> {
+    let got = What::Got {
+        thread: ThreadId(1),
+        note: NoteId(0),
+        word: 3,
     };
-    assert_eq!(rt; figures(&rt, &system, &watch, &table, 1), wanted);
+    let rows = [
+        row(1, hold(1)),
+        row(1, run(1)),
+        row(2, hold(1)),
+        row(3, hold(3)),
+        row(4, got),
+        row(16, round(1, 1, 12)),
+    ];
+    let (watch, table) = tabulate(alloc, system, Tick::new(20).unwrap(), rows.as_slice())?;
+    is_told(rt, system, &watch, &table, 1, &rounds_of_waits());
     // it ran 19 of 20 ticks, and the first thread none of the 6 that it might have run
-    assert_eq!(rt; unused(&rt, &system, &watch, &table, 0), Some(6));
-    assert_eq!(rt; unused(&rt, &system, &watch, &table, 1), Some(1));
+    is_unused(rt, system, &watch, &table, 0, Some(6));
+    is_unused(rt, system, &watch, &table, 1, Some(1));
     Ok(())
 }
 
-// Responses of 1, 4 and 2 ticks: the second in rising order is the 50th percentile, and the last the 90th and the 99th.
 #[test]
-fn rounds_of_one_thread(rt: HostRuntime) -> Result<(), Fail> {
-    let system = load(rt.alloc(), COMPUTES.as_bytes())?;
-    let rows = [
-        row(0, run(0)),
-        row(1, round(0, 1, 1)),
-        row(5, round(0, 2, 4)),
-        row(7, round(0, 3, 2)),
-    ];
-    let horizon = Tick::new(18).unwrap();
-    let (watch, table) = tabulate(rt.alloc(), &system, horizon, rows.as_slice())?;
-    let wanted = Figures {
+fn a_round_that_waits_in_line(rt: HostRuntime) -> Result<(), Fail> {
+    let system = load(rt.alloc(), WAITS.as_bytes())?;
+    waits_are_told(&rt, rt.alloc(), &system)
+}
+
+// Responses of 1, 4 and 2 ticks: the second in rising order is the 50th percentile, and the last the 90th and the 99th.
+fn rounds_of_computes() -> Figures {
+    Figures {
         core: CoreId(0),
         priority: 6,
         share: Share {
@@ -182,15 +187,26 @@ fn rounds_of_one_thread(rt: HostRuntime) -> Result<(), Fail> {
         margin: Some(Margin::Over(1)),
         signals: None,
         stood: stood(0, 18),
-    };
-    assert_eq!(rt; figures(&rt, &system, &watch, &table, 0), wanted);
-    let other = figures(&rt, &system, &watch, &table, 1);
-    assert_eq!(rt;
-        (other.rounds.ended, other.rounds.greatest, other.margin),
-        (0, None, None)
-    );
+    }
+}
+
+fn computes_are_told(rt: &impl Abort, alloc: Global, system: &System) -> Result<(), Fail> {
+    let rows = [
+        row(0, run(0)),
+        row(1, round(0, 1, 1)),
+        row(5, round(0, 2, 4)),
+        row(7, round(0, 3, 2)),
+    ];
+    let (watch, table) = tabulate(alloc, system, Tick::new(18).unwrap(), rows.as_slice())?;
+    is_told(rt, system, &watch, &table, 0, &rounds_of_computes());
     // an order names the first context, and the second one let nothing run
-    assert_eq!(rt; unused(&rt, &system, &watch, &table, 0), None);
-    assert_eq!(rt; unused(&rt, &system, &watch, &table, 1), Some(18));
+    is_unused(rt, system, &watch, &table, 0, None);
+    is_unused(rt, system, &watch, &table, 1, Some(18));
     Ok(())
+}
+
+#[test]
+fn rounds_of_one_thread(rt: HostRuntime) -> Result<(), Fail> {
+    let system = load(rt.alloc(), COMPUTES.as_bytes())?;
+    computes_are_told(&rt, rt.alloc(), &system)
 }
