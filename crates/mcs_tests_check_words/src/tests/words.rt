@@ -67,6 +67,7 @@ static TAKEN: [(&str, &str); 8] = [
         "--show findings in.toml",
         "in.toml 1000 1 [] false findings text",
     ),
+    ("--format csv --show jobs", " 1000 1 [] false jobs csv"),
 ];
 
 #[test]
