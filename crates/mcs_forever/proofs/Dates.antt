@@ -5,7 +5,7 @@ use Rattle.std.specs.List.{range_with_len}
 use Rattle.std.proofs.lemmas.Bool.Decides.{nat_tests}
 use Rattle.std.proofs.lemmas.List.{map-append, length-map}
 use Rattle.mcs_refills.specs.declared.refill.Refill.{Refill}
-use Rattle.mcs_refills.specs.Server.{dates_of, with_date, refills_of, first_date, last_date, first_amount, head_amount, last_moved, rejoined, charged, charged_with_enough, touches, unblocked, with_enough, enough, gathered, joined}
+use Rattle.mcs_refills.specs.Server.{dates_of, with_date, refills_of, last_date, first_amount, head_amount, last_moved, rejoined, charged, charged_with_enough, touches, unblocked, with_enough, enough, gathered, joined}
 use Rattle.mcs_refills.specs.laws.Spacing.{IsWithin, AreKept}
 use Rattle.mcs_refills.proofs.Dates.{map-range}
 use Rattle.mcs_refills.proofs.Spaces.{IsLaid, laid-refills_of, dates_of-refills_of, kept-charged}
@@ -14,10 +14,7 @@ use Rattle.mcs_forever.specs.Later.{later_dates}
 abbrev later_refill : ℕ → Refill → Refill
 later_refill by refill = record { begins = refill.begins + by; amount = refill.amount }
 
--- tests of moved numbers
-eq-later : (a b d : ℕ) → (a + d == b + d) ≡ (a == b)
-eq-later a b d = grind (arith, nat_tests)
-
+-- a test of moved numbers
 next-later : (a b d : ℕ) → (a + d + 1 == b + d) ≡ (a + 1 == b)
 next-later a b d = grind (arith, nat_tests)
 
@@ -205,8 +202,3 @@ module _ (d : ℕ) where
       let kept = kept-before_enough k budget period max_refills us l h in
       ap (with_enough min_budget) (charged-later k budget period max_refills us l h)
       ∙ with_enough-later min_budget kept.low (kept.low + period) (charged k period max_refills us) (omega arith) kept.within
-
-  -- the first date, where there is one
-  pub first-later : (us : List ℕ) → 1 ≤ length us → first_date (later_dates d us) ≡ first_date us + d
-  first-later [] l = absurd (omega (arith, l))
-  first-later (u ∷ us) l = refl

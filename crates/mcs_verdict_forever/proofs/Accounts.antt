@@ -58,9 +58,6 @@ module _ (shift : Shift) where
       by false = refl
 
   -- what is kept of a round that began then
-  abbrev with_begun : Option ℕ → Account → Account
-  with_begun begun account = record account { begun = begun }
-
   active-later : (begun : Option ℕ) (m : ℕ) (s : Standing) (a : Account) →
       active_since (later_moment d begun) (m + d) s (later a) ≡ later_moment d (active_since begun m s a)
   active-later None m s a = refl
