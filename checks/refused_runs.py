@@ -68,10 +68,12 @@ def kinds_of_simulator() -> Iterator[Kind]:
 
 
 def kinds_of_checker() -> Iterator[Kind]:
-    system, words, written = checker.example()
-    for workers in ('1', '2'):
-        asked = [*words, '--workers', workers, '--allow-lost', 'fire']
-        yield Kind('mcscheck', f'the example of FORMAT, {workers} workers', asked, system, 5, written, b'')
+    system, runs = checker.example()
+    # what is shown, and how, is told by one thread whoever runs the cores
+    for number, (words, written) in enumerate(runs):
+        for workers in ('1', '2') if number == 0 else ('1',):
+            asked = [*words, '--workers', workers, '--allow-lost', 'fire']
+            yield Kind('mcscheck', f'the example of FORMAT with {" ".join(words)}, {workers} workers', asked, system, 5, written, b'')
     near = checker.unknown('tik', 'the nearest is tick')
     yield Kind('mcscheck', 'an unknown name', ['--allow-lost', 'fire', '--allow-lost', 'tik'], system, 2, b'', near)
 
