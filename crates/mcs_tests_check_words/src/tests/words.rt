@@ -12,11 +12,11 @@ fn answer(alloc: Global, words: &[String]) -> Result<String, AllocError> {
             let workers = options.workers;
             let allowed = &options.allowed;
             let strict = options.strict;
-            let show = match options.show {
+            let show = match &options.show {
                 Show::Findings => "findings",
                 Show::Jobs => "jobs",
             };
-            let format = match options.format {
+            let format = match &options.format {
                 Format::Text => "text",
                 Format::Csv => "csv",
                 Format::Json => "json",
