@@ -4,13 +4,13 @@ ghost use Rattle.mcs_system.specs.System.{System as TheSystem};
 ghost use Rattle.mcs_verdict.specs.Findings.{finding, UpTo};
 ghost use Rattle.mcs_verdict.specs.Watch.{watch_of};
 ghost use Rattle.mcs_check.specs.Counts.{told_of};
-ghost use Rattle.mcs_check.specs.stored.Rows.{counted_at, shown_at, shown_found, shown_job};
+ghost use Rattle.mcs_check.specs.stored.Rows.{counted_at, shown_at};
 
 use crate::Counts;
 use crate::shown::Shown;
 use mcs_check_words::Show;
 use mcs_ticks::Row;
-use mcs_verdict::{Finding, Found, Job, Watch};
+use mcs_verdict::{Finding, Found, Watch};
 
 /// What is kept of the rows that went by: what threads and notifications came to, how much was found, and its lines.
 #[derive(Drop)]
@@ -34,11 +34,24 @@ impl Seen {
             result ≡ shown_at system allowed.now show past row.now }
     {
         match show {
-            Show::Findings => shown_found(row, self.find(allowed, row)),
+            Show::Findings => {
+                // most rows leave here, and make no room for what is shown
+                let Some(finding) = self.find(allowed, row) else {
+                    return None;
+                };
+                Some(Shown::Found(Found {
+                    moment: row.moment,
+                    core: row.core,
+                    finding,
+                }))
+            }
             Show::Jobs => {
                 let job = self.watch.job(row);
                 self.find(allowed, row);
-                shown_job(job)
+                let Some(job) = job else {
+                    return None;
+                };
+                Some(Shown::Job(job))
             }
         }
     }
@@ -60,24 +73,4 @@ impl Seen {
         let found = self.watch.see(row);
         self.counts.take(allowed, found)
     }
-}
-
-/// What is told of a row, as it is shown.
-#[inline(always)]
-fn shown_found(row: &Row, finding: Option<Finding>) -> Option<Shown>
-    ensures { result ≡ shown_found row.now.moment row.now.core finding }
-{
-    finding.map(|finding| {
-        Shown::Found(Found {
-            moment: row.moment,
-            core: row.core,
-            finding,
-        })
-    })
-}
-
-fn shown_job(job: Option<Job>) -> Option<Shown>
-    ensures { result ≡ shown_job job }
-{
-    job.map(Shown::Job)
 }
