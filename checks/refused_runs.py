@@ -69,9 +69,8 @@ def kinds_of_simulator() -> Iterator[Kind]:
 
 def kinds_of_checker() -> Iterator[Kind]:
     system, runs = checker.example()
-    # what is shown, and how, is told by one thread whoever runs the cores
-    for number, (words, written) in enumerate(runs):
-        for workers in ('1', '2') if number == 0 else ('1',):
+    for words, written in runs:
+        for workers in ('1', '2'):
             asked = [*words, '--workers', workers, '--allow-lost', 'fire']
             yield Kind('mcscheck', f'the example of FORMAT with {" ".join(words)}, {workers} workers', asked, system, 5, written, b'')
     near = checker.unknown('tik', 'the nearest is tick')
