@@ -140,7 +140,7 @@ impl Table {
         }
     }
 
-    /// What the table tells of a thread, in constant time, where it and the watch saw all rows up to the horizon.
+    /// What the table tells of a thread, where it and the watch saw all rows up to the horizon.
     pub fn figures(&self, system: &System, watch: &Watch, thread: ThreadId) -> Figures
         requires known { thread < length system.now.threads }
         requires kept { length self.now.accounts ≡ length system.now.threads }
