@@ -1,0 +1,45 @@
+-- Since when a thread waited for the word that began its round, by the rows so far, the latest first.
+use Rattle.std.specs.Prelude.{ℕ, List, [], ◌∷◌, ◌==◌, if◌then◌else◌, Option, Some, None}
+use Rattle.mcs_ticks.specs.declared.row.Row.{Row}
+use Rattle.mcs_ticks.specs.declared.row.What.{What}
+use Rattle.mcs_ticks.specs.declared.row.What.TheVariants as row
+use Rattle.mcs_system.specs.System.{System, thread_part}
+use Rattle.mcs_verdict.specs.Rounds.{first_wait, begun}
+use Rattle.mcs_verdict.specs.Words.{held}
+use Rattle.mcs_verdict.specs.Misses.{set_at}
+
+-- when the thread stopped last
+abbrev pub stopped_after : ℕ → ℕ → What → Option ℕ → Option ℕ
+stopped_after thread moment (row.Stop x cause charged until) before = if x == thread then Some moment else before
+stopped_after thread moment _ before = before
+
+abbrev pub stopped : ℕ → List Row → Option ℕ
+stopped thread [] = None
+stopped thread (r ∷ past) = stopped_after thread r.moment r.what (stopped thread past)
+
+-- where a word begins a round, this is since when the thread waited for it
+abbrev pub waited_by : Option ℕ → Option ℕ → Option ℕ → Option ℕ → Option ℕ
+waited_by (Some note) None since before = since
+waited_by waits begun since before = before
+
+-- a thread that is woken waited since it stopped; one that takes a word that is held did not wait
+abbrev pub waited_after : Option ℕ → ℕ → Option ℕ → Option ℕ → What → Option ℕ → Option ℕ
+waited_after waits thread begun stopped (row.Wake x note word) before = if x == thread then waited_by waits begun stopped before else before
+waited_after waits thread begun stopped (row.Got x note word) before = if x == thread then waited_by waits begun None before else before
+waited_after waits thread begun stopped _ before = before
+
+-- since when the thread waited for the word that began its latest round, if one did, and if it waited
+abbrev pub waited : Option ℕ → ℕ → ℕ → List Row → Option ℕ
+waited waits start thread [] = None
+waited waits start thread (r ∷ past) =
+    waited_after waits thread (begun waits start thread past) (stopped thread past) r.what (waited waits start thread past)
+
+abbrev pub waited_of : System → ℕ → List Row → Option ℕ
+waited_of system thread past =
+    let part = thread_part system thread in
+    waited (first_wait part) part.start thread past
+
+-- when the word was set that the notification holds, where it holds one
+abbrev pub word_set : Option ℕ → List Row → Option ℕ
+word_set None past = None
+word_set (Some note) past = set_at (held note past)

@@ -1,0 +1,145 @@
+ghost use Rattle.std.specs.Prelude.{◌≡◌, ℕ, ◌+◌, ◌-◌, ◌<◌, ◌≤◌, ◌^◌, List, [], ◌∷◌, length, min, IfOk};
+ghost use Rattle.mcs_ticks.specs.declared.row.Row.{Row as TheRow};
+ghost use Rattle.mcs_verdict.specs.Findings.{UpTo};
+ghost use Rattle.mcs_verdict.specs.Account.{since_of};
+ghost use Rattle.mcs_why.specs.Account.{passed_at, account_at, account_of, runner_now};
+ghost use Rattle.mcs_why.specs.Running.{is_turn, runner, is_within, ran_in, idle_in};
+
+use crate::Span;
+use mcs_system::System;
+use mcs_ticks::{CoreId, NoMemory, Row, ThreadId, Tick, What};
+use std::alloc::Global;
+use std::marker::Model;
+
+/// Tells which rows belong to a span, and counts meanwhile how long each thread ran on its core and how long that was idle. A row more takes
+/// constant time and no memory, since all room is taken when the account is made: a count for each thread.
+#[derive(Drop)]
+pub struct Account {
+    core: CoreId,
+    from: Tick,
+    to: Tick,
+    /// The ticks of the span that are counted.
+    passed: u64,
+    /// Who runs since then.
+    runner: Option<ThreadId>,
+    ran: Vec<u64>,
+    idle: u64,
+}
+
+impl Model for Account {
+    ghost use Rattle.mcs_verdict.specs.Account.{since_of};
+ghost use Rattle.mcs_why.specs.Account.{Account};
+
+    ghost Value = { Account };
+
+    ghost view = { λ a. record { core = a.core; from = a.from; to = a.to; passed = a.passed; runner = a.runner; ran = a.ran.items; idle = a.idle } };
+}
+
+// Whether a row says who runs from then on.
+fn is_turn(what: &What) -> bool
+    ensures { result ≡ is_turn what.now }
+{
+    matches!(*what, What::Run { .. } | What::Stop { .. })
+}
+
+fn runner(what: &What) -> Option<ThreadId>
+    ensures { result ≡ runner what.now }
+{
+    match *what {
+        What::Run { thread } => Some(thread),
+        _ => None,
+    }
+}
+
+// The ticks of a span before a moment.
+fn passed_at(from: Tick, to: Tick, moment: Tick) -> u64
+    ensures value { result ≡ passed_at from to moment }
+    ensures small { result < 2 ^ 64 }
+{
+    moment.get().min(to.get()).saturating_sub(from.get())
+}
+
+impl Account {
+    /// Before the first row of a run of the system. `NoMemory` where a growth was refused.
+    pub fn new(alloc: Global, system: &System, span: &Span) -> Result<Self, NoMemory>
+        ensures { IfOk result (λ account. account ≡ account_of (length system.now.threads) span.now.core span.now.from span.now.to []) }
+    {
+        Ok(Account {
+            core: span.core,
+            from: span.from,
+            to: span.to,
+            passed: 0,
+            runner: None,
+            ran: vec![in alloc; 0; system.parts().threads.len()]?,
+            idle: 0,
+        })
+    }
+
+    // The ticks of the span up to so many, in which the same runs.
+    fn pass(&mut self, passed: u64)
+        ensures { (threads core from to before : ℕ) (rows : List TheRow) → self.old ≡ account_at threads core from to rows before →
+            before ≤ passed → (before < passed → since_of rows ≤ from + before) →
+            self.new ≡ account_at threads core from to rows passed }
+    {
+        let ticks = passed.saturating_sub(self.passed);
+        self.passed = passed;
+        match self.runner {
+            Some(thread) if thread.0 < self.ran.len() => {
+                self.ran[thread.0] = self.ran[thread.0].saturating_add(ticks);
+            }
+            Some(_) => {}
+            None => self.idle = self.idle.saturating_add(ticks),
+        }
+    }
+
+    /// One row more, in constant time and without memory: whether it is one of the span.
+    pub fn see(&mut self, row: &Row) -> bool
+        ensures shown { result ≡ is_within self.old.core self.old.from self.old.to row.now }
+        ensures kept { (threads core from to : ℕ) (past : List TheRow) → self.old ≡ account_of threads core from to past →
+            UpTo row.now.moment past → self.new ≡ account_of threads core from to (row.now ∷ past) }
+    {
+        if row.core.0 != self.core.0 {
+            return false;
+        }
+        if is_turn(&row.what) {
+            self.pass(passed_at(self.from, self.to, row.moment));
+            self.runner = runner(&row.what);
+        }
+        self.from.get() <= row.moment.get() && row.moment.get() <= self.to.get()
+    }
+
+    // The ticks of the span that are yet to be counted.
+    fn rest(&self) -> u64
+        ensures { result ≡ (self.now.to - self.now.from) - self.now.passed }
+    {
+        self.to
+            .get()
+            .saturating_sub(self.from.get())
+            .saturating_sub(self.passed)
+    }
+
+    /// How many ticks of the span the thread ran, where this saw all rows up to its end.
+    pub fn ran(&self, thread: ThreadId) -> u64
+        requires { thread < length self.now.ran }
+        ensures { (threads core from to : ℕ) (past : List TheRow) → self.now ≡ account_of threads core from to past →
+            result ≡ ran_in core thread past from to }
+    {
+        match self.runner {
+            Some(runner) if runner.0 == thread.0 => {
+                self.ran[thread.0].saturating_add(self.rest())
+            }
+            _ => self.ran[thread.0],
+        }
+    }
+
+    /// For how many ticks of the span its core was idle, where this saw all rows up to its end.
+    pub fn idle(&self) -> u64
+        ensures { (threads core from to : ℕ) (past : List TheRow) → self.now ≡ account_of threads core from to past →
+            result ≡ idle_in core past from to }
+    {
+        match self.runner {
+            Some(_) => self.idle,
+            None => self.idle.saturating_add(self.rest()),
+        }
+    }
+}

@@ -1,0 +1,16 @@
+//! Why a round of a thread took so long: from when to when the rows of its core tell it, which of them do, how long each thread ran
+//! meanwhile, and how long the core was idle. The rows of a schedule go by twice, and none is kept.
+#![tactic(auto)]
+
+mod account;
+mod all;
+mod laws;
+mod search;
+mod span;
+mod trail;
+
+pub use account::Account;
+pub use all::{find, tell};
+pub use laws::all_ticks_are_told;
+pub use search::Search;
+pub use span::{Sought, Span};
