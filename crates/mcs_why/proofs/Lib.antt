@@ -1,1 +1,4 @@
+pub mod Ticks
+pub mod Ranges
+pub mod Spans
 pub mod Worked

@@ -1,9 +1,10 @@
-ghost use Rattle.std.specs.Prelude.{◌≡◌, ℕ, ◌+◌, ◌-◌, ◌<◌, ◌≤◌, ◌^◌, List, [], ◌∷◌, length, min, IfOk};
+ghost use Rattle.std.specs.Prelude.{◌≡◌, ℕ, ◌+◌, ◌-◌, ◌<◌, ◌≤◌, ◌^◌, List, [], ◌∷◌, length, map, if◌then◌else◌, IfOk};
+ghost use Rattle.std.specs.List.{range_with_len};
 ghost use Rattle.mcs_ticks.specs.declared.row.Row.{Row as TheRow};
 ghost use Rattle.mcs_verdict.specs.Findings.{UpTo};
 ghost use Rattle.mcs_verdict.specs.Account.{since_of};
-ghost use Rattle.mcs_why.specs.Account.{passed_at, account_at, account_of, runner_now};
-ghost use Rattle.mcs_why.specs.Running.{is_turn, runner, is_within, ran_in, idle_in};
+ghost use Rattle.mcs_why.specs.Account.{passed_at, account_at, account_of};
+ghost use Rattle.mcs_why.specs.Running.{is_turn, runner, is_thread, is_within, ran_in, idle_in};
 
 use crate::Span;
 use mcs_system::System;
@@ -51,12 +52,40 @@ fn runner(what: &What) -> Option<ThreadId>
     }
 }
 
+fn is_thread(thread: ThreadId, runner: Option<ThreadId>) -> bool
+    ensures { result ≡ is_thread thread runner }
+{
+    match runner {
+        Some(runner) => runner.0 == thread.0,
+        None => false,
+    }
+}
+
 // The ticks of a span before a moment.
 fn passed_at(from: Tick, to: Tick, moment: Tick) -> u64
-    ensures value { result ≡ passed_at from to moment }
-    ensures small { result < 2 ^ 64 }
+    ensures { result ≡ passed_at from to moment }
 {
     moment.get().min(to.get()).saturating_sub(from.get())
+}
+
+// So many ticks, where this is so.
+fn ticks_if(is_so: bool, ticks: u64) -> u64
+    ensures { result ≡ (if is_so then ticks else 0) }
+{
+    if is_so { ticks } else { 0 }
+}
+
+// So many ticks more for who runs, where no sum is above 2^64 - 1.
+fn count(ran: &mut [u64], runner: Option<ThreadId>, ticks: u64)
+    ensures { (before : ℕ → ℕ) (threads : ℕ) → ran.old ≡ map before (range_with_len 0 threads) →
+        ((thread : ℕ) → before thread + ticks < 2 ^ 64) →
+        ran.new ≡ map (λ thread. (if is_thread thread runner then ticks else 0) + before thread) (range_with_len 0 threads) }
+{
+    if let Some(thread) = runner {
+        if thread.0 < ran.len() {
+            ran[thread.0] = ran[thread.0].saturating_add(ticks);
+        }
+    }
 }
 
 impl Account {
@@ -83,13 +112,10 @@ impl Account {
     {
         let ticks = passed.saturating_sub(self.passed);
         self.passed = passed;
-        match self.runner {
-            Some(thread) if thread.0 < self.ran.len() => {
-                self.ran[thread.0] = self.ran[thread.0].saturating_add(ticks);
-            }
-            Some(_) => {}
-            None => self.idle = self.idle.saturating_add(ticks),
-        }
+        count(self.ran.as_mut_slice(), self.runner, ticks);
+        self.idle = self
+            .idle
+            .saturating_add(ticks_if(self.runner.is_none(), ticks));
     }
 
     /// One row more, in constant time and without memory: whether it is one of the span.
@@ -124,12 +150,8 @@ impl Account {
         ensures { (threads core from to : ℕ) (past : List TheRow) → self.now ≡ account_of threads core from to past →
             result ≡ ran_in core thread past from to }
     {
-        match self.runner {
-            Some(runner) if runner.0 == thread.0 => {
-                self.ran[thread.0].saturating_add(self.rest())
-            }
-            _ => self.ran[thread.0],
-        }
+        let rest = ticks_if(is_thread(thread, self.runner), self.rest());
+        self.ran[thread.0].saturating_add(rest)
     }
 
     /// For how many ticks of the span its core was idle, where this saw all rows up to its end.
@@ -137,9 +159,7 @@ impl Account {
         ensures { (threads core from to : ℕ) (past : List TheRow) → self.now ≡ account_of threads core from to past →
             result ≡ idle_in core past from to }
     {
-        match self.runner {
-            Some(_) => self.idle,
-            None => self.idle.saturating_add(self.rest()),
-        }
+        let rest = ticks_if(self.runner.is_none(), self.rest());
+        self.idle.saturating_add(rest)
     }
 }

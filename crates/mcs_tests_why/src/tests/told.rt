@@ -5,6 +5,7 @@ use mcs_load::load;
 use mcs_system::System;
 use mcs_ticks::{CoreId, NoteId, Row, ThreadId, Tick, What, Why};
 use mcs_why::{Account, Sought, Span, find, tell};
+use std::alloc::Global;
 use std::process::Abort;
 use std::test::Fail;
 
@@ -77,7 +78,8 @@ fn tick(moment: u64) -> Tick
 }
 
 fn sought(
-    rt: &HostRuntime,
+    rt: &impl Abort,
+    alloc: Global,
     system: &System,
     thread: usize,
     number: u64,
@@ -89,7 +91,7 @@ fn sought(
 {
     assert!(rt; thread < system.parts().threads.len());
     Ok(find(
-        rt.alloc(),
+        alloc,
         system,
         ThreadId(thread),
         number,
@@ -143,9 +145,9 @@ fn a_round_that_waited_for_a_lock(rt: HostRuntime) -> Result<(), Fail> {
         activated: Some(tick(29)),
         begun: Some(tick(29)),
     };
-    let found = sought(&rt, &system, 3, 1, tick(100), rows.as_slice())?;
+    let found = sought(&rt, rt.alloc(), &system, 3, 1, tick(100), rows.as_slice())?;
     assert_eq!(rt; found, Sought::There(span));
-    let next = sought(&rt, &system, 3, 2, tick(100), rows.as_slice())?;
+    let next = sought(&rt, rt.alloc(), &system, 3, 2, tick(100), rows.as_slice())?;
     assert_eq!(rt; next, Sought::Missing(1));
     let account = tell(rt.alloc(), &system, &span, rows.as_slice())?;
     assert_eq!(rt; ran(&rt, &account, system.parts().threads.len()), [0, 4, 20, 3]);
@@ -174,7 +176,7 @@ fn a_round_that_waits_for_a_lock(rt: HostRuntime) -> Result<(), Fail> {
         activated: None,
         begun: None,
     };
-    let found = sought(&rt, &system, 3, 1, tick(20), rows.as_slice())?;
+    let found = sought(&rt, rt.alloc(), &system, 3, 1, tick(20), rows.as_slice())?;
     assert_eq!(rt; found, Sought::There(span));
     let account = tell(rt.alloc(), &system, &span, rows.as_slice())?;
     assert_eq!(rt; ran(&rt, &account, system.parts().threads.len()), [0, 1, 14, 0]);
@@ -224,10 +226,10 @@ fn rounds_that_wait_for_their_budget(rt: HostRuntime) -> Result<(), Fail> {
         activated: None,
         begun: Some(tick(13)),
     };
-    assert_eq!(rt; sought(&rt, &system, 0, 2, tick(15), rows.as_slice())?, Sought::There(second));
-    assert_eq!(rt; sought(&rt, &system, 0, 3, tick(15), rows.as_slice())?, Sought::There(third));
-    assert_eq!(rt; sought(&rt, &system, 0, 4, tick(15), rows.as_slice())?, Sought::Missing(3));
-    assert_eq!(rt; sought(&rt, &system, 0, 0, tick(15), rows.as_slice())?, Sought::Missing(3));
+    assert_eq!(rt; sought(&rt, rt.alloc(), &system, 0, 2, tick(15), rows.as_slice())?, Sought::There(second));
+    assert_eq!(rt; sought(&rt, rt.alloc(), &system, 0, 3, tick(15), rows.as_slice())?, Sought::There(third));
+    assert_eq!(rt; sought(&rt, rt.alloc(), &system, 0, 4, tick(15), rows.as_slice())?, Sought::Missing(3));
+    assert_eq!(rt; sought(&rt, rt.alloc(), &system, 0, 0, tick(15), rows.as_slice())?, Sought::Missing(3));
     let account = tell(rt.alloc(), &system, &third, rows.as_slice())?;
     assert_eq!(rt; account.idle(), 2);
     Ok(())
