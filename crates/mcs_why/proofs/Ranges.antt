@@ -72,7 +72,7 @@ counts-none before threads ticks =
     same_numbers before (with_more None ticks before) threads (λ k h. not_here false ticks (before k) refl)
 
 -- before the first row
-pub counts-first : (threads : ℕ) → replicate threads 0 ≡ map (λ thread. 0) (range_with_len 0 threads)
+pub counts-first : (threads : ℕ) → replicate {A = ℕ} threads 0 ≡ map (λ thread. 0) (range_with_len 0 threads)
 counts-first threads =
     fill_by_all (λ thread. 0) (replicate threads 0) threads 0 (length-replicate threads 0) (λ k h. get_or-replicate threads k 0 0 h)
 

@@ -1,5 +1,5 @@
 -- When a round under way was activated, told by the job that it would be if it ended at the horizon.
-use Rattle.std.proofs.Common.{◌≡◌, ℕ, zero, suc, ◌+◌, ◌-◌, ◌≤◌, ◌<◌, ◌×◌, Bool, true, false, eqb, cond, nat_lt, List, [], ◌∷◌, length, Option, Some, None, refl, sym, ap, subst, ◌∙◌, arith}
+use Rattle.std.proofs.Common.{◌≡◌, ℕ, zero, suc, ◌+◌, ◌-◌, ◌≤◌, ◌<◌, Bool, true, false, eqb, cond, nat_lt, List, [], ◌∷◌, length, Option, Some, None, refl, sym, ap, subst, ◌∙◌, arith}
 use Rattle.std.proofs.lemmas.Bool.Decides.{nat_tests}
 use Rattle.mcs_ticks.specs.declared.row.Row.{Row}
 use Rattle.mcs_ticks.specs.declared.row.What.{What}
@@ -13,7 +13,10 @@ use Rattle.mcs_verdict.specs.Standing.{standing_at, telling}
 use Rattle.mcs_verdict.specs.Rounds.{first_wait, begun_at, begun_by_word, begun_after, begun, begun_of, called_by, called_after, called, called_of, activated_by, activated}
 use Rattle.mcs_verdict.specs.Words.{held_of}
 use Rattle.mcs_verdict.specs.Jobs.{or_now, job, job_known, job_of}
-use Rattle.mcs_why.specs.Spans.{activated_of}
+use Rattle.mcs_why.specs.declared.span.Span.{Span}
+use Rattle.mcs_why.specs.declared.trail.Trail.{Trail}
+use Rattle.mcs_why.specs.Search.{told_by, trail_of}
+use Rattle.mcs_why.specs.Spans.{span_in, ended, activated_of, to_begin, waits_since, open_by, open_of, open_if, sought_by, sought}
 
 -- a moment of a round, if there is one, is so too of another
 abbrev IsSet : Option ℕ → Type 0
@@ -67,11 +70,109 @@ follows notes note start thread (r ∷ past) =
     (follows notes note start thread past)
 
 -- the first active tick is one of those that were looked at
+within : (earlier : Option ℕ) (active : Bool) (t x n : ℕ) → ((s : ℕ) → earlier ≡ Some s → s < x) → x ≤ n → or_tick earlier active x ≡ Some t → t < suc n
+within (Some s) active t x n h up e = let below : s < x = h s refl in let same : s ≡ t = cc in omega arith
+within None true t x n h up e = let same : x ≡ t = cc in omega arith
+within None false t x n h up e = absurd (cc)
+
 first_within : (next : Option What) (rows : List Row) (from n t : ℕ) → first_for next rows from n ≡ Some t → t < from + n
 first_within next rows from zero t e = absurd (cc)
-first_within next rows from (suc n) t e = by (first_for next rows from n) (is_active (standing_at (from + n) next rows)) refl e
+first_within next rows from (suc n) t e =
+    let below =
+    within (first_for next rows from n) (is_active (standing_at (from + n) next rows)) t (from + n) (from + n)
+    (λ s f. first_within next rows from n s f) (omega arith) e
+    in
+    omega (arith, below)
+
+some_ticks : (next : Option What) (rows : List Row) (from n t : ℕ) → first_for next rows from n ≡ Some t → 0 < n
+some_ticks next rows from zero t e = absurd (cc)
+some_ticks next rows from (suc n) t e = omega arith
+
+-- a round under way is told to be activated at the horizon where it is not yet
+recovered : (waits called active : Option ℕ) (horizon : ℕ) → ((note : ℕ) → waits ≡ Some note → IsSet called) → ((t : ℕ) → active ≡ Some t → t < horizon)
+    → told_by waits horizon (or_now horizon (activated_by waits called active)) ≡ activated_by waits called active
+recovered (Some note) (Some set) active horizon set_is below = refl
+recovered (Some note) None active horizon set_is below = absurd (set_is note refl)
+recovered None called (Some t) horizon set_is below =
+    let h : t < horizon = below t refl in
+    let is : nat_lt t horizon ≡ true = grind (arith, nat_tests) in
+    ap (λ b. cond b (Some t) None) is
+recovered None called None horizon set_is below =
+    let is : nat_lt horizon horizon ≡ false = grind (arith, nat_tests) in
+    ap (λ b. cond b (Some horizon) None) is
+
+set_where : (began word : Option ℕ) (b : ℕ) → began ≡ Some b → Follows began word → IsSet word
+set_where None word b e h = absurd (cc)
+set_where (Some x) word b e h = h
+
+-- of the round of a thread
+called_where : (notes : ℕ) (waits : Option ℕ) (start thread : ℕ) (past : List Row) (b note : ℕ) → begun waits start thread past ≡ Some b → waits ≡ Some note
+    → IsSet (called notes waits start thread past)
+called_where notes (Some x) start thread past b note e is =
+    set_where (begun (Some x) start thread past) (called notes (Some x) start thread past) b e (follows notes x start thread past)
+called_where notes None start thread past b note e is = absurd (cc)
+
+told_activated : (system : System) (thread : ℕ) (past : List Row) (horizon b : ℕ) → begun_of system thread past ≡ Some b
+    → told_by (first_wait (thread_part system thread)) horizon (or_now horizon (activated system thread past b horizon)) ≡ activated system thread past b horizon
+told_activated system thread past horizon b e =
+    let part = thread_part system thread in
+    recovered (first_wait part) (called_of system thread past) (first_active thread past b horizon) horizon
+    (λ note is. called_where (length system.notes) (first_wait part) part.start thread past b note e is)
+    (λ t is.
+    let below = first_within None (telling thread past) b (horizon - b) t is in
+    let some = some_ticks None (telling thread past) b (horizon - b) t is in
+    omega (arith, below, some))
+
+-- the job of a thread that the system has
+known_job : (system : System) (past : List Row) (horizon thread number : ℕ) (told : Job) → thread < length system.threads
+    → Some told ≡ job_known system past horizon thread number → told ≡ job system past horizon thread number
+known_job system past horizon thread number told has e =
+    let is : nat_lt thread (length system.threads) ≡ true = grind (arith, nat_tests) in
+    some_same told (job system past horizon thread number) (e ∙ ap (λ b. cond b (Some (job system past horizon thread number)) None) is)
   where
-    by : (earlier : Option ℕ) (active : Bool) → first_for next rows from n ≡ earlier → or_tick earlier active (from + n) ≡ Some t → t < from + suc n
-    by (Some x) active is e = let h = first_within next rows from n x is in let same : x ≡ t = cc in omega arith
-    by None true is e = let same : from + n ≡ t = cc in omega arith
-    by None false is e = absurd (cc)
+    some_same : (x y : Job) → Some x ≡ Some y → x ≡ y
+    some_same x y e = cc
+
+pub under_way : (system : System) (thread number : ℕ) (past : List Row) (horizon b : ℕ) (waits : Option ℕ) (told : Job) → thread < length system.threads
+    → begun_of system thread past ≡ Some b → waits ≡ first_wait (thread_part system thread) → Some told ≡ job_known system past horizon thread number
+    → told_by waits horizon told.activated ≡ activated_of system thread past horizon (begun_of system thread past)
+under_way system thread number past horizon b waits told has e w is =
+    let same = known_job system past horizon thread number told has is in
+    ap (λ waits. told_by waits horizon told.activated) w
+    ∙ ap (λ (job : Job). told_by (first_wait (thread_part system thread)) horizon job.activated) same
+    ∙ ap (λ began. told_by (first_wait (thread_part system thread)) horizon (or_now horizon (activated system thread past (or_now horizon began) horizon))) e
+    ∙ told_activated system thread past horizon b e
+    ∙ ap (activated_of system thread past horizon) (sym e)
+
+pub unknown_job : (system : System) (past : List Row) (horizon thread number : ℕ) → thread < length system.threads
+    → None ≡ job_known system past horizon thread number → ⊥
+unknown_job system past horizon thread number has e =
+    let is : nat_lt thread (length system.threads) ≡ true = grind (arith, nat_tests) in
+    no (e ∙ ap (λ b. cond b (Some (job system past horizon thread number)) None) is)
+  where
+    no : None ≡ Some (job system past horizon thread number) → ⊥
+    no e = absurd (cc)
+
+pub none_under_way : (system : System) (thread : ℕ) (past : List Row) (horizon : ℕ) → begun_of system thread past ≡ None
+    → None ≡ activated_of system thread past horizon (begun_of system thread past)
+none_under_way system thread past horizon e = ap (activated_of system thread past horizon) (sym e)
+
+-- the round that has not ended, by what is kept
+pub told_open : (system : System) (thread number : ℕ) (past : List Row) (horizon : ℕ) (trail : Trail) (at : Option ℕ) → trail ≡ trail_of system thread number past
+    → at ≡ activated_of system thread past horizon (begun_of system thread past)
+    → open_by trail.thread trail.core trail.ended horizon trail.begun at trail.waited (to_begin trail.standing trail.set) (waits_since trail.standing trail.stopped)
+    ≡ open_of system horizon past thread
+told_open system thread number past horizon trail at e is =
+    let kept = trail_of system thread number past in
+    ap (λ (trail : Trail). open_by trail.thread trail.core trail.ended horizon trail.begun at trail.waited (to_begin trail.standing trail.set) (waits_since trail.standing trail.stopped)) e
+    ∙ ap (λ at. open_by thread kept.core kept.ended horizon kept.begun at kept.waited (to_begin kept.standing kept.set) (waits_since kept.standing kept.stopped)) is
+
+-- what there is of the round that is sought, where it has not ended
+pub told_sought : (system : System) (thread number : ℕ) (past : List Row) (horizon : ℕ) (trail : Trail) (unended : Option Span) → trail ≡ trail_of system thread number past
+    → trail.found ≡ None → unended ≡ open_of system horizon past thread
+    → open_if trail.number trail.ended unended ≡ sought system horizon past thread number
+told_sought system thread number past horizon trail unended e none is =
+    let found : span_in system thread number past ≡ None = sym (ap (λ (trail : Trail). trail.found) e) ∙ none in
+    ap (λ (trail : Trail). open_if trail.number trail.ended unended) e
+    ∙ ap (open_if number (ended thread past)) is
+    ∙ ap (λ span. sought_by number (ended thread past) span (open_of system horizon past thread)) (sym found)

@@ -1,5 +1,5 @@
 -- What is kept of a schedule's rows to find a round.
-use Rattle.std.specs.Prelude.{ℕ, List}
+use Rattle.std.specs.Prelude.{ℕ, nat_lt, if◌then◌else◌, List, Option, Some, None}
 use Rattle.mcs_ticks.specs.declared.row.Row.{Row}
 use Rattle.mcs_system.specs.System.{System, thread_part, core_of}
 use Rattle.mcs_verdict.specs.Standing.{telling}
@@ -26,3 +26,8 @@ trail_of system thread number past =
       set = word_set (first_wait part) past;
       standing = standing_of (telling thread past);
     }
+
+-- when a round under way was activated, where it is told to be activated at the horizon if it is not yet: a word that begins a round activates it
+abbrev pub told_by : Option ℕ → ℕ → ℕ → Option ℕ
+told_by (Some note) horizon moment = Some moment
+told_by None horizon moment = if nat_lt moment horizon then Some moment else None

@@ -1,10 +1,10 @@
-ghost use Rattle.std.specs.Prelude.{◌≡◌, ℕ, ◌+◌, ◌-◌, ◌<◌, ◌≤◌, ◌^◌, List, [], ◌∷◌, length, map, if◌then◌else◌, IfOk};
+ghost use Rattle.std.specs.Prelude.{◌≡◌, ◌==◌, ◌&&◌, true, ℕ, ◌+◌, ◌-◌, ◌<◌, ◌≤◌, ◌^◌, List, [], ◌∷◌, length, map, if◌then◌else◌, IfOk};
 ghost use Rattle.std.specs.List.{range_with_len};
 ghost use Rattle.mcs_ticks.specs.declared.row.Row.{Row as TheRow};
 ghost use Rattle.mcs_verdict.specs.Findings.{UpTo};
 ghost use Rattle.mcs_verdict.specs.Account.{since_of};
 ghost use Rattle.mcs_why.specs.Account.{passed_at, account_at, account_of};
-ghost use Rattle.mcs_why.specs.Running.{is_turn, runner, is_thread, is_within, ran_in, idle_in};
+ghost use Rattle.mcs_why.specs.Running.{is_turn, runner, is_thread, is_nobody, is_within, ran_in, idle_in};
 
 use crate::Span;
 use mcs_system::System;
@@ -49,6 +49,30 @@ fn runner(what: &What) -> Option<ThreadId>
     match *what {
         What::Run { thread } => Some(thread),
         _ => None,
+    }
+}
+
+// Whether a row is one of the core that says so.
+fn is_turn_on(core: CoreId, row: &Row) -> bool
+    ensures { result ≡ ((row.now.core == core) && is_turn row.now.what) }
+{
+    row.core.0 == core.0 && is_turn(&row.what)
+}
+
+fn is_within(core: CoreId, from: Tick, to: Tick, row: &Row) -> bool
+    ensures { result ≡ is_within core from to row.now }
+{
+    row.core.0 == core.0
+        && from.get() <= row.moment.get()
+        && row.moment.get() <= to.get()
+}
+
+fn is_nobody(runner: Option<ThreadId>) -> bool
+    ensures { result ≡ is_nobody runner }
+{
+    match runner {
+        Some(_) => false,
+        None => true,
     }
 }
 
@@ -115,7 +139,17 @@ impl Account {
         count(self.ran.as_mut_slice(), self.runner, ticks);
         self.idle = self
             .idle
-            .saturating_add(ticks_if(self.runner.is_none(), ticks));
+            .saturating_add(ticks_if(is_nobody(self.runner), ticks));
+    }
+
+    // A row of the core that says who runs from then on.
+    fn turn(&mut self, row: &Row)
+        ensures { (threads core from to : ℕ) (past : List TheRow) → self.old ≡ account_of threads core from to past →
+            ((row.now.core == core) && is_turn row.now.what) ≡ true → UpTo row.now.moment past →
+            self.new ≡ account_of threads core from to (row.now ∷ past) }
+    {
+        self.pass(passed_at(self.from, self.to, row.moment));
+        self.runner = runner(&row.what);
     }
 
     /// One row more, in constant time and without memory: whether it is one of the span.
@@ -124,19 +158,17 @@ impl Account {
         ensures kept { (threads core from to : ℕ) (past : List TheRow) → self.old ≡ account_of threads core from to past →
             UpTo row.now.moment past → self.new ≡ account_of threads core from to (row.now ∷ past) }
     {
-        if row.core.0 != self.core.0 {
-            return false;
+        let shown = is_within(self.core, self.from, self.to, row);
+        if is_turn_on(self.core, row) {
+            self.turn(row);
         }
-        if is_turn(&row.what) {
-            self.pass(passed_at(self.from, self.to, row.moment));
-            self.runner = runner(&row.what);
-        }
-        self.from.get() <= row.moment.get() && row.moment.get() <= self.to.get()
+        shown
     }
 
     // The ticks of the span that are yet to be counted.
     fn rest(&self) -> u64
-        ensures { result ≡ (self.now.to - self.now.from) - self.now.passed }
+        ensures value { result ≡ (self.now.to - self.now.from) - self.now.passed }
+        ensures small { self.now.to ≤ 2 ^ 42 }
     {
         self.to
             .get()
@@ -159,7 +191,7 @@ impl Account {
         ensures { (threads core from to : ℕ) (past : List TheRow) → self.now ≡ account_of threads core from to past →
             result ≡ idle_in core past from to }
     {
-        let rest = ticks_if(self.runner.is_none(), self.rest());
+        let rest = ticks_if(is_nobody(self.runner), self.rest());
         self.idle.saturating_add(rest)
     }
 }

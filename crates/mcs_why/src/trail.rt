@@ -8,8 +8,8 @@ ghost use Rattle.mcs_verdict.specs.Rounds.{first_wait, begun_after, begun_of};
 ghost use Rattle.mcs_verdict.specs.Standing.{telling, standing_after};
 ghost use Rattle.mcs_verdict.specs.Account.{standing_of};
 ghost use Rattle.mcs_why.specs.Waits.{stopped_after, waited_after, word_set};
-ghost use Rattle.mcs_why.specs.Spans.{from_of, span_of, span_if, ended_after, activated_of, to_begin, waits_since, open_span, open_by, open_of, sought};
-ghost use Rattle.mcs_why.specs.Search.{trail_of};
+ghost use Rattle.mcs_why.specs.Spans.{from_of, span_of, span_if, ended_after, activated_of, to_begin, waits_since, open_span, open_by, open_if, sought};
+ghost use Rattle.mcs_why.specs.Search.{told_by, trail_of};
 
 use crate::{Sought, Span};
 use mcs_script::Item;
@@ -212,6 +212,28 @@ fn waits_since(standing: Standing, stopped: Option<Tick>) -> Option<Tick>
     }
 }
 
+// The moment at which a round under way was activated, where it is told to be activated at the horizon if it is not yet: a word that begins a
+// round activates it.
+fn told_by(waits: Option<NoteId>, horizon: Tick, moment: Tick) -> Option<Tick>
+    ensures { result ≡ told_by waits horizon moment }
+{
+    match waits {
+        Some(_) => Some(moment),
+        None if moment.get() < horizon.get() => Some(moment),
+        None => None,
+    }
+}
+
+fn open_if(number: u64, before: u64, unended: Option<Span>) -> Sought
+    ensures { result ≡ open_if number before unended }
+{
+    match unended {
+        Some(span) if span.number == number => Sought::There(span),
+        Some(span) => Sought::Missing(span.number),
+        None => Sought::Missing(before),
+    }
+}
+
 impl Trail {
     // Before the first row.
     pub(crate) fn new(parts: &SystemParts, thread: ThreadId, number: u64) -> Self
@@ -345,14 +367,12 @@ impl Trail {
             thread < length system.threads → job ≡ job_of system past horizon (row.Round thread number response) →
             result ≡ activated_of system thread past horizon (begun_of system thread past) }
     {
-        let job = job?;
-        if self.begun.is_none() {
-            return None;
-        }
-        if self.waits.is_some() || job.activated.get() < horizon.get() {
-            Some(job.activated)
-        } else {
-            None
+        match self.begun {
+            Some(_) => match job {
+                Some(job) => told_by(self.waits, horizon, job.activated),
+                None => None,
+            },
+            None => None,
         }
     }
 
@@ -362,13 +382,12 @@ impl Trail {
             thread < length system.threads → job ≡ job_of system past horizon (row.Round thread number response) →
             result ≡ sought system horizon past thread number }
     {
-        if let Some(span) = self.found {
-            return Sought::There(span);
-        }
-        match self.open(horizon, self.activated(horizon, job)) {
-            Some(span) if span.number == self.number => Sought::There(span),
-            Some(span) => Sought::Missing(span.number),
-            None => Sought::Missing(self.ended),
+        match self.found {
+            Some(span) => Sought::There(span),
+            None => {
+                let unended = self.open(horizon, self.activated(horizon, job));
+                open_if(self.number, self.ended, unended)
+            }
         }
     }
 }

@@ -1,0 +1,113 @@
+-- What all threads ran, and what the core was idle, is each tick once.
+use Rattle.std.proofs.Common.{◌≡◌, ◌≢◌, ℕ, zero, suc, ◌+◌, ◌-◌, ◌<◌, ◌≤◌, ◌⊎◌, inl, inr, Bool, true, false, ◌&&◌, eqb, cond, nat_le, List, [], ◌∷◌, map, sum, Option, Some, None, refl, sym, ap, ◌∙◌, arith}
+use Rattle.std.specs.List.{range_with_len}
+use Rattle.std.proofs.lemmas.Bool.{cases_eq, eq-eqb, ne_eqb}
+use Rattle.mcs_ticks.specs.declared.row.Row.{Row}
+use Rattle.mcs_ticks.specs.declared.row.What.{What}
+use Rattle.mcs_ticks.specs.declared.row.What.TheVariants as row
+use Rattle.mcs_why.specs.Running.{is_turn, runner, turns, runner_at, is_thread, is_nobody, ticks_for, ran_in, idle_in}
+use Rattle.mcs_why.specs.laws.Sums.{IsKnown, AreKnown}
+
+-- sums of the numbers from one on, so many of them
+abbrev total : (ℕ → ℕ) → ℕ → ℕ → ℕ
+total f a n = sum (map f (range_with_len a n))
+
+both : (x y z u v w : ℕ) → x ≡ y + z → u ≡ v + w → x + u ≡ (y + v) + (z + w)
+both x y z u v w e f = omega arith
+
+total_both : (f g : ℕ → ℕ) (a n : ℕ) → total (λ k. f k + g k) a n ≡ total f a n + total g a n
+total_both f g a zero = refl
+total_both f g a (suc n) =
+    both (f a + g a) (f a) (g a) (total (λ k. f k + g k) (a + 1) n) (total f (a + 1) n) (total g (a + 1) n) refl (total_both f g (a + 1) n)
+
+-- one of them alone is this one
+abbrev one_at : ℕ → ℕ → ℕ
+one_at w k = cond (eqb w k) 1 0
+
+not_at : (w k : ℕ) → w ≢ k → one_at w k ≡ 0
+not_at w k h = ap (λ b. cond b 1 0) (ne_eqb w k h)
+
+is_at : (w k : ℕ) → w ≡ k → one_at w k ≡ 1
+is_at w k h = ap (λ b. cond b 1 0) (eq-eqb w k h)
+
+none_above : (w a n : ℕ) → w < a → total (one_at w) a n ≡ 0
+none_above w a zero h = refl
+none_above w a (suc n) h =
+    let first : one_at w a ≡ 0 = not_at w a (λ e. omega arith) in
+    let rest : total (one_at w) (a + 1) n ≡ 0 = none_above w (a + 1) n (omega arith) in
+    omega (arith, first, rest)
+
+one_within : (w a n : ℕ) → a ≤ w → w < a + n → total (one_at w) a n ≡ 1
+one_within w a zero h g = absurd (omega arith)
+one_within w a (suc n) h g = by (cases_eq w a) (λ differ. one_within w (a + 1) n (omega arith) (omega arith))
+  where
+    by : (w ≡ a) ⊎ (w ≢ a) → (w ≢ a → total (one_at w) (a + 1) n ≡ 1) → one_at w a + total (one_at w) (a + 1) n ≡ 1
+    by (inl e) rest =
+        let first : one_at w a ≡ 1 = is_at w a e in
+        let none : total (one_at w) (a + 1) n ≡ 0 = none_above w (a + 1) n (omega arith) in
+        omega (arith, first, none)
+    by (inr differ) rest =
+        let first : one_at w a ≡ 0 = not_at w a differ in
+        let one = rest differ in
+        omega (arith, first, one)
+
+none_at_all : (a n : ℕ) → total (λ thread. cond (is_thread thread None) 1 0) a n ≡ 0
+none_at_all a zero = refl
+none_at_all a (suc n) = let rest = none_at_all (a + 1) n in omega (arith, rest)
+
+-- in each tick one thread runs, or nobody
+once : (threads : ℕ) (who : Option ℕ) → ((w : ℕ) → who ≡ Some w → w < threads)
+    → total (λ thread. cond (is_thread thread who) 1 0) 0 threads + cond (is_nobody who) 1 0 ≡ 1
+once threads None known = let none = none_at_all 0 threads in omega (arith, none)
+once threads (Some w) known =
+    let has : w < threads = known w refl in
+    let one : total (one_at w) 0 threads ≡ 1 = one_within w 0 threads (omega arith) (omega arith) in
+    omega (arith, one)
+
+more : (a b c d x y n : ℕ) → a + b ≡ 1 → c + d ≡ n → x ≡ a + c → y ≡ b + d → x + y ≡ suc n
+more a b c d x y n e f g h = omega arith
+
+pub each_once : (threads : ℕ) (rows : List Row) (from n : ℕ) → ((t w : ℕ) → runner_at t rows ≡ Some w → w < threads)
+    → total (λ thread. ticks_for (is_thread thread) rows from n) 0 threads + ticks_for is_nobody rows from n ≡ n
+each_once threads rows from zero known = all_zero 0 threads
+  where
+    all_zero : (a n : ℕ) → total (λ thread. 0) a n + 0 ≡ 0
+    all_zero a zero = refl
+    all_zero a (suc n) = let rest = all_zero (a + 1) n in omega (arith, rest)
+each_once threads rows from (suc n) known =
+    let who = runner_at (from + n) rows in
+    more (total (λ thread. cond (is_thread thread who) 1 0) 0 threads) (cond (is_nobody who) 1 0)
+    (total (λ thread. ticks_for (is_thread thread) rows from n) 0 threads) (ticks_for is_nobody rows from n)
+    (total (λ thread. ticks_for (is_thread thread) rows from (suc n)) 0 threads) (ticks_for is_nobody rows from (suc n)) n
+    (once threads who (known (from + n))) (each_once threads rows from n known)
+    (total_both (λ thread. cond (is_thread thread who) 1 0) (λ thread. ticks_for (is_thread thread) rows from n) 0 threads) refl
+
+-- who runs is known
+known_runner : (threads : ℕ) (what : What) (w : ℕ) → IsKnown threads what → runner what ≡ Some w → w < threads
+known_runner threads (row.Run x) w h e = let same : x ≡ w = cc in omega arith
+known_runner threads (row.Release x) w h e = absurd (cc)
+known_runner threads (row.Stop x cause charged until) w h e = absurd (cc)
+known_runner threads (row.Signal x note badge) w h e = absurd (cc)
+known_runner threads (row.Arrive note badge maker) w h e = absurd (cc)
+known_runner threads (row.Wake x note bits) w h e = absurd (cc)
+known_runner threads (row.Hold note bits) w h e = absurd (cc)
+known_runner threads (row.Got x note bits) w h e = absurd (cc)
+known_runner threads (row.Round x number response) w h e = absurd (cc)
+known_runner threads (row.Order context) w h e = absurd (cc)
+
+pub all_known : (threads : ℕ) (rows : List Row) → AreKnown threads rows → (t w : ℕ) → runner_at t rows ≡ Some w → w < threads
+all_known threads [] h t w e = absurd (cc)
+all_known threads (r ∷ rows) h t w e = by (nat_le r.moment t) e (all_known threads rows h.1 t w)
+  where
+    by : (b : Bool) → cond b (runner r.what) (runner_at t rows) ≡ Some w → (runner_at t rows ≡ Some w → w < threads) → w < threads
+    by true e rest = known_runner threads r.what w h.0 e
+    by false e rest = rest e
+
+known_if : (b : Bool) (threads : ℕ) (r : Row) (rows : List Row) → IsKnown threads r.what → AreKnown threads rows → AreKnown threads (cond b (r ∷ rows) rows)
+known_if true threads r rows h g = (h, g)
+known_if false threads r rows h g = g
+
+pub known_turns : (threads core : ℕ) (past : List Row) → AreKnown threads past → AreKnown threads (turns core past)
+known_turns threads core [] h = tt
+known_turns threads core (r ∷ past) h =
+    known_if (eqb r.core core && is_turn r.what) threads r (turns core past) h.0 (known_turns threads core past h.1)
