@@ -1,6 +1,7 @@
 -- What is kept of who ran, after a row more and at the end.
 use Rattle.std.proofs.Common.{◌≡◌, ℕ, ◌+◌, ◌-◌, ◌^◌, ◌<◌, ◌≤◌, min, Bool, true, false, eqb, ◌&&◌, cond, List, [], ◌∷◌, length, get_or, map, replicate, Option, None, refl, sym, ap, subst, ◌∙◌, arith}
 use Rattle.std.specs.List.{range_with_len}
+use Rattle.std.proofs.lemmas.List.FromFn.{length-map-range_with_len}
 use Rattle.mcs_ticks.specs.declared.row.Row.{Row}
 use Rattle.mcs_verdict.specs.Account.{since_of}
 use Rattle.mcs_verdict.specs.Findings.{UpTo}
@@ -120,3 +121,8 @@ opened threads len core from to counts long is =
   where
     none : 0 ≡ passed_at from to 0
     none = omega arith
+
+pub length-ran : (threads core from to : ℕ) (past : List Row) → length (account_of threads core from to past).ran ≡ threads
+length-ran threads core from to past =
+    let rows = turns core past in
+    length-map-range_with_len (λ thread. ticks_for (is_thread thread) rows from (passed_at from to (since_of rows))) 0 threads

@@ -10,10 +10,10 @@ loop-row-init c threads core from to past kept order = record { seen = past; kep
 pub loop-row-preserved : goal.loop-row-preserved
 loop-row-preserved c threads core from to past kept order =
     tells-row threads core from to past c.args.rows.now (drop c.loop-row.row-index c.args.rows.now)
-    (drop (c.loop-row.row-index + 1) c.args.rows.now) c.row-item.result c.loop-row.account c.see-_shown.new.self
+    (drop (c.loop-row.row-index + 1) c.args.rows.now) c.row-item.result c.loop-row.account c.see-shown.new.self
     (next-row c.args.rows.now c.loop-row.row-index c.row-item.result c.loop-row-test.true c.row-item.is)
     (c.loop-row.invariant threads core from to past kept order)
-    (c.see-_shown.ensures.kept threads core from to)
+    (c.see-shown.ensures.kept threads core from to)
 
 pub returns : goal.returns
 returns c threads core from to past kept order =
