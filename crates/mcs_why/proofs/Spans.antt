@@ -1,18 +1,17 @@
 -- When a round under way was activated, told by the job that it would be if it ended at the horizon.
-use Rattle.std.proofs.Common.{◌≡◌, ℕ, zero, suc, ◌+◌, ◌-◌, ◌≤◌, ◌<◌, Bool, true, false, eqb, cond, nat_lt, List, [], ◌∷◌, length, Option, Some, None, refl, sym, ap, subst, ◌∙◌, arith}
+use Rattle.std.proofs.Common.{◌≡◌, ℕ, zero, suc, ◌+◌, ◌-◌, ◌≤◌, ◌<◌, Bool, true, false, eqb, cond, nat_lt, List, [], ◌∷◌, length, Option, Some, None, refl, sym, ap, ◌∙◌, arith}
 use Rattle.std.proofs.lemmas.Bool.Decides.{nat_tests}
 use Rattle.mcs_ticks.specs.declared.row.Row.{Row}
 use Rattle.mcs_ticks.specs.declared.row.What.{What}
 use Rattle.mcs_ticks.specs.declared.row.What.TheVariants as row
 use Rattle.mcs_ticks.specs.declared.row.Why.TheVariants as why
-use Rattle.mcs_system.specs.declared.part.ThreadPart.{ThreadPart}
 use Rattle.mcs_system.specs.System.{System, thread_part}
 use Rattle.mcs_verdict.specs.declared.job.Job.{Job}
 use Rattle.mcs_verdict.specs.Activation.{is_active, or_tick, first_for, first_active}
 use Rattle.mcs_verdict.specs.Standing.{standing_at, telling}
-use Rattle.mcs_verdict.specs.Rounds.{first_wait, begun_at, begun_by_word, begun_after, begun, begun_of, called_by, called_after, called, called_of, activated_by, activated}
+use Rattle.mcs_verdict.specs.Rounds.{first_wait, begun_by_word, begun_after, begun, begun_of, called_by, called_after, called, called_of, activated_by, activated}
 use Rattle.mcs_verdict.specs.Words.{held_of}
-use Rattle.mcs_verdict.specs.Jobs.{or_now, job, job_known, job_of}
+use Rattle.mcs_verdict.specs.Jobs.{or_now, job, job_known}
 use Rattle.mcs_why.specs.declared.span.Span.{Span}
 use Rattle.mcs_why.specs.declared.trail.Trail.{Trail}
 use Rattle.mcs_why.specs.Search.{told_by, trail_of}

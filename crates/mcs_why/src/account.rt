@@ -29,7 +29,7 @@ pub struct Account {
 
 impl Model for Account {
     ghost use Rattle.mcs_verdict.specs.Account.{since_of};
-ghost use Rattle.mcs_why.specs.Account.{Account};
+    ghost use Rattle.mcs_why.specs.Account.{Account};
 
     ghost Value = { Account };
 
@@ -62,9 +62,7 @@ fn is_turn_on(core: CoreId, row: &Row) -> bool
 fn is_within(core: CoreId, from: Tick, to: Tick, row: &Row) -> bool
     ensures { result ≡ is_within core from to row.now }
 {
-    row.core.0 == core.0
-        && from.get() <= row.moment.get()
-        && row.moment.get() <= to.get()
+    row.core.0 == core.0 && from.get() <= row.moment.get() && row.moment.get() <= to.get()
 }
 
 fn is_nobody(runner: Option<ThreadId>) -> bool

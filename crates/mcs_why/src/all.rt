@@ -66,12 +66,7 @@ fn tell_all(account: &mut Account, rows: &[Row])
 }
 
 /// Who ran in a span of a list of rows, those of a run of the system. `NoMemory` where a growth was refused.
-pub fn tell(
-    alloc: Global,
-    system: &System,
-    span: &Span,
-    rows: &[Row],
-) -> Result<Account, NoMemory>
+pub fn tell(alloc: Global, system: &System, span: &Span, rows: &[Row]) -> Result<Account, NoMemory>
     requires { InOrder [] rows.now }
     ensures value { IfOk result (λ account. account
         ≡ account_of (length system.now.threads) span.now.core span.now.from span.now.to (past_of [] rows.now)) }

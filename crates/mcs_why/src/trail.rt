@@ -85,10 +85,7 @@ fn begun_after(
             None => Some(moment),
         },
         What::Got { thread: other, .. } | What::Wake { thread: other, .. }
-            if other.0 == thread.0 && waits.is_some() && begun.is_none() =>
-        {
-            Some(moment)
-        }
+            if other.0 == thread.0 && waits.is_some() && begun.is_none() => { Some(moment) }
         What::Stop {
             thread: other,
             why: Why::Done,
@@ -162,10 +159,7 @@ fn standing_now(thread: ThreadId, what: &What, standing: Standing) -> Standing
         | What::Run { thread: other }
         | What::Stop { thread: other, .. }
         | What::Wake { thread: other, .. }
-            if other.0 == thread.0 =>
-        {
-            standing_after(what)
-        }
+            if other.0 == thread.0 => { standing_after(what) }
         _ => standing,
     }
 }

@@ -90,14 +90,7 @@ fn sought(
     requires in_time { UpTo horizon (past_of [] rows.now) }
 {
     assert!(rt; thread < system.parts().threads.len());
-    Ok(find(
-        alloc,
-        system,
-        ThreadId(thread),
-        number,
-        horizon,
-        rows,
-    )?)
+    Ok(find(alloc, system, ThreadId(thread), number, horizon, rows)?)
 }
 
 fn ran(rt: &impl Abort, account: &Account, threads: usize) -> [u64; 4]
@@ -150,7 +143,10 @@ fn a_round_that_waited_for_a_lock(rt: HostRuntime) -> Result<(), Fail> {
     let next = sought(&rt, rt.alloc(), &system, 3, 2, tick(100), rows.as_slice())?;
     assert_eq!(rt; next, Sought::Missing(1));
     let account = tell(rt.alloc(), &system, &span, rows.as_slice())?;
-    assert_eq!(rt; ran(&rt, &account, system.parts().threads.len()), [0, 4, 20, 3]);
+    assert_eq!(rt;
+        ran(&rt, &account, system.parts().threads.len()),
+        [0, 4, 20, 3]
+    );
     assert_eq!(rt; account.idle(), 0);
     Ok(())
 }
@@ -179,7 +175,10 @@ fn a_round_that_waits_for_a_lock(rt: HostRuntime) -> Result<(), Fail> {
     let found = sought(&rt, rt.alloc(), &system, 3, 1, tick(20), rows.as_slice())?;
     assert_eq!(rt; found, Sought::There(span));
     let account = tell(rt.alloc(), &system, &span, rows.as_slice())?;
-    assert_eq!(rt; ran(&rt, &account, system.parts().threads.len()), [0, 1, 14, 0]);
+    assert_eq!(rt;
+        ran(&rt, &account, system.parts().threads.len()),
+        [0, 1, 14, 0]
+    );
     Ok(())
 }
 
@@ -226,10 +225,22 @@ fn rounds_that_wait_for_their_budget(rt: HostRuntime) -> Result<(), Fail> {
         activated: None,
         begun: Some(tick(13)),
     };
-    assert_eq!(rt; sought(&rt, rt.alloc(), &system, 0, 2, tick(15), rows.as_slice())?, Sought::There(second));
-    assert_eq!(rt; sought(&rt, rt.alloc(), &system, 0, 3, tick(15), rows.as_slice())?, Sought::There(third));
-    assert_eq!(rt; sought(&rt, rt.alloc(), &system, 0, 4, tick(15), rows.as_slice())?, Sought::Missing(3));
-    assert_eq!(rt; sought(&rt, rt.alloc(), &system, 0, 0, tick(15), rows.as_slice())?, Sought::Missing(3));
+    assert_eq!(rt;
+        sought(&rt, rt.alloc(), &system, 0, 2, tick(15), rows.as_slice())?,
+        Sought::There(second)
+    );
+    assert_eq!(rt;
+        sought(&rt, rt.alloc(), &system, 0, 3, tick(15), rows.as_slice())?,
+        Sought::There(third)
+    );
+    assert_eq!(rt;
+        sought(&rt, rt.alloc(), &system, 0, 4, tick(15), rows.as_slice())?,
+        Sought::Missing(3)
+    );
+    assert_eq!(rt;
+        sought(&rt, rt.alloc(), &system, 0, 0, tick(15), rows.as_slice())?,
+        Sought::Missing(3)
+    );
     let account = tell(rt.alloc(), &system, &third, rows.as_slice())?;
     assert_eq!(rt; account.idle(), 2);
     Ok(())

@@ -1,5 +1,4 @@
-use Rattle.std.proofs.Common.{◌≡◌, ◌∙◌, length, None, refl, ap, arith}
-use Rattle.std.proofs.lemmas.List.{length-replicate}
+use Rattle.std.proofs.Common.{◌∙◌, length, ap}
 use Rattle.mcs_system.specs.System.{System}
 use Rattle.mcs_why.proofs.Accounts.{opened}
 use Rattle.mcs_why.proofs.account.Account.new.Goals as goal

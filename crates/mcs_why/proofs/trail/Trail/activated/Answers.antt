@@ -2,7 +2,7 @@ use Rattle.std.proofs.Common.{◌≡◌, Some, sym, ap, ◌∙◌}
 use Rattle.mcs_system.specs.System.{thread_part}
 use Rattle.mcs_verdict.specs.Rounds.{first_wait, begun_of}
 use Rattle.mcs_why.specs.declared.trail.Trail.{Trail}
-use Rattle.mcs_why.proofs.Spans.{under_way, unknown_job, none_under_way}
+use Rattle.mcs_why.proofs.Spans.{under_way}
 use Rattle.mcs_why.proofs.trail.Trail.activated.Goals as goal
 
 pub returns-in-Some-job : goal.returns-in-Some-job

@@ -1,5 +1,4 @@
-use Rattle.std.proofs.Common.{ap, ◌∙◌}
-use Rattle.mcs_why.specs.Spans.{open_if}
+use Rattle.std.proofs.Common.{◌∙◌}
 use Rattle.mcs_why.proofs.Spans.{told_open, told_sought}
 use Rattle.mcs_why.proofs.trail.Trail.sought.Goals as goal
 
