@@ -1,7 +1,8 @@
 -- What is kept of who ran, after a row more and at the end.
-use Rattle.std.proofs.Common.{◌≡◌, ℕ, ◌+◌, ◌-◌, ◌^◌, ◌<◌, ◌≤◌, min, true, false, eqb, ◌&&◌, cond, List, [], ◌∷◌, length, get_or, map, replicate, Option, None, refl, sym, ap, ◌∙◌, arith}
+use Rattle.std.proofs.Common.{◌≡◌, ℕ, ◌+◌, ◌-◌, ◌^◌, ◌<◌, ◌≤◌, min, true, false, eqb, ◌&&◌, cond, nat_lt, List, [], ◌∷◌, length, get_or, map, replicate, Option, None, refl, sym, ap, ◌∙◌, arith}
 use Rattle.std.specs.List.{range_with_len}
 use Rattle.std.proofs.lemmas.List.FromFn.{length-map-range_with_len}
+use Rattle.std.proofs.lemmas.Bool.Decides.{nat_tests}
 use Rattle.mcs_ticks.specs.declared.row.Row.{Row}
 use Rattle.mcs_verdict.specs.Account.{since_of}
 use Rattle.mcs_verdict.specs.Findings.{UpTo}
@@ -122,7 +123,26 @@ opened threads len core from to counts long is =
     none : 0 ≡ passed_at from to 0
     none = omega arith
 
-pub length-ran : (threads core from to : ℕ) (past : List Row) → length (account_of threads core from to past).ran ≡ threads
-length-ran threads core from to past =
+length-ran : (threads core from to : ℕ) (past : List Row) (counts : List ℕ) → counts ≡ (account_of threads core from to past).ran → length counts ≡ threads
+length-ran threads core from to past counts e =
     let rows = turns core past in
-    length-map-range_with_len (λ thread. ticks_for (is_thread thread) rows from (passed_at from to (since_of rows))) 0 threads
+    ap length e ∙ length-map-range_with_len (λ thread. ticks_for (is_thread thread) rows from (passed_at from to (since_of rows))) 0 threads
+
+-- a thread that the system has, and one that it has not
+pub ran_known : (threads core from to thread y : ℕ) (past : List Row) (counts : List ℕ) → y ≡ thread → y < length counts
+    → counts ≡ (account_of threads core from to past).ran
+    → ran_in core thread past from to ≡ cond (nat_lt thread threads) (ran_in core thread past from to) 0
+ran_known threads core from to thread y past counts at has e =
+    let long = length-ran threads core from to past counts e in
+    let less : thread < threads = omega (arith, long) in
+    let is : nat_lt thread threads ≡ true = grind (arith, nat_tests) in
+    ap (λ b. cond b (ran_in core thread past from to) 0) (sym is)
+
+pub ran_unknown : (threads core from to thread y : ℕ) (past : List Row) (counts : List ℕ) → y ≡ thread → length counts ≤ y
+    → counts ≡ (account_of threads core from to past).ran
+    → 0 ≡ cond (nat_lt thread threads) (ran_in core thread past from to) 0
+ran_unknown threads core from to thread y past counts at has e =
+    let long = length-ran threads core from to past counts e in
+    let more : threads ≤ thread = omega (arith, long) in
+    let is : nat_lt thread threads ≡ false = grind (arith, nat_tests) in
+    ap (λ b. cond b (ran_in core thread past from to) 0) (sym is)

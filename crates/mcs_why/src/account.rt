@@ -1,4 +1,4 @@
-ghost use Rattle.std.specs.Prelude.{◌≡◌, ◌==◌, ◌&&◌, true, ℕ, ◌+◌, ◌-◌, ◌<◌, ◌≤◌, ◌^◌, List, [], ◌∷◌, length, map, if◌then◌else◌, IfOk};
+ghost use Rattle.std.specs.Prelude.{◌≡◌, ◌==◌, ◌&&◌, true, ℕ, ◌+◌, ◌-◌, ◌<◌, ◌≤◌, ◌^◌, List, [], ◌∷◌, length, map, nat_lt, if◌then◌else◌, IfOk};
 ghost use Rattle.std.specs.List.{range_with_len};
 ghost use Rattle.mcs_ticks.specs.declared.row.Row.{Row as TheRow};
 ghost use Rattle.mcs_verdict.specs.Findings.{UpTo};
@@ -174,14 +174,17 @@ impl Account {
             .saturating_sub(self.passed)
     }
 
-    /// How many ticks of the span the thread ran, where this saw all rows up to its end.
+    /// How many ticks of the span the thread ran, where this saw all rows up to its end: 0 where the system has no such thread.
     pub fn ran(&self, thread: ThreadId) -> u64
-        requires { thread < length self.now.ran }
         ensures { (threads core from to : ℕ) (past : List TheRow) → self.now ≡ account_of threads core from to past →
-            result ≡ ran_in core thread past from to }
+            result ≡ (if nat_lt thread threads then ran_in core thread past from to else 0) }
     {
-        let rest = ticks_if(is_thread(thread, self.runner), self.rest());
-        self.ran[thread.0].saturating_add(rest)
+        if thread.0 < self.ran.len() {
+            let rest = ticks_if(is_thread(thread, self.runner), self.rest());
+            self.ran[thread.0].saturating_add(rest)
+        } else {
+            0
+        }
     }
 
     /// For how many ticks of the span its core was idle, where this saw all rows up to its end.

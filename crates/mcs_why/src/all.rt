@@ -68,9 +68,8 @@ fn tell_all(account: &mut Account, rows: &[Row])
 /// Who ran in a span of a list of rows, those of a run of the system. `NoMemory` where a growth was refused.
 pub fn tell(alloc: Global, system: &System, span: &Span, rows: &[Row]) -> Result<Account, NoMemory>
     requires { InOrder [] rows.now }
-    ensures value { IfOk result (λ account. account
+    ensures { IfOk result (λ account. account
         ≡ account_of (length system.now.threads) span.now.core span.now.from span.now.to (past_of [] rows.now)) }
-    ensures known { IfOk result (λ account. length account.ran ≡ length system.now.threads) }
 {
     let mut account = Account::new(alloc, system, span)?;
     tell_all(&mut account, rows);

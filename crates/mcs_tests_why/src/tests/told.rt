@@ -1,10 +1,10 @@
-ghost use Rattle.std.specs.Prelude.{◌≡◌, ◌≤◌, ◌^◌, length, [], List};
-ghost use Rattle.mcs_verdict.specs.Findings.{UpTo, InOrder, past_of};
+ghost use Rattle.std.specs.Prelude.{◌≡◌, ◌≤◌, ◌^◌};
 
 use mcs_load::load;
 use mcs_system::System;
 use mcs_ticks::{CoreId, NoteId, Row, ThreadId, Tick, What, Why};
-use mcs_why::{Account, Sought, Span, find, tell};
+use mcs_verdict::Watch;
+use mcs_why::{Account, Search, Sought, Span, find, tell};
 use std::alloc::Global;
 use std::process::Abort;
 use std::test::Fail;
@@ -77,6 +77,7 @@ fn tick(moment: u64) -> Tick
     Tick::new(moment).unwrap()
 }
 
+// What a search tells that sees each row as it goes by.
 fn sought(
     rt: &impl Abort,
     alloc: Global,
@@ -85,37 +86,38 @@ fn sought(
     number: u64,
     horizon: Tick,
     rows: &[Row],
-) -> Result<Sought, Fail>
-    requires in_order { InOrder [] rows.now }
-    requires in_time { UpTo horizon (past_of [] rows.now) }
-{
+) -> Result<Sought, Fail> {
     assert!(rt; thread < system.parts().threads.len());
-    Ok(find(alloc, system, ThreadId(thread), number, horizon, rows)?)
+    let mut watch = Watch::new(alloc, system)?;
+    let mut search = Search::new(system, ThreadId(thread), number);
+    for row in rows {
+        search.see(watch.job(row), row);
+        let _found = watch.see(row);
+    }
+    Ok(search.sought(&watch, horizon))
 }
 
-fn ran(rt: &impl Abort, account: &Account, threads: usize) -> [u64; 4]
-    requires { length account.now.ran ≡ threads }
-{
-    assert!(rt; threads == 4);
-    [
-        account.ran(ThreadId(0)),
-        account.ran(ThreadId(1)),
-        account.ran(ThreadId(2)),
-        account.ran(ThreadId(3)),
-    ]
+// How long each thread ran in a span, and how long its core was idle.
+fn told(alloc: Global, system: &System, span: &Span, rows: &[Row]) -> Result<Vec<u64>, Fail> {
+    let mut account = Account::new(alloc, system, span)?;
+    for row in rows {
+        let _shown = account.see(row);
+    }
+    let mut ticks = Vec::new(alloc);
+    for thread in 0..system.parts().threads.len() {
+        ticks.push(account.ran(ThreadId(thread)))?;
+    }
+    ticks.push(account.idle())?;
+    Ok(ticks)
 }
 
-// The high thread waits from 5 to 29, while the low one runs for 4 ticks and the one between for 20; then it runs for 3.
-#[test]
-fn a_round_that_waited_for_a_lock(rt: HostRuntime) -> Result<(), Fail> {
-    let system = load(rt.alloc(), LOCK.as_bytes())?;
+fn of_the_lock() -> [Row; 10] {
     let wake = What::Wake {
         thread: ThreadId(3),
         note: NoteId(0),
         word: 1,
     };
-    let rows = [
-        row(4, run(3)),
+    [
         row(5, stop(3, Why::Wait)),
         row(5, run(1)),
         row(6, stop(1, Why::Preempt)),
@@ -126,8 +128,14 @@ fn a_round_that_waited_for_a_lock(rt: HostRuntime) -> Result<(), Fail> {
         row(29, stop(1, Why::Done)),
         row(29, run(3)),
         row(32, round(3, 1, 3)),
-        row(32, stop(3, Why::Done)),
-    ];
+    ]
+}
+
+// The high thread waits from 5 to 29, while the low one runs for 4 ticks and the one between for 20; then it runs for 3.
+#[test]
+fn a_round_that_waited_for_a_lock(rt: HostRuntime) -> Result<(), Fail> {
+    let system = load(rt.alloc(), LOCK.as_bytes())?;
+    let rows = of_the_lock();
     let span = Span {
         thread: ThreadId(3),
         number: 1,
@@ -140,14 +148,8 @@ fn a_round_that_waited_for_a_lock(rt: HostRuntime) -> Result<(), Fail> {
     };
     let found = sought(&rt, rt.alloc(), &system, 3, 1, tick(100), rows.as_slice())?;
     assert_eq!(rt; found, Sought::There(span));
-    let next = sought(&rt, rt.alloc(), &system, 3, 2, tick(100), rows.as_slice())?;
-    assert_eq!(rt; next, Sought::Missing(1));
-    let account = tell(rt.alloc(), &system, &span, rows.as_slice())?;
-    assert_eq!(rt;
-        ran(&rt, &account, system.parts().threads.len()),
-        [0, 4, 20, 3]
-    );
-    assert_eq!(rt; account.idle(), 0);
+    let ticks = told(rt.alloc(), &system, &span, rows.as_slice())?;
+    assert_eq!(rt; ticks.as_slice(), [0, 4, 20, 3, 0].as_slice());
     Ok(())
 }
 
@@ -155,13 +157,7 @@ fn a_round_that_waited_for_a_lock(rt: HostRuntime) -> Result<(), Fail> {
 #[test]
 fn a_round_that_waits_for_a_lock(rt: HostRuntime) -> Result<(), Fail> {
     let system = load(rt.alloc(), LOCK.as_bytes())?;
-    let rows = [
-        row(4, run(3)),
-        row(5, stop(3, Why::Wait)),
-        row(5, run(1)),
-        row(6, stop(1, Why::Preempt)),
-        row(6, run(2)),
-    ];
+    let rows = of_the_lock();
     let span = Span {
         thread: ThreadId(3),
         number: 1,
@@ -172,20 +168,16 @@ fn a_round_that_waits_for_a_lock(rt: HostRuntime) -> Result<(), Fail> {
         activated: None,
         begun: None,
     };
-    let found = sought(&rt, rt.alloc(), &system, 3, 1, tick(20), rows.as_slice())?;
+    let found = sought(&rt, rt.alloc(), &system, 3, 1, tick(20), &rows[..4])?;
     assert_eq!(rt; found, Sought::There(span));
-    let account = tell(rt.alloc(), &system, &span, rows.as_slice())?;
-    assert_eq!(rt;
-        ran(&rt, &account, system.parts().threads.len()),
-        [0, 1, 14, 0]
-    );
+    let ticks = told(rt.alloc(), &system, &span, &rows[..4])?;
+    assert_eq!(rt; ticks.as_slice(), [0, 1, 14, 0, 0].as_slice());
+    let next = sought(&rt, rt.alloc(), &system, 3, 2, tick(20), &rows[..4])?;
+    assert_eq!(rt; next, Sought::Missing(1));
     Ok(())
 }
 
-// The second round begins at 3 and is activated at 10; the third begins at 13 and is not activated until 15.
-#[test]
-fn rounds_that_wait_for_their_budget(rt: HostRuntime) -> Result<(), Fail> {
-    let system = load(rt.alloc(), LOOP.as_bytes())?;
+fn of_the_loop() -> [Row; 6] {
     let release = What::Release {
         thread: ThreadId(0),
     };
@@ -195,16 +187,21 @@ fn rounds_that_wait_for_their_budget(rt: HostRuntime) -> Result<(), Fail> {
         charged: 3,
         until: Some(tick(20)),
     };
-    let rows = [
-        row(0, release),
-        row(0, run(0)),
+    [
         row(3, round(0, 1, 3)),
         row(3, spent),
         row(10, release),
         row(10, run(0)),
         row(13, round(0, 2, 10)),
         row(13, spent),
-    ];
+    ]
+}
+
+// The second round begins at 3 and is activated at 10.
+#[test]
+fn a_round_that_waited_for_its_budget(rt: HostRuntime) -> Result<(), Fail> {
+    let system = load(rt.alloc(), LOOP.as_bytes())?;
+    let rows = of_the_loop();
     let second = Span {
         thread: ThreadId(0),
         number: 2,
@@ -215,6 +212,16 @@ fn rounds_that_wait_for_their_budget(rt: HostRuntime) -> Result<(), Fail> {
         activated: Some(tick(10)),
         begun: Some(tick(3)),
     };
+    let found = sought(&rt, rt.alloc(), &system, 0, 2, tick(15), rows.as_slice())?;
+    assert_eq!(rt; found, Sought::There(second));
+    Ok(())
+}
+
+// The third begins at 13, and is not activated until 15.
+#[test]
+fn a_round_that_waits_for_its_budget(rt: HostRuntime) -> Result<(), Fail> {
+    let system = load(rt.alloc(), LOOP.as_bytes())?;
+    let rows = of_the_loop();
     let third = Span {
         thread: ThreadId(0),
         number: 3,
@@ -225,24 +232,12 @@ fn rounds_that_wait_for_their_budget(rt: HostRuntime) -> Result<(), Fail> {
         activated: None,
         begun: Some(tick(13)),
     };
-    assert_eq!(rt;
-        sought(&rt, rt.alloc(), &system, 0, 2, tick(15), rows.as_slice())?,
-        Sought::There(second)
-    );
-    assert_eq!(rt;
-        sought(&rt, rt.alloc(), &system, 0, 3, tick(15), rows.as_slice())?,
-        Sought::There(third)
-    );
-    assert_eq!(rt;
-        sought(&rt, rt.alloc(), &system, 0, 4, tick(15), rows.as_slice())?,
-        Sought::Missing(3)
-    );
-    assert_eq!(rt;
-        sought(&rt, rt.alloc(), &system, 0, 0, tick(15), rows.as_slice())?,
-        Sought::Missing(3)
-    );
-    let account = tell(rt.alloc(), &system, &third, rows.as_slice())?;
-    assert_eq!(rt; account.idle(), 2);
+    let found = sought(&rt, rt.alloc(), &system, 0, 3, tick(15), rows.as_slice())?;
+    assert_eq!(rt; found, Sought::There(third));
+    let next = sought(&rt, rt.alloc(), &system, 0, 4, tick(15), rows.as_slice())?;
+    assert_eq!(rt; next, Sought::Missing(3));
+    let ticks = told(rt.alloc(), &system, &third, rows.as_slice())?;
+    assert_eq!(rt; ticks.as_slice(), [0, 2].as_slice());
     Ok(())
 }
 
@@ -267,5 +262,27 @@ fn rows_of_a_span(rt: HostRuntime) -> Result<(), Fail> {
     let after = account.see(&row(10, stop(0, Why::Preempt)));
     assert_eq!(rt; [before, first, last, after], [false, true, true, false]);
     assert_eq!(rt; account.idle(), 4);
+    Ok(())
+}
+
+// The same of lists of rows.
+#[test]
+fn a_list_of_rows(rt: HostRuntime) -> Result<(), Fail> {
+    let system = load(rt.alloc(), LOOP.as_bytes())?;
+    assert!(rt; !system.parts().threads.is_empty());
+    let rows = [row(0, run(0)), row(3, round(0, 1, 3))];
+    let first = find(
+        rt.alloc(),
+        &system,
+        ThreadId(0),
+        1,
+        tick(9),
+        rows.as_slice(),
+    )?;
+    let Sought::There(span) = first else {
+        return Err("a round".into());
+    };
+    let account = tell(rt.alloc(), &system, &span, rows.as_slice())?;
+    assert_eq!(rt; account.ran(ThreadId(0)), 3);
     Ok(())
 }
