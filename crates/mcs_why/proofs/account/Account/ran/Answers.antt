@@ -18,11 +18,15 @@ returns-then-thread-len c threads core from to past e =
     ∙ ap (λ n. cond (is_thread c.args.thread (runner_now rows)) n 0) rest
     in
     let until : c.args.self.now.to ≡ to = ap (λ (account : Account). account.to) e in
-    let has : c.thread.inside.0 < length c.self.inside.ran.items = omega (arith, c.if-thread-len.true, c.len.ensures) in
-    ran_whole threads core from to c.args.thread c.thread.inside.0 c.index.result.now c.ticks_if-rest.result c.saturating_add.result
-    c.index.result.now past c.self.inside.ran.items c.thread.view_is has (ap (λ (account : Account). account.ran) kept)
+    let first : c.thread.inside.0 ≡ c.args.thread = c.thread.view_is in
+    let at : c.thread-then-thread-len.inside.0 ≡ c.args.thread = c.thread-then-thread-len.view_is in
+    let has : c.thread-then-thread-len.inside.0 < length c.self.inside.ran.items =
+    omega (arith, c.if-thread-len.true, c.len.ensures, first, at)
+    in
+    ran_whole threads core from to c.args.thread c.thread-then-thread-len.inside.0 c.index.result.now c.ticks_if-rest.result
+    c.saturating_add.result c.index.result.now past c.self.inside.ran.items at has (ap (λ (account : Account). account.ran) kept)
     c.index.ensures more c.saturating_add.ensures (omega (arith, c.rest.ensures.small, until))
-    ∙ ran_known threads core from to c.args.thread c.thread.inside.0 past c.self.inside.ran.items c.thread.view_is has
+    ∙ ran_known threads core from to c.args.thread c.thread-then-thread-len.inside.0 past c.self.inside.ran.items at has
     (ap (λ (account : Account). account.ran) kept)
 
 pub returns-else-thread-len : goal.returns-else-thread-len
