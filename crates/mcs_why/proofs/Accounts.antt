@@ -15,7 +15,8 @@ abbrev pub account : ℕ → ℕ → ℕ → ℕ → Option ℕ → List ℕ →
 account core from to passed runner ran idle =
     record { core = core; from = from; to = to; passed = passed; runner = runner; ran = ran; idle = idle }
 
-pub same_account : (c c' f f' t t' p p' : ℕ) (r r' : Option ℕ) (xs xs' : List ℕ) (i i' : ℕ) → c ≡ c' → f ≡ f' → t ≡ t' → p ≡ p' → r ≡ r' → xs ≡ xs' → i ≡ i'
+pub same_account : (c c' f f' t t' p p' : ℕ) (r r' : Option ℕ) (xs xs' : List ℕ) (i i' : ℕ) → c ≡ c' → f ≡ f' → t ≡ t' → p ≡ p' → r ≡ r' → xs ≡ xs'
+    → i ≡ i'
     → account c f t p r xs i ≡ account c' f' t' p' r' xs' i'
 same_account c c' f f' t t' p p' r r' xs xs' i i' a b d e g h k =
     ap (λ x. account x f t p r xs i) a ∙ ap (λ x. account c' x t p r xs i) b ∙ ap (λ x. account c' f' x p r xs i) d
@@ -27,7 +28,8 @@ pub fits : (x n m : ℕ) → x ≤ n → n ≤ m → m < 2 ^ 64 → x + (m - n) 
 fits x n m a b h = omega arith
 
 -- so a sum that stays at 2^64 - 1 is exact
-pub exact : (new old more x z total n : ℕ) → new ≡ min (old + more) (2 ^ 64 - 1) → old ≡ x → more ≡ z → total ≡ z + x → total ≤ n → n < 2 ^ 64 → new ≡ total
+pub exact : (new old more x z total n : ℕ) → new ≡ min (old + more) (2 ^ 64 - 1) → old ≡ x → more ≡ z → total ≡ z + x → total ≤ n → n < 2 ^ 64
+    → new ≡ total
 exact new old more x z total n is a b e few small = omega arith
 
 -- what the threads ran, where the same runs for the ticks that passed
@@ -76,7 +78,8 @@ unturned threads core from to r past e =
 
 -- how long a thread ran, at the end of the span
 pub ran_whole : (threads core from to thread y old more new d : ℕ) (past : List Row) (counts : List ℕ) → y ≡ thread → y < length counts
-    → counts ≡ map (λ thread. ticks_for (is_thread thread) (turns core past) from (passed_at from to (since_of (turns core past)))) (range_with_len 0 threads)
+    → counts ≡ map (λ thread. ticks_for (is_thread thread) (turns core past) from (passed_at from to (since_of (turns core past))))
+    (range_with_len 0 threads)
     → old ≡ get_or counts y d
     → more ≡ cond (is_thread thread (runner_now (turns core past))) (to - from - passed_at from to (since_of (turns core past))) 0
     → new ≡ min (old + more) (2 ^ 64 - 1) → to ≤ 2 ^ 42 → new ≡ ran_in core thread past from to
@@ -85,7 +88,8 @@ ran_whole threads core from to thread y old more new d past counts at has e was 
     let n = passed_at from to (since_of rows) in
     exact new old more (ticks_for (is_thread thread) rows from n) (cond (is_thread thread (runner_now rows)) (to - from - n) 0)
     (ran_in core thread past from to) (to - from) is
-    (count_of (λ thread. ticks_for (is_thread thread) rows from n) threads y d old counts e has was ∙ ap (λ x. ticks_for (is_thread x) rows from n) at)
+    (count_of (λ thread. ticks_for (is_thread thread) rows from n) threads y d old counts e has was
+    ∙ ap (λ x. ticks_for (is_thread x) rows from n) at)
     adds
     (passes (is_thread thread) rows from n (to - from) (passed_whole from to (since_of rows)) (passed_until from to (since_of rows)))
     (few (is_thread thread) rows from (to - from)) (omega arith)
@@ -123,7 +127,8 @@ opened threads len core from to counts long is =
     none : 0 ≡ passed_at from to 0
     none = omega arith
 
-length-ran : (threads core from to : ℕ) (past : List Row) (counts : List ℕ) → counts ≡ (account_of threads core from to past).ran → length counts ≡ threads
+length-ran : (threads core from to : ℕ) (past : List Row) (counts : List ℕ) → counts ≡ (account_of threads core from to past).ran
+    → length counts ≡ threads
 length-ran threads core from to past counts e =
     let rows = turns core past in
     ap length e ∙ length-map-range_with_len (λ thread. ticks_for (is_thread thread) rows from (passed_at from to (since_of rows))) 0 threads

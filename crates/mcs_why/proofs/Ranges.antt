@@ -46,7 +46,8 @@ other before y ticks k differ = not_here (eqb y k) ticks (before k) (ne_eqb y k 
 uncapped : (old new ticks n : ℕ) → old ≡ n → n + ticks < 2 ^ 64 → new ≡ min (old + ticks) (2 ^ 64 - 1) → new ≡ ticks + n
 uncapped old new ticks n was small is = omega arith
 
-pub counts-at : (before : ℕ → ℕ) (threads y ticks d old new : ℕ) (counts : List ℕ) → counts ≡ map before (range_with_len 0 threads) → y < length counts
+pub counts-at : (before : ℕ → ℕ) (threads y ticks d old new : ℕ) (counts : List ℕ) → counts ≡ map before (range_with_len 0 threads)
+    → y < length counts
     → ((thread : ℕ) → before thread + ticks < 2 ^ 64) → old ≡ get_or counts y d → new ≡ min (old + ticks) (2 ^ 64 - 1)
     → set counts y new ≡ map (with_more (Some y) ticks before) (range_with_len 0 threads)
 counts-at before threads y ticks d old new counts e has small was is =
@@ -67,7 +68,8 @@ counts-past before threads y ticks counts e past =
     e ∙ same_numbers before (with_more (Some y) ticks before) threads (λ k h. other before y ticks k (λ same. omega arith))
 
 -- where nobody runs
-pub counts-none : (before : ℕ → ℕ) (threads ticks : ℕ) → map before (range_with_len 0 threads) ≡ map (with_more None ticks before) (range_with_len 0 threads)
+pub counts-none : (before : ℕ → ℕ) (threads ticks : ℕ)
+    → map before (range_with_len 0 threads) ≡ map (with_more None ticks before) (range_with_len 0 threads)
 counts-none before threads ticks =
     same_numbers before (with_more None ticks before) threads (λ k h. not_here false ticks (before k) refl)
 
@@ -77,7 +79,8 @@ counts-first threads =
     fill_by_all (λ thread. 0) (replicate threads 0) threads 0 (length-replicate threads 0) (λ k h. get_or-replicate threads k 0 0 h)
 
 -- the count of a thread
-pub count_of : (f : ℕ → ℕ) (threads y d old : ℕ) (counts : List ℕ) → counts ≡ map f (range_with_len 0 threads) → y < length counts → old ≡ get_or counts y d
+pub count_of : (f : ℕ → ℕ) (threads y d old : ℕ) (counts : List ℕ) → counts ≡ map f (range_with_len 0 threads) → y < length counts
+    → old ≡ get_or counts y d
     → old ≡ f y
 count_of f threads y d old counts e has was =
     let long : length counts ≡ threads = ap length e ∙ length-map-range_with_len f 0 threads in

@@ -52,7 +52,8 @@ pub record Tells (threads core from to : ℕ) (past rows rest : List Row) (accou
 
 pub tells-row : (threads core from to : ℕ) (past rows rest more : List Row) (r : Row) (account account' : Account) → rest ≡ r ∷ more
     → Tells threads core from to past rows rest account
-    → ((seen : List Row) → account ≡ account_of threads core from to seen → UpTo r.moment seen → account' ≡ account_of threads core from to (r ∷ seen))
+    → ((seen : List Row) → account ≡ account_of threads core from to seen → UpTo r.moment seen
+    → account' ≡ account_of threads core from to (r ∷ seen))
     → Tells threads core from to past rows more account'
 tells-row threads core from to past rows rest more r account account' e s t =
     let P : List Row → Type 0 = λ rest. InOrder s.seen rest in

@@ -30,7 +30,8 @@ follows_none : (b : Option ℕ) → Follows None b
 follows_none b = tt
 
 -- a word that begins a round activates it
-by_word : (note moment set : ℕ) (began word : Option ℕ) → Follows began word → Follows (begun_by_word (Some note) moment began) (called_by (Some note) set began word)
+by_word : (note moment set : ℕ) (began word : Option ℕ) → Follows began word
+    → Follows (begun_by_word (Some note) moment began) (called_by (Some note) set began word)
 by_word note moment set None word h = tt
 by_word note moment set (Some x) word h = h
 
@@ -57,7 +58,8 @@ follows_after notes note thread past moment (row.Signal x n badge) began word h 
 follows_after notes note thread past moment (row.Arrive n badge maker) began word h = h
 follows_after notes note thread past moment (row.Wake x n bits) began word h = word_row (eqb x thread) note moment moment began word h
 follows_after notes note thread past moment (row.Hold n bits) began word h = h
-follows_after notes note thread past moment (row.Got x n bits) began word h = word_row (eqb x thread) note moment (held_of notes n past).since began word h
+follows_after notes note thread past moment (row.Got x n bits) began word h =
+    word_row (eqb x thread) note moment (held_of notes n past).since began word h
 follows_after notes note thread past moment (row.Round x number response) began word h = end_row (eqb x thread) began word h
 follows_after notes note thread past moment (row.Order context) began word h = h
 
@@ -69,7 +71,8 @@ follows notes note start thread (r ∷ past) =
     (follows notes note start thread past)
 
 -- the first active tick is one of those that were looked at
-within : (earlier : Option ℕ) (active : Bool) (t x n : ℕ) → ((s : ℕ) → earlier ≡ Some s → s < x) → x ≤ n → or_tick earlier active x ≡ Some t → t < suc n
+within : (earlier : Option ℕ) (active : Bool) (t x n : ℕ) → ((s : ℕ) → earlier ≡ Some s → s < x) → x ≤ n → or_tick earlier active x ≡ Some t
+    → t < suc n
 within (Some s) active t x n h up e = let below : s < x = h s refl in let same : s ≡ t = cc in omega arith
 within None true t x n h up e = let same : x ≡ t = cc in omega arith
 within None false t x n h up e = absurd (cc)
@@ -88,7 +91,8 @@ some_ticks next rows from zero t e = absurd (cc)
 some_ticks next rows from (suc n) t e = omega arith
 
 -- a round under way is told to be activated at the horizon where it is not yet
-recovered : (waits called active : Option ℕ) (horizon : ℕ) → ((note : ℕ) → waits ≡ Some note → IsSet called) → ((t : ℕ) → active ≡ Some t → t < horizon)
+recovered : (waits called active : Option ℕ) (horizon : ℕ) → ((note : ℕ) → waits ≡ Some note → IsSet called)
+    → ((t : ℕ) → active ≡ Some t → t < horizon)
     → told_by waits horizon (or_now horizon (activated_by waits called active)) ≡ activated_by waits called active
 recovered (Some note) (Some set) active horizon set_is below = refl
 recovered (Some note) None active horizon set_is below = absurd (set_is note refl)
@@ -105,14 +109,16 @@ set_where None word b e h = absurd (cc)
 set_where (Some x) word b e h = h
 
 -- of the round of a thread
-called_where : (notes : ℕ) (waits : Option ℕ) (start thread : ℕ) (past : List Row) (b note : ℕ) → begun waits start thread past ≡ Some b → waits ≡ Some note
+called_where : (notes : ℕ) (waits : Option ℕ) (start thread : ℕ) (past : List Row) (b note : ℕ) → begun waits start thread past ≡ Some b
+    → waits ≡ Some note
     → IsSet (called notes waits start thread past)
 called_where notes (Some x) start thread past b note e is =
     set_where (begun (Some x) start thread past) (called notes (Some x) start thread past) b e (follows notes x start thread past)
 called_where notes None start thread past b note e is = absurd (cc)
 
 told_activated : (system : System) (thread : ℕ) (past : List Row) (horizon b : ℕ) → begun_of system thread past ≡ Some b
-    → told_by (first_wait (thread_part system thread)) horizon (or_now horizon (activated system thread past b horizon)) ≡ activated system thread past b horizon
+    → told_by (first_wait (thread_part system thread)) horizon (or_now horizon (activated system thread past b horizon))
+    ≡ activated system thread past b horizon
 told_activated system thread past horizon b e =
     let part = thread_part system thread in
     recovered (first_wait part) (called_of system thread past) (first_active thread past b horizon) horizon
@@ -132,14 +138,17 @@ known_job system past horizon thread number told has e =
     some_same : (x y : Job) → Some x ≡ Some y → x ≡ y
     some_same x y e = cc
 
-pub under_way : (system : System) (thread number : ℕ) (past : List Row) (horizon b : ℕ) (waits : Option ℕ) (told : Job) → thread < length system.threads
+pub under_way : (system : System) (thread number : ℕ) (past : List Row) (horizon b : ℕ) (waits : Option ℕ) (told : Job)
+    → thread < length system.threads
     → begun_of system thread past ≡ Some b → waits ≡ first_wait (thread_part system thread) → Some told ≡ job_known system past horizon thread number
     → told_by waits horizon told.activated ≡ activated_of system thread past horizon (begun_of system thread past)
 under_way system thread number past horizon b waits told has e w is =
     let same = known_job system past horizon thread number told has is in
     ap (λ waits. told_by waits horizon told.activated) w
     ∙ ap (λ (job : Job). told_by (first_wait (thread_part system thread)) horizon job.activated) same
-    ∙ ap (λ began. told_by (first_wait (thread_part system thread)) horizon (or_now horizon (activated system thread past (or_now horizon began) horizon))) e
+    ∙ ap
+    (λ began. told_by (first_wait (thread_part system thread)) horizon (or_now horizon (activated system thread past (or_now horizon began) horizon)))
+    e
     ∙ told_activated system thread past horizon b e
     ∙ ap (activated_of system thread past horizon) (sym e)
 
@@ -157,17 +166,26 @@ pub none_under_way : (system : System) (thread : ℕ) (past : List Row) (horizon
 none_under_way system thread past horizon e = ap (activated_of system thread past horizon) (sym e)
 
 -- the round that has not ended, by what is kept
-pub told_open : (system : System) (thread number : ℕ) (past : List Row) (horizon : ℕ) (trail : Trail) (at : Option ℕ) → trail ≡ trail_of system thread number past
+pub told_open : (system : System) (thread number : ℕ) (past : List Row) (horizon : ℕ) (trail : Trail) (at : Option ℕ)
+    → trail ≡ trail_of system thread number past
     → at ≡ activated_of system thread past horizon (begun_of system thread past)
-    → open_by trail.thread trail.core trail.ended horizon trail.begun at trail.waited (to_begin trail.standing trail.set) (waits_since trail.standing trail.stopped)
+    → open_by trail.thread trail.core trail.ended horizon trail.begun at trail.waited (to_begin trail.standing trail.set)
+    (waits_since trail.standing trail.stopped)
     ≡ open_of system horizon past thread
 told_open system thread number past horizon trail at e is =
     let kept = trail_of system thread number past in
-    ap (λ (trail : Trail). open_by trail.thread trail.core trail.ended horizon trail.begun at trail.waited (to_begin trail.standing trail.set) (waits_since trail.standing trail.stopped)) e
-    ∙ ap (λ at. open_by thread kept.core kept.ended horizon kept.begun at kept.waited (to_begin kept.standing kept.set) (waits_since kept.standing kept.stopped)) is
+    ap
+    (λ (trail : Trail). open_by trail.thread trail.core trail.ended horizon trail.begun at trail.waited (to_begin trail.standing trail.set)
+    (waits_since trail.standing trail.stopped))
+    e
+    ∙ ap
+    (λ at. open_by thread kept.core kept.ended horizon kept.begun at kept.waited (to_begin kept.standing kept.set)
+    (waits_since kept.standing kept.stopped))
+    is
 
 -- what there is of the round that is sought, where it has not ended
-pub told_sought : (system : System) (thread number : ℕ) (past : List Row) (horizon : ℕ) (trail : Trail) (unended : Option Span) → trail ≡ trail_of system thread number past
+pub told_sought : (system : System) (thread number : ℕ) (past : List Row) (horizon : ℕ) (trail : Trail) (unended : Option Span)
+    → trail ≡ trail_of system thread number past
     → trail.found ≡ None → unended ≡ open_of system horizon past thread
     → open_if trail.number trail.ended unended ≡ sought system horizon past thread number
 told_sought system thread number past horizon trail unended e none is =

@@ -49,8 +49,12 @@ one_within w a zero h g = absurd (omega arith)
 one_within w a (suc n) h g = first (one_at w) a n ∙ by (cases_eq w a) (λ differ. one_within w (a + 1) n (omega arith) (omega arith))
   where
     by : (w ≡ a) ⊎ (w ≢ a) → (w ≢ a → total (one_at w) (a + 1) n ≡ 1) → one_at w a + total (one_at w) (a + 1) n ≡ 1
-    by (inl e) rest = plus (one_at w a + total (one_at w) (a + 1) n) (one_at w a) (total (one_at w) (a + 1) n) 1 0 refl (is_at w a e) (none_above w (a + 1) n (omega arith))
-    by (inr differ) rest = plus (one_at w a + total (one_at w) (a + 1) n) (one_at w a) (total (one_at w) (a + 1) n) 0 1 refl (not_at w a differ) (rest differ)
+    by (inl e) rest =
+        plus (one_at w a + total (one_at w) (a + 1) n) (one_at w a) (total (one_at w) (a + 1) n) 1 0 refl (is_at w a e)
+        (none_above w (a + 1) n (omega arith))
+    by (inr differ) rest =
+        plus (one_at w a + total (one_at w) (a + 1) n) (one_at w a) (total (one_at w) (a + 1) n) 0 1 refl
+        (not_at w a differ) (rest differ)
 
 none_at_all : (a n : ℕ) → total (λ thread. cond (is_thread thread None) 1 0) a n ≡ 0
 none_at_all a zero = refl
@@ -107,7 +111,8 @@ all_known threads (r ∷ rows) h t w e = by (nat_le r.moment t) e (all_known thr
     by true e rest = known_runner threads r.what w h.0 e
     by false e rest = rest e
 
-known_if : (b : Bool) (threads : ℕ) (r : Row) (rows : List Row) → IsKnown threads r.what → AreKnown threads rows → AreKnown threads (cond b (r ∷ rows) rows)
+known_if : (b : Bool) (threads : ℕ) (r : Row) (rows : List Row) → IsKnown threads r.what → AreKnown threads rows
+    → AreKnown threads (cond b (r ∷ rows) rows)
 known_if true threads r rows h g = (h, g)
 known_if false threads r rows h g = g
 

@@ -123,7 +123,8 @@ under_way = refl
 not_started : sought lock 5 [] 2 1 ≡ Missing 0
 not_started = refl
 
--- A loop that spends its budget: its second round began where the first ended, at 3, and is activated by the release at 10. Its core is idle meanwhile.
+-- A loop that spends its budget: its second round began where the first ended, at 3, and is activated by the release at 10. Its core is
+-- idle meanwhile.
 abbrev loop : System
 loop = system (thread 1 5 0 (Compute 3 ∷ []) ∷ [])
 
@@ -160,7 +161,9 @@ other_core = refl
 abbrev late : System
 late = system (thread 1 5 0 (Wait 0 ∷ Compute 9 ∷ []) ∷ [])
 
-held : sought late 9 (past_of [] (at 0 (row.Hold 0 1) ∷ at 0 (row.Run 0) ∷ at 1 (row.Got 0 0 1) ∷ at 4 (row.Hold 0 2) ∷ at 8 (row.Round 0 1 7) ∷ [])) 0 2
+held :
+    sought late 9
+    (past_of [] (at 0 (row.Hold 0 1) ∷ at 0 (row.Run 0) ∷ at 1 (row.Got 0 0 1) ∷ at 4 (row.Hold 0 2) ∷ at 8 (row.Round 0 1 7) ∷ [])) 0 2
     ≡ There (span 0 2 4 9 false (Some 4) None)
 held = refl
 

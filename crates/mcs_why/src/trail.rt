@@ -8,7 +8,8 @@ ghost use Rattle.mcs_verdict.specs.Rounds.{first_wait, begun_after, begun_of};
 ghost use Rattle.mcs_verdict.specs.Standing.{telling, standing_after};
 ghost use Rattle.mcs_verdict.specs.Account.{standing_of};
 ghost use Rattle.mcs_why.specs.Waits.{stopped_after, waited_after, word_set};
-ghost use Rattle.mcs_why.specs.Spans.{from_of, span_of, span_if, ended_after, activated_of, to_begin, waits_since, open_span, open_by, open_if, sought};
+ghost use Rattle.mcs_why.specs.Spans.{from_of, span_of, span_if, ended_after};
+ghost use Rattle.mcs_why.specs.Spans.{activated_of, to_begin, waits_since, open_span, open_by, open_if, sought};
 ghost use Rattle.mcs_why.specs.Search.{told_by, trail_of};
 
 use crate::{Sought, Span};
