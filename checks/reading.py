@@ -14,10 +14,13 @@ from collections.abc import Iterator, Sequence
 from typing import Any, NamedTuple, Optional
 
 Tables = dict[str, Any]
+# the values of a line by their names, of which some may be missing
+Values = dict[str, Any]
 
 TELLING = ('release', 'run', 'stop', 'wake')
 OF_THREADS = (*TELLING, 'got', 'round')
 PARTS = ('ready', 'running', 'throttled', 'blocked', 'woken')
+STANDINGS = ('pending', *PARTS, 'done')
 KINDS = ('missed', 'overdue', 'lost', 'never', 'merged', 'allowed', 'hints')
 FOUND = KINDS[:4]
 # the words of a line before those that have their name before them
@@ -25,6 +28,10 @@ FIRST = {'miss': ('thread', 'number', 'response'), 'overdue': ('thread',), 'lost
 COLUMNS = {
     'findings': ('moment', 'core', 'kind', 'thread', 'note', 'word', 'number', 'response', 'deadline', 'activated', 'queued', *PARTS),
     'jobs': ('moment', 'core', 'kind', 'thread', 'number', 'activated', 'begun', 'response', 'queued', 'preemptions', *PARTS),
+    'table': (
+        'kind', 'thread', 'core', 'priority', 'budget', 'period', 'granted', 'used', 'rounds', 'greatest', 'p50', 'p90', 'p99', 'deadline', 'margin',
+        'missed', 'late', 'lost', 'merged', *(f'ticks_{standing}' for standing in STANDINGS),
+    ),
 }
 HINTS = {'note': 'unsignalled', 'context': 'unbound', 'core': 'overcommitted'}
 
@@ -165,6 +172,7 @@ class Reading:
         self.threads = {thread['name']: thread for thread in tables.get('thread', [])}
         self.notes = [note['name'] for note in tables.get('note', [])]
         self.cores = tables['cores']
+        self.ordered = {order['context'] for order in tables.get('order', [])}
 
     def past(self, row: Row) -> Past:
         return Past(self.schedule, row.place)
@@ -262,6 +270,41 @@ class Reading:
                 times = f'activated {job.activated} begun {job.begun} response {row.moment - job.activated} queued {job.queued}'
                 yield f'{row.moment} {row.core} job {thread} {number} {times} preemptions {job.preemptions} {job.parts}'
 
+    def signals(self, note: str) -> dict[str, int]:
+        """How many signals of the notification were lost, and how many merged."""
+        kinds = collections.Counter(found[0] for row in self.rows if row.kind == 'hold' and row.what[1] == note and (found := self.found(row)))
+        return {'lost': kinds['lost'], 'merged': kinds['merged']}
+
+    def figures(self, thread: str) -> Values:
+        """What the table tells of a thread."""
+        part = self.threads[thread]
+        context, deadline, waits = self.contexts[part['context']], self.deadline(thread), self.first_wait(thread)
+        ends = [row for row in self.rows if row.kind == 'round' and row.what[1] == thread]
+        responses = sorted(row.moment - self.ended[row.place].activated for row in ends)
+        greatest = responses[-1] if responses else None
+        stood = collections.Counter(self.whole.standings(thread, 0, self.horizon))
+        return {
+            'kind': 'thread', 'thread': thread, 'core': context['core'], 'priority': part['priority'],
+            'budget': context['budget'], 'period': context['period'], 'granted': context['budget'] * 1_000_000 // context['period'],
+            'used': stood['running'] * 1_000_000 // self.horizon if self.horizon else 0, 'rounds': len(responses), 'greatest': greatest,
+            **{f'p{percent}': percentile(responses, percent) for percent in (50, 90, 99)}, 'deadline': deadline or None,
+            'margin': deadline - greatest if deadline and greatest is not None else None,
+            'missed': sum(0 < deadline < response for response in responses), 'late': sum(0 < deadline < int(row.what[3]) for row in ends),
+            **(self.signals(waits) if waits else {'lost': None, 'merged': None}),
+            **{f'ticks_{standing}': stood[standing] for standing in STANDINGS},
+        }
+
+    def unused(self, name: str) -> Values:
+        """What the table tells of a context: what it could let run up to the horizon, less what its threads ran."""
+        budget, period = (self.contexts[name][key] for key in ('budget', 'period'))
+        bound = [thread for thread, part in self.threads.items() if part['context'] == name]
+        ran = sum(self.whole.standings(thread, 0, self.horizon).count('running') for thread in bound)
+        most = budget * (self.horizon // period) + min(budget, self.horizon % period)
+        return {'kind': 'context', 'context': name, 'unused': None if name in self.ordered else max(most - ran, 0)}
+
+    def table(self) -> list[Values]:
+        return [*map(self.figures, self.threads), *map(self.unused, self.contexts)]
+
     def hints(self) -> Iterator[str]:
         items = [item.split() for thread in self.threads.values() for item in thread['script']]
         used = {thread['context'] for thread in self.threads.values()}
@@ -276,7 +319,7 @@ class Reading:
                 yield f'hint core {core} grants {granted} of 1000000'
 
     def wanted(self, allowed: Sequence[str] = (), show: str = 'findings', form: str = 'text') -> Wanted:
-        """What is written of all this, where these notifications may lose signals: findings and hints, or jobs, and what is counted."""
+        """What is written of all this, where these notifications may lose signals: findings and hints, jobs, or figures, and what is counted."""
         counts, lines, hints = dict.fromkeys(KINDS, 0), [], list(self.hints())
         for kind, line in self.all_found:
             if kind == 'lost' and line.split()[3] in allowed:
@@ -284,14 +327,31 @@ class Reading:
             counts[kind] += 1
             lines += [line] if line else []
         counts['hints'] = len(hints)
-        shown, hinted = (lines, hints) if show == 'findings' else ([*self.jobs()], [])
+        shown, hinted = (lines, hints) if show in ('findings', 'both') else ([*self.jobs()] if show == 'jobs' else [], [])
+        figures = self.table() if show in ('table', 'both') else []
         if form == 'csv':
-            return Wanted(rows_text(COLUMNS[show], shown), counts)
+            rows = [*map(values_of, shown), *(values for values in figures if values['kind'] == 'thread')]
+            return Wanted(rows_text(COLUMNS[show], rows), counts)
         if form == 'json':
-            objects = [*map(values_of, shown), *map(values_of_hint, hinted), {'kind': 'counts', **counts}]
+            known = ({name: value for name, value in values.items() if value is not None} for values in figures)
+            objects = [*map(values_of, shown), *map(values_of_hint, hinted), *known, {'kind': 'counts', **counts}]
             return Wanted(''.join(json.dumps(each, separators=(',', ':')) + '\n' for each in objects), counts)
-        told = [*shown, *hinted, ' '.join(f'{kind} {many}' for kind, many in counts.items())]
+        told = [*shown, *hinted, *map(line_of, figures), ' '.join(f'{kind} {many}' for kind, many in counts.items())]
         return Wanted(''.join(f'{line}\n' for line in told), counts)
+
+
+def percentile(responses: Sequence[int], percent: int) -> Optional[int]:
+    """The percentile of responses in rising order, by nearest rank, as the end of its bucket: from 128 on there are 64 between two powers of two."""
+    if not responses:
+        return None
+    value = responses[-(-percent * len(responses) // 100) - 1]
+    width = 1 if value < 128 else 2 ** (value.bit_length() - 7)
+    return min(value - value % width + width - 1, responses[-1])
+
+
+def line_of(values: Values) -> str:
+    """Figures as a line of text: all but the kind, each behind its name."""
+    return ' '.join(f'{name} {"-" if value is None else value}' for name, value in values.items() if name != 'kind')
 
 
 def values_of(line: str) -> dict[str, int | str]:
@@ -309,12 +369,12 @@ def values_of_hint(line: str) -> dict[str, int | str]:
     return {'kind': 'hint', 'hint': HINTS[what], **values}
 
 
-def rows_text(columns: Sequence[str], lines: Sequence[str]) -> str:
-    """These lines as rows of CSV."""
+def rows_text(columns: Sequence[str], rows: Sequence[Values]) -> str:
+    """These values as rows of CSV."""
     text = io.StringIO()
     writer = csv.DictWriter(text, columns, lineterminator='\n')
     writer.writeheader()
-    writer.writerows(map(values_of, lines))
+    writer.writerows(rows)
     return text.getvalue()
 
 
@@ -328,6 +388,10 @@ def distance(name: str, other: str) -> int:
         return min(left(i - 1, j) + 1, left(i, j - 1) + 1, left(i - 1, j - 1) + (name[i - 1] != other[j - 1]))
 
     return left(len(name), len(other))
+
+
+# what is said where rows of findings and of figures are asked for
+MIXED = 'mcscheck: --format csv: rows are of one kind: --show findings, jobs or table\n'
 
 
 def unknown_note(name: str, notes: Sequence[str]) -> str:

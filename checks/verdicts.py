@@ -2,7 +2,7 @@
 """Tells whether mcscheck finds what a second, plain reading finds in the rows that mcsim writes, byte by byte, and its statuses.
 
 Each random system has deadlines, signals that are lost or merged, orders, and contexts without a thread; it is checked as it is, once more with
-some of the words --workers, --strict and --allow-lost, and with the rounds that ended in place of findings, and some with a notification that it has
+some of the words --workers, --strict and --allow-lost, and with the rounds that ended or figures in place of findings, and some with a notification that it has
 not. A system that mcsim refuses is refused with the same fault. Two laws of schedules are tried meanwhile on what is written: a round's parts are
 the ticks of its response in its `round` row, and
 the ticks in which the rows say that a thread runs are those of the reports. Then come systems of this repository whose findings are known. A kind of
@@ -54,7 +54,8 @@ SEEN = (
     'lost only where it is allowed', 'the nearest is', 'there is none', 'activated late', 'yet to begin',
     *(f'miss {part}' for part in ('queued', *reading.PARTS[:4])), *(f'overdue {part}' for part in ('queued', *reading.PARTS)),
     *(f'job {part}' for part in ('queued', 'preemptions', *reading.PARTS[:4])), 'jobs that are preempted twice',
-    *(f'{show} as {form}' for show in ('findings', 'jobs') for form in ('csv', 'json')),
+    *(f'{show} as {form}' for show in ('findings', 'jobs', 'table') for form in ('csv', 'json')), 'table as text', 'both as text', 'both as json', 'both as csv',
+    'margin above 0', 'margin 0', 'margin below 0', 'no margin', 'late', 'missed and not late', 'unused', 'unused is not known', 'a percentile below the greatest',
 )
 
 
@@ -156,6 +157,7 @@ class Trial:
         self.with_words(system, found, rng)
         self.with_jobs(system, found, rng)
         self.with_format(system, found, rng)
+        self.with_table(system, found, rng)
         if rng.random() < 0.2:
             self.unknown(system, found.notes, rng)
 
@@ -183,14 +185,40 @@ class Trial:
         self.wants(system, words, answer(wanted, is_strict))
 
     def with_format(self, system: System, found: Reading, rng: random.Random) -> None:
-        """Findings or jobs as CSV or JSON."""
-        show, form = rng.choice(['findings', 'jobs']), rng.choice(['csv', 'json'])
+        """Findings, jobs or figures as CSV or JSON."""
+        show, form = rng.choice(['findings', 'jobs', 'table']), rng.choice(['csv', 'json'])
         allowed = [note for note in found.notes if rng.random() < 0.3]
         words = [f'--show={show}', f'--format={form}', *allowing(allowed)]
         rng.shuffle(words)
         wanted = found.wanted(allowed, show, form)
         self.seen[f'{show} as {form}'] += wanted.text.count('\n') > 1
         self.wants(system, words, answer(wanted))
+
+    def with_table(self, system: System, found: Reading, rng: random.Random) -> None:
+        """Figures, alone or behind findings, with some of the words that matter to what is found; rows of both are refused."""
+        show, form = rng.choice(['table', 'both']), rng.choice(['text', 'text', 'text', 'json', 'csv'])
+        allowed = [note for note in found.notes if rng.random() < 0.3]
+        words = [f'--show={show}', f'--format={form}', *allowing(allowed), *['--workers=2'] * (rng.random() < 0.3)]
+        rng.shuffle(words)
+        self.seen[f'{show} as {form}'] += 1
+        if (show, form) == ('both', 'csv'):
+            self.wants(system, words, Ran(2, b'', reading.MIXED.encode()))
+            return
+        self.tell_figures(found)
+        self.wants(system, words, answer(found.wanted(allowed, show, form)))
+
+    def tell_figures(self, found: Reading) -> None:
+        """Counts what was seen in figures."""
+        for values in found.table():
+            if values['kind'] == 'context':
+                self.seen['unused is not known' if values['unused'] is None else 'unused'] += 1
+                continue
+            margin, greatest = values['margin'], values['greatest']
+            sign = 'no margin' if margin is None else f'margin {"above 0" if margin > 0 else "below 0" if margin else "0"}'
+            self.seen[sign] += 1
+            self.seen['late'] += values['late'] > 0
+            self.seen['missed and not late'] += values['missed'] > values['late']
+            self.seen['a percentile below the greatest'] += greatest is not None and values['p50'] < greatest
 
     def unknown(self, system: System, notes: Sequence[str], rng: random.Random) -> None:
         """A notification that the system has not, behind one that it has: a name of another system, or one that is changed in a place."""

@@ -9,7 +9,7 @@ _mcscheck() {
     fi
     case $before in
         --show)
-            mapfile -t COMPREPLY < <(compgen -W 'findings jobs' -- "$word")
+            mapfile -t COMPREPLY < <(compgen -W 'findings jobs table both' -- "$word")
             return
             ;;
         --format)

@@ -13,7 +13,7 @@ use Rattle.mcs_check.specs.declared.counts.Counts.{Counts}
 use Rattle.mcs_check.specs.declared.finder.Finder.{Finder}
 use Rattle.mcs_check.specs.Counts.{no_counts}
 use Rattle.mcs_check.specs.Formats.{head_text}
-use Rattle.mcs_check.specs.stored.Rows.{counted_at, counts_in, failed_after, lines_in, rows_text, told_at}
+use Rattle.mcs_check.specs.stored.Rows.{counted_at, counts_in, failed_after, kept_table, lines_in, rows_text, told_at}
 use Rattle.mcs_check.proofs.Results.{moved}
 use Rattle.mcs_check.proofs.Rows.{given-tells, some-tells, until-tells}
 
@@ -42,11 +42,13 @@ module _ {W P : Type 0} (contents : W → Option (List ℕ)) (failed : W → Boo
       × ((past : List Row) → before.seen.now.watch ≡ watch_of before.system.now past → UpTo row.moment past →
       (after.seen.now.watch ≡ watch_of before.system.now (row ∷ past))
       × (after.seen.now.counts ≡ counted_at before.system.now before.allowed.now past row before.seen.now.counts)
+      × ((horizon : ℕ) → before.seen.now.table ≡ kept_table before.show before.system.now horizon past →
+      after.seen.now.table ≡ kept_table before.show before.system.now horizon (row ∷ past))
       × TakesLine (contents before.lines.target.now) (contents after.lines.target.now) before.seen.now.text.items after.seen.now.text.items
       (told_at before.system.now before.allowed.now before.format before.show past row) taken)
 
   -- before the first row
-  module _ (first : Finder W P) where
+  module _ (first : Finder W P) (horizon : ℕ) where
     abbrev system : System
     system = first.system.now
 
@@ -70,6 +72,7 @@ module _ {W P : Type 0} (contents : W → Option (List ℕ)) (failed : W → Boo
       pub working : failed f.lines.target.now ≡ failed first.lines.target.now
       pub watch_is : f.seen.now.watch ≡ watch_of system past
       pub counts_are : f.seen.now.counts ≡ counts_so_far system allowed past
+      pub table_is : f.seen.now.table ≡ kept_table asked system horizon past
 
     -- and then it has refused one
     pub record HasRefused (f : Finder W P) : Type 0 where
@@ -79,6 +82,7 @@ module _ {W P : Type 0} (contents : W → Option (List ℕ)) (failed : W → Boo
     said : (past : List Row) (s t : Finder W P) (row : Row) (taken : Bool) → IsAfter past s → UpTo row.moment past → Takes s row taken t →
         (t.seen.now.watch ≡ watch_of system (row ∷ past))
         × (t.seen.now.counts ≡ counted_at system allowed past row s.seen.now.counts)
+        × ((horizon : ℕ) → s.seen.now.table ≡ kept_table asked system horizon past → t.seen.now.table ≡ kept_table asked system horizon (row ∷ past))
         × TakesLine (contents s.lines.target.now) (contents t.lines.target.now) s.seen.now.text.items t.seen.now.text.items (told_at system allowed how asked past row) taken
     said past s t row taken k up takes =
         let e : s.system.now ≡ system = ap (λ b. b.now) k.system_is in
@@ -86,6 +90,7 @@ module _ {W P : Type 0} (contents : W → Option (List ℕ)) (failed : W → Boo
         let told = takes.8 past (subst (λ sys. s.seen.now.watch ≡ watch_of sys past) (sym e) k.watch_is) up in
         moved (λ sys flags show form. (t.seen.now.watch ≡ watch_of sys (row ∷ past))
         × (t.seen.now.counts ≡ counted_at sys flags past row s.seen.now.counts)
+        × ((horizon : ℕ) → s.seen.now.table ≡ kept_table show sys horizon past → t.seen.now.table ≡ kept_table show sys horizon (row ∷ past))
         × TakesLine (contents s.lines.target.now) (contents t.lines.target.now) s.seen.now.text.items t.seen.now.text.items (told_at sys flags form show past row) taken)
         _ _ _ _ _ _ _ _ e a k.show_is k.format_is told
 
@@ -104,8 +109,9 @@ module _ {W P : Type 0} (contents : W → Option (List ℕ)) (failed : W → Boo
             working = takes.6 refl ∙ k.working;
             watch_is = told.0;
             counts_are = told.1 ∙ ap (counted_at system allowed past row) k.counts_are;
+            table_is = told.2 horizon k.table_is;
           },
-          told.2,
+          told.3,
         )
 
     refuse : (past : List Row) (s t : Finder W P) (row : Row) → IsAfter past s → UpTo row.moment past → Takes s row false t →
@@ -114,17 +120,18 @@ module _ {W P : Type 0} (contents : W → Option (List ℕ)) (failed : W → Boo
     refuse past s t row k up takes =
         let told = said past s t row false k up takes in (
           record { target_is = takes.0 ∙ k.target_is; failed_is = takes.7 refl ∙ ap (failed_after t.lines.is_out_of_memory) k.working },
-          told.2,
+          told.3,
         )
 
     -- the first line waits and nothing is counted at first
     module _ (last : Finder W P) (rows : List Row) (order : InOrder [] rows)
-        (headed : first.seen.now.text.items ≡ head_text how asked) (watch_is : first.seen.now.watch ≡ watch_of system []) (none : first.seen.now.counts ≡ no_counts) where
+        (headed : first.seen.now.text.items ≡ head_text how asked) (watch_is : first.seen.now.watch ≡ watch_of system []) (none : first.seen.now.counts ≡ no_counts)
+        (table_is : first.seen.now.table ≡ kept_table asked system horizon []) where
       begun : first.seen.now.counts ≡ counts_so_far system allowed []
       begun = none
 
       abbrev before-rows : IsAfter [] first
-      before-rows = record { target_is = refl; seen_is = refl; show_is = refl; format_is = refl; system_is = refl; allowed_is = refl; working = refl; watch_is = watch_is; counts_are = begun }
+      before-rows = record { target_is = refl; seen_is = refl; show_is = refl; format_is = refl; system_is = refl; allowed_is = refl; working = refl; watch_is = watch_is; counts_are = begun; table_is = table_is }
 
       text-is : first.seen.now.text.items ++ lines_in system allowed how asked [] rows ≡ rows_text system allowed how asked rows
       text-is = ap (λ l. l ++ lines_in system allowed how asked [] rows) headed

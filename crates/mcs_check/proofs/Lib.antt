@@ -1,4 +1,5 @@
 mod Told
+mod Threads
 mod Sums
 mod Words
 mod Rows
@@ -9,3 +10,4 @@ mod Texts
 mod Unknown
 mod Values
 mod Worked
+mod Figured

@@ -1,5 +1,5 @@
 -- The lines of what is shown, put together as the rows go by, are those of all that is found, or of all rounds that ended.
-use Rattle.std.proofs.Common.{◌≡◌, ◌∙◌, ◌++◌, ◌∷◌, [], ℕ, Bool, true, false, List, Option, Some, None, refl, ap, sym, append_assoc, append-nil}
+use Rattle.std.proofs.Common.{◌≡◌, ◌∙◌, ◌++◌, ◌∷◌, [], ℕ, Bool, true, false, List, Option, Some, None, IfSome, length, refl, ap, sym, append_assoc, append-nil}
 use Rattle.std.specs.Prelude.{option_to_list}
 use Rattle.std.proofs.lemmas.List.Concat.{flat_map-append}
 use Rattle.mcs_ticks.specs.declared.row.Row.{Row}
@@ -10,11 +10,15 @@ use Rattle.mcs_verdict.specs.declared.job.Job.{Job}
 use Rattle.mcs_verdict.specs.Findings.{finding, found_at, found_in}
 use Rattle.mcs_verdict.specs.Jobs.{job_of, jobs_in}
 use Rattle.mcs_check_words.specs.declared.asked.Format.{Format}
+use Rattle.mcs_check_words.specs.declared.asked.Show.{Show}
 use Rattle.mcs_check_words.specs.declared.asked.Show.TheVariants as show
+use Rattle.mcs_table.specs.Table.{Table, table_of}
+use Rattle.mcs_table.proofs.Ended.{length-accounts}
 use Rattle.mcs_check.specs.Counts.{is_allowed, told_of}
 use Rattle.mcs_check.specs.Formats.{found_line, job_line}
 use Rattle.mcs_check.specs.Told.{found_lines, job_lines}
-use Rattle.mcs_check.specs.stored.Rows.{lines_in, shown_found, shown_job, told_at, told_line}
+use Rattle.mcs_check.specs.Figures.{table_lines}
+use Rattle.mcs_check.specs.stored.Rows.{kept_table, lines_in, tabled_lines, shown_found, shown_job, told_at, told_line}
 
 module _ (how : Format) (system : System) (allowed : List Bool) where
   append-one : (x : Found) (xs ys : List Found) (b : Bool) → is_allowed allowed x.finding ≡ b
@@ -45,6 +49,14 @@ module _ (how : Format) (system : System) (allowed : List Bool) where
       ∙ ap (λ l. l ++ found_lines how system allowed (found_in system (r ∷ past) rows)) (sym first)
       ∙ sym (lines-append (found_at r.moment r.core (finding system past r.moment r.what)) (found_in system (r ∷ past) rows))
 
+  pub no-lines : (past rows : List Row) → lines_in system allowed how show.Table past rows ≡ []
+  no-lines past [] = refl
+  no-lines past (r ∷ rows) = no-lines (r ∷ past) rows
+
+  pub both-are : (past rows : List Row) → lines_in system allowed how show.Both past rows ≡ lines_in system allowed how show.Findings past rows
+  both-are past [] = refl
+  both-are past (r ∷ rows) = ap (λ l. told_at system allowed how show.Findings past r ++ l) (both-are (r ∷ past) rows)
+
   one-job : (j : Option Job) → job_lines how system (option_to_list j) ≡ told_line how system (shown_job j)
   one-job None = refl
   one-job (Some job) = append-nil (job_line how system job)
@@ -57,3 +69,26 @@ module _ (how : Format) (system : System) (allowed : List Bool) where
       ap (λ l. told_at system allowed how show.Jobs past r ++ l) (jobs-are (r ∷ past) rows)
       ∙ ap (λ l. l ++ job_lines how system rest) (sym (one-job (job_of system past r.moment r.what)))
       ∙ sym (flat_map-append (job_line how system) own rest)
+
+module _ (how : Format) (system : System) (horizon : ℕ) (past : List Row) where
+  -- where something is kept for figures, they are shown ..
+  pub tabled-some : (asked : Show) (table : Table) → Some table ≡ kept_table asked system horizon past
+      → (table ≡ table_of system horizon past) × (table_lines how system horizon past ≡ tabled_lines how asked system horizon past)
+  tabled-some show.Findings table is = cc
+  tabled-some show.Jobs table is = cc
+  tabled-some show.Table table is = (cc, refl)
+  tabled-some show.Both table is = (cc, refl)
+
+  -- .. and else they are not
+  pub tabled-none : (asked : Show) → None ≡ kept_table asked system horizon past → tabled_lines how asked system horizon past ≡ []
+  tabled-none show.Findings is = refl
+  tabled-none show.Jobs is = refl
+  tabled-none show.Table is = cc
+  tabled-none show.Both is = cc
+
+  -- one account for each thread is kept
+  pub kept-long : (asked : Show) → IfSome (kept_table asked system horizon past) (λ (table : Table). length table.accounts ≡ length system.threads)
+  kept-long show.Findings = tt
+  kept-long show.Jobs = tt
+  kept-long show.Table = length-accounts system horizon 0 system.threads past
+  kept-long show.Both = length-accounts system horizon 0 system.threads past

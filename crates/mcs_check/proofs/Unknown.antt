@@ -7,7 +7,7 @@ use Rattle.mcs_cli.specs.Run.{IsRead}
 use Rattle.mcs_cli.specs.declared.fault.RunFault.TheVariants as run
 use Rattle.mcs_check_words.specs.declared.asked.Options.{Options}
 use Rattle.mcs_check.specs.declared.fault.CheckFault.{CheckFault}
-use Rattle.mcs_check.specs.declared.fault.CheckFault.TheVariants.{Run, Unknown}
+use Rattle.mcs_check.specs.declared.fault.CheckFault.TheVariants.{Run, Unknown, Mixed}
 use Rattle.mcs_check.specs.Allowed.{IsUnknownFault, first_unknown}
 use Rattle.mcs_check.specs.Check.{IsFault, names_of}
 
@@ -24,6 +24,7 @@ module _ (read_old read_new : Option (List ℕ)) (given_old given_new : ℕ) (re
   unknown-name name (Run run.Read) first is = absurd is
   unknown-name name (Run (run.Load l)) first is = absurd is
   unknown-name name (Run run.Write) first is = absurd is
+  unknown-name name Mixed first is = absurd is
 
   pub unknown-fault : (o : Option (List ℕ)) (f : CheckFault) → first_unknown system.notes (names_of options) ≡ o → IsSome o
       → IfSome o (λ name. IsUnknownFault system.notes name f)

@@ -1,12 +1,12 @@
 -- What a check reads and writes.
-use Rattle.std.specs.Prelude.{Result, Ok, Err, Option, Some, None, ◌≡◌, ◌≢◌, ◌⊎◌, List, [], ℕ, Bool, true, ◌++◌, length, map, flat_map, string_bytes}
+use Rattle.std.specs.Prelude.{Result, Ok, Err, Option, Some, None, ◌≡◌, ◌≢◌, ◌⊎◌, List, [], ℕ, Bool, true, false, ◌++◌, length, map, flat_map, string_bytes}
 use Rattle.std.specs.Io.KnownBytes.{Appends, Keeps}
 use Rattle.mcs_system.specs.System.{System}
 use Rattle.mcs_core.specs.Clock.{schedule}
 use Rattle.mcs_load.specs.Memory.{no_memory}
 use Rattle.mcs_hints.specs.Hints.{hints_of}
 use Rattle.mcs_verdict.specs.declared.finding.Found.{Found}
-use Rattle.mcs_verdict.specs.Findings.{findings}
+use Rattle.mcs_verdict.specs.Findings.{findings, past_of}
 use Rattle.mcs_verdict.specs.Jobs.{jobs_in}
 use Rattle.mcs_cli.specs.Devices.{AppendsPrefix}
 use Rattle.mcs_cli.specs.Run.{IsFaultOfInput, IsRead, IsTooLong}
@@ -17,10 +17,11 @@ use Rattle.mcs_check_words.specs.declared.asked.Show.{Show}
 use Rattle.mcs_check_words.specs.declared.asked.Show.TheVariants as show
 use Rattle.mcs_check.specs.declared.counts.Counts.{Counts}
 use Rattle.mcs_check.specs.declared.fault.CheckFault.{CheckFault}
-use Rattle.mcs_check.specs.declared.fault.CheckFault.TheVariants.{Run, Unknown}
+use Rattle.mcs_check.specs.declared.fault.CheckFault.TheVariants.{Run, Unknown, Mixed}
 use Rattle.mcs_check.specs.Allowed.{IsUnknownFault, first_unknown, flags_of}
 use Rattle.mcs_check.specs.Counts.{no_counts}
-use Rattle.mcs_check.specs.Formats.{counts_line, head_text, hint_line}
+use Rattle.mcs_check.specs.Formats.{counts_line, head_text, hint_line, is_mixed}
+use Rattle.mcs_check.specs.Figures.{table_lines}
 use Rattle.mcs_check.specs.Told.{counts_with, found_lines, job_lines, merged_in}
 
 -- what is found in the schedule of the one clock over all cores
@@ -34,11 +35,21 @@ module _ (names : List (List ℕ)) (system : System) (horizon : ℕ) where
       counts_with (flags_of names system.notes) (found_of system horizon)
       (merged_in system [] (schedule system horizon)) (length (hints_of system)) no_counts
 
-  -- the lines of what is found and of hints, or those of the rounds that ended
-  abbrev pub shown_lines : Format → Show → List ℕ
-  shown_lines how show.Findings =
+  -- the lines of what is found and of hints
+  abbrev pub findings_lines : Format → List ℕ
+  findings_lines how =
       found_lines how system (flags_of names system.notes) (found_of system horizon) ++ flat_map (hint_line how system) (hints_of system)
+
+  -- those of the figures
+  abbrev pub figures_lines : Format → List ℕ
+  figures_lines how = table_lines how system horizon (past_of [] (schedule system horizon))
+
+  -- what is asked for: these, or those of the rounds that ended
+  abbrev pub shown_lines : Format → Show → List ℕ
+  shown_lines how show.Findings = findings_lines how
   shown_lines how show.Jobs = job_lines how system (jobs_in system [] (schedule system horizon))
+  shown_lines how show.Table = figures_lines how
+  shown_lines how show.Both = findings_lines how ++ figures_lines how
 
   -- the first line, where there is one, these, and that of counts
   abbrev pub check_text : Format → Show → List ℕ
@@ -52,9 +63,11 @@ names_of options = map (λ name. string_bytes name) options.allowed.items
 module _ (read_old read_new : Option (List ℕ)) (given_old given_new : ℕ) (read_failed : Bool) where
   -- the bytes that a target knows before and after the check, whether it has failed, and what is asked for
   module _ (write_old write_new : Option (List ℕ)) (write_failed : Bool) (options : Options) where
-    -- the names that are asked for are known, and what was written is what is shown of the bytes that were read, and nothing else
+    -- What is asked for can be written and the names are known, and what was written is what is shown of the bytes that were read, and
+    -- nothing else.
     abbrev pub IsDone : Counts → Type 0
     IsDone counts = (system : System) × IsRead read_old read_new given_old given_new system
+        × (is_mixed options.format options.show ≡ false)
         × (first_unknown system.notes (names_of options) ≡ None)
         × Appends write_old write_new (check_text (names_of options) system options.horizon options.format options.show)
         × (counts ≡ counts_of (names_of options) system options.horizon)
@@ -70,7 +83,7 @@ module _ (read_old read_new : Option (List ℕ)) (given_old given_new : ℕ) (re
         × (name : List ℕ) × (first_unknown system.notes (names_of options) ≡ Some name)
         × IsUnknownFault system.notes name fault
 
-    -- The file is to blame before anything else, then a name, and in both cases nothing is written. A device is blamed only where it has failed.
+    -- What cannot be written so is refused first, then the file is to blame, then a name, and in all three cases nothing is written. A device is blamed only where it has failed.
     abbrev pub IsFault : CheckFault → Type 0
     IsFault (Run run.Read) =
         Keeps write_old write_new × ((read_failed ≡ true) ⊎ IsTooLong read_old read_new given_old given_new)
@@ -78,6 +91,7 @@ module _ (read_old read_new : Option (List ℕ)) (given_old given_new : ℕ) (re
         Keeps write_old write_new × (f ≢ no_memory → IsFaultOfInput read_old read_new given_old given_new f)
     IsFault (Run (run.Sim f)) = IsBegun
     IsFault (Run run.Write) = (write_failed ≡ true) × IsBegun
+    IsFault Mixed = Keeps write_old write_new × (is_mixed options.format options.show ≡ true)
     IsFault (Unknown name nearest) = Keeps write_old write_new × IsUnknown (Unknown name nearest)
 
     -- what a check has read and written by its answer

@@ -5,7 +5,7 @@ use Rattle.mcs_load.specs.Text.{load_fault_text}
 use Rattle.mcs_cli.specs.declared.fault.RunFault.TheVariants as run
 use Rattle.mcs_cli.specs.Status.{status_of_run}
 use Rattle.mcs_check.specs.declared.fault.CheckFault.{CheckFault}
-use Rattle.mcs_check.specs.declared.fault.CheckFault.TheVariants.{Run, Unknown}
+use Rattle.mcs_check.specs.declared.fault.CheckFault.TheVariants.{Run, Unknown, Mixed}
 
 -- without the line feed: a name that was asked for stands as Rust writes a text, so that it has no line feed of its own
 abbrev pub check_fault_text : CheckFault → Option (List ℕ)
@@ -18,8 +18,10 @@ check_fault_text (Unknown name (Some near)) =
     ++? Some (codes ": the nearest is " ++ string_bytes near)
 check_fault_text (Unknown name None) =
     Some (codes "mcscheck: --allow-lost: no notification is called ") ++? debug_str (string_bytes name) ++? Some (codes ": there is none")
+check_fault_text Mixed = Some (codes "mcscheck: --format csv: rows are of one kind: --show findings, jobs or table")
 
--- a name that is asked for and not there is to blame on the words
+-- a name that is asked for and not there is to blame on the words, as rows of two kinds are
 abbrev pub status_of : CheckFault → ℕ
 status_of (Run fault) = status_of_run fault
 status_of (Unknown name nearest) = 2
+status_of Mixed = 2

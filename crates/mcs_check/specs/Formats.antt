@@ -1,5 +1,5 @@
 -- The lines of what is shown, in each format.
-use Rattle.std.specs.Prelude.{List, [], ◌∷◌, codes, map}
+use Rattle.std.specs.Prelude.{Bool, true, false, List, [], ◌∷◌, codes, map}
 use Rattle.mcs_fields.specs.Fields.{Text, names_text, object_text, row_text}
 use Rattle.mcs_system.specs.System.{System}
 use Rattle.mcs_hints.specs.declared.hint.Hint.{Hint}
@@ -45,6 +45,17 @@ column_names show.Findings =
 column_names show.Jobs =
     codes "moment" ∷ codes "core" ∷ codes "kind" ∷ codes "thread" ∷ codes "number" ∷ codes "activated" ∷ codes "begun" ∷ codes "response"
     ∷ codes "queued" ∷ codes "preemptions" ∷ codes "ready" ∷ codes "running" ∷ codes "throttled" ∷ codes "blocked" ∷ codes "woken" ∷ []
+column_names show.Table =
+    codes "kind" ∷ codes "thread" ∷ codes "core" ∷ codes "priority" ∷ codes "budget" ∷ codes "period" ∷ codes "granted" ∷ codes "used"
+    ∷ codes "rounds" ∷ codes "greatest" ∷ codes "p50" ∷ codes "p90" ∷ codes "p99" ∷ codes "deadline" ∷ codes "margin" ∷ codes "missed"
+    ∷ codes "late" ∷ codes "lost" ∷ codes "merged" ∷ codes "ticks_pending" ∷ codes "ticks_ready" ∷ codes "ticks_running"
+    ∷ codes "ticks_throttled" ∷ codes "ticks_blocked" ∷ codes "ticks_woken" ∷ codes "ticks_done" ∷ []
+column_names show.Both = []
+
+-- findings and figures have other values, so that both are no rows of one kind
+abbrev pub is_mixed : Format → Show → Bool
+is_mixed format.Csv show.Both = true
+is_mixed how asked = false
 
 -- the first line of CSV
 abbrev pub head_text : Format → Show → Text

@@ -3,6 +3,7 @@ pub mod Counts
 pub mod Lines
 pub mod Fields
 pub mod Formats
+pub mod Figures
 pub mod Told
 pub mod Check
 pub mod Fault

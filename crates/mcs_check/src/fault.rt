@@ -18,6 +18,8 @@ pub enum CheckFault {
         /// The first of the notifications whose names are nearest, or None where there is no notification.
         nearest: Option<String>,
     },
+    /// Findings and figures are asked for as rows of CSV, which are of one kind.
+    Mixed,
 }
 
 impl fmt::Display for CheckFault {
@@ -45,18 +47,21 @@ impl fmt::Display for CheckFault {
                 f,
                 "mcscheck: --allow-lost: no notification is called {name:?}: there is none"
             ),
+            CheckFault::Mixed => f.write_str(
+                "mcscheck: --format csv: rows are of one kind: --show findings, jobs or table",
+            ),
         }
     }
 }
 
 impl CheckFault {
-    /// The exit status of the program: 2 for a notification that is not there, else that of the run's fault.
+    /// The exit status of the program: 2 for a notification that is not there and for rows of two kinds, else that of the run's fault.
     pub fn status(&self) -> u8
         ensures { result ≡ status_of self.now }
     {
         match self {
             CheckFault::Run(fault) => fault.status(),
-            CheckFault::Unknown { .. } => 2,
+            CheckFault::Unknown { .. } | CheckFault::Mixed => 2,
         }
     }
 }

@@ -1,10 +1,10 @@
 //! The sink that finds what the rows of a schedule tell, and writes the lines of what is shown of them.
-ghost use Rattle.std.specs.Prelude.{◌≡◌, ◌∷◌, List, true, false, is_ok, OnOk, OnErr};
+ghost use Rattle.std.specs.Prelude.{◌≡◌, ◌∷◌, ℕ, List, true, false, is_ok, OnOk, OnErr};
 ghost use Rattle.mcs_ticks.specs.declared.row.Row.{Row as TheRow};
 ghost use Rattle.mcs_verdict.specs.Findings.{UpTo};
 ghost use Rattle.mcs_verdict.specs.Watch.{watch_of};
 ghost use Rattle.mcs_cli.specs.Flow.{TakesLine};
-ghost use Rattle.mcs_check.specs.stored.Rows.{counted_at, failed_after, shown_text, told_at};
+ghost use Rattle.mcs_check.specs.stored.Rows.{counted_at, failed_after, kept_table, shown_text, told_at};
 
 use crate::Progress;
 use crate::format::put_shown;
@@ -159,6 +159,8 @@ impl<T: Target, P: Progress> Sink for Finder<'_, '_, '_, '_, T, P> {
         × ((past : List TheRow) → before.seen.now.watch ≡ watch_of before.system.now past → UpTo row.moment past →
         (after.seen.now.watch ≡ watch_of before.system.now (row ∷ past))
         × (after.seen.now.counts ≡ counted_at before.system.now before.allowed.now past row before.seen.now.counts)
+        × ((horizon : ℕ) → before.seen.now.table ≡ kept_table before.show before.system.now horizon past →
+        after.seen.now.table ≡ kept_table before.show before.system.now horizon (row ∷ past))
         × TakesLine (T.contents before.lines.target.now) (T.contents after.lines.target.now) before.seen.now.text.items
         after.seen.now.text.items (told_at before.system.now before.allowed.now before.format before.show past row) taken) };
 

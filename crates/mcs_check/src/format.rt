@@ -2,7 +2,7 @@
 ghost use Rattle.std.specs.Prelude.{◌≡◌, ◌++◌, OnOk, OnErr};
 ghost use Rattle.mcs_fields.specs.Fields.{object_text};
 ghost use Rattle.mcs_check.specs.Fields.{hint_fields};
-ghost use Rattle.mcs_check.specs.Formats.{counts_line, found_line, head_text, hint_line, job_line};
+ghost use Rattle.mcs_check.specs.Formats.{counts_line, found_line, head_text, hint_line, is_mixed, job_line};
 ghost use Rattle.mcs_check.specs.stored.Rows.{shown_text};
 
 use crate::Counts;
@@ -55,6 +55,42 @@ static JOBS: [&str; 15] = [
     "woken",
 ];
 
+static TABLE: [&str; 26] = [
+    "kind",
+    "thread",
+    "core",
+    "priority",
+    "budget",
+    "period",
+    "granted",
+    "used",
+    "rounds",
+    "greatest",
+    "p50",
+    "p90",
+    "p99",
+    "deadline",
+    "margin",
+    "missed",
+    "late",
+    "lost",
+    "merged",
+    "ticks_pending",
+    "ticks_ready",
+    "ticks_running",
+    "ticks_throttled",
+    "ticks_blocked",
+    "ticks_woken",
+    "ticks_done",
+];
+
+/// Whether rows of two kinds are asked for.
+pub(crate) fn is_mixed(format: Format, show: Show) -> bool
+    ensures { result ≡ is_mixed format show }
+{
+    matches!((format, show), (Format::Csv, Show::Both))
+}
+
 /// Appends the first line of CSV; other formats have none. After a refusal the text is as it was.
 pub(crate) fn put_head(text: &mut Vec<u8>, format: Format, show: Show) -> Result<(), NoMemory>
     ensures ok { OnOk result (text.new.items ≡ text.old.items ++ head_text format show) }
@@ -63,6 +99,8 @@ pub(crate) fn put_head(text: &mut Vec<u8>, format: Format, show: Show) -> Result
     match (format, show) {
         (Format::Csv, Show::Findings) => put_names(text, FINDINGS.as_slice()),
         (Format::Csv, Show::Jobs) => put_names(text, JOBS.as_slice()),
+        (Format::Csv, Show::Table) => put_names(text, TABLE.as_slice()),
+        (Format::Csv, Show::Both) => put_names(text, &[]),
         _ => Ok(()),
     }
 }

@@ -5,6 +5,7 @@ mod allowed;
 mod counts;
 mod fault;
 mod fields;
+mod figures;
 mod finder;
 mod format;
 mod line;

@@ -1,5 +1,5 @@
 //! What is told after the last row.
-ghost use Rattle.std.specs.Prelude.{◌≡◌, ◌++◌, List, length, flat_map, OnOk};
+ghost use Rattle.std.specs.Prelude.{◌≡◌, ◌++◌, List, length, flat_map, IfSome, OnOk};
 ghost use Rattle.mcs_ticks.specs.declared.row.Row.{Row as TheRow};
 ghost use Rattle.mcs_verdict.specs.Findings.{UpTo, found_at_end};
 ghost use Rattle.mcs_verdict.specs.Watch.{watch_of};
@@ -7,20 +7,23 @@ ghost use Rattle.mcs_hints.specs.Hints.{hints_of};
 ghost use Rattle.mcs_check.specs.Counts.{with_hints};
 ghost use Rattle.mcs_check.specs.Formats.{counts_line, hint_line};
 ghost use Rattle.mcs_check.specs.Told.{found_lines};
-ghost use Rattle.mcs_check.specs.stored.Rows.{counts_found, rest_lines};
+ghost use Rattle.mcs_check.specs.stored.Rows.{counts_found, kept_table, rest_lines, tabled_lines};
 
 use crate::Counts;
 use crate::counts::is_allowed;
+use crate::figures::put_table;
 use crate::format::{put_counts_as, put_found_as, put_hint_as};
 use crate::seen::Seen;
 use mcs_check_words::{Format, Options, Show};
 use mcs_hints::{Hint, hints};
 use mcs_system::System;
+use mcs_table::Table;
 use mcs_ticks::NoMemory;
-use mcs_verdict::{Found, find_unended};
+use mcs_verdict::{Found, Watch, find_unended};
 use std::alloc::Global;
 
-/// Puts what is shown after the last row behind the text, and then the counts: where findings are, those at the horizon and hints.
+/// Puts what is shown after the last row behind the text, and then the counts: where findings are, those at the horizon and hints, and the
+/// figures where they are asked for.
 pub(crate) fn put_rest(
     alloc: Global,
     options: &Options,
@@ -28,9 +31,13 @@ pub(crate) fn put_rest(
     system: &System,
     allowed: &[bool],
 ) -> Result<(), NoMemory>
-    ensures text { (past : List TheRow) → seen.old.watch ≡ watch_of system.now past → UpTo options.now.horizon past →
+    requires watched { length seen.old.watch.accounts ≡ length system.now.threads }
+    requires kept { IfSome seen.old.table (λ table. length table.accounts ≡ length system.now.threads) }
+    ensures text { (past : List TheRow) → seen.old.watch ≡ watch_of system.now past →
+        seen.old.table ≡ kept_table options.now.show system.now options.now.horizon past → UpTo options.now.horizon past →
         OnOk result (seen.new.text.items ≡ seen.old.text.items
         ++ rest_lines options.now.format options.now.show system.now allowed.now (found_at_end system.now past options.now.horizon 0 system.now.threads)
+        ++ tabled_lines options.now.format options.now.show system.now options.now.horizon past
         ++ counts_line options.now.format seen.new.counts) }
     ensures counts { (past : List TheRow) → seen.old.watch ≡ watch_of system.now past → UpTo options.now.horizon past →
         OnOk result (seen.new.counts ≡ with_hints (length (hints_of system.now))
@@ -47,9 +54,33 @@ pub(crate) fn put_rest(
         unended.as_slice(),
         hints.as_slice(),
     )?;
+    let (text, watch) = (&mut seen.text, &seen.watch);
+    put_tabled(alloc, options, text, system, watch, &seen.table)?;
     count_all(&mut seen.counts, allowed, unended.as_slice());
     seen.counts.hint(hints.len());
     put_counts_as(alloc, &mut seen.text, options.format, &seen.counts)
+}
+
+/// Puts the lines of the figures behind the text, where they are kept.
+fn put_tabled(
+    alloc: Global,
+    options: &Options,
+    text: &mut Vec<u8>,
+    system: &System,
+    watch: &Watch,
+    table: &Option<Table>,
+) -> Result<(), NoMemory>
+    requires watched { length watch.now.accounts ≡ length system.now.threads }
+    requires kept { IfSome table.now (λ table. length table.accounts ≡ length system.now.threads) }
+    ensures { (past : List TheRow) → watch.now ≡ watch_of system.now past →
+        table.now ≡ kept_table options.now.show system.now options.now.horizon past → UpTo options.now.horizon past →
+        OnOk result (text.new.items ≡ text.old.items
+        ++ tabled_lines options.now.format options.now.show system.now options.now.horizon past) }
+{
+    match table {
+        Some(table) => put_table(alloc, text, options.format, system, watch, table),
+        None => Ok(()),
+    }
 }
 
 /// Puts what is shown of what was found at the horizon and of hints behind the text.
@@ -66,11 +97,11 @@ fn put_ends(
     ensures { OnOk result (text.new.items ≡ text.old.items ++ rest_lines options.now.format options.now.show system.now allowed.now all.now) }
 {
     match options.show {
-        Show::Findings => {
+        Show::Findings | Show::Both => {
             put_all(alloc, text, options.format, system, allowed, all)?;
             put_hints(alloc, text, options.format, system, hints)
         }
-        Show::Jobs => Ok(()),
+        Show::Jobs | Show::Table => Ok(()),
     }
 }
 

@@ -10,19 +10,20 @@ ghost use Rattle.mcs_check.specs.Check.{IsCheck, check_text, counts_of, names_of
 ghost use Rattle.mcs_check.specs.Counts.{no_counts};
 ghost use Rattle.mcs_check.specs.Formats.{head_text};
 ghost use Rattle.mcs_check.specs.declared.fault.CheckFault.TheVariants.{Run};
-ghost use Rattle.mcs_check.specs.stored.Rows.{counts_in, refusal, rows_text};
+ghost use Rattle.mcs_check.specs.stored.Rows.{counts_in, kept_table, refusal, rows_text};
 
 use crate::allowed::{flags_of, refuse_unknown};
 use crate::finder::{Finder, Lines};
-use crate::format::put_head;
+use crate::format::{is_mixed, put_head};
 use crate::rest::put_rest;
 use crate::seen::Seen;
 use crate::{CheckFault, Counts, Progress};
-use mcs_check_words::Options;
+use mcs_check_words::{Options, Show};
 use mcs_cli::{FromRead, Open, RunFault, Source, Target, read_system, write_text};
 use mcs_system::System;
+use mcs_table::Table;
 use mcs_team::{FlowFault, SimFault, schedule_to};
-use mcs_ticks::NoMemory;
+use mcs_ticks::{NoMemory, Tick};
 use mcs_verdict::Watch;
 use mcs_verdict_laws::schedules_are_in_order;
 use std::alloc::Global;
@@ -71,9 +72,9 @@ pub fn check_with<H: Files + Threads + Wait + Sync, S: Source, T: Target, P: Pro
 
 /// Reads a file to its end, simulates the system that it describes by as many workers as the options say, and writes what they ask to be shown
 /// of its schedule, lines of rows as the rows come, and how much was found, which it answers. Where findings are shown, what is found at
-/// the horizon and hints come behind those of rows; where rounds that ended are, nothing does. For every
-/// number of workers the same bytes are written. Neither device may have failed before, and one is blamed only where it has failed since.
-/// After `Read`, `Load` and `Unknown` nothing was written, and after `Sim` and `Write` a first part of that.
+/// the horizon and hints come behind those of rows, and the figures behind these where they are asked for; where rounds that ended are shown,
+/// nothing does. For every number of workers the same bytes are written. Neither device may have failed before, and one is blamed only where it has failed since.
+/// After `Mixed`, `Read`, `Load` and `Unknown` nothing was written, and after `Sim` and `Write` a first part of that.
 pub fn check<H: Threads + Wait + Sync, S: Source, T: Target, P: Progress>(
     rt: &H,
     alloc: Global,
@@ -89,6 +90,9 @@ pub fn check<H: Threads + Wait + Sync, S: Source, T: Target, P: Progress>(
     ensures source_blamed { S.has_failed source.new ≡ true → result ≡ Err (Run fault.Read) }
     ensures target_blamed { T.has_failed target.new ≡ true → result ≡ Err (Run fault.Write) }
 {
+    if is_mixed(options.format, options.show) {
+        return Err(CheckFault::Mixed);
+    }
     let system = read_system(alloc, source)?;
     refuse_unknown(alloc, system.parts(), options.allowed.as_slice())?;
     let counts = write_check(rt, alloc, target, system, options, progress)?;
@@ -147,6 +151,8 @@ fn find_rows<'s, H: Threads + Wait + Sync, T: Target, P: Progress>(
         ≡ watch_of (arc_value system.now) (past_of [] (schedule (arc_value system.now) options.now.horizon))) }
     ensures counts { IfOk result (λ seen. seen.counts
         ≡ counts_in (arc_value system.now) allowed.now [] (schedule (arc_value system.now) options.now.horizon) no_counts) }
+    ensures table { IfOk result (λ seen. seen.table ≡ kept_table options.now.show (arc_value system.now) options.now.horizon
+        (past_of [] (schedule (arc_value system.now) options.now.horizon))) }
     ensures in_time { UpTo options.now.horizon (past_of [] (schedule (arc_value system.now) options.now.horizon)) }
     ensures working { OnOk result (T.has_failed target.new ≡ false) }
     ensures fault { IfErr result
@@ -161,12 +167,16 @@ fn find_rows<'s, H: Threads + Wait + Sync, T: Target, P: Progress>(
     let Ok(watch) = Watch::new(alloc, system) else {
         return Err(RunFault::Sim(SimFault::NoMemory));
     };
+    let Ok(table) = table_for(alloc, options.show, system, options.horizon) else {
+        return Err(RunFault::Sim(SimFault::NoMemory));
+    };
     let Ok(text) = head(alloc, options) else {
         return Err(RunFault::Sim(SimFault::NoMemory));
     };
     let mut seen = Seen {
         watch,
         counts: Counts::new(),
+        table,
         text,
     };
     let lines = Lines::new(target);
@@ -177,6 +187,21 @@ fn find_rows<'s, H: Threads + Wait + Sync, T: Target, P: Progress>(
         Ok(()) => Ok(seen),
         Err(FlowFault::NoMemory) => Err(RunFault::Sim(SimFault::NoMemory)),
         Err(FlowFault::Sink) => Err(refusal(finder.lines.is_out_of_memory)),
+    }
+}
+
+/// What is kept for figures before the first row, where they are asked for.
+fn table_for(
+    alloc: Global,
+    show: Show,
+    system: &System,
+    horizon: Tick,
+) -> Result<Option<Table>, NoMemory>
+    ensures { IfOk result (λ table. table ≡ kept_table show system.now horizon []) }
+{
+    match show {
+        Show::Table | Show::Both => Ok(Some(Table::new(alloc, system, horizon)?)),
+        Show::Findings | Show::Jobs => Ok(None),
     }
 }
 

@@ -83,6 +83,14 @@ shows_all : fault_of line (codes "--show" ∷ codes "all" ∷ []) ≡ kind.Inval
 unfolding clap_on_literals
 shows_all = refl
 
+the_table : show_named (text_of (codes "show") (matches_of line (codes "--show=table" ∷ []))) ≡ show.Table
+unfolding clap_on_literals
+the_table = refl
+
+both : show_named (text_of (codes "show") (matches_of line (codes "--show" ∷ codes "both" ∷ []))) ≡ show.Both
+unfolding clap_on_literals
+both = refl
+
 as_json : format_named (text_of (codes "format") (matches_of line (codes "--format=json" ∷ []))) ≡ format.Json
 unfolding clap_on_literals
 as_json = refl

@@ -31,7 +31,7 @@ strict_rule = record (new_rule (codes "strict")) { long = Some (codes "strict");
 
 -- what `--show` takes
 abbrev pub show_words : List Text
-show_words = codes "findings" ∷ codes "jobs" ∷ []
+show_words = codes "findings" ∷ codes "jobs" ∷ codes "table" ∷ codes "both" ∷ []
 
 -- and `--format`
 abbrev pub format_words : List Text
@@ -58,7 +58,7 @@ module _ (shows formats : Bor (List (Bor Text))) where
   abbrev pub format_rule : Rule
   format_rule = choice_rule (codes "format") (codes "text") formats
 
-  -- `[FILE] [--horizon N] [--workers W] [--allow-lost NOTE].. [--strict] [--show findings|jobs] [--format text|csv|json]`
+  -- `[FILE] [--horizon N] [--workers W] [--allow-lost NOTE].. [--strict] [--show findings|jobs|table|both] [--format text|csv|json]`
   abbrev pub command_line : App
   command_line =
       let numbers = with_rule (with_rule (with_rule bare_line file_rule) horizon_rule) workers_rule in
@@ -74,7 +74,9 @@ is_set id rows = bytes_eq (unwrap_or (one_of id rows) []) (codes "true")
 
 -- what a word asks to be shown
 abbrev pub show_named : Text → Show
-show_named word = if bytes_eq word (codes "jobs") then show.Jobs else show.Findings
+show_named word = if bytes_eq word (codes "jobs") then show.Jobs
+    else if bytes_eq word (codes "table") then show.Table
+    else if bytes_eq word (codes "both") then show.Both else show.Findings
 
 -- and how it is written
 abbrev pub format_named : Text → Format

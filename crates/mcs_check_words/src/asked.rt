@@ -9,6 +9,10 @@ pub enum Show {
     Findings,
     /// Its rounds that ended.
     Jobs,
+    /// Figures of each thread and of each context.
+    Table,
+    /// What is found in it, and then the figures.
+    Both,
 }
 
 /// How it is written.

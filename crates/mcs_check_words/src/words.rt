@@ -11,7 +11,7 @@ use mcs_cli::{WordsFault, fault_of, file_argument, file_of, number_argument, num
 use mcs_ticks::Tick;
 use std::alloc::{AllocError, Global};
 
-static SHOWS: [&str; 2] = ["findings", "jobs"];
+static SHOWS: [&str; 4] = ["findings", "jobs", "table", "both"];
 
 static FORMATS: [&str; 3] = ["text", "csv", "json"];
 
@@ -31,8 +31,8 @@ Exit status:
   5  something is found";
 
 /// What the words after the program's name ask for: `[FILE] [--horizon N] [--workers W] [--allow-lost NOTE].. [--strict]
-/// [--show findings|jobs] [--format text|csv|json]`, as clap reads them. Words that are not understood and words that ask for help are refused with the text that
-/// says so.
+/// [--show findings|jobs|table|both] [--format text|csv|json]`, as clap reads them. Words that are not understood and words that ask for help
+/// are refused with the text that says so.
 pub fn options(alloc: Global, words: &[String]) -> Result<Options, WordsFault>
     ensures { IsAnswer (map (λ word. string_bytes word) words.now) result }
 {
@@ -105,7 +105,9 @@ fn show<'a>(alloc: Global) -> Arg<'a>
         .value_name("WHAT")
         .default_value("findings")
         .value_parser(SHOWS.as_slice())
-        .help("What is written before the counts: what is found, or each round that ended")
+        .help(
+            "What is written before the counts: what is found, each round that ended, figures of each thread and context, or findings and figures",
+        )
 }
 
 /// `--format`.
@@ -186,6 +188,8 @@ fn show_named(word: &str) -> Show
 {
     match word {
         "jobs" => Show::Jobs,
+        "table" => Show::Table,
+        "both" => Show::Both,
         _ => Show::Findings,
     }
 }

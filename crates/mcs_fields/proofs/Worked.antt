@@ -2,7 +2,7 @@
 use Rattle.std.proofs.Common.{◌≡◌, ◌∷◌, [], List, codes, refl}
 use Rattle.std.specs.Fmt.{digits}
 use Rattle.serde_json.proofs.OnLiterals.{serde_json_on_literals}
-use Rattle.mcs_fields.specs.Fields.{Text, Value, amount, empty, name, names_text, object_text, row_text}
+use Rattle.mcs_fields.specs.Fields.{Text, Value, amount, below, empty, name, names_text, object_text, row_text}
 
 -- a signal that was lost has a word and no response
 abbrev lost : List (Text × Value)
@@ -18,3 +18,12 @@ names = refl
 member : object_text lost ≡ codes "{\"moment\":20,\"kind\":\"lost\",\"word\":1}\n"
 unfolding serde_json_on_literals digits
 member = refl
+
+-- a margin that is below 0, and one of 0
+margins : row_text (below 3 ∷ below 0 ∷ []) ≡ codes "-3,0\n"
+unfolding digits
+margins = refl
+
+margin : object_text ((codes "margin", below 3) ∷ []) ≡ codes "{\"margin\":-3}\n"
+unfolding serde_json_on_literals digits
+margin = refl

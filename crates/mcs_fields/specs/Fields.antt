@@ -1,7 +1,8 @@
 -- Named values as a line.
-use Rattle.std.specs.Prelude.{ℕ, Bool, true, false, List, [], ◌∷◌, ◌++◌, map, decimal}
+use Rattle.std.specs.Prelude.{ℕ, ℤ, pos, neg_ℤ, Bool, true, false, List, [], ◌∷◌, ◌++◌, map, decimal}
+use Rattle.std.specs.Fmt.{signed_decimal}
 use Rattle.std.specs.Borrow.{Bor}
-use Rattle.serde_json.specs.Data.{Members, member, no_members, number, object, string, unsigned}
+use Rattle.serde_json.specs.Data.{Members, member, negative, no_members, number, object, string, unsigned}
 use Rattle.serde_json.specs.Written.{comma_if, compact_text}
 use Rattle.mcs_fields.specs.declared.cell.Cell.{Cell}
 use Rattle.mcs_fields.specs.declared.cell.Cell.TheVariants as cell
@@ -9,15 +10,17 @@ use Rattle.mcs_fields.specs.declared.cell.Cell.TheVariants as cell
 abbrev pub Text : Type 0
 Text = List ℕ
 
--- a number, a name, or none of both
+-- a number, one that is so far below 0, a name, or none of them
 pub data Value : Type 0 where
   amount : ℕ → Value
+  below : ℕ → Value
   name : Text → Value
   empty : Value
 
 -- as the code has it
 abbrev pub value_of : Cell → Value
 value_of (cell.Number n) = amount n
+value_of (cell.Below n) = below n
 value_of (cell.Name text) = name text.now
 value_of cell.Empty = empty
 
@@ -33,9 +36,17 @@ abbrev pub parts_text : Bool → List Text → Text
 parts_text later [] = 10 ∷ []
 parts_text later (part ∷ parts) = comma_if later ++ (part ++ parts_text true parts)
 
+-- the number that is so far below 0
+abbrev pub below_zero : ℕ → ℤ
+below_zero n = neg_ℤ (pos n)
+
+abbrev pub below_text : ℕ → Text
+below_text n = signed_decimal (below_zero n)
+
 -- a value stands as it is: names have no comma, no quote and no line feed
 abbrev pub value_text : Value → Text
 value_text (amount n) = decimal n
+value_text (below n) = below_text n
 value_text (name text) = text
 value_text empty = []
 
@@ -50,6 +61,7 @@ names_text names = parts_text false names
 -- the members of an object, in this order: what is empty is none
 abbrev pub with_member : Text → Value → Members → Members
 with_member key (amount n) members = member key (number (unsigned n)) members
+with_member key (below n) members = member key (number (negative (below_zero n))) members
 with_member key (name text) members = member key (string text) members
 with_member key empty members = members
 

@@ -1,6 +1,6 @@
 ghost use Rattle.std.specs.Prelude.{◌≡◌, ◌++◌, decimal, OnOk};
 ghost use Rattle.std.specs.Io.{StartsWith};
-ghost use Rattle.mcs_fields.specs.Fields.{is_empty};
+ghost use Rattle.mcs_fields.specs.Fields.{below_text, is_empty};
 
 use itoa::Buffer;
 use mcs_ticks::NoMemory;
@@ -9,6 +9,8 @@ use mcs_ticks::NoMemory;
 #[derive(Clone, Copy, Debug, PartialEq, Eq)]
 pub enum Cell<'a> {
     Number(u64),
+    /// A number that is so far below 0.
+    Below(u64),
     /// A name of the system, or a word of this program: letters, digits, `_` and `-`.
     Name(&'a str),
     /// This line has no such value.
@@ -34,4 +36,15 @@ pub(crate) fn append_number(text: &mut Vec<u8>, number: u64) -> Result<(), NoMem
     let mut buffer = Buffer::new();
     text.extend_from_slice(buffer.format(number).as_bytes())?;
     Ok(())
+}
+
+/// Appends a number that is so far below 0. After a refusal a first part of it may stand behind the text.
+pub fn append_below(text: &mut Vec<u8>, number: u64) -> Result<(), NoMemory>
+    ensures ok { OnOk result (text.new.items ≡ text.old.items ++ below_text number) }
+    ensures kept { StartsWith text.new.items text.old.items }
+{
+    if number > 0 {
+        text.push(b'-')?;
+    }
+    append_number(text, number)
 }

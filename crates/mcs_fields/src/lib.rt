@@ -5,6 +5,6 @@ mod cell;
 mod object;
 mod row;
 
-pub use cell::{Cell, Field};
+pub use cell::{Cell, Field, append_below};
 pub use object::put_object;
 pub use row::{put_names, put_row};

@@ -4,7 +4,7 @@ ghost use Rattle.serde_json.specs.Data.{Members, string};
 ghost use Rattle.serde_json.specs.Written.{comma_if, compact_text, members_text};
 ghost use Rattle.mcs_fields.specs.Fields.{field_of, is_empty, members_of, object_text, value_of, with_member};
 
-use crate::cell::append_number;
+use crate::cell::{append_below, append_number};
 use crate::row::append_comma;
 use crate::{Cell, Field};
 use mcs_ticks::NoMemory;
@@ -67,6 +67,7 @@ fn append_member(
     append_key(alloc, text, later, name)?;
     match *cell {
         Cell::Number(number) => append_number(text, number),
+        Cell::Below(number) => append_below(text, number),
         Cell::Name(name) => append_quoted(alloc, text, name),
         Cell::Empty => Ok(()),
     }

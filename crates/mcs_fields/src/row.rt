@@ -3,7 +3,7 @@ ghost use Rattle.std.specs.Io.{StartsWith};
 ghost use Rattle.serde_json.specs.Written.{comma_if};
 ghost use Rattle.mcs_fields.specs.Fields.{names_text, row_text, value_of, value_text};
 
-use crate::cell::append_number;
+use crate::cell::{append_below, append_number};
 use crate::{Cell, Field};
 use mcs_ticks::NoMemory;
 
@@ -78,6 +78,7 @@ fn append_value(text: &mut Vec<u8>, cell: &Cell<'_>) -> Result<(), NoMemory>
 {
     match *cell {
         Cell::Number(number) => append_number(text, number),
+        Cell::Below(number) => append_below(text, number),
         Cell::Name(name) => {
             text.extend_from_slice(name.as_bytes())?;
             Ok(())

@@ -8,6 +8,7 @@ use Rattle.mcs_verdict.specs.declared.job.Job.{Job}
 use Rattle.mcs_verdict.specs.Findings.{finding}
 use Rattle.mcs_verdict.specs.Jobs.{job_of}
 use Rattle.mcs_verdict.specs.Words.{merges}
+use Rattle.mcs_table.specs.Table.{Table, table_of}
 use Rattle.mcs_cli.specs.declared.fault.RunFault.{RunFault}
 use Rattle.mcs_cli.specs.declared.fault.RunFault.TheVariants as fault
 use Rattle.mcs_team.specs.declared.fault.SimFault.TheVariants.{NoMemory}
@@ -19,6 +20,7 @@ use Rattle.mcs_check.specs.declared.shown.Shown.{Shown}
 use Rattle.mcs_check.specs.declared.shown.Shown.TheVariants as shown
 use Rattle.mcs_check.specs.Counts.{one_more, taken, told_of}
 use Rattle.mcs_check.specs.Formats.{found_line, head_text, hint_line, job_line}
+use Rattle.mcs_check.specs.Figures.{table_lines}
 use Rattle.mcs_check.specs.Told.{found_lines}
 use Rattle.mcs_hints.specs.Hints.{hints_of}
 
@@ -46,6 +48,22 @@ told_line how system (Some entry) = shown_text how system entry
 abbrev pub rest_lines : Format → Show → System → List Bool → List Found → List ℕ
 rest_lines how show.Findings system allowed found = found_lines how system allowed found ++ flat_map (hint_line how system) (hints_of system)
 rest_lines how show.Jobs system allowed found = []
+rest_lines how show.Table system allowed found = []
+rest_lines how show.Both system allowed found = found_lines how system allowed found ++ flat_map (hint_line how system) (hints_of system)
+
+-- what is kept of these rows for figures, where they are asked for
+abbrev pub kept_table : Show → System → ℕ → List Row → Option Table
+kept_table show.Findings system horizon past = None
+kept_table show.Jobs system horizon past = None
+kept_table show.Table system horizon past = Some (table_of system horizon past)
+kept_table show.Both system horizon past = Some (table_of system horizon past)
+
+-- their lines
+abbrev pub tabled_lines : Format → Show → System → ℕ → List Row → List ℕ
+tabled_lines how show.Findings system horizon past = []
+tabled_lines how show.Jobs system horizon past = []
+tabled_lines how show.Table system horizon past = table_lines how system horizon past
+tabled_lines how show.Both system horizon past = table_lines how system horizon past
 
 -- whether a target has failed, where a line was refused
 abbrev pub failed_after : Bool → Bool → Bool
@@ -65,6 +83,8 @@ module _ (system : System) (allowed : List Bool) where
   abbrev pub shown_at : Show → List Row → Row → Option Shown
   shown_at show.Findings past r = shown_found r.moment r.core (told_of allowed (finding system past r.moment r.what))
   shown_at show.Jobs past r = shown_job (job_of system past r.moment r.what)
+  shown_at show.Table past r = None
+  shown_at show.Both past r = shown_found r.moment r.core (told_of allowed (finding system past r.moment r.what))
 
   abbrev pub told_at : Format → Show → List Row → Row → List ℕ
   told_at how asked past r = told_line how system (shown_at asked past r)

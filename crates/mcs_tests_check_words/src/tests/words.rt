@@ -15,6 +15,8 @@ fn answer(alloc: Global, words: &[String]) -> Result<String, AllocError> {
             let show = match &options.show {
                 Show::Findings => "findings",
                 Show::Jobs => "jobs",
+                Show::Table => "table",
+                Show::Both => "both",
             };
             let format = match &options.format {
                 Format::Text => "text",
@@ -44,7 +46,7 @@ fn answer_to(alloc: Global, line: &str) -> Result<String, AllocError> {
     answer(alloc, words.as_slice())
 }
 
-static TAKEN: [(&str, &str); 8] = [
+static TAKEN: [(&str, &str); 10] = [
     ("", " 1000 1 [] false findings text"),
     (
         "--allow-lost irq in.toml --horizon=1099511627776 --strict --allow-lost=timer --workers 64",
@@ -63,6 +65,9 @@ static TAKEN: [(&str, &str); 8] = [
         "in.toml 1000 1 [\"x,y\"] false findings text",
     ),
     ("--show=jobs --strict", " 1000 1 [] true jobs text"),
+    ("--show=table", " 1000 1 [] false table text"),
+    ("--show both --horizon 9", " 9 1 [] false both text"),
+    ("--show jobs --format=csv", " 1000 1 [] false jobs csv"),
     (
         "--show findings in.toml",
         "in.toml 1000 1 [] false findings text",
@@ -118,7 +123,7 @@ static HELP: [&str; 16] = [
     "--allow-lost <NOTE>",
     "--strict",
     "--show <WHAT>",
-    "[default: findings] [possible values: findings, jobs]",
+    "[default: findings] [possible values: findings, jobs, table, both]",
     "--format <HOW>",
     "[default: text] [possible values: text, csv, json]",
     "mcscheck system.toml --horizon 100000",

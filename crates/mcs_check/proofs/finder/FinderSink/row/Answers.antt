@@ -1,7 +1,7 @@
-use Rattle.std.proofs.Common.{◌≡◌, ◌∙◌, ap, ap₂, sym, subst, is_ok}
+use Rattle.std.proofs.Common.{◌≡◌, ◌∙◌, ◌∷◌, ap, ap₂, sym, subst, is_ok}
 use Rattle.mcs_verdict.specs.Watch.{watch_of}
 use Rattle.mcs_cli.specs.Flow.{TakesLine}
-use Rattle.mcs_check.specs.stored.Rows.{counted_at, failed_after, shown_at, shown_text, told_at, told_line}
+use Rattle.mcs_check.specs.stored.Rows.{counted_at, failed_after, kept_table, shown_at, shown_text, told_at, told_line}
 use Rattle.mcs_check.proofs.Results.{err-holds, ok-holds}
 use Rattle.mcs_check.proofs.finder.FinderSink.row.Goals as goal
 
@@ -33,6 +33,10 @@ returns g c =
             c.see.ensures.kept system past watch_is up,
             subst (λ a. c.see.new.self.counts ≡ counted_at system a.now past row before.seen.now.counts) p.allowed
                 (subst (λ s. c.see.new.self.counts ≡ counted_at system c.pass.new.self.allowed.now past row s.counts) p.seen_now (c.see.ensures.counted system past watch_is up)),
+            λ horizon table.
+                let own = subst (λ s. s.table ≡ kept_table c.pass.new.self.show system horizon past) (sym p.seen_now)
+                (subst (λ a. before.seen.now.table ≡ kept_table a system horizon past) (sym p.show) table) in
+                subst (λ a. c.see.new.self.table ≡ kept_table a system horizon (row ∷ past)) p.show (c.see.ensures.tabled system horizon past watch_is up own),
             subst (λ l. TakesLine (held l.target.now) (held c.put.new.self.target.now) before.seen.now.text.items c.put.new.text.items
                 (told_at system before.allowed.now before.format before.show past row) (is_ok c.put.result)) p.lines behind,
           ),

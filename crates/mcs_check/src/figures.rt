@@ -1,0 +1,340 @@
+//! The figures of a thread and of a context, as named values and as lines.
+ghost use Rattle.std.specs.Prelude.{◌≡◌, ◌++◌, ◌∷◌, ◌<◌, ◌≤◌, ℕ, List, OnOk, OnErr, drop, length, map};
+ghost use Rattle.std.specs.Io.{StartsWith};
+ghost use Rattle.mcs_ticks.specs.declared.row.Row.{Row as TheRow};
+ghost use Rattle.mcs_fields.specs.Fields.{field_of, value_of};
+ghost use Rattle.mcs_text.specs.Text.{after, line};
+ghost use Rattle.mcs_verdict.specs.Findings.{UpTo};
+ghost use Rattle.mcs_verdict.specs.Watch.{watch_of};
+ghost use Rattle.mcs_table.specs.Figures.{figures_of};
+ghost use Rattle.mcs_table.specs.Table.{table_of};
+ghost use Rattle.mcs_table.specs.Unused.{unused_of};
+ghost use Rattle.mcs_check.specs.Figures.{context_fields, context_line, context_lines, context_text, deadline_known, known, lost_value, margin_value, merged_value, pair_words, table_lines, thread_fields, thread_line, thread_lines, thread_text, value_word};
+
+use mcs_check_words::Format;
+use mcs_fields::{Cell, Field, append_below, put_object, put_row};
+use mcs_system::System;
+use mcs_table::{Figures, Margin, Signals, Table};
+use mcs_text::{append_number, append_word, context_name, thread_name};
+use mcs_ticks::{ContextId, NoMemory, ThreadId};
+use mcs_verdict::Watch;
+use std::alloc::Global;
+
+fn known<'s>(number: Option<u64>) -> Cell<'s>
+    ensures { value_of result ≡ known number }
+{
+    match number {
+        Some(number) => Cell::Number(number),
+        None => Cell::Empty,
+    }
+}
+
+fn deadline<'s>(deadline: u64) -> Cell<'s>
+    ensures { value_of result ≡ deadline_known deadline }
+{
+    if deadline == 0 {
+        Cell::Empty
+    } else {
+        Cell::Number(deadline)
+    }
+}
+
+fn margin<'s>(margin: Option<Margin>) -> Cell<'s>
+    ensures { value_of result ≡ margin_value margin }
+{
+    match margin {
+        Some(Margin::Left(ticks)) => Cell::Number(ticks),
+        Some(Margin::Over(ticks)) => Cell::Below(ticks),
+        None => Cell::Empty,
+    }
+}
+
+fn lost<'s>(signals: Option<Signals>) -> Cell<'s>
+    ensures { value_of result ≡ lost_value signals }
+{
+    match signals {
+        Some(signals) => Cell::Number(signals.lost),
+        None => Cell::Empty,
+    }
+}
+
+fn merged<'s>(signals: Option<Signals>) -> Cell<'s>
+    ensures { value_of result ≡ merged_value signals }
+{
+    match signals {
+        Some(signals) => Cell::Number(signals.merged),
+        None => Cell::Empty,
+    }
+}
+
+fn thread_fields<'s>(system: &'s System, thread: ThreadId, figures: &Figures) -> [Field<'s>; 26]
+    ensures { map field_of result ≡ thread_fields system.now thread figures.now }
+{
+    [
+        ("kind", Cell::Name("thread")),
+        ("thread", Cell::Name(thread_name(system, thread))),
+        ("core", Cell::Number(figures.core.0 as u64)),
+        ("priority", Cell::Number(u64::from(figures.priority))),
+        ("budget", Cell::Number(figures.share.budget)),
+        ("period", Cell::Number(figures.share.period)),
+        ("granted", Cell::Number(figures.share.granted)),
+        ("used", Cell::Number(figures.share.used)),
+        ("rounds", Cell::Number(figures.rounds.ended)),
+        ("greatest", known(figures.rounds.greatest)),
+        ("p50", known(figures.rounds.fiftieth)),
+        ("p90", known(figures.rounds.ninetieth)),
+        ("p99", known(figures.rounds.ninety_ninth)),
+        ("deadline", deadline(figures.deadline)),
+        ("margin", margin(figures.margin)),
+        ("missed", Cell::Number(figures.rounds.missed)),
+        ("late", Cell::Number(figures.rounds.late)),
+        ("lost", lost(figures.signals)),
+        ("merged", merged(figures.signals)),
+        ("ticks_pending", Cell::Number(figures.stood.pending)),
+        ("ticks_ready", Cell::Number(figures.stood.ready)),
+        ("ticks_running", Cell::Number(figures.stood.running)),
+        ("ticks_throttled", Cell::Number(figures.stood.throttled)),
+        ("ticks_blocked", Cell::Number(figures.stood.blocked)),
+        ("ticks_woken", Cell::Number(figures.stood.woken)),
+        ("ticks_done", Cell::Number(figures.stood.done)),
+    ]
+}
+
+fn context_fields<'s>(system: &'s System, context: ContextId, unused: Option<u64>) -> [Field<'s>; 3]
+    ensures { map field_of result ≡ context_fields system.now context unused }
+{
+    [
+        ("kind", Cell::Name("context")),
+        ("context", Cell::Name(context_name(system, context))),
+        ("unused", known(unused)),
+    ]
+}
+
+/// Appends a value behind a space, and `-` where there is none.
+fn append_value(text: &mut Vec<u8>, cell: &Cell<'_>) -> Result<(), NoMemory>
+    ensures ok { OnOk result (text.new.items ≡ text.old.items ++ 32 ∷ value_word (value_of cell.now)) }
+    ensures kept { StartsWith text.new.items text.old.items }
+{
+    match *cell {
+        Cell::Number(number) => append_number(text, number),
+        Cell::Below(number) => {
+            text.push(b' ')?;
+            append_below(text, number)
+        }
+        Cell::Name(name) => append_word(text, name),
+        Cell::Empty => append_word(text, "-"),
+    }
+}
+
+/// Appends each value behind what it is called.
+fn append_pairs(text: &mut Vec<u8>, fields: &[Field<'_>]) -> Result<(), NoMemory>
+    ensures ok { OnOk result (text.new.items ≡ text.old.items ++ after (pair_words (map field_of fields.now))) }
+    ensures kept { StartsWith text.new.items text.old.items }
+{
+    for (name, cell) in fields {
+        append_word(text, name)?;
+        append_value(text, cell)?;
+    }
+    Ok(())
+}
+
+fn append_line(
+    text: &mut Vec<u8>,
+    word: &str,
+    name: &str,
+    fields: &[Field<'_>],
+) -> Result<(), NoMemory>
+    ensures ok { OnOk result (text.new.items ≡ text.old.items ++ line word.now (name.now ∷ pair_words (map field_of fields.now))) }
+    ensures kept { StartsWith text.new.items text.old.items }
+{
+    text.extend_from_slice(word.as_bytes())?;
+    append_word(text, name)?;
+    append_pairs(text, fields)?;
+    text.push(b'\n')?;
+    Ok(())
+}
+
+/// Appends a line of figures behind a word and a name. After a refusal the text is as it was.
+fn put_line(
+    text: &mut Vec<u8>,
+    word: &str,
+    name: &str,
+    fields: &[Field<'_>],
+) -> Result<(), NoMemory>
+    ensures ok { OnOk result (text.new.items ≡ text.old.items ++ line word.now (name.now ∷ pair_words (map field_of fields.now))) }
+    ensures err { OnErr result (text.new.items ≡ text.old.items) }
+{
+    let start = text.len();
+    let result = append_line(text, word, name, fields);
+    if result.is_err() {
+        text.truncate(start);
+    }
+    result
+}
+
+/// The values behind the first two.
+fn behind_two<'a, 's>(fields: &'a [Field<'s>]) -> &'a [Field<'s>]
+    requires { 2 ≤ length fields.now }
+    ensures { map field_of result.now ≡ drop 2 (map field_of fields.now) }
+{
+    &fields[2..]
+}
+
+/// Appends the line of a thread's figures as text. After a refusal the text is as it was.
+fn put_thread(
+    text: &mut Vec<u8>,
+    system: &System,
+    thread: ThreadId,
+    figures: &Figures,
+) -> Result<(), NoMemory>
+    ensures ok { OnOk result (text.new.items ≡ text.old.items ++ thread_text system.now thread figures.now) }
+    ensures err { OnErr result (text.new.items ≡ text.old.items) }
+{
+    let fields = thread_fields(system, thread, figures);
+    put_line(
+        text,
+        "thread",
+        thread_name(system, thread),
+        behind_two(fields.as_slice()),
+    )
+}
+
+/// Appends the line of a context's figure as text. After a refusal the text is as it was.
+fn put_context(
+    text: &mut Vec<u8>,
+    system: &System,
+    context: ContextId,
+    unused: Option<u64>,
+) -> Result<(), NoMemory>
+    ensures ok { OnOk result (text.new.items ≡ text.old.items ++ context_text system.now context unused) }
+    ensures err { OnErr result (text.new.items ≡ text.old.items) }
+{
+    let fields = [("unused", known(unused))];
+    put_line(text, "context", context_name(system, context), &fields)
+}
+
+fn put_thread_as(
+    alloc: Global,
+    text: &mut Vec<u8>,
+    format: Format,
+    system: &System,
+    thread: ThreadId,
+    figures: &Figures,
+) -> Result<(), NoMemory>
+    ensures ok { OnOk result (text.new.items ≡ text.old.items ++ thread_line format system.now thread figures.now) }
+    ensures err { OnErr result (text.new.items ≡ text.old.items) }
+{
+    match format {
+        Format::Text => put_thread(text, system, thread, figures),
+        Format::Csv => put_row(text, thread_fields(system, thread, figures).as_slice()),
+        Format::Json => put_object(
+            alloc,
+            text,
+            thread_fields(system, thread, figures).as_slice(),
+        ),
+    }
+}
+
+/// CSV has no lines of contexts.
+fn put_context_as(
+    alloc: Global,
+    text: &mut Vec<u8>,
+    format: Format,
+    system: &System,
+    context: ContextId,
+    unused: Option<u64>,
+) -> Result<(), NoMemory>
+    ensures ok { OnOk result (text.new.items ≡ text.old.items ++ context_line format system.now context unused) }
+    ensures err { OnErr result (text.new.items ≡ text.old.items) }
+{
+    match format {
+        Format::Text => put_context(text, system, context, unused),
+        Format::Csv => Ok(()),
+        Format::Json => put_object(
+            alloc,
+            text,
+            context_fields(system, context, unused).as_slice(),
+        ),
+    }
+}
+
+fn figures_of(system: &System, watch: &Watch, table: &Table, thread: ThreadId) -> Figures
+    requires known { thread < length system.now.threads }
+    requires watched { length watch.now.accounts ≡ length system.now.threads }
+    requires kept { length table.now.accounts ≡ length system.now.threads }
+    ensures { (horizon : ℕ) (past : List TheRow) → watch.now ≡ watch_of system.now past → table.now ≡ table_of system.now horizon past →
+        UpTo horizon past → result ≡ figures_of system.now horizon past thread }
+{
+    table.figures(system, watch, thread)
+}
+
+fn unused_of(system: &System, watch: &Watch, table: &Table, context: ContextId) -> Option<u64>
+    requires known { context < length system.now.contexts }
+    requires watched { length watch.now.accounts ≡ length system.now.threads }
+    ensures { (horizon : ℕ) (past : List TheRow) → watch.now ≡ watch_of system.now past → table.now ≡ table_of system.now horizon past →
+        UpTo horizon past → result ≡ unused_of system.now horizon past context }
+{
+    table.unused(system, watch, context)
+}
+
+fn put_threads(
+    alloc: Global,
+    text: &mut Vec<u8>,
+    format: Format,
+    system: &System,
+    watch: &Watch,
+    table: &Table,
+) -> Result<(), NoMemory>
+    requires watched { length watch.now.accounts ≡ length system.now.threads }
+    requires kept { length table.now.accounts ≡ length system.now.threads }
+    ensures { (horizon : ℕ) (past : List TheRow) → watch.now ≡ watch_of system.now past → table.now ≡ table_of system.now horizon past →
+        UpTo horizon past →
+        OnOk result (text.new.items ≡ text.old.items ++ thread_lines format system.now horizon past 0 system.now.threads) }
+{
+    for (number, _) in system.parts().threads.as_slice().iter().enumerate() {
+        let thread = ThreadId(number);
+        let figures = figures_of(system, watch, table, thread);
+        put_thread_as(alloc, text, format, system, thread, &figures)?;
+    }
+    Ok(())
+}
+
+fn put_contexts(
+    alloc: Global,
+    text: &mut Vec<u8>,
+    format: Format,
+    system: &System,
+    watch: &Watch,
+    table: &Table,
+) -> Result<(), NoMemory>
+    requires watched { length watch.now.accounts ≡ length system.now.threads }
+    ensures { (horizon : ℕ) (past : List TheRow) → watch.now ≡ watch_of system.now past → table.now ≡ table_of system.now horizon past →
+        UpTo horizon past →
+        OnOk result (text.new.items ≡ text.old.items ++ context_lines format system.now horizon past 0 system.now.contexts) }
+{
+    for (number, _) in system.parts().contexts.as_slice().iter().enumerate() {
+        let context = ContextId(number);
+        let unused = unused_of(system, watch, table, context);
+        put_context_as(alloc, text, format, system, context, unused)?;
+    }
+    Ok(())
+}
+
+/// Puts the lines of the figures behind the text: those of the threads, and then those of the contexts.
+pub(crate) fn put_table(
+    alloc: Global,
+    text: &mut Vec<u8>,
+    format: Format,
+    system: &System,
+    watch: &Watch,
+    table: &Table,
+) -> Result<(), NoMemory>
+    requires watched { length watch.now.accounts ≡ length system.now.threads }
+    requires kept { length table.now.accounts ≡ length system.now.threads }
+    ensures { (horizon : ℕ) (past : List TheRow) → watch.now ≡ watch_of system.now past → table.now ≡ table_of system.now horizon past →
+        UpTo horizon past →
+        OnOk result (text.new.items ≡ text.old.items ++ table_lines format system.now horizon past) }
+{
+    put_threads(alloc, text, format, system, watch, table)?;
+    put_contexts(alloc, text, format, system, watch, table)
+}
