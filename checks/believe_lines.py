@@ -301,6 +301,7 @@ SAYS = {
         'is_lost': 'whether a finding is a lost signal',
     },
     'mcs_fields/specs/Fields.antt': {
+        'below_text': 'a number below 0, with its sign',
         'Text': 'bytes',
         'members_of': 'those of these fields',
     },
@@ -318,10 +319,31 @@ SAYS = {
         'hint_line': 'the line of a hint',
         'counts_line': 'the line of counts',
     },
+    'mcs_table/specs/Figures.antt': {
+        'figures_of': 'all that the table tells of a thread',
+    },
+    'mcs_table/specs/Signals.antt': {
+        'is_note': 'whether it is this notification',
+        'merged_note': 'the notification of a signal, where it is merged',
+        'merged_by': 'the notification at which a row after these merges a signal',
+    },
+    'mcs_check/specs/Figures.antt': {
+        'merged_value': 'how many signals were merged, where the script begins with a wait',
+        'thread_fields': "a thread's figures, with its name",
+        'thread_text': "the line of a thread's figures as words",
+        'context_text': 'the line of the budget that a context never used as words',
+        'thread_line': "the line of a thread's figures, as a text, a row of CSV or an object",
+        'context_line': 'that of a context, which CSV leaves out',
+    },
 }
 
 # by name, as the library writes it
 WORDS = {
+    'neg_ℤ': 'the same below 0',
+    'negative': 'a whole number below 0, by how far it is below',
+    'signed_decimal': 'its digits, behind a minus where it is below 0',
+    'reduce': 'what is left where two neighbours at a time are put together; none of an empty list',
+    '◌%◌': 'what a division leaves',
     'ℕ': 'a number: 0, 1, 2 and so on, with no greatest',
     'ℤ': 'an integer',
     'zero': '0',
