@@ -72,7 +72,6 @@ static TAKEN: [(&str, &str); 10] = [
         "--show findings in.toml",
         "in.toml 1000 1 [] false findings text",
     ),
-    ("--format csv --show jobs", " 1000 1 [] false jobs csv"),
 ];
 
 #[test]
