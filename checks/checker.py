@@ -114,8 +114,10 @@ def cases_of_files(folder: pathlib.Path) -> Iterator[Case]:
 def cases_of_words(folder: pathlib.Path) -> Iterator[Case]:
     """Words that are refused, names that are not known, and the help."""
     not_text = b'error: invalid UTF-8 was detected in one or more arguments\n'
-    for words in (['--workers', '65'], ['--horizon', '1099511627777'], ['--show', 'both'], ['--show'], ['--format', 'yaml'], ['--show', 'jobs', '--show', 'jobs'], ['--strict', '--strict'], ['--allow-lost'], ['a', 'b']):
+    for words in (['--workers', '65'], ['--horizon', '1099511627777'], ['--show', 'all'], ['--show'], ['--format', 'yaml'], ['--show', 'jobs', '--show', 'jobs'], ['--strict', '--strict'], ['--allow-lost'], ['a', 'b']):
         yield Case(f'{words}, and no such file', [folder / 'none.toml', *words], b'', NOTHING, begins(b'error: ', words[0].encode()), 2)
+    mixed = b'mcscheck: --format csv: rows are of one kind: --show findings, jobs or table\n'
+    yield Case('rows of two kinds', ['--show', 'both', '--format', 'csv'], NOTES, NOTHING, exactly(mixed), 2)
     yield Case('a word that is not UTF-8', [b'\xff'], b'', NOTHING, exactly(not_text), 2)
     for name, near in (('tack', 'tick'), ('tocks', 'tock'), ('', 'tick'), ('TOCK', 'tick'), ('-n', 'tick')):
         yield Case(f'an unknown name {name!r}', [f'--allow-lost={name}'], NOTES, NOTHING, exactly(unknown(name, f'the nearest is {near}')), 2)

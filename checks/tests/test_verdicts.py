@@ -142,8 +142,10 @@ class WrongCheckers(unittest.TestCase):
             if command[0] == 'mcsim':
                 return Ran(0, (rows + reports).encode(), b'')
             allowed = [word.partition('=')[2] for word in command if word.startswith('--allow-lost')]
-            show = 'jobs' if '--show=jobs' in command else 'findings'
+            show = next((word.partition('=')[2] for word in command if word.startswith('--show')), 'findings')
             form = next((word.partition('=')[2] for word in command if word.startswith('--format')), 'text')
+            if (show, form) == ('both', 'csv'):
+                return wrong(Ran(2, b'', reading.MIXED.encode()))
             return wrong(verdicts.answer(wanted.wanted(allowed, show, form), '--strict' in command))
 
         trial = verdicts.Trial('mcsim', 'mcscheck')
@@ -156,13 +158,14 @@ class WrongCheckers(unittest.TestCase):
         self.assertEqual(self.failed(lambda ran: ran), 0)
 
     def test_another_status(self) -> None:
-        self.assertEqual(self.failed(lambda ran: ran._replace(status=0)), 4)
+        # of five runs: as it is, with words, with jobs, in another format, with figures
+        self.assertEqual(self.failed(lambda ran: ran._replace(status=0)), 5)
 
     def test_a_line_that_is_not_there(self) -> None:
-        self.assertEqual(self.failed(lambda ran: ran._replace(stdout=ran.stdout.replace(b'hint context n has no thread\n', b''))), 2)
+        self.assertEqual(self.failed(lambda ran: ran._replace(stdout=ran.stdout.replace(b'hint context n has no thread\n', b''))), 3)
 
     def test_words_on_standard_error(self) -> None:
-        self.assertEqual(self.failed(lambda ran: ran._replace(stderr=b'mcscheck: 1 of 9\n')), 4)
+        self.assertEqual(self.failed(lambda ran: ran._replace(stderr=b'mcscheck: 1 of 9\n')), 5)
 
     def test_a_job_that_is_not_there(self) -> None:
         self.assertEqual(self.failed(lambda ran: ran._replace(stdout=ran.stdout.replace(JOBS.encode(), b''))), 1)
