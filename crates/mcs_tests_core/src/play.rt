@@ -14,7 +14,7 @@ use std::test::Fail;
 pub struct Letter(pub u64, pub u64, pub usize, pub u32);
 
 impl Letter {
-    pub fn mail(&self) -> Result<Mail, Fail> {
+    pub(crate) fn mail(&self) -> Result<Mail, Fail> {
         let Letter(arrives, made, maker, badge) = *self;
         Ok(Mail {
             arrives: moment(arrives)?,
@@ -35,7 +35,7 @@ pub struct Made {
 }
 
 /// A moment of a run, or the one after the last.
-pub fn moment(ticks: u64) -> Result<Tick, Fail>
+pub(crate) fn moment(ticks: u64) -> Result<Tick, Fail>
     ensures { IfOk result (λ moment. moment ≤ 2 ^ 40 + 1) }
 {
     let moment = Tick::new(ticks).ok_or("a moment")?;
@@ -46,7 +46,7 @@ pub fn moment(ticks: u64) -> Result<Tick, Fail>
 }
 
 /// The core before its first turn.
-pub fn opened(alloc: Global, system: &System, core: CoreId) -> Result<CoreState, Fail>
+pub(crate) fn opened(alloc: Global, system: &System, core: CoreId) -> Result<CoreState, Fail>
     ensures fits { IfOk result (λ state. Fits system.now state) }
     ensures number { IfOk result (λ state. state.number ≡ core) }
 {
@@ -77,7 +77,7 @@ fn post(system: &System, state: &CoreState, mailbox: &mut Mailbox, mail: Mail) -
 }
 
 /// The box of a core with these letters.
-pub fn posted(
+pub(crate) fn posted(
     alloc: Global,
     system: &System,
     state: &CoreState,
@@ -99,7 +99,7 @@ pub fn posted(
 }
 
 /// The turns to a moment. The core and its box can go on afterwards.
-pub fn go_on(
+pub(crate) fn go_on(
     system: &System,
     state: &mut CoreState,
     mailbox: &mut Mailbox,
@@ -118,7 +118,7 @@ pub fn go_on(
 }
 
 /// The turns to a moment, or to the end of the one with which there are so many rows. The core and its box can go on afterwards.
-pub fn go_on_some(
+pub(crate) fn go_on_some(
     system: &System,
     state: &mut CoreState,
     mailbox: &mut Mailbox,
@@ -138,7 +138,7 @@ pub fn go_on_some(
 }
 
 /// What a core makes up to the horizon, in stretches of so many turns; the last one may be shorter.
-pub fn made_by(
+pub(crate) fn made_by(
     alloc: Global,
     system: &System,
     core: usize,
@@ -184,7 +184,7 @@ fn in_stretches(
 }
 
 /// Nothing was made yet.
-pub fn nothing(alloc: Global) -> Made {
+pub(crate) fn nothing(alloc: Global) -> Made {
     Made {
         rows: Vec::new(alloc),
         signals: Vec::new(alloc),

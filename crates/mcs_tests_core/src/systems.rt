@@ -6,7 +6,7 @@ use std::alloc::Global;
 use std::test::Fail;
 
 /// The system that a text describes.
-pub fn system(alloc: Global, text: &str) -> Result<System, Fail> {
+pub(crate) fn system(alloc: Global, text: &str) -> Result<System, Fail> {
     Ok(load(alloc, text.as_bytes())?)
 }
 

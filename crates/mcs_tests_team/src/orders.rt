@@ -14,7 +14,7 @@ use std::sync::Arc;
 use std::test::Fail;
 
 /// One step of a core.
-pub fn step(cores: &mut Cores, core: usize) -> Result<(), StepFault>
+pub(crate) fn step(cores: &mut Cores, core: usize) -> Result<(), StepFault>
     requires { core < cores.old.system.cores }
     ensures { cores.new.system ≡ cores.old.system }
 {

@@ -9,13 +9,13 @@ use std::sync::Arc;
 use std::test::Fail;
 
 /// The system that a text describes.
-pub fn system(alloc: Global, text: &str) -> Result<Arc<System>, Fail> {
+pub(crate) fn system(alloc: Global, text: &str) -> Result<Arc<System>, Fail> {
     let system = load(alloc, text.as_bytes())?;
     Ok(Arc::new(alloc, system)?)
 }
 
 /// A moment of a run.
-pub fn moment(ticks: u64) -> Result<Tick, Fail>
+pub(crate) fn moment(ticks: u64) -> Result<Tick, Fail>
     ensures { IfOk result (λ moment. moment ≤ 2 ^ 40) }
 {
     let moment = Tick::new(ticks).ok_or("a moment")?;
