@@ -99,3 +99,12 @@ entered-moved (Some y ∷ places) (suc i) zero x e h gap = let no : Some y ≡ N
 entered-moved (None ∷ places) (suc i) (suc end) x e h gap = entered-moved places i end x e (omega arith) (λ j from below. gap (suc j) (omega arith) (omega arith))
 entered-moved (Some y ∷ places) (suc i) (suc end) x e h gap =
     ap (λ (xs : List Dated). y ∷ xs) (entered-moved places i end x e (omega arith) (λ j from below. gap (suc j) (omega arith) (omega arith)))
+
+-- what stands before the next place, with its entry where it has one
+pub entered-next : (places : List (Option Dated)) (i : ℕ) (place : Option Dated) → get_or places i None ≡ place → i < length places →
+    entered (take (suc i) places) ≡ entered (take i places) ++ entered (place ∷ [])
+entered-next [] i place e below = absurd (omega arith)
+entered-next (first ∷ places) zero place e below = ap (λ (p : Option Dated). entered (p ∷ [])) e
+entered-next (None ∷ places) (suc i) place e below = entered-next places i place e (omega arith)
+entered-next (Some x ∷ places) (suc i) place e below =
+    ap (λ (xs : List Dated). x ∷ xs) (entered-next places i place e (omega arith))

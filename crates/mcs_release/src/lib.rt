@@ -1,5 +1,5 @@
 //! Release queues of one core, after the seL4 Reference Manual: threads that wait for a date, each with the date from which it may
-//! leave. They leave by date, and at one date in the order in which they entered. No call but `new` takes memory.
+//! leave. They leave by date, and at one date in the order in which they entered. No call but `new` and `list` takes memory.
 #![tactic(auto)]
 
 mod dated;

@@ -90,7 +90,7 @@ impl Model for Releases {
 
 impl Releases {
     /// No thread, with room for the threads 0 to `threads` less one. NoMemory where there was no memory for them; no later call
-    /// takes any.
+    /// but `list` takes any.
     pub fn new(alloc: Global, threads: usize) -> Result<Self, NoMemory>
         ensures { IfOk result (λ releases. releases ≡ record { queue = []; room = threads }) }
     {
@@ -109,6 +109,13 @@ impl Releases {
     {
         let first = self.heap.peek()?.0;
         Some(first.date)
+    }
+
+    /// The threads that wait, each with its date, in the order in which they entered. NoMemory where the list is refused.
+    pub fn list(&self, alloc: Global) -> Result<Vec<Dated>, NoMemory>
+        ensures { IfOk result (λ list. list.items ≡ self.now.queue) }
+    {
+        entries(alloc, &self.places)
     }
 
     /// Takes the thread of least date, of those with date at most `t`, and of several with that date the one that entered first.
@@ -145,6 +152,19 @@ impl Releases {
         );
         self.end = place + 1;
     }
+}
+
+/// The entries, in the order of their places.
+fn entries(alloc: Global, places: &[Option<Dated>]) -> Result<Vec<Dated>, NoMemory>
+    ensures { IfOk result (λ list. list.items ≡ entered places.now) }
+{
+    let mut list = Vec::new(alloc);
+    for place in places {
+        if let Some(entry) = place {
+            list.push(*entry)?;
+        }
+    }
+    Ok(list)
 }
 
 /// Puts the entry into a place and onto the heap.
