@@ -1,5 +1,5 @@
 //! Ready queues of one core, after the seL4 Reference Manual: for each of 256 priorities the threads in their order, the greatest
-//! priority first. Every call takes the same few steps, however many threads are held, and none but `new` takes memory.
+//! priority first. Every call but `new` and `list` takes the same few steps, however many threads are held, and no memory.
 #![tactic(auto)]
 
 mod priorities;

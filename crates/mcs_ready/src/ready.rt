@@ -1,10 +1,10 @@
-ghost use Rattle.std.specs.Prelude.{◌≡◌, ℕ, ◌+◌, ◌<◌, ◌^◌, false, [], IfOk, Some};
+ghost use Rattle.std.specs.Prelude.{◌≡◌, ℕ, ◌+◌, ◌<◌, ◌^◌, ◌++◌, false, [], length, IfOk, Some};
 ghost use Rattle.mcs_ticks.specs.Queue.{by_priority};
 ghost use Rattle.mcs_ready.specs.Ready.{queued, is_held, thread_of, priority_of, AreDistinct, AreBelow};
-ghost use Rattle.mcs_ready.specs.stored.Lines.{with_back, with_front, without_first, before_back};
+ghost use Rattle.mcs_ready.specs.stored.Lines.{threads_of, all_threads, queued_at, queue_from, with_back, with_front, without_first, before_back, times, times_in};
 
 use crate::priorities::Priorities;
-use mcs_ticks::{NoMemory, ThreadId};
+use mcs_ticks::{NoMemory, Queued, ThreadId};
 use std::alloc::Global;
 use std::marker::Model;
 
@@ -98,7 +98,7 @@ impl Model for Ready {
 
 impl Ready {
     /// No ready thread, with room for the threads 0 to `threads` less one. NoMemory where there was no memory for them; no later
-    /// call takes any.
+    /// call but `list` takes any.
     pub fn new(alloc: Global, threads: usize) -> Result<Self, NoMemory>
         ensures { IfOk result (λ ready. ready ≡ record { queue = []; room = threads }) }
     {
@@ -164,6 +164,49 @@ impl Ready {
     {
         x.0 < self.held.len() && self.held[x.0]
     }
+
+    /// The threads that are held, each with its priority, the greatest first and first in first out within one. NoMemory where
+    /// the list is refused.
+    pub fn list(&self, alloc: Global) -> Result<Vec<Queued>, NoMemory>
+        ensures { IfOk result (λ list. list.items ≡ self.now.queue) }
+    {
+        threads_by_priority(alloc, &self.next, &self.lines)
+    }
+}
+
+/// The threads of all lines, those of the greatest priority first.
+fn threads_by_priority(
+    alloc: Global,
+    next: &[ThreadId],
+    lines: &[Line],
+) -> Result<Vec<Queued>, NoMemory>
+    requires count { length lines.now ≡ 256 }
+    requires within { (x : ℕ) → 0 < times_in x (all_threads next.now lines.now) → x < length next.now }
+    ensures { IfOk result (λ list. list.items ≡ queue_from 0 (all_threads next.now lines.now)) }
+{
+    let mut list = Vec::new(alloc);
+    for priority in (0..256usize).rev() {
+        push_line(&mut list, next, &lines[priority], priority as u8)?;
+    }
+    Ok(list)
+}
+
+/// Appends the threads of a line, as they stand in a queue.
+fn push_line(
+    list: &mut Vec<Queued>,
+    next: &[ThreadId],
+    line: &Line,
+    priority: u8,
+) -> Result<(), NoMemory>
+    requires within { (x : ℕ) → 0 < times x (threads_of next.now line.now) → x < length next.now }
+    ensures { IfOk result (λ _. list.new.items ≡ list.old.items ++ queued_at priority (threads_of next.now line.now)) }
+{
+    let mut thread = line.first;
+    for _ in 0..line.len {
+        list.push(Queued { thread, priority })?;
+        thread = next[thread.0];
+    }
+    Ok(())
 }
 
 /// A fact of every ready queue: no thread is held twice, and each has a number that there is room for.

@@ -1,7 +1,7 @@
 ghost use Rattle.std.specs.Prelude.{◌≡◌};
 
 use mcs_ready::Ready;
-use mcs_ticks::ThreadId;
+use mcs_ticks::{Queued, ThreadId};
 use std::process::Abort;
 use std::test::Fail;
 
@@ -80,5 +80,31 @@ fn make_all(rt: &impl Abort, ready: &mut Ready, steps: &[Step])
 fn six_threads(rt: HostRuntime) -> Result<(), Fail> {
     let mut ready = Ready::new(rt.alloc(), ROOM)?;
     make_all(&rt, &mut ready, SIX_THREADS.as_slice());
+    Ok(())
+}
+
+// The greatest priority first, and within one in order of entering, but for one that entered at the front.
+#[test]
+fn a_list_of_threads_is_by_priority(rt: HostRuntime) -> Result<(), Fail> {
+    let mut ready = Ready::new(rt.alloc(), ROOM)?;
+    make_all(
+        &rt,
+        &mut ready,
+        [
+            Back(0, 7),
+            Back(1, 255),
+            Back(2, 7),
+            Front(3, 7),
+            Back(4, 0),
+        ]
+        .as_slice(),
+    );
+    let list = ready.list(rt.alloc())?;
+    let wanted = [(1, 255), (3, 7), (0, 7), (2, 7), (4, 0)];
+    assert_eq!(rt; list.len(), wanted.len());
+    for (queued, (thread, priority)) in list.iter().zip(wanted) {
+        let thread = ThreadId(thread);
+        assert_eq!(rt; *queued, Queued { thread, priority });
+    }
     Ok(())
 }
