@@ -1,7 +1,8 @@
-ghost use Rattle.std.specs.Prelude.{◌≡◌, ℕ, ◌+◌, ◌<◌, ◌==◌, ◌^◌, length};
-ghost use Rattle.mcs_notify.specs.stored.Lines.{IsBest, BestLeaves, nth, place_of, with_back, before_back, joined, without_waiter, unlinked};
+ghost use Rattle.std.specs.Prelude.{◌≡◌, ℕ, ◌+◌, ◌<◌, ◌==◌, ◌^◌, length, IfOk};
+ghost use Rattle.mcs_notify.specs.stored.Lines.{IsBest, BestLeaves, nth, place_of, waiters_of, with_back, before_back, joined, without_waiter, unlinked};
 
-use mcs_ticks::ThreadId;
+use mcs_ticks::{NoMemory, Queued, ThreadId};
+use std::alloc::Global;
 
 /// The place of a thread that waits: its priority, and the thread behind it in its line. The last of a line has none behind it, and
 /// of a thread that waits nowhere the place means nothing.
@@ -48,6 +49,24 @@ impl Line {
         ensures { result ≡ (self.now.len == 0) }
     {
         self.len == 0
+    }
+
+    /// The waiters, in order of beginning to wait.
+    pub(crate) fn waiters(&self, alloc: Global, places: &[Place]) -> Result<Vec<Queued>, NoMemory>
+        requires { (k : ℕ) → k < self.now.len → nth places.now self.now.first k < length places.now }
+        ensures { IfOk result (λ list. list.items ≡ waiters_of places.now self.now) }
+    {
+        let mut list = Vec::new(alloc);
+        let mut thread = self.first;
+        for _ in 0..self.len {
+            let place = places[thread.0];
+            list.push(Queued {
+                thread,
+                priority: place.priority,
+            })?;
+            thread = place.behind;
+        }
+        Ok(list)
     }
 
     /// Puts a thread behind the last waiter.

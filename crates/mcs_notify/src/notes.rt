@@ -3,7 +3,7 @@ ghost use Rattle.mcs_notify.specs.Note.{quiet_note, note_of, with_note, is_waiti
 
 use crate::line::{Line, Place};
 use crate::posted::{Posted, Waited};
-use mcs_ticks::{NoMemory, NoteId, ThreadId};
+use mcs_ticks::{NoMemory, NoteId, Queued, ThreadId};
 use std::alloc::Global;
 use std::marker::Model;
 
@@ -94,5 +94,13 @@ impl Notes {
         ensures { result ≡ (note_of self.now.notes note).word }
     {
         self.notes[note.0].word
+    }
+
+    /// The threads that wait on a notification, in order of beginning to wait. NoMemory where the list is refused.
+    pub fn waiters(&self, alloc: Global, note: NoteId) -> Result<Vec<Queued>, NoMemory>
+        requires { note < length self.now.notes }
+        ensures { IfOk result (λ list. list.items ≡ (note_of self.now.notes note).waiters) }
+    {
+        self.notes[note.0].line.waiters(alloc, &self.places)
     }
 }
