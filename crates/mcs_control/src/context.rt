@@ -152,6 +152,20 @@ impl Context {
         self.config = config;
     }
 
+    /// The configuration in force: that of the last order, or else the first.
+    pub fn config(&self) -> Config
+        ensures { result ≡ self.now.context.config }
+    {
+        self.config
+    }
+
+    /// The mode, which no order changes.
+    pub fn mode(&self) -> Mode
+        ensures { result ≡ self.now.context.mode }
+    {
+        self.mode
+    }
+
     /// Whether the context may be used at `t`. A round robin one always may.
     pub fn ready(&self, t: Tick) -> bool
         ensures { result ≡ context_ready t self.now.context }
