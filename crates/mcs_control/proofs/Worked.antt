@@ -114,7 +114,7 @@ seen using = record { context = 0; refills = record { begins = 3; amount = 7 } â
 
 budget_is_shown : ShowsBudget (config 10 100 0) (seen 2)
 budget_is_shown = record {
-  refills = record { apart = (omega arith, omega arith, omega arith); all = refl; few = omega arith; short = omega arith };
+  refills = record { apart = (omega arith, omega arith, (omega arith, tt, tt)); all = refl; few = omega arith; short = omega arith };
   using = omega arith;
   no_slice = refl;
 }

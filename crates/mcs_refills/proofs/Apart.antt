@@ -3,22 +3,10 @@ use Rattle.std.proofs.Common.{◌≡◌, ℕ, ◌+◌, ◌≤◌, Bool, true, fa
 use Rattle.std.specs.Prelude.{◌==◌}
 use Rattle.std.proofs.lemmas.List.Sums.{sum_by-cons}
 use Rattle.mcs_refills.specs.declared.refill.Refill.{Refill}
-use Rattle.mcs_refills.specs.stored.Refills as stored
 use Rattle.mcs_refills.specs.Server.{with_date, refills_of, first_moment}
-use Rattle.mcs_refills.specs.laws.Apart.{AreApart, total_amount, last_end, RefillsOfDates, ServersHaveTheirBudgets}
+use Rattle.mcs_refills.specs.laws.Apart.{total_amount, last_end, RefillsOfDates, ServersHaveTheirBudgets}
 use Rattle.mcs_refills.proofs.Spaces.{IsLaid, laid-refills_of}
 use Rattle.mcs_refills.proofs.Servers.{apart-refills_of, laid-ends}
-
--- refills that lie apart as the type keeps them
-from-stored : (rs : List Refill) → stored.AreApart rs → AreApart rs
-from-stored [] h = tt
-from-stored (r ∷ []) h = h.0
-from-stored (r ∷ s ∷ rs) h = (h.0, h.1, from-stored (s ∷ rs) h.2)
-
-last_end-stored : (rs : List Refill) → last_end rs ≡ stored.end_of rs
-last_end-stored [] = refl
-last_end-stored (r ∷ []) = refl
-last_end-stored (r ∷ s ∷ rs) = last_end-stored (s ∷ rs)
 
 total-cons : (r : Refill) (rs : List Refill) → total_amount (r ∷ rs) ≡ r.amount + total_amount rs
 total-cons r rs = sum_by-cons (λ x. x) r.amount (map (λ (refill : Refill). refill.amount) rs)
@@ -43,12 +31,12 @@ total-refills_of [] = refl
 total-refills_of (u ∷ us) = omega (arith, total-with_date u (refills_of us), total-refills_of us)
 
 pub refills-of-dates : RefillsOfDates
-refills-of-dates low high dates h = (from-stored (refills_of dates) (apart-refills_of low high dates h), total-refills_of dates)
+refills-of-dates low high dates h = (apart-refills_of low high dates h, total-refills_of dates)
 
 -- refills that are laid within a period span at most a period
 spans : (low period : ℕ) (rs : List Refill) → IsLaid low (low + period) rs → last_end rs ≤ first_moment rs + period
 spans low period [] h = omega arith
-spans low period (r ∷ rs) h = omega (arith, last_end-stored (r ∷ rs), laid-ends low (low + period) r rs h, h.0)
+spans low period (r ∷ rs) h = omega (arith, laid-ends low (low + period) r rs h, h.0)
 
 pub servers-have-their-budgets : ServersHaveTheirBudgets
 servers-have-their-budgets budget server h =

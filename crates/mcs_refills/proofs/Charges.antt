@@ -3,10 +3,11 @@ use Rattle.std.proofs.Common.{◌≡◌, ◌≢◌, ℕ, suc, ◌+◌, ◌-◌, 
 use Rattle.std.specs.Prelude.{◌==◌, nat_lt}
 use Rattle.std.proofs.lemmas.Bool.Decides.{nat_tests}
 use Rattle.mcs_refills.specs.declared.refill.Refill.{Refill}
-use Rattle.mcs_refills.specs.stored.Refills.{IsBefore, AreApart, IsKept, end_of, grown, given_back, taken, left_after, after_charge}
+use Rattle.mcs_refills.specs.laws.Apart.{IsBefore, AreApart, last_end}
+use Rattle.mcs_refills.specs.stored.Refills.{IsKept, grown, given_back, taken, left_after, after_charge}
 use Rattle.mcs_refills.specs.Server.{enough, gathered, joined, dates_of, last_moved, first_moment, first_amount, with_enough, charged}
 use Rattle.mcs_refills.proofs.Dates.{refills_of-dates_of, dates_of-charged}
-use Rattle.mcs_refills.proofs.Gathers.{end_of-first}
+use Rattle.mcs_refills.proofs.Gathers.{last_end-first}
 
 -- what a list of refills must be like to be kept, but for its span
 pub record IsLike (rs : List Refill) (n from end : ℕ) : Type 0 where
@@ -14,7 +15,7 @@ pub record IsLike (rs : List Refill) (n from end : ℕ) : Type 0 where
   pub some : 1 ≤ length rs
   pub few : length rs ≤ n
   pub from_is : from ≤ first_moment rs
-  pub end_is : end_of rs ≡ end
+  pub end_is : last_end rs ≡ end
 
 IsLike-grown : (k n from end : ℕ) (rs : List Refill) → IsLike rs n from end → IsLike (grown k rs) n from (end + k)
 IsLike-grown k n from end [] h = absurd (omega (arith, h.some))
@@ -33,7 +34,7 @@ IsLike-grown k n from end (r ∷ s ∷ rs) h =
     before s [] p = p
     before s (z ∷ rs) p = p
 
-    ends : (s : Refill) (rs : List Refill) → end_of (grown k (s ∷ rs)) ≡ end + k → end_of (r ∷ grown k (s ∷ rs)) ≡ end + k
+    ends : (s : Refill) (rs : List Refill) → last_end (grown k (s ∷ rs)) ≡ end + k → last_end (r ∷ grown k (s ∷ rs)) ≡ end + k
     ends s [] e = e
     ends s (z ∷ rs) e = e
 
@@ -54,7 +55,7 @@ IsLike-moved b n from (r ∷ s ∷ rs) end l h =
     before s [] p q = omega arith
     before s (z ∷ rs) p q = p
 
-    ends : (s : Refill) (rs : List Refill) → end_of (last_moved b (s ∷ rs)) ≡ b → end_of (r ∷ last_moved b (s ∷ rs)) ≡ b
+    ends : (s : Refill) (rs : List Refill) → last_end (last_moved b (s ∷ rs)) ≡ b → last_end (r ∷ last_moved b (s ∷ rs)) ≡ b
     ends s [] e = e
     ends s (z ∷ rs) e = e
 
@@ -70,17 +71,17 @@ IsLike-more back n from end (r ∷ s ∷ rs) l p q h =
 -- giving a refill back behind the others
 IsLike-given_back : (back : Refill) (n from end : ℕ) (ts : List Refill) → end ≤ back.begins → 1 ≤ back.amount → IsLike ts n from end → IsLike (given_back n back ts) n from (back.begins + back.amount)
 IsLike-given_back back n from end [] l p h = absurd (omega (arith, h.some))
-IsLike-given_back back n from end (r ∷ rs) l p h = by (end_of (r ∷ rs) == back.begins) (nat_lt (length (r ∷ rs)) n) refl refl
+IsLike-given_back back n from end (r ∷ rs) l p h = by (last_end (r ∷ rs) == back.begins) (nat_lt (length (r ∷ rs)) n) refl refl
   where
-    by : (t u : Bool) → (end_of (r ∷ rs) == back.begins) ≡ t → nat_lt (length (r ∷ rs)) n ≡ u →
+    by : (t u : Bool) → (last_end (r ∷ rs) == back.begins) ≡ t → nat_lt (length (r ∷ rs)) n ≡ u →
         IsLike (cond t (grown back.amount (r ∷ rs)) (cond u ((r ∷ rs) ++ back ∷ []) (grown back.amount (last_moved back.begins (r ∷ rs))))) n from (back.begins + back.amount)
     by true u e f =
-        let g : end_of (r ∷ rs) ≡ back.begins = grind (arith, nat_tests) in
+        let g : last_end (r ∷ rs) ≡ back.begins = grind (arith, nat_tests) in
         rw (sym g ∙ h.end_is) (IsLike-grown back.amount n from end (r ∷ rs) h)
     by false true e f =
-        let g : end_of (r ∷ rs) ≢ back.begins = grind (arith, nat_tests) in
+        let g : last_end (r ∷ rs) ≢ back.begins = grind (arith, nat_tests) in
         let k : length (r ∷ rs) < n = grind (arith, nat_tests) in
-        IsLike-more back n from end (r ∷ rs) (apart_from (end_of (r ∷ rs)) g h.end_is) p k h
+        IsLike-more back n from end (r ∷ rs) (apart_from (last_end (r ∷ rs)) g h.end_is) p k h
       where
         apart_from : (m : ℕ) → m ≢ back.begins → m ≡ end → end < back.begins
         apart_from m g e = omega arith
@@ -107,7 +108,7 @@ IsLike-gathered min_budget n from end r (s ∷ rs) h = by (nat_lt r.amount min_b
             let q : s.begins - r.amount + (r.amount + s.amount) < z.begins = omega (arith, a.1, a.2.1) in
             (p, q, a.2.2)
 
-        ends : (rs : List Refill) → end_of (r ∷ s ∷ rs) ≡ end → AreApart (r ∷ s ∷ rs) → end_of (joined r s ∷ rs) ≡ end
+        ends : (rs : List Refill) → last_end (r ∷ s ∷ rs) ≡ end → AreApart (r ∷ s ∷ rs) → last_end (joined r s ∷ rs) ≡ end
         ends [] e a = omega (arith, a.1)
         ends (z ∷ rs) e a = e
 
@@ -148,17 +149,17 @@ pub IsLike-charge : (k min_budget period max_refills end : ℕ) (r : Refill) (rs
     IsLike (after_charge k min_budget period max_refills (r ∷ rs)) max_refills (r.begins + k) (r.begins + period + k)
 IsLike-charge k min_budget period max_refills end r rs p le q past short h = IsLike-enough min_budget max_refills (r.begins + k) (r.begins + period + k) _ (IsLike-back k period max_refills end r rs p le q past short h)
 
-first_moment-before : (rs : List Refill) → AreApart rs → 1 ≤ length rs → first_moment rs < end_of rs
+first_moment-before : (rs : List Refill) → AreApart rs → 1 ≤ length rs → first_moment rs < last_end rs
 first_moment-before [] a l = absurd (omega arith)
-first_moment-before (r ∷ rs) a l = omega (arith, a.0, end_of-first r rs a)
+first_moment-before (r ∷ rs) a l = omega (arith, a.0, last_end-first r rs a)
 
 -- what is kept of the refills, a charge keeps
 pub IsKept-charge : (k min_budget period max_refills : ℕ) (rs : List Refill) → 1 ≤ k → k ≤ first_amount rs → first_moment rs ≤ 2 ^ 40 → IsKept rs period max_refills →
     IsKept (after_charge k min_budget period max_refills rs) period max_refills
 IsKept-charge k min_budget period max_refills [] p le early h = absurd (omega (arith, h.some))
 IsKept-charge k min_budget period max_refills (r ∷ rs) p le early h =
-    let first : r.begins + r.amount ≤ end_of (r ∷ rs) = end_of-first r rs h.apart in
-    let i = IsLike-charge k min_budget period max_refills (end_of (r ∷ rs)) r rs p le (omega (arith, h.two)) h.spans (omega (arith, h.spans)) (record { apart = h.apart; some = h.some; few = h.few; from_is = omega arith; end_is = refl }) in
+    let first : r.begins + r.amount ≤ last_end (r ∷ rs) = last_end-first r rs h.apart in
+    let i = IsLike-charge k min_budget period max_refills (last_end (r ∷ rs)) r rs p le (omega (arith, h.two)) h.spans (omega (arith, h.spans)) (record { apart = h.apart; some = h.some; few = h.few; from_is = omega arith; end_is = refl }) in
     record {
       apart = i.apart;
       some = i.some;
@@ -170,17 +171,17 @@ IsKept-charge k min_budget period max_refills (r ∷ rs) p le early h =
     }
 
 -- and the dates of the refills are those of a charge, with enough at the head
-pub dates_of-charge : (k min_budget period max_refills : ℕ) (r : Refill) (rs : List Refill) → 1 ≤ k → k ≤ r.amount → 1 ≤ max_refills → end_of (r ∷ rs) ≤ r.begins + period → IsLike (r ∷ rs) max_refills r.begins (end_of (r ∷ rs)) →
+pub dates_of-charge : (k min_budget period max_refills : ℕ) (r : Refill) (rs : List Refill) → 1 ≤ k → k ≤ r.amount → 1 ≤ max_refills → last_end (r ∷ rs) ≤ r.begins + period → IsLike (r ∷ rs) max_refills r.begins (last_end (r ∷ rs)) →
     dates_of (after_charge k min_budget period max_refills (r ∷ rs)) ≡ with_enough min_budget (charged k period max_refills (dates_of (r ∷ rs)))
 dates_of-charge k min_budget period max_refills r rs p le q spans like =
-    let first : r.begins + r.amount ≤ end_of (r ∷ rs) = end_of-first r rs like.apart in
-    let i = IsLike-back k period max_refills (end_of (r ∷ rs)) r rs p le q spans (omega arith) like in
-    let past : end_of (left_after k r rs) ≤ r.begins + period = ends (left_after k r rs) (left_is k max_refills (end_of (r ∷ rs)) r rs le like) spans in
+    let first : r.begins + r.amount ≤ last_end (r ∷ rs) = last_end-first r rs like.apart in
+    let i = IsLike-back k period max_refills (last_end (r ∷ rs)) r rs p le q spans (omega arith) like in
+    let past : last_end (left_after k r rs) ≤ r.begins + period = ends (left_after k r rs) (left_is k max_refills (last_end (r ∷ rs)) r rs le like) spans in
     let e : dates_of (given_back max_refills (record { begins = r.begins + period; amount = k }) (left_after k r rs)) ≡ charged k period max_refills (dates_of (r ∷ rs)) =
     dates_of-charged k max_refills period r rs like.apart p le q past in
     ap (λ xs. dates_of (enough min_budget xs)) (sym (refills_of-dates_of _ i.apart)) ∙ ap (with_enough min_budget) e
   where
-    ends : (ts : List Refill) → (ts ≡ []) ⊎ IsLike ts max_refills (r.begins + k) (end_of (r ∷ rs)) → end_of (r ∷ rs) ≤ r.begins + period → end_of ts ≤ r.begins + period
+    ends : (ts : List Refill) → (ts ≡ []) ⊎ IsLike ts max_refills (r.begins + k) (last_end (r ∷ rs)) → last_end (r ∷ rs) ≤ r.begins + period → last_end ts ≤ r.begins + period
     ends ts (inl e) l = rw e (omega arith)
     ends ts (inr i) l = omega (arith, i.end_is)
 
@@ -193,22 +194,22 @@ dates_of-after_charge k min_budget period max_refills (r ∷ rs) p le h =
 -- what the steps of a charge need
 pub record CanCharge (k period max_refills : ℕ) (rs : List Refill) : Type 0 where
   pub ends : first_moment rs + first_amount rs ≤ 2 ^ 42
-  pub later : end_of (taken k rs) ≤ first_moment rs + period
+  pub later : last_end (taken k rs) ≤ first_moment rs + period
   pub apart : AreApart (given_back max_refills (record { begins = first_moment rs + period; amount = k }) (taken k rs))
   pub some : 1 ≤ length (given_back max_refills (record { begins = first_moment rs + period; amount = k }) (taken k rs))
   pub few : length (given_back max_refills (record { begins = first_moment rs + period; amount = k }) (taken k rs)) ≤ max_refills
-  pub early : end_of (given_back max_refills (record { begins = first_moment rs + period; amount = k }) (taken k rs)) ≤ first_moment rs + period + k
+  pub early : last_end (given_back max_refills (record { begins = first_moment rs + period; amount = k }) (taken k rs)) ≤ first_moment rs + period + k
   pub head : k ≤ period
 
 pub can_charge : (k period max_refills : ℕ) (rs : List Refill) → 1 ≤ k → k ≤ first_amount rs → IsKept rs period max_refills → CanCharge k period max_refills rs
 can_charge k period max_refills [] p le h = absurd (omega (arith, h.some))
 can_charge k period max_refills (r ∷ rs) p le h =
-    let first : r.begins + r.amount ≤ end_of (r ∷ rs) = end_of-first r rs h.apart in
-    let like : IsLike (r ∷ rs) max_refills r.begins (end_of (r ∷ rs)) = record { apart = h.apart; some = h.some; few = h.few; from_is = omega arith; end_is = refl } in
-    let i = IsLike-back k period max_refills (end_of (r ∷ rs)) r rs p le (omega (arith, h.two)) h.spans (omega (arith, h.spans)) like in
+    let first : r.begins + r.amount ≤ last_end (r ∷ rs) = last_end-first r rs h.apart in
+    let like : IsLike (r ∷ rs) max_refills r.begins (last_end (r ∷ rs)) = record { apart = h.apart; some = h.some; few = h.few; from_is = omega arith; end_is = refl } in
+    let i = IsLike-back k period max_refills (last_end (r ∷ rs)) r rs p le (omega (arith, h.two)) h.spans (omega (arith, h.spans)) like in
     record {
       ends = omega (arith, h.early, h.spans, h.short);
-      later = ends (left_after k r rs) (left_is k max_refills (end_of (r ∷ rs)) r rs le like) h.spans;
+      later = ends (left_after k r rs) (left_is k max_refills (last_end (r ∷ rs)) r rs le like) h.spans;
       apart = i.apart;
       some = i.some;
       few = i.few;
@@ -216,6 +217,6 @@ can_charge k period max_refills (r ∷ rs) p le h =
       head = omega (arith, h.spans);
     }
   where
-    ends : (ts : List Refill) → (ts ≡ []) ⊎ IsLike ts max_refills (r.begins + k) (end_of (r ∷ rs)) → end_of (r ∷ rs) ≤ r.begins + period → end_of ts ≤ r.begins + period
+    ends : (ts : List Refill) → (ts ≡ []) ⊎ IsLike ts max_refills (r.begins + k) (last_end (r ∷ rs)) → last_end (r ∷ rs) ≤ r.begins + period → last_end ts ≤ r.begins + period
     ends ts (inl e) l = rw e (omega arith)
     ends ts (inr i) l = omega (arith, i.end_is)

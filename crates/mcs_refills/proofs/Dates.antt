@@ -4,7 +4,8 @@ use Rattle.std.specs.Prelude.{◌==◌, nat_lt}
 use Rattle.std.specs.List.{range_with_len}
 use Rattle.std.proofs.lemmas.Bool.Decides.{nat_tests}
 use Rattle.mcs_refills.specs.declared.refill.Refill.{Refill}
-use Rattle.mcs_refills.specs.stored.Refills.{IsBefore, AreApart, end_of, left_after, grown, given_back}
+use Rattle.mcs_refills.specs.laws.Apart.{IsBefore, AreApart, last_end}
+use Rattle.mcs_refills.specs.stored.Refills.{left_after, grown, given_back}
 use Rattle.mcs_refills.specs.Server.{dates_of, with_date, refills_of, first_date, last_date, last_moved, rejoined, charged}
 
 -- a number's successor, as the definitions write it
@@ -89,7 +90,7 @@ last_date-append (x ∷ []) y ys = refl
 last_date-append (x ∷ z ∷ xs) y ys = last_date-append (z ∷ xs) y ys
 
 -- the last date of refills
-pub last_date-dates_of : (r : Refill) (rs : List Refill) → AreApart (r ∷ rs) → last_date (dates_of (r ∷ rs)) + 1 ≡ end_of (r ∷ rs)
+pub last_date-dates_of : (r : Refill) (rs : List Refill) → AreApart (r ∷ rs) → last_date (dates_of (r ∷ rs)) + 1 ≡ last_end (r ∷ rs)
 last_date-dates_of r [] h = one r.amount r h.0 refl
   where
     one : (n : ℕ) (r : Refill) → 1 ≤ r.amount → r.amount ≡ n → last_date (range_with_len r.begins r.amount ++ []) + 1 ≡ r.begins + r.amount
@@ -101,21 +102,21 @@ last_date-dates_of r (s ∷ rs) h = ap (λ n. n + 1) (past s.amount s (range_wit
     past zero s xs us h e = absurd (omega arith)
     past (suc n) s xs us h e = rw e (last_date-append xs s.begins (range_with_len (s.begins + 1) n ++ us))
 
-pub dates_of-grown : (k : ℕ) (r : Refill) (rs : List Refill) → dates_of (grown k (r ∷ rs)) ≡ dates_of (r ∷ rs) ++ range_with_len (end_of (r ∷ rs)) k
+pub dates_of-grown : (k : ℕ) (r : Refill) (rs : List Refill) → dates_of (grown k (r ∷ rs)) ≡ dates_of (r ∷ rs) ++ range_with_len (last_end (r ∷ rs)) k
 dates_of-grown k r [] = rw (append-nil, append-nil) (range-add r.amount k r.begins)
-dates_of-grown k r (s ∷ rs) = ap (λ xs. range_with_len r.begins r.amount ++ xs) (dates_of-grown k s rs) ∙ sym (append_assoc (range_with_len r.begins r.amount) (dates_of (s ∷ rs)) (range_with_len (end_of (s ∷ rs)) k))
+dates_of-grown k r (s ∷ rs) = ap (λ xs. range_with_len r.begins r.amount ++ xs) (dates_of-grown k s rs) ∙ sym (append_assoc (range_with_len r.begins r.amount) (dates_of (s ∷ rs)) (range_with_len (last_end (s ∷ rs)) k))
 
 -- the last refill moved so that it ends at the moment
-pub end_of-last_moved : (b : ℕ) (r : Refill) (rs : List Refill) → end_of (r ∷ rs) ≤ b → end_of (last_moved b (r ∷ rs)) ≡ b
-end_of-last_moved b r [] h = omega arith
-end_of-last_moved b r (s ∷ []) h = end_of-last_moved b s [] h
-end_of-last_moved b r (s ∷ z ∷ rs) h = end_of-last_moved b s (z ∷ rs) h
+pub last_end-last_moved : (b : ℕ) (r : Refill) (rs : List Refill) → last_end (r ∷ rs) ≤ b → last_end (last_moved b (r ∷ rs)) ≡ b
+last_end-last_moved b r [] h = omega arith
+last_end-last_moved b r (s ∷ []) h = last_end-last_moved b s [] h
+last_end-last_moved b r (s ∷ z ∷ rs) h = last_end-last_moved b s (z ∷ rs) h
 
 first_date-range : (k b : ℕ) → 1 ≤ k → first_date (range_with_len b k) ≡ b
 first_date-range zero b h = absurd (omega arith)
 first_date-range (suc k) b h = refl
 
-dates_of-moved : (k b : ℕ) (r : Refill) (rs : List Refill) → end_of (r ∷ rs) ≤ b → dates_of (grown k (last_moved b (r ∷ rs))) ≡ dates_of (last_moved b (r ∷ rs)) ++ range_with_len b k
+dates_of-moved : (k b : ℕ) (r : Refill) (rs : List Refill) → last_end (r ∷ rs) ≤ b → dates_of (grown k (last_moved b (r ∷ rs))) ≡ dates_of (last_moved b (r ∷ rs)) ++ range_with_len b k
 dates_of-moved k b r [] le =
     let e : b - r.amount + r.amount ≡ b = omega arith in
     dates_of-grown k (record { begins = b - r.amount; amount = r.amount }) [] ∙ ap (λ m. (range_with_len (b - r.amount) r.amount ++ []) ++ range_with_len m k) e
@@ -127,7 +128,7 @@ dates_of-moved k b r (s ∷ z ∷ rs) le =
     ∙ sym (append_assoc (range_with_len r.begins r.amount) (dates_of (last_moved b (s ∷ z ∷ rs))) (range_with_len b k))
 
 -- what is given back are the dates that return
-pub dates_of-given_back : (max_refills k b : ℕ) (ts : List Refill) → AreApart ts → 1 ≤ k → 1 ≤ max_refills → end_of ts ≤ b → dates_of (given_back max_refills (record { begins = b; amount = k }) ts) ≡ rejoined max_refills (dates_of ts) (range_with_len b k)
+pub dates_of-given_back : (max_refills k b : ℕ) (ts : List Refill) → AreApart ts → 1 ≤ k → 1 ≤ max_refills → last_end ts ≤ b → dates_of (given_back max_refills (record { begins = b; amount = k }) ts) ≡ rejoined max_refills (dates_of ts) (range_with_len b k)
 dates_of-given_back max_refills k b [] h p q le = rw (first_date-range k b p) (by (last_date [] + 1 == b) (nat_lt 0 max_refills) refl)
   where
     by : (t u : Bool) → nat_lt 0 max_refills ≡ u → range_with_len b k ++ [] ≡ cond (t || u) (range_with_len b k) (range_with_len b k)
@@ -135,13 +136,13 @@ dates_of-given_back max_refills k b [] h p q le = rw (first_date-range k b p) (b
     by false true e = append-nil (range_with_len b k)
     by false false e = append-nil (range_with_len b k)
 dates_of-given_back max_refills k b (r ∷ rs) h p q le =
-    rw (first_date-range k b p, last_date-dates_of r rs h, refills_of-dates_of (r ∷ rs) h) (by (end_of (r ∷ rs) == b) (nat_lt (length (r ∷ rs)) max_refills) refl)
+    rw (first_date-range k b p, last_date-dates_of r rs h, refills_of-dates_of (r ∷ rs) h) (by (last_end (r ∷ rs) == b) (nat_lt (length (r ∷ rs)) max_refills) refl)
   where
-    by : (t u : Bool) → (end_of (r ∷ rs) == b) ≡ t →
+    by : (t u : Bool) → (last_end (r ∷ rs) == b) ≡ t →
         dates_of (cond t (grown k (r ∷ rs)) (cond u ((r ∷ rs) ++ record { begins = b; amount = k } ∷ []) (grown k (last_moved b (r ∷ rs)))))
         ≡ cond (t || u) (dates_of (r ∷ rs) ++ range_with_len b k) (dates_of (last_moved b (r ∷ rs)) ++ range_with_len b k)
     by true u e =
-        let f : end_of (r ∷ rs) ≡ b = grind (arith, nat_tests) in
+        let f : last_end (r ∷ rs) ≡ b = grind (arith, nat_tests) in
         dates_of-grown k r rs ∙ ap (λ m. dates_of (r ∷ rs) ++ range_with_len m k) f
     by false true e = dates_of-append (r ∷ rs) (record { begins = b; amount = k } ∷ []) ∙ ap (λ xs. dates_of (r ∷ rs) ++ xs) (append-nil (range_with_len b k))
     by false false e = dates_of-moved k b r rs le
@@ -169,7 +170,7 @@ AreApart-left_after k r rs h le = by (k == r.amount) refl rs h
         (f, g, h.2)
 
 -- a charge of k, as it is done on refills
-pub dates_of-charged : (k max_refills period : ℕ) (r : Refill) (rs : List Refill) → AreApart (r ∷ rs) → 1 ≤ k → k ≤ r.amount → 1 ≤ max_refills → end_of (left_after k r rs) ≤ r.begins + period →
+pub dates_of-charged : (k max_refills period : ℕ) (r : Refill) (rs : List Refill) → AreApart (r ∷ rs) → 1 ≤ k → k ≤ r.amount → 1 ≤ max_refills → last_end (left_after k r rs) ≤ r.begins + period →
     dates_of (given_back max_refills (record { begins = r.begins + period; amount = k }) (left_after k r rs)) ≡ charged k period max_refills (dates_of (r ∷ rs))
 dates_of-charged k max_refills period r rs h p le q past =
     dates_of-given_back max_refills k (r.begins + period) (left_after k r rs) (AreApart-left_after k r rs h le) p q past

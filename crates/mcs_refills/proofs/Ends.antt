@@ -5,7 +5,8 @@ use Rattle.std.proofs.lemmas.Bool.Decides.{nat_tests}
 use Rattle.std.proofs.lemmas.Option.{same_Some}
 use Rattle.circular_buffer.specs.Buffer.{last_item}
 use Rattle.mcs_refills.specs.declared.refill.Refill.{Refill}
-use Rattle.mcs_refills.specs.stored.Refills.{end_of, grown, given_back}
+use Rattle.mcs_refills.specs.laws.Apart.{last_end}
+use Rattle.mcs_refills.specs.stored.Refills.{grown, given_back}
 use Rattle.mcs_refills.specs.Server.{last_moved}
 
 last-at : (rs : List Refill) (n : ℕ) (x : Refill) → suc n ≡ length rs → Some x ≡ slice_get rs n → rs ≡ take n rs ++ x ∷ []
@@ -29,13 +30,13 @@ set-at (r ∷ rs) (suc n) x l = ap (λ xs. r ∷ xs) (set-at rs n x (omega arith
 pub set-last : (rs : List Refill) (x : Refill) → 1 ≤ length rs → slice_set rs (length rs - 1) x ≡ take (length rs - 1) rs ++ x ∷ []
 set-last rs x l = set-at rs (length rs - 1) x (omega arith)
 
-end_of-last : (ts : List Refill) (x : Refill) → end_of (ts ++ x ∷ []) ≡ x.begins + x.amount
-end_of-last [] x = refl
-end_of-last (r ∷ []) x = refl
-end_of-last (r ∷ s ∷ ts) x = end_of-last (s ∷ ts) x
+last_end-last : (ts : List Refill) (x : Refill) → last_end (ts ++ x ∷ []) ≡ x.begins + x.amount
+last_end-last [] x = refl
+last_end-last (r ∷ []) x = refl
+last_end-last (r ∷ s ∷ ts) x = last_end-last (s ∷ ts) x
 
-pub ends-with : (rs : List Refill) (x : Refill) → Some x ≡ last_item rs → end_of rs ≡ x.begins + x.amount
-ends-with rs x e = ap end_of (last-is rs x e) ∙ end_of-last (take (length rs - 1) rs) x
+pub ends-with : (rs : List Refill) (x : Refill) → Some x ≡ last_item rs → last_end rs ≡ x.begins + x.amount
+ends-with rs x e = ap last_end (last-is rs x e) ∙ last_end-last (take (length rs - 1) rs) x
 
 grown-last : (k : ℕ) (ts : List Refill) (x : Refill) → grown k (ts ++ x ∷ []) ≡ ts ++ record { begins = x.begins; amount = x.amount + k } ∷ []
 grown-last k [] x = refl
@@ -48,7 +49,7 @@ moved-last b (r ∷ []) x = refl
 moved-last b (r ∷ s ∷ ts) x = ap (λ xs. r ∷ xs) (moved-last b (s ∷ ts) x)
 
 by_cases : (max_refills : ℕ) (back : Refill) (ts : List Refill) (x : Refill) → given_back max_refills back (ts ++ x ∷ [])
-    ≡ cond (end_of (ts ++ x ∷ []) == back.begins) (grown back.amount (ts ++ x ∷ [])) (cond (nat_lt (length (ts ++ x ∷ [])) max_refills) ((ts ++ x ∷ []) ++ back ∷ []) (grown back.amount (last_moved back.begins (ts ++ x ∷ []))))
+    ≡ cond (last_end (ts ++ x ∷ []) == back.begins) (grown back.amount (ts ++ x ∷ [])) (cond (nat_lt (length (ts ++ x ∷ [])) max_refills) ((ts ++ x ∷ []) ++ back ∷ []) (grown back.amount (last_moved back.begins (ts ++ x ∷ []))))
 by_cases max_refills back [] x = refl
 by_cases max_refills back (r ∷ ts) x = refl
 
@@ -56,14 +57,14 @@ by_cases max_refills back (r ∷ ts) x = refl
 module _ (max_refills n : ℕ) (back x : Refill) (ts rs : List Refill) (e : rs ≡ ts ++ x ∷ []) where
   pub joins : x.begins + x.amount ≡ back.begins → ts ++ record { begins = x.begins; amount = x.amount + back.amount } ∷ [] ≡ given_back max_refills back rs
   joins g =
-      let t : (end_of (ts ++ x ∷ []) == back.begins) ≡ true = meets (end_of (ts ++ x ∷ [])) back.begins (end_of-last ts x ∙ g) in
+      let t : (last_end (ts ++ x ∷ []) == back.begins) ≡ true = meets (last_end (ts ++ x ∷ [])) back.begins (last_end-last ts x ∙ g) in
       sym (ap (given_back max_refills back) e ∙ by_cases max_refills back ts x ∙ rw t (grown-last back.amount ts x))
     where
       meets : (a b : ℕ) → a ≡ b → (a == b) ≡ true
       meets a b h = grind (arith, nat_tests)
 
-  differs : x.begins + x.amount ≢ back.begins → (end_of (ts ++ x ∷ []) == back.begins) ≡ false
-  differs g = by (end_of (ts ++ x ∷ [])) (x.begins + x.amount) back.begins (end_of-last ts x) g
+  differs : x.begins + x.amount ≢ back.begins → (last_end (ts ++ x ∷ []) == back.begins) ≡ false
+  differs g = by (last_end (ts ++ x ∷ [])) (x.begins + x.amount) back.begins (last_end-last ts x) g
     where
       by : (a b m : ℕ) → a ≡ b → b ≢ m → (a == m) ≡ false
       by a b m h k = grind (arith, nat_tests)

@@ -4,7 +4,8 @@ use Rattle.std.specs.Prelude.{◌==◌, nat_lt, nat_le}
 use Rattle.std.specs.List.{range_with_len}
 use Rattle.std.proofs.lemmas.Bool.Decides.{nat_tests}
 use Rattle.mcs_refills.specs.declared.refill.Refill.{Refill}
-use Rattle.mcs_refills.specs.stored.Refills.{AreApart, end_of, with_reached, after_unblock, after_reconfigure}
+use Rattle.mcs_refills.specs.laws.Apart.{AreApart, last_end}
+use Rattle.mcs_refills.specs.stored.Refills.{with_reached, after_unblock, after_reconfigure}
 use Rattle.mcs_refills.specs.Server.{dates_of, refills_of, first_moment, first_amount, head_amount, charged, enough, gathered, joined, with_enough, unblocked, reconfigured}
 use Rattle.mcs_refills.specs.laws.Spacing.{IsWithin, AreKept}
 use Rattle.mcs_refills.specs.laws.Servers.{HeadsHaveEnough}
@@ -43,7 +44,7 @@ head-enough min_budget low high us h l = by (refills_of us) (apart-refills_of lo
     by : (rs : List Refill) → AreApart rs → min_budget ≤ total rs → min_budget ≤ head_amount (dates_of (enough min_budget rs))
     by [] a m = omega arith
     by (r ∷ rs) a m =
-        let i = IsLike-enough min_budget (length (r ∷ rs)) r.begins (end_of (r ∷ rs)) (r ∷ rs) (record { apart = a; some = omega arith; few = omega arith; from_is = omega arith; end_is = refl }) in
+        let i = IsLike-enough min_budget (length (r ∷ rs)) r.begins (last_end (r ∷ rs)) (r ∷ rs) (record { apart = a; some = omega arith; few = omega arith; from_is = omega arith; end_is = refl }) in
         let e : refills_of (dates_of (gathered min_budget r rs)) ≡ gathered min_budget r rs = refills_of-dates_of _ i.apart in
         rw e (first-gathered min_budget r rs m)
 

@@ -4,21 +4,22 @@ use Rattle.std.specs.Prelude.{nat_lt, Some, slice_get}
 use Rattle.std.proofs.lemmas.Bool.Decides.{nat_tests}
 use Rattle.std.proofs.lemmas.Option.{same_Some}
 use Rattle.mcs_refills.specs.declared.refill.Refill.{Refill}
-use Rattle.mcs_refills.specs.stored.Refills.{AreApart, end_of, with_reached, after_unblock}
+use Rattle.mcs_refills.specs.laws.Apart.{AreApart, last_end}
+use Rattle.mcs_refills.specs.stored.Refills.{with_reached, after_unblock}
 
-pub end_of-first : (r : Refill) (rs : List Refill) → AreApart (r ∷ rs) → r.begins + r.amount ≤ end_of (r ∷ rs)
-end_of-first r [] a = omega arith
-end_of-first r (s ∷ rs) a = omega (arith, a.1, end_of-first s rs a.2)
+pub last_end-first : (r : Refill) (rs : List Refill) → AreApart (r ∷ rs) → r.begins + r.amount ≤ last_end (r ∷ rs)
+last_end-first r [] a = omega arith
+last_end-first r (s ∷ rs) a = omega (arith, a.1, last_end-first s rs a.2)
 
-bounds : (h x : Refill) (rs : List Refill) → AreApart (h ∷ x ∷ rs) → (h.amount ≤ x.begins) × (x.begins + x.amount ≤ end_of (x ∷ rs))
-bounds h x rs a = record { 0 = omega (arith, a.1); 1 = end_of-first x rs a.2 }
+bounds : (h x : Refill) (rs : List Refill) → AreApart (h ∷ x ∷ rs) → (h.amount ≤ x.begins) × (x.begins + x.amount ≤ last_end (x ∷ rs))
+bounds h x rs a = record { 0 = omega (arith, a.1); 1 = last_end-first x rs a.2 }
 
 -- the refill after the head
 module _ (h x : Refill) (rs rest : List Refill) (e : rs ≡ x ∷ rest) where
   with_next : AreApart (h ∷ rs) → AreApart (h ∷ x ∷ rest)
   with_next a = let P : List Refill → Type 0 = λ others. AreApart (h ∷ others) in subst P e a
 
-  pub next-bounds : AreApart (h ∷ rs) → (h.amount ≤ x.begins) × (x.begins + x.amount ≤ end_of (h ∷ rs))
+  pub next-bounds : AreApart (h ∷ rs) → (h.amount ≤ x.begins) × (x.begins + x.amount ≤ last_end (h ∷ rs))
   next-bounds a = rw e (bounds h x rest (with_next a))
 
 -- the others stand behind the head
@@ -36,7 +37,7 @@ pub begun-apart : (r : Refill) (rs : List Refill) → AreApart (r ∷ rs) → Ar
 begun-apart r [] a = a
 begun-apart r (s ∷ rs) a = record { 0 = a.0; 1 = omega (arith, a.1); 2 = a.2 }
 
-pub begun-end : (r : Refill) (rs : List Refill) → end_of (record { begins = 0; amount = r.amount } ∷ rs) ≤ end_of (r ∷ rs)
+pub begun-end : (r : Refill) (rs : List Refill) → last_end (record { begins = 0; amount = r.amount } ∷ rs) ≤ last_end (r ∷ rs)
 begun-end r [] = omega arith
 begun-end r (s ∷ rs) = omega arith
 

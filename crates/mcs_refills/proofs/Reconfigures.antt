@@ -4,7 +4,8 @@ use Rattle.std.specs.Prelude.{◌==◌}
 use Rattle.std.specs.List.{range_with_len}
 use Rattle.std.proofs.lemmas.Bool.Decides.{nat_tests}
 use Rattle.mcs_refills.specs.declared.refill.Refill.{Refill}
-use Rattle.mcs_refills.specs.stored.Refills.{AreApart, missing_refill, after_reconfigure}
+use Rattle.mcs_refills.specs.laws.Apart.{AreApart}
+use Rattle.mcs_refills.specs.stored.Refills.{missing_refill, after_reconfigure}
 use Rattle.mcs_refills.specs.Server.{dates_of, reconfigured, first_moment, first_amount}
 use Rattle.mcs_refills.proofs.Heads.{first_date-dates_of, head_amount-dates_of}
 

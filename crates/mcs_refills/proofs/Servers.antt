@@ -3,13 +3,14 @@ use Rattle.std.proofs.Common.{◌≡◌, ℕ, ◌+◌, ◌<◌, ◌≤◌, Bool,
 use Rattle.std.specs.Prelude.{◌==◌}
 use Rattle.std.proofs.lemmas.Bool.Decides.{nat_tests}
 use Rattle.mcs_refills.specs.declared.refill.Refill.{Refill}
-use Rattle.mcs_refills.specs.stored.Refills.{AreApart, IsKept, end_of, after_charge, after_unblock}
+use Rattle.mcs_refills.specs.laws.Apart.{AreApart, last_end}
+use Rattle.mcs_refills.specs.stored.Refills.{IsKept, after_charge, after_unblock}
 use Rattle.mcs_refills.specs.Server.{Server, dates_of, with_date, refills_of, first_amount, head_amount, charged, with_enough, unblocked}
 use Rattle.mcs_refills.specs.laws.Spacing.{IsWithin}
 use Rattle.mcs_refills.specs.laws.Servers.{IsServer, ServersAreKept}
 use Rattle.mcs_refills.proofs.Dates.{refills_of-dates_of}
 use Rattle.mcs_refills.proofs.Charges.{IsLike, IsLike-charge, dates_of-charge}
-use Rattle.mcs_refills.proofs.Gathers.{end_of-first}
+use Rattle.mcs_refills.proofs.Gathers.{last_end-first}
 use Rattle.mcs_refills.proofs.Unblocks.{dates_of-after_unblock, few-unblocked}
 use Rattle.mcs_refills.proofs.Spaces.{IsLaid, laid-refills_of, within-dates_of, dates_of-refills_of, kept-charged, kept-unblocked, kept-reconfigured, few-reconfigured, kept-new, few-new}
 
@@ -36,11 +37,11 @@ apart-refills_of low high [] h = tt
 apart-refills_of low high (u ∷ us) h =
     apart-with_date high u (refills_of us) (laid-refills_of (u + 1) high us (omega (arith, h.1)) h.2) (apart-refills_of (u + 1) high us h.2)
 
-pub laid-ends : (low high : ℕ) (r : Refill) (rs : List Refill) → IsLaid low high (r ∷ rs) → end_of (r ∷ rs) ≤ high
+pub laid-ends : (low high : ℕ) (r : Refill) (rs : List Refill) → IsLaid low high (r ∷ rs) → last_end (r ∷ rs) ≤ high
 laid-ends low high r [] h = h.1
 laid-ends low high r (s ∷ rs) h = laid-ends (r.begins + r.amount) high s rs h.1
 
-laid-apart : (low high : ℕ) (r : Refill) (rs : List Refill) → AreApart (r ∷ rs) → low ≤ r.begins → end_of (r ∷ rs) ≤ high → IsLaid low high (r ∷ rs)
+laid-apart : (low high : ℕ) (r : Refill) (rs : List Refill) → AreApart (r ∷ rs) → low ≤ r.begins → last_end (r ∷ rs) ≤ high → IsLaid low high (r ∷ rs)
 laid-apart low high r [] a l e = (l, e)
 laid-apart low high r (s ∷ rs) a l e = (l, laid-apart (r.begins + r.amount) high s rs a.2 (omega (arith, a.1)) e)
 
@@ -66,9 +67,9 @@ few-charged k min_budget period max_refills low us h few p le =
         length (refills_of (with_enough min_budget (charged k period max_refills us))) ≤ max_refills
     by [] e a l f m = absurd (omega arith)
     by (r ∷ rs) e a l f m =
-        let ends : end_of (r ∷ rs) ≤ r.begins + period = omega (arith, laid-ends low (low + period) r rs l, l.0) in
-        let like : IsLike (r ∷ rs) max_refills r.begins (end_of (r ∷ rs)) = record { apart = a; some = omega arith; few = f; from_is = omega arith; end_is = refl } in
-        let i = IsLike-charge k min_budget period max_refills (end_of (r ∷ rs)) r rs p m (omega arith) ends (omega (arith, end_of-first r rs a)) like in
+        let ends : last_end (r ∷ rs) ≤ r.begins + period = omega (arith, laid-ends low (low + period) r rs l, l.0) in
+        let like : IsLike (r ∷ rs) max_refills r.begins (last_end (r ∷ rs)) = record { apart = a; some = omega arith; few = f; from_is = omega arith; end_is = refl } in
+        let i = IsLike-charge k min_budget period max_refills (last_end (r ∷ rs)) r rs p m (omega arith) ends (omega (arith, last_end-first r rs a)) like in
         let d : dates_of (after_charge k min_budget period max_refills (r ∷ rs)) ≡ with_enough min_budget (charged k period max_refills us) =
         dates_of-charge k min_budget period max_refills r rs p m (omega arith) ends like ∙ ap (λ xs. with_enough min_budget (charged k period max_refills xs)) e in
         let g : refills_of (with_enough min_budget (charged k period max_refills us)) ≡ after_charge k min_budget period max_refills (r ∷ rs) = ap refills_of (sym d) ∙ refills_of-dates_of _ i.apart in

@@ -126,7 +126,7 @@ amounts_sum = refl
 last_refill_ends : last_end (r 3 7 ∷ r 100 3 ∷ []) ≡ 103
 last_refill_ends = refl
 
-apart_is_a_gap : AreApart (r 3 7 ∷ r 100 3 ∷ []) ≡ ((1 ≤ 7) × (10 < 100) × (1 ≤ 3))
+apart_is_a_gap : AreApart (r 3 7 ∷ r 100 3 ∷ []) ≡ ((1 ≤ 7) × (10 < 100) × ((1 ≤ 3) × Unit {0} × Unit {0}))
 apart_is_a_gap = refl
 
 -- 7 ticks from 3 on end at 10, where the next refill begins
@@ -139,7 +139,7 @@ overlapping_refills_are_not_apart h = omega (arith, h.1)
 
 -- they span 100 ticks: from 3 to 103
 budget_of_10_in_100 : HaveBudget 10 100 2 (r 3 7 ∷ r 100 3 ∷ [])
-budget_of_10_in_100 = record { apart = (omega arith, omega arith, omega arith); all = refl; few = omega arith; short = omega arith }
+budget_of_10_in_100 = record { apart = (omega arith, omega arith, (omega arith, tt, tt)); all = refl; few = omega arith; short = omega arith }
 
 -- which is more than a period of 99
 too_long_for_99 : HaveBudget 10 99 2 (r 3 7 ∷ r 100 3 ∷ []) → ⊥

@@ -1,6 +1,7 @@
 ghost use Rattle.std.specs.Prelude.{◌≡◌, ◌+◌, ◌^◌, ◌<◌, ◌≤◌, length};
 ghost use Rattle.circular_buffer.specs.Buffer.{buffer};
-ghost use Rattle.mcs_refills.specs.stored.Refills.{end_of, taken, given_back, AreApart, IsKept, after_charge, after_unblock, after_reconfigure};
+ghost use Rattle.mcs_refills.specs.laws.Apart.{last_end, AreApart};
+ghost use Rattle.mcs_refills.specs.stored.Refills.{taken, given_back, IsKept, after_charge, after_unblock, after_reconfigure};
 ghost use Rattle.mcs_refills.specs.Server.{first_amount, first_moment, enough};
 
 use crate::Refill;
@@ -28,7 +29,7 @@ pub fn take(refills: &mut Line, ticks: u64)
 /// the last one first moves to it.
 pub fn give_back(refills: &mut Line, back: Refill, max_refills: usize)
     requires fits { max_refills ≤ refills.old.capacity }
-    requires later { end_of refills.old.items ≤ back.begins }
+    requires later { last_end refills.old.items ≤ back.begins }
     requires in_range { back.begins + back.amount < 2 ^ 63 }
     ensures { refills.new ≡ buffer (given_back max_refills back refills.old.items) refills.old.capacity }
 {
@@ -55,7 +56,7 @@ pub fn spend(refills: &mut Line, ticks: u64, back: Refill, max_refills: usize)
     requires in_head { ticks ≤ first_amount refills.old.items }
     requires early { first_moment refills.old.items + first_amount refills.old.items < 2 ^ 63 }
     requires fits { max_refills ≤ refills.old.capacity }
-    requires later { end_of (taken ticks refills.old.items) ≤ back.begins }
+    requires later { last_end (taken ticks refills.old.items) ≤ back.begins }
     requires in_range { back.begins + back.amount < 2 ^ 63 }
     ensures { refills.new ≡ buffer (given_back max_refills back (taken ticks refills.old.items)) refills.old.capacity }
 {
@@ -70,7 +71,7 @@ pub fn spend(refills: &mut Line, ticks: u64, back: Refill, max_refills: usize)
 /// While the head has fewer than `min_budget` ticks, it moves to the next refill and joins it.
 pub fn gather(refills: &mut Line, min_budget: u64)
     requires apart { AreApart refills.old.items }
-    requires early { end_of refills.old.items < 2 ^ 63 }
+    requires early { last_end refills.old.items < 2 ^ 63 }
     ensures { refills.new ≡ buffer (enough min_budget refills.old.items) refills.old.capacity }
 {
     let mut head = refills.first();
@@ -111,7 +112,7 @@ pub fn charge_list(refills: &mut Line, period: u64, max_refills: usize, ticks: u
 /// Unblocking at `t`: a head whose moment has come moves to `t`, and the refills that it reaches join it.
 pub fn unblock_list(refills: &mut Line, t: u64)
     requires apart { AreApart refills.old.items }
-    requires early { end_of refills.old.items < 2 ^ 63 }
+    requires early { last_end refills.old.items < 2 ^ 63 }
     requires now { t ≤ 2 ^ 40 }
     ensures { refills.new ≡ buffer (after_unblock t refills.old.items) refills.old.capacity }
 {

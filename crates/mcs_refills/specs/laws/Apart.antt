@@ -9,11 +9,15 @@ use Rattle.mcs_refills.specs.laws.Servers.{IsServer}
 abbrev pub end_of : Refill → ℕ
 end_of refill = refill.begins + refill.amount
 
+-- a refill ends before the next one begins, if there is one
+abbrev pub IsBefore : Refill → List Refill → Type 0
+IsBefore refill [] = Unit {0}
+IsBefore refill (next ∷ others) = end_of refill < next.begins
+
 -- each refill has at least a tick, and ends before the next one begins: they ascend, and neither touch nor overlap
 abbrev pub AreApart : List Refill → Type 0
 AreApart [] = Unit {0}
-AreApart (refill ∷ []) = 1 ≤ refill.amount
-AreApart (refill ∷ next ∷ others) = (1 ≤ refill.amount) × (end_of refill < next.begins) × AreApart (next ∷ others)
+AreApart (refill ∷ others) = (1 ≤ refill.amount) × IsBefore refill others × AreApart others
 
 -- the ticks that they have among them
 abbrev pub total_amount : List Refill → ℕ

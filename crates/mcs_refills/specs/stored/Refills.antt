@@ -1,22 +1,8 @@
 -- A server's refills as a list: what the type keeps, and what the steps of a charge make of them.
-use Rattle.std.specs.Prelude.{ℕ, ◌+◌, ◌-◌, ◌*◌, ◌^◌, ◌<◌, ◌≤◌, min, max, ◌==◌, nat_lt, nat_le, if◌then◌else◌, List, [], ◌∷◌, ◌++◌, length}
+use Rattle.std.specs.Prelude.{ℕ, ◌+◌, ◌-◌, ◌*◌, ◌^◌, ◌≤◌, min, max, ◌==◌, nat_lt, nat_le, if◌then◌else◌, List, [], ◌∷◌, ◌++◌, length}
 use Rattle.mcs_refills.specs.declared.refill.Refill.{Refill}
 use Rattle.mcs_refills.specs.Server.{first_moment, first_amount, last_moved, enough}
-
--- each refill has an amount, and none touches the next
-abbrev pub IsBefore : Refill → List Refill → Type 0
-IsBefore r [] = Unit {0}
-IsBefore r (s ∷ rs) = r.begins + r.amount < s.begins
-
-abbrev pub AreApart : List Refill → Type 0
-AreApart [] = Unit {0}
-AreApart (r ∷ rs) = (1 ≤ r.amount) × IsBefore r rs × AreApart rs
-
--- the moment at which the last refill ends
-abbrev pub end_of : List Refill → ℕ
-end_of [] = 0
-end_of (r ∷ []) = r.begins + r.amount
-end_of (r ∷ s ∷ rs) = end_of (s ∷ rs)
+use Rattle.mcs_refills.specs.laws.Apart.{AreApart, last_end}
 
 -- what is kept of the refills: they lie apart, are at most so many, and span at most a period. An order may leave the head where
 -- a charge has moved it, so its moment has a bound of its own
@@ -25,7 +11,7 @@ pub record IsKept (refills : List Refill) (period max_refills : ℕ) : Type 0 wh
   pub some : 1 ≤ length refills
   pub few : length refills ≤ max_refills
   pub two : 2 ≤ max_refills
-  pub spans : end_of refills ≤ first_moment refills + period
+  pub spans : last_end refills ≤ first_moment refills + period
   pub short : period ≤ 2 ^ 40
   pub early : first_moment refills ≤ 3 * 2 ^ 40
 
@@ -52,7 +38,7 @@ grown k (r ∷ s ∷ rs) = r ∷ grown k (s ∷ rs)
 abbrev pub given_back : ℕ → Refill → List Refill → List Refill
 given_back max_refills back [] = back ∷ []
 given_back max_refills back (r ∷ rs) =
-    if end_of (r ∷ rs) == back.begins then grown back.amount (r ∷ rs)
+    if last_end (r ∷ rs) == back.begins then grown back.amount (r ∷ rs)
     else if nat_lt (length (r ∷ rs)) max_refills then (r ∷ rs) ++ back ∷ []
     else grown back.amount (last_moved back.begins (r ∷ rs))
 
