@@ -16,6 +16,7 @@ SAYS = {
     },
     'mcs_control/specs/Control.antt': {
         'kind_of': 'the kind of a context: round robin where the budget is the period, else sporadic',
+        'IsModeOf': 'a mode that a context of this kind may have',
         'checked': 'what SchedControl says of a configuration: its first fault, or else the kind of the context',
     },
     'mcs_control/specs/Context.antt': {

@@ -7,7 +7,7 @@ use Rattle.mcs_control.specs.declared.config.Kind.TheVariants.{Sporadic, RoundRo
 use Rattle.mcs_control.specs.declared.config.Mode.TheVariants as modes
 use Rattle.mcs_control.specs.declared.view.ContextView.{ContextView}
 use Rattle.mcs_control.specs.declared.config.ControlFault.TheVariants.{ZeroBudget, BudgetTooSmall, BudgetOverPeriod, PeriodTooLong, TooManyRefills}
-use Rattle.mcs_control.specs.Control.{checked}
+use Rattle.mcs_control.specs.Control.{checked, takes}
 use Rattle.mcs_control.specs.Context.{Context, new_context, context_charged, context_unblocked, context_woken, context_chosen, context_ordered, context_ready, head_amount, head_moment, view_of}
 use Rattle.mcs_control.specs.laws.Contexts.{consumed_from}
 use Rattle.mcs_control.specs.laws.Shown.{ShowsBudget}
@@ -46,6 +46,16 @@ greatest_configuration_passes = refl
 
 budget_that_is_the_period_is_round_robin : checked 3 (config 3 3 0) ≡ Ok RoundRobin
 budget_that_is_the_period_is_round_robin = refl
+
+-- a mode of a kind
+sporadic_takes_bandwidth : takes Sporadic modes.Bandwidth ≡ true
+sporadic_takes_bandwidth = refl
+
+round_robin_takes_sporadic : takes RoundRobin modes.Sporadic ≡ true
+round_robin_takes_sporadic = refl
+
+round_robin_takes_no_bandwidth : takes RoundRobin modes.Bandwidth ≡ false
+round_robin_takes_no_bandwidth = refl
 
 -- a charge
 small_head_joins : view_of 0 0 (context_charged 7 4 sporadic) ≡ record { context = 0; refills = record { begins = 97; amount = 10 } ∷ []; left = None; using = 0 }

@@ -1,5 +1,5 @@
 -- What SchedControl accepts.
-use Rattle.std.specs.Prelude.{◌≡◌, ℕ, ◌^◌, ◌≤◌, ◌==◌, nat_lt, if◌then◌else◌, Result, Ok, Err}
+use Rattle.std.specs.Prelude.{◌≡◌, ℕ, ◌^◌, ◌≤◌, Bool, true, false, ◌==◌, nat_lt, IsTrue, if◌then◌else◌, Result, Ok, Err}
 use Rattle.mcs_control.specs.declared.config.Config.{Config}
 use Rattle.mcs_control.specs.declared.config.Kind.{Kind}
 use Rattle.mcs_control.specs.declared.config.Kind.TheVariants.{Sporadic, RoundRobin}
@@ -12,10 +12,14 @@ use Rattle.mcs_control.specs.declared.config.ControlFault.TheVariants.{ZeroBudge
 abbrev pub kind_of : Config → Kind
 kind_of config = if config.budget == config.period then RoundRobin else Sporadic
 
--- a round robin context is never unblocked, so it has no mode but the first
+-- whether a context of this kind may have the mode: a round robin one is never unblocked, so it has no mode but the first
+abbrev pub takes : Kind → Mode → Bool
+takes Sporadic mode = true
+takes RoundRobin modes.Sporadic = true
+takes RoundRobin modes.Bandwidth = false
+
 abbrev pub IsModeOf : Kind → Mode → Type 0
-IsModeOf Sporadic mode = Unit {0}
-IsModeOf RoundRobin mode = mode ≡ modes.Sporadic
+IsModeOf kind mode = IsTrue (takes kind mode)
 
 -- the first fault of a configuration, or else its kind
 abbrev pub checked : ℕ → Config → Result Kind ControlFault

@@ -12,7 +12,7 @@ use Rattle.mcs_control.specs.declared.config.Kind.TheVariants as kinds
 use Rattle.mcs_control.specs.declared.config.Mode.{Mode}
 use Rattle.mcs_control.specs.declared.config.Mode.TheVariants.{Sporadic, Bandwidth}
 use Rattle.mcs_control.specs.declared.config.Order.{Order}
-use Rattle.mcs_control.specs.Control.{kind_of, IsModeOf}
+use Rattle.mcs_control.specs.Control.{kind_of, takes, IsModeOf}
 use Rattle.mcs_control.specs.Context.{Context, Budget, head_amount, head_moment, amount_of, moment_of, woken_by, chosen_by, max_refills_of}
 use Rattle.mcs_control.specs.Context.Budget.{Dates, Slice}
 use Rattle.mcs_control.specs.laws.Contexts.{IsWhole}
@@ -144,12 +144,9 @@ module _ (system : System) (well : IsWellFormed system) (x : ℕ) (has : HasBand
   sporadic : kind_of config ≡ kinds.Sporadic
   sporadic = by (kind_of config) refl (well.contexts context no_context context_known).mode
     where
-      no : Bandwidth ≡ Sporadic → ⊥
-      no e = cc
-
       by : (kind : Kind) → kind_of config ≡ kind → IsModeOf kind (context_part system context).mode → kind_of config ≡ kinds.Sporadic
       by kinds.Sporadic e m = e
-      by kinds.RoundRobin e m = absurd (no (sym has.mode ∙ m))
+      by kinds.RoundRobin e m = let no : takes kinds.RoundRobin Bandwidth ≡ true = subst (λ (mode : Mode). takes kinds.RoundRobin mode ≡ true) has.mode m in absurd (cc)
 
   first_dates : IsDates first.budget
   first_dates = rw sporadic tt

@@ -12,7 +12,7 @@ use Rattle.mcs_control.specs.declared.config.Kind.TheVariants as kinds
 use Rattle.mcs_control.specs.declared.config.Mode.{Mode}
 use Rattle.mcs_control.specs.declared.config.Mode.TheVariants as modes
 use Rattle.mcs_control.specs.declared.config.Order.{Order}
-use Rattle.mcs_control.specs.Control.{checked, kind_of, IsModeOf}
+use Rattle.mcs_control.specs.Control.{checked, kind_of, takes, IsModeOf}
 use Rattle.mcs_system.specs.declared.part.ContextPart.{ContextPart}
 use Rattle.mcs_system.specs.declared.part.Link.{Link}
 use Rattle.mcs_system.specs.declared.part.NotePart.{NotePart}
@@ -28,7 +28,7 @@ use Rattle.mcs_load.specs.declared.numbers.Numbers.{Numbers}
 use Rattle.mcs_load.specs.Checks.{Checked, first_failed}
 use Rattle.mcs_load.specs.Words.{only_keys, whole_number, number_with_default, new_name, text, is_among, place_of, row, row_table, rows, array_of}
 use Rattle.mcs_load.specs.Script.{script}
-use Rattle.mcs_load.specs.Walk.{accepts, config, accepted_config, mode, takes, takes_mode, settings, listed_context_keys, is_version_2, context, contexts, note, notes, known, known_context, part_at, own_context, max_ticks, times, thread, threads, ordered_context, is_same_kind, keeps_kind, order, orders, link_numbers, is_linked, link, links, top, listed_keys, numbers, walk, document, file}
+use Rattle.mcs_load.specs.Walk.{accepts, config, accepted_config, mode, takes_mode, settings, listed_context_keys, is_version_2, context, contexts, note, notes, known, known_context, part_at, own_context, max_ticks, times, thread, threads, ordered_context, is_same_kind, keeps_kind, order, orders, link_numbers, is_linked, link, links, top, listed_keys, numbers, walk, document, file}
 use Rattle.mcs_load.proofs.Passed.{passed_test, both_passed, each_keeps, each_length, whole_number_passed, number_with_default_passed, new_name_passed, rows_passed, place_within, distinct_more, HaveNames, have_no_names, have_names_more}
 use Rattle.mcs_load.proofs.Scripts.{script_passed}
 
@@ -50,11 +50,6 @@ accepted_config_passed min_budget at row h =
     let q = both_passed (accepts at (checked min_budget given)).tests [] p.1 in
     accepts_passed at (checked min_budget given) q.0
 
-takes_passed : (kind : Kind) (mode : Mode) → takes kind mode ≡ true → IsModeOf kind mode
-takes_passed kinds.Sporadic mode h = tt
-takes_passed kinds.RoundRobin modes.Sporadic h = refl
-takes_passed kinds.RoundRobin modes.Bandwidth h = cc
-
 settings_passed : (min_budget : ℕ) (at : At) (row : Members) → first_failed (settings min_budget at row).tests ≡ None
     → IsOk (checked min_budget (settings min_budget at row).value.config)
     × IsModeOf (kind_of (settings min_budget at row).value.config) (settings min_budget at row).value.mode
@@ -66,7 +61,7 @@ settings_passed min_budget at row h =
     let q = both_passed (mode at row).tests _ p.1 in
     let r = both_passed (accepts at (checked min_budget given)).tests _ q.1 in
     let s = passed_test (takes (kind_of given) how) _ _ r.1 in
-    (accepts_passed at (checked min_budget given) r.0, takes_passed (kind_of given) how s.0)
+    (accepts_passed at (checked min_budget given) r.0, s.0)
 
 -- the place of a row that is read
 abbrev at_row : Section → ℕ → At

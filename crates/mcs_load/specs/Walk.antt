@@ -13,7 +13,7 @@ use Rattle.mcs_control.specs.declared.config.Mode.TheVariants as modes
 use Rattle.mcs_control.specs.declared.config.Order.{Order}
 use Rattle.mcs_control.specs.declared.config.ControlFault.{ControlFault}
 use Rattle.mcs_control.specs.declared.config.ControlFault.TheVariants as refused
-use Rattle.mcs_control.specs.Control.{checked, kind_of}
+use Rattle.mcs_control.specs.Control.{checked, kind_of, takes}
 use Rattle.mcs_system.specs.declared.part.ContextPart.{ContextPart}
 use Rattle.mcs_system.specs.declared.part.Link.{Link}
 use Rattle.mcs_system.specs.declared.part.NotePart.{NotePart}
@@ -78,12 +78,6 @@ mode at row =
       _ ← must_at at key.Mode WrongKind (if_there (λ d. is_some (as_str d)) found)
       _ ← must_at at key.Mode OutOfRange (if_there (λ n. is_some (named_mode n)) name)
       reads (unwrap_or (option_and_then named_mode name) modes.Sporadic)
-
--- a round robin context is never unblocked, so it has no mode but the first
-abbrev pub takes : Kind → Mode → Bool
-takes kinds.Sporadic mode = true
-takes kinds.RoundRobin modes.Sporadic = true
-takes kinds.RoundRobin modes.Bandwidth = false
 
 unfoldable pub takes_mode : At → Kind → Mode → Checked (Unit {0})
 takes_mode at kind mode = must_at at key.Mode ModeOfSlice (takes kind mode)
