@@ -8,7 +8,7 @@ use Rattle.mcs_control.specs.declared.config.Mode.TheVariants as modes
 use Rattle.mcs_control.specs.declared.view.ContextView.{ContextView}
 use Rattle.mcs_control.specs.declared.config.ControlFault.TheVariants.{ZeroBudget, BudgetTooSmall, BudgetOverPeriod, PeriodTooLong, TooManyRefills}
 use Rattle.mcs_control.specs.Control.{checked, takes}
-use Rattle.mcs_control.specs.Context.{Context, new_context, context_charged, context_unblocked, context_woken, context_chosen, context_ordered, context_ready, head_amount, head_moment, view_of}
+use Rattle.mcs_control.specs.Context.{Context, new_context, context_charged, context_unblocked, context_woken, context_chosen, context_ordered, context_ready, date_from, head_amount, head_moment, view_of}
 use Rattle.mcs_control.specs.laws.Contexts.{consumed_from}
 use Rattle.mcs_control.specs.laws.Shown.{ShowsBudget}
 
@@ -104,6 +104,12 @@ ready_at_the_head = refl
 
 not_ready_before_the_head : context_ready 99 (context_charged 10 1 sporadic) ≡ false
 not_ready_before_the_head = refl
+
+waits_with_the_date_of_the_head : date_from 99 (context_charged 10 1 sporadic) ≡ Some 100
+waits_with_the_date_of_the_head = refl
+
+waits_with_no_date_at_the_head : date_from 100 (context_charged 10 1 sporadic) ≡ None
+waits_with_no_date_at_the_head = refl
 
 slice_is_always_ready : context_ready 0 (context_charged 3 1 round_robin) ≡ true
 slice_is_always_ready = refl

@@ -1,5 +1,5 @@
 -- A scheduling context: the configuration in force, its mode, and the budget that is left, by kind.
-use Rattle.std.specs.Prelude.{ℕ, ◌+◌, Bool, true, List, [], Option, Some, None}
+use Rattle.std.specs.Prelude.{ℕ, ◌+◌, Bool, true, if◌then◌else◌, List, [], Option, Some, None}
 use Rattle.mcs_control.specs.declared.config.Config.{Config}
 use Rattle.mcs_control.specs.declared.config.Kind.{Kind}
 use Rattle.mcs_control.specs.declared.config.Kind.TheVariants.{Sporadic, RoundRobin}
@@ -105,6 +105,10 @@ moment_of (Slice left) = 0
 -- the head's moment
 abbrev pub head_moment : Context → ℕ
 head_moment context = moment_of context.budget
+
+-- the date with which the context's thread must wait, if the context isn't ready at t
+abbrev pub date_from : ℕ → Context → Option ℕ
+date_from t context = if context_ready t context then None else Some (head_moment context)
 
 -- the refills of a sporadic context, and none for round robin
 abbrev pub refills_shown : Budget → List Refill

@@ -2,7 +2,8 @@
 use Rattle.std.proofs.Common.{◌≡◌, ℕ, zero, suc, ◌<◌, true, List, [], ◌∷◌, length, get_or, set, refl, sym, ap, subst, ◌∙◌, arith}
 use Rattle.std.specs.Prelude.{Option, Some, None, option_map, slice_index_or}
 use Rattle.mcs_control.specs.Context.{Context, WithRoom}
-use Rattle.mcs_core.specs.Contexts.{is_own, held, seen_contexts, HasRoom, HaveRoom}
+use Rattle.mcs_core.specs.stored.Contexts.{seen_contexts, HasRoom, HaveRoom}
+use Rattle.mcs_core.specs.Contexts.{is_own, held}
 
 seen-set : (k : ℕ) (new : WithRoom) (xs : List (Option WithRoom)) → seen_contexts (set xs k (Some new)) ≡ set (seen_contexts xs) k (Some new.context)
 seen-set k new [] = refl

@@ -22,7 +22,8 @@ use Rattle.mcs_system.specs.declared.part.ThreadPart.{ThreadPart}
 use Rattle.mcs_core.specs.declared.standing.Standing.TheVariants.{Pending, Elsewhere}
 use Rattle.mcs_core.specs.declared.standing.Thread.{Thread}
 use Rattle.mcs_system.specs.System.{System, context_part, thread_part, no_context, no_thread, core_of, start_of}
-use Rattle.mcs_core.specs.Contexts.{no_server, is_some, is_own, seen_contexts, HasRoom, HaveRoom}
+use Rattle.mcs_core.specs.stored.Contexts.{seen_contexts, HasRoom, HaveRoom}
+use Rattle.mcs_core.specs.Contexts.{no_server, is_some, is_own}
 use Rattle.mcs_core.specs.Core.{Core, no_state, thread_of, context_of, opening_thread, opening_releases, opening_contexts, opening_core}
 use Rattle.mcs_core.specs.stored.Sound.{times_ready, times_pending, times_blocked, is_here, may_run, has_context, IsPlaced, AreEarly, IsBudget, IsSound}
 use Rattle.mcs_core.specs.Places.{times_dated, times_waiting}

@@ -8,7 +8,7 @@ use Rattle.mcs_ticks.specs.declared.row.What.{What}
 use Rattle.mcs_ticks.specs.declared.row.What.TheVariants as row
 use Rattle.mcs_ticks.specs.declared.row.Why.{Why}
 use Rattle.mcs_ticks.specs.declared.row.Why.TheVariants as why
-use Rattle.mcs_control.specs.Context.{Context, context_charged, context_woken, context_chosen, context_ordered, context_ready, head_amount, head_moment}
+use Rattle.mcs_control.specs.Context.{Context, context_charged, context_woken, context_chosen, context_ordered, date_from, head_amount}
 use Rattle.mcs_control.specs.declared.config.Order.{Order}
 use Rattle.mcs_notify.specs.Note.{posted, after_post, waited, after_wait}
 use Rattle.mcs_notify.specs.declared.posted.Posted.{Posted}
@@ -76,7 +76,7 @@ module _ (system : System) where
   -- the date with which a thread must wait for its context, if it isn't ready at t
   abbrev pub date_of : ℕ → ℕ → Core → Option ℕ
   date_of t thread core =
-      if context_ready t (its_context thread core) then None else Some (head_moment (its_context thread core))
+      date_from t (its_context thread core)
 
   -- the context of the thread is charged k ticks
   abbrev pub charged : ℕ → ℕ → Core → Core

@@ -2,3 +2,4 @@ pub mod Room
 pub mod Items
 pub mod Sound
 pub mod Parts
+pub mod Contexts

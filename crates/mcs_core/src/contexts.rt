@@ -1,7 +1,8 @@
 ghost use Rattle.std.specs.Prelude.{◌≡◌, ◌^◌, ◌<◌, ◌≤◌, true, length, get_or, set, Some, None, option_map, IfOk};
-ghost use Rattle.mcs_control.specs.Context.{head_amount, head_moment, context_charged, context_woken, context_chosen, context_ordered, view_of};
+ghost use Rattle.mcs_control.specs.Context.{head_amount, head_moment, context_charged, context_woken, context_chosen, context_ordered, view_of, date_from};
 ghost use Rattle.mcs_control.specs.Control.{IsConfig, kind_of};
-ghost use Rattle.mcs_core.specs.Contexts.{is_own, held, date_from, seen_contexts, HaveRoom};
+ghost use Rattle.mcs_core.specs.stored.Contexts.{seen_contexts, HaveRoom};
+ghost use Rattle.mcs_core.specs.Contexts.{is_own, held};
 
 use mcs_control::{Config, Context, ContextView};
 use mcs_ticks::{ContextId, NoMemory, Tick};
@@ -17,7 +18,7 @@ pub(crate) struct Contexts {
 impl Model for Contexts {
     ghost use Rattle.std.specs.Prelude.{List, Option};
     ghost use Rattle.mcs_control.specs.Context.{Context};
-    ghost use Rattle.mcs_core.specs.Contexts.{seen_contexts, HaveRoom};
+    ghost use Rattle.mcs_core.specs.stored.Contexts.{seen_contexts, HaveRoom};
 
     ghost Value = { List (Option Context) };
 

@@ -1,7 +1,7 @@
 ghost use Rattle.std.specs.Prelude.{◌≡◌, ℕ, ◌^◌, ◌==◌, ◌<◌, ◌≤◌, if◌then◌else◌, length, get_or, insert, map, option_map, IfOk, OnOk, Some, None};
 ghost use Rattle.mcs_control.specs.Context.{new_context};
 ghost use Rattle.mcs_control.specs.Control.{IsConfig, IsModeOf, kind_of};
-ghost use Rattle.mcs_core.specs.Contexts.{HasRoom};
+ghost use Rattle.mcs_core.specs.stored.Contexts.{HasRoom};
 ghost use Rattle.mcs_core.specs.Core.{opening_thread, opening_releases, opening_contexts, opening_core};
 ghost use Rattle.mcs_core.specs.Orders.{by_moment, orders_of};
 ghost use Rattle.mcs_system.specs.System.{context_part, start_of};

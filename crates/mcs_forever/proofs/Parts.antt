@@ -5,7 +5,7 @@ use Rattle.std.proofs.lemmas.Bool.Decides.{nat_tests}
 use Rattle.mcs_refills.proofs.Spaces.{kept-charged, kept-unblocked}
 use Rattle.mcs_control.specs.declared.config.Mode.{Mode}
 use Rattle.mcs_control.specs.declared.config.Mode.TheVariants as modes
-use Rattle.mcs_control.specs.Context.{Context, Budget, context_charged, context_woken, context_chosen, context_unblocked, woken_by, chosen_by, head_amount, amount_of, max_refills_of}
+use Rattle.mcs_control.specs.Context.{Context, Budget, context_charged, context_woken, context_chosen, context_unblocked, woken_by, chosen_by, head_amount, amount_of, max_refills_of, date_from}
 use Rattle.mcs_control.specs.Context.Budget.{Dates, Slice}
 use Rattle.mcs_script.specs.declared.item.Item.{Item}
 use Rattle.mcs_script.specs.Script.{move_after}
@@ -13,7 +13,7 @@ use Rattle.mcs_script.specs.declared.place.Place.{Place}
 use Rattle.mcs_ticks.specs.declared.row.What.TheVariants as row
 use Rattle.mcs_ticks.specs.declared.row.Why.{Why}
 use Rattle.mcs_system.specs.System.{System, thread_part}
-use Rattle.mcs_core.specs.Contexts.{no_server, date_from}
+use Rattle.mcs_core.specs.Contexts.{no_server}
 use Rattle.mcs_core.specs.Core.{no_state}
 use Rattle.mcs_core.specs.declared.standing.Thread.{Thread}
 use Rattle.mcs_forever.specs.Later.{Shift, later_budget, later_context, later_contexts, later_thread, later_threads, later_place, more_rounds}

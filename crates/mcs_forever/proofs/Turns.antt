@@ -12,7 +12,7 @@ use Rattle.mcs_ticks.specs.declared.row.What.TheVariants as row
 use Rattle.mcs_ticks.specs.declared.row.Why.{Why}
 use Rattle.mcs_ticks.specs.declared.row.Why.TheVariants as why
 use Rattle.mcs_control.specs.declared.config.Order.{Order}
-use Rattle.mcs_control.specs.Context.{Context, context_charged, context_woken, context_chosen, head_amount}
+use Rattle.mcs_control.specs.Context.{Context, context_charged, context_woken, context_chosen, head_amount, date_from}
 use Rattle.mcs_notify.specs.Note.{posted, after_post, waited, after_wait}
 use Rattle.mcs_notify.specs.declared.posted.Posted.{Posted}
 use Rattle.mcs_notify.specs.declared.posted.Posted.TheVariants.{Woke, Held}
@@ -26,7 +26,6 @@ use Rattle.mcs_script.specs.Script.{move_after, place_at}
 use Rattle.mcs_mail.specs.declared.mail.Mail.{Mail}
 use Rattle.mcs_system.specs.System.{System, note_part, thread_part, delay_between}
 use Rattle.mcs_core.specs.Core.{Core, note_of, with_note, with_context, with_thread, thread_of, stands, pends, off}
-use Rattle.mcs_core.specs.Contexts.{date_from}
 use Rattle.mcs_core.specs.declared.standing.Standing.{Standing}
 use Rattle.mcs_core.specs.declared.standing.Standing.TheVariants.{Blocked, Pending, Ready, Running, Done}
 use Rattle.mcs_core.specs.declared.standing.AfterItem.{AfterItem}

@@ -1,7 +1,7 @@
 use Rattle.std.proofs.Common.{◌≡◌, ◌<◌, length, get_or, ◌∙◌, arith, ap}
 use Rattle.std.proofs.lemmas.List.{get_or_default}
 use Rattle.mcs_system.specs.declared.part.ContextPart.{ContextPart}
-use Rattle.mcs_core.specs.Contexts.{seen_contexts}
+use Rattle.mcs_core.specs.stored.Contexts.{seen_contexts}
 use Rattle.mcs_system.specs.System.{start_of}
 use Rattle.mcs_core.proofs.Opening.{start-early, made-next, room-next}
 use Rattle.mcs_core.proofs.open.opening_contexts.Goals as goal

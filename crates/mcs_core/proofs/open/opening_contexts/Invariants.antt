@@ -1,5 +1,5 @@
 use Rattle.std.proofs.Common.{◌≡◌, take}
-use Rattle.mcs_core.specs.Contexts.{seen_contexts, HaveRoom}
+use Rattle.mcs_core.specs.stored.Contexts.{seen_contexts, HaveRoom}
 use Rattle.mcs_core.specs.Core.{opening_contexts}
 use Rattle.mcs_core.proofs.open.opening_contexts.Given as goal
 
