@@ -1,6 +1,7 @@
 -- Contexts stay in good order.
 use Rattle.std.proofs.Common.{◌≡◌, ℕ, ◌-◌, ◌<◌, ◌≤◌, Bool, true, false, cond, List, [], ◌∷◌, ◌++◌, take, refl, sym, subst, ap, ◌∙◌, arith}
 use Rattle.std.specs.Prelude.{◌==◌}
+use lib.Seq.{take-nil}
 use Rattle.std.proofs.lemmas.Bool.Decides.{nat_tests}
 use Rattle.mcs_refills.specs.Server.{Server, dates_from, charged, with_enough, unblocked}
 use Rattle.mcs_refills.specs.Slice.{slice_charged}
@@ -124,7 +125,9 @@ consumed-same config mode (Unblock t ∷ steps) dates = consumed-same config mod
 -- and from a slice none are
 consumed-none : (config : Config) (mode : Mode) (steps : List Step) (left : ℕ) → consumed_from steps (record { config = config; mode = mode; budget = Slice left }) ≡ []
 consumed-none config mode [] left = refl
-consumed-none config mode (Charge k min_budget ∷ steps) left = consumed-none config mode steps (slice_charged k config.budget left)
+consumed-none config mode (Charge k min_budget ∷ steps) left =
+    let later = consumed_from steps (record { config = config; mode = mode; budget = Slice (slice_charged k config.budget left) }) in
+    ap (λ xs. xs ++ later) (take-nil k) ∙ consumed-none config mode steps (slice_charged k config.budget left)
 consumed-none config mode (Unblock t ∷ steps) left = consumed-none config mode steps left
 
 spaced : (config : Config) (mode : Mode) (budget : Budget) (steps : List Step) → IsContext (record { config = config; mode = mode; budget = budget }) → AreProper steps →

@@ -16,6 +16,11 @@ pub data Budget : Type 0 where
   Dates : List ℕ → Budget
   Slice : ℕ → Budget
 
+-- its dates; a slice has none
+abbrev pub dates_in : Budget → List ℕ
+dates_in (Dates dates) = dates
+dates_in (Slice left) = []
+
 pub record Context : Type 0 where
   pub config : Config
   pub mode : Mode

@@ -13,7 +13,7 @@ use Rattle.mcs_control.specs.declared.config.Mode.{Mode}
 use Rattle.mcs_control.specs.declared.config.Mode.TheVariants.{Sporadic, Bandwidth}
 use Rattle.mcs_control.specs.declared.config.Order.{Order}
 use Rattle.mcs_control.specs.Control.{kind_of, takes, IsModeOf}
-use Rattle.mcs_control.specs.Context.{Context, Budget, head_amount, head_moment, amount_of, moment_of, woken_by, chosen_by, max_refills_of}
+use Rattle.mcs_control.specs.Context.{Context, Budget, head_amount, head_moment, amount_of, moment_of, woken_by, chosen_by, max_refills_of, dates_in}
 use Rattle.mcs_control.specs.Context.Budget.{Dates, Slice}
 use Rattle.mcs_control.specs.laws.Contexts.{IsWhole}
 use Rattle.mcs_core.specs.declared.standing.Chosen.{Chosen}
@@ -23,7 +23,7 @@ use Rattle.mcs_core.specs.Turn.{Turn}
 use Rattle.mcs_core.specs.Clock as clocks
 use Rattle.mcs_core.proofs.Clock.{turn_of-kept}
 use Rattle.mcs_core.specs.Core.{Core}
-use Rattle.mcs_laws.specs.Changes.{Change, charges_of, orders_of, dates_in, changed, changed_by, AreSound, taken_by, KeepsItsBudget}
+use Rattle.mcs_laws.specs.Changes.{Change, charges_of, orders_of, changed, changed_by, AreSound, taken_by, KeepsItsBudget}
 use Rattle.mcs_laws.specs.Changes.Change.{Charged, Woken, Picked, Ordered}
 use Rattle.mcs_laws.specs.Histories as told
 use Rattle.mcs_laws.specs.Places.{times_running}

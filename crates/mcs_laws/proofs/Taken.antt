@@ -7,11 +7,11 @@ use Rattle.std.proofs.lemmas.List.{length-append, length-take-le, get_or-append-
 use Rattle.std.proofs.lemmas.List.Sums.{sum_by-cons}
 use Rattle.mcs_refills.specs.Server as server
 use Rattle.mcs_refills.specs.laws.Spacing.{IsSpaced}
-use Rattle.mcs_control.specs.Context.{Context, Budget, head_amount, head_moment, amount_of, moment_of, budget_charged, budget_unblocked, context_unblocked, woken_by, chosen_by, budget_ordered}
+use Rattle.mcs_control.specs.Context.{Context, Budget, head_amount, head_moment, amount_of, moment_of, budget_charged, budget_unblocked, context_unblocked, woken_by, chosen_by, budget_ordered, dates_in}
 use Rattle.mcs_control.specs.Context.Budget.{Dates, Slice}
 use Rattle.mcs_control.specs.declared.config.Mode.{Mode}
 use Rattle.mcs_control.specs.declared.config.Mode.TheVariants as modes
-use Rattle.mcs_laws.specs.Changes.{Change, charges_of, dates_in, changed, changed_by, AreSound, dates_taken, taken_by}
+use Rattle.mcs_laws.specs.Changes.{Change, charges_of, changed, changed_by, AreSound, dates_taken, taken_by}
 use Rattle.mcs_laws.specs.Changes.Change.{Charged, Woken, Picked, Ordered}
 use Rattle.mcs_laws.specs.Demand.{periods_begun}
 use Rattle.mcs_laws.proofs.Kept.{head-more}

@@ -1,10 +1,10 @@
 -- What is done to a context over time, and what it keeps.
-use Rattle.std.specs.Prelude.{ℕ, ◌≤◌, List, [], ◌∷◌, ◌++◌, flat_map, take, fold}
+use Rattle.std.specs.Prelude.{ℕ, ◌≤◌, List, [], ◌∷◌, ◌++◌, flat_map, fold}
 use Rattle.mcs_control.specs.declared.config.Config.{Config}
 use Rattle.mcs_control.specs.declared.config.Order.{Order}
-use Rattle.mcs_control.specs.laws.Contexts.{IsWhole}
-use Rattle.mcs_control.specs.Context.{Context, Budget, context_charged, context_woken, context_chosen, context_ordered, head_amount}
-use Rattle.mcs_control.specs.Context.Budget.{Dates, Slice}
+use Rattle.mcs_refills.specs.laws.Spacing.Step.{Charge}
+use Rattle.mcs_control.specs.laws.Contexts.{IsWhole, used_from}
+use Rattle.mcs_control.specs.Context.{Context, context_charged, context_woken, context_chosen, context_ordered, head_amount}
 
 -- a charge of some ticks, a wake and a choice of its thread at a moment, and an order
 pub data Change : Type 0 where
@@ -60,11 +60,6 @@ pub record KeepsItsBudget (context : Context) : Type 0 where
   pub config : IsBudget context.config
   pub whole : IsWhole context.config context.budget
 
--- the dates that a budget has
-abbrev pub dates_in : Budget → List ℕ
-dates_in (Dates dates) = dates
-dates_in (Slice left) = []
-
 -- with this minimum of ticks at the head
 module _ (min_budget : ℕ) where
   -- the context after a change, and after several
@@ -90,7 +85,7 @@ module _ (min_budget : ℕ) where
 
   -- the dates that the charges take, in order: each the first dates that the context then has
   abbrev pub dates_taken : Change → Context → List ℕ
-  dates_taken (Charged k) context = take k (dates_in context.budget)
+  dates_taken (Charged k) context = used_from (Charge k min_budget) context.budget
   dates_taken (Woken t) context = []
   dates_taken (Picked t) context = []
   dates_taken (Ordered order) context = []

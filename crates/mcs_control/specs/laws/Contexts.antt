@@ -5,7 +5,7 @@ use Rattle.mcs_control.specs.declared.config.Mode.{Mode}
 use Rattle.mcs_refills.specs.Server.{refills_of}
 use Rattle.mcs_refills.specs.laws.Spacing.{AreKept, Step, AreProper, IsSpaced, used_by}
 use Rattle.mcs_refills.specs.laws.Spacing.Step.{Charge, Unblock}
-use Rattle.mcs_control.specs.Context.{Budget, Context, new_context, context_charged, context_unblocked, context_woken, context_chosen, context_ordered, head_amount, max_refills_of}
+use Rattle.mcs_control.specs.Context.{Budget, Context, dates_in, new_context, context_charged, context_unblocked, context_woken, context_chosen, context_ordered, head_amount, max_refills_of}
 use Rattle.mcs_control.specs.Context.Budget.{Dates, Slice}
 use Rattle.mcs_control.specs.Control.{IsConfig, kind_of}
 
@@ -46,16 +46,15 @@ abbrev pub context_stepped : Step → Context → Context
 context_stepped (Charge k min_budget) context = context_charged k min_budget context
 context_stepped (Unblock t) context = context_unblocked t context
 
--- the dates that a step takes from a budget; a slice has none
-abbrev pub taken_by : Step → Budget → List ℕ
-taken_by step (Dates dates) = used_by step dates
-taken_by step (Slice left) = []
+-- the dates that a step takes from a budget
+abbrev pub used_from : Step → Budget → List ℕ
+used_from step budget = used_by step (dates_in budget)
 
 -- the dates that charges take from a context, in order
 abbrev pub consumed_from : List Step → Context → List ℕ
 consumed_from [] context = []
 consumed_from (step ∷ steps) context =
-    taken_by step context.budget ++ consumed_from steps (context_stepped step context)
+    used_from step context.budget ++ consumed_from steps (context_stepped step context)
 
 -- where no order comes between, the date a whole budget later is at least a period later
 abbrev pub ConsumedAreSpaced : Type 0
