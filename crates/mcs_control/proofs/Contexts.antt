@@ -17,7 +17,7 @@ use Rattle.mcs_control.specs.declared.config.Mode.TheVariants as modes
 use Rattle.mcs_control.specs.Control.{IsConfig, kind_of}
 use Rattle.mcs_control.specs.Context.{Context, Budget, new_context, first_budget, context_charged, context_unblocked, woken_by, chosen_by, context_ordered, head_amount, max_refills_of}
 use Rattle.mcs_control.specs.Context.Budget.{Dates, Slice}
-use Rattle.mcs_control.specs.laws.Contexts.{IsBudget, IsContext, ContextsAreKept, ConsumedAreSpaced, consumed_from}
+use Rattle.mcs_control.specs.laws.Contexts.{IsBudgetOf, IsContext, ContextsAreKept, ConsumedAreSpaced, consumed_from}
 
 -- the kind tells how the budget and the period compare
 module _ (config : Config) where
@@ -48,10 +48,10 @@ module _ (config : Config) where
 abbrev pub server_of : Config → List ℕ → Server
 server_of config dates = record { dates = dates; period = config.period; max_refills = max_refills_of config; room = 0 }
 
-from-server : (config : Config) (dates : List ℕ) → config.budget < config.period → IsServer config.budget (server_of config dates) → IsBudget config (Dates dates)
+from-server : (config : Config) (dates : List ℕ) → config.budget < config.period → IsServer config.budget (server_of config dates) → IsBudgetOf config (Dates dates)
 from-server config dates l h = (l, h.kept, h.few)
 
-pub to-server : (config : Config) (dates : List ℕ) → IsBudget config (Dates dates) → IsServer config.budget (server_of config dates)
+pub to-server : (config : Config) (dates : List ℕ) → IsBudgetOf config (Dates dates) → IsServer config.budget (server_of config dates)
 to-server config dates h = record { kept = h.1; few = h.2 }
 
 slice-charged : (k budget left : ℕ) → 1 ≤ left → left ≤ budget → (1 ≤ slice_charged k budget left) × (slice_charged k budget left ≤ budget)
@@ -64,7 +64,7 @@ slice-charged k budget left p l = by (left - k == 0) refl
 new-kept : (config : Config) (mode : Mode) (at : ℕ) → IsConfig config → IsContext (new_context config mode at)
 new-kept config mode at h = record { config = h; budget = by (config.budget == config.period) refl }
   where
-    by : (t : Bool) → (config.budget == config.period) ≡ t → IsBudget config (first_budget (cond t kind.RoundRobin kind.Sporadic) at config.budget)
+    by : (t : Bool) → (config.budget == config.period) ≡ t → IsBudgetOf config (first_budget (cond t kind.RoundRobin kind.Sporadic) at config.budget)
     by true e = (grind (arith, nat_tests), h.some, omega arith)
     by false e =
         let l : config.budget < config.period = grind (arith, nat_tests, h.within) in

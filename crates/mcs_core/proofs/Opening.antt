@@ -25,7 +25,7 @@ use Rattle.mcs_system.specs.System.{System, context_part, thread_part, no_contex
 use Rattle.mcs_core.specs.stored.Contexts.{seen_contexts, HasRoom, HaveRoom}
 use Rattle.mcs_core.specs.Contexts.{no_server, is_some, is_own}
 use Rattle.mcs_core.specs.Core.{Core, no_state, thread_of, context_of, opening_thread, opening_releases, opening_contexts, opening_core}
-use Rattle.mcs_core.specs.stored.Sound.{times_ready, times_pending, times_blocked, is_here, may_run, has_context, IsPlaced, AreEarly, IsBudget, IsSound}
+use Rattle.mcs_core.specs.stored.Sound.{times_ready, times_pending, times_blocked, is_here, may_run, has_context, IsPlaced, AreEarly, IsContextOf, IsSound}
 use Rattle.mcs_core.specs.Places.{times_dated, times_waiting}
 use Rattle.mcs_core.specs.stored.Sound.Phase.{Between}
 use Rattle.mcs_system.specs.WellFormed.{IsWellFormed, IsContext, IsThread}
@@ -221,7 +221,7 @@ module _ (system : System) (c : ℕ) where
       later [] = tt
       later (d ∷ ds) = (omega arith, later ds)
 
-      budgets : (k : ℕ) → has_context k (opening_core system c) ≡ true → IsBudget system k (context_of (opening_core system c) k)
+      budgets : (k : ℕ) → has_context k (opening_core system c) ≡ true → IsContextOf system k (context_of (opening_core system c) k)
       budgets k h =
           let part : IsContext system (context_part system k) = w.contexts k no_context (context-within k h) in
           rw (context-new k h)

@@ -16,7 +16,7 @@ use Rattle.mcs_core.specs.declared.standing.Thread.{Thread}
 use Rattle.mcs_system.specs.System.{System, thread_part}
 use Rattle.mcs_core.specs.Contexts.{no_server, is_some}
 use Rattle.mcs_core.specs.Core.{Core, thread_of, context_of, with_thread, with_context, no_state}
-use Rattle.mcs_core.specs.stored.Sound.{times_ready, times_pending, times_blocked, is_here, may_run, Loose, Phase, standing_of, has_context, IsPlaced, IsEarly, AreEarly, IsBudget, RunsRight, IsSound}
+use Rattle.mcs_core.specs.stored.Sound.{times_ready, times_pending, times_blocked, is_here, may_run, Loose, Phase, standing_of, has_context, IsPlaced, IsEarly, AreEarly, IsContextOf, RunsRight, IsSound}
 use Rattle.mcs_core.specs.Places.{times_queued, times_dated, times_waiting}
 
 -- no two threads have one context
@@ -197,7 +197,7 @@ module _ (system : System) (number from : ℕ) where
       head_moment (context_of core k) ≤ 2 ^ 40 → head_moment context ≤ 2 ^ 40
 
   pub recontexted : (phase : Phase) (k : ℕ) (loose : Option Loose) (context : Context) (core : Core) → IsSound system number from phase loose core →
-      has_context k core ≡ true → k < length core.contexts → IsBudget system k context → KeepsEarly loose k context core →
+      has_context k core ≡ true → k < length core.contexts → IsContextOf system k context → KeepsEarly loose k context core →
       RunsRight system phase core.running (with_context k context core) →
       IsSound system number from phase loose (with_context k context core)
   recontexted phase k loose context core h has l budget keeps runs = record {
@@ -249,7 +249,7 @@ module _ (system : System) (number from : ℕ) where
           less : (y : ℕ) → times_dated y (z ∷ ds) ≤ times_dated y core.releases → times_dated y ds ≤ times_dated y core.releases
           less y h = omega arith
 
-      budget_is : (j : ℕ) (t : Bool) → (j == k) ≡ t → has_context j core ≡ true → IsBudget system j (context_of (with_context k context core) j)
+      budget_is : (j : ℕ) (t : Bool) → (j == k) ≡ t → has_context j core ≡ true → IsContextOf system j (context_of (with_context k context core) j)
       budget_is j true e p =
           let f : j ≡ k = grind (arith, nat_tests) in
           rw (context-same k j context core l f) (rw f budget)

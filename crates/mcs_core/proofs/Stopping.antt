@@ -23,7 +23,7 @@ use Rattle.mcs_core.specs.declared.standing.Thread.{Thread}
 use Rattle.mcs_system.specs.System.{System, thread_part}
 use Rattle.mcs_core.specs.Core.{Core, thread_of, note_of, with_thread, with_note, off}
 use Rattle.mcs_core.specs.Turn.{its_context, date_of, charged, given, moves, moves_on, move_of, stops, stops_to_back, enters_front}
-use Rattle.mcs_core.specs.stored.Sound.{times_ready, times_pending, times_blocked, is_here, may_run, Phase, IsPlaced, AreEarly, IsBudget, RunsRight, IsSound}
+use Rattle.mcs_core.specs.stored.Sound.{times_ready, times_pending, times_blocked, is_here, may_run, Phase, IsPlaced, AreEarly, IsContextOf, RunsRight, IsSound}
 use Rattle.mcs_core.specs.Places.{times_queued, times_dated, times_waiting}
 use Rattle.mcs_core.proofs.Counts.{times_waiting-set}
 use Rattle.mcs_core.proofs.Soundness.{IsOneEach, re_stands, loosened, arrived, recontexted, keeps_alone, thread-other}
@@ -57,14 +57,14 @@ pub chosen-early : (t : ℕ) (mode : Mode) (context : Context) → t ≤ 2 ^ 40 
 chosen-early t modes.Sporadic context l h = h
 chosen-early t modes.Bandwidth context l h = unblocked-early t context l h
 
-unblocked-budget : (system : System) (k t : ℕ) (context : Context) → IsBudget system k context → IsBudget system k (context_unblocked t context)
+unblocked-budget : (system : System) (k t : ℕ) (context : Context) → IsContextOf system k context → IsContextOf system k (context_unblocked t context)
 unblocked-budget system k t context b = record { accepted = b.accepted; same_kind = b.same_kind; kept = unblocked-kept t context b.kept }
 
-pub woken-budget : (system : System) (k t : ℕ) (mode : Mode) (context : Context) → IsBudget system k context → IsBudget system k (woken_by mode t context)
+pub woken-budget : (system : System) (k t : ℕ) (mode : Mode) (context : Context) → IsContextOf system k context → IsContextOf system k (woken_by mode t context)
 woken-budget system k t modes.Sporadic context b = unblocked-budget system k t context b
 woken-budget system k t modes.Bandwidth context b = b
 
-pub chosen-budget : (system : System) (k t : ℕ) (mode : Mode) (context : Context) → IsBudget system k context → IsBudget system k (chosen_by mode t context)
+pub chosen-budget : (system : System) (k t : ℕ) (mode : Mode) (context : Context) → IsContextOf system k context → IsContextOf system k (chosen_by mode t context)
 chosen-budget system k t modes.Sporadic context b = b
 chosen-budget system k t modes.Bandwidth context b = unblocked-budget system k t context b
 

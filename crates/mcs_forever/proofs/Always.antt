@@ -40,7 +40,7 @@ use Rattle.mcs_core.specs.Turn as turns
 use Rattle.mcs_core.specs.Turn.{Turn, each, silent, says, ◌followed_by◌}
 use Rattle.mcs_core.specs.Clock as clocks
 use Rattle.mcs_core.proofs.Clock.{turn_kept, core_shown-first, core_shown-kept}
-use Rattle.mcs_laws.specs.Changes.{Change, IsBudget, changed, changed_by}
+use Rattle.mcs_laws.specs.Changes.{Change, GivesBudget, changed, changed_by}
 use Rattle.mcs_laws.specs.Changes.Change.{Charged, Woken, Picked, Ordered}
 use Rattle.mcs_laws.specs.Histories as told
 use Rattle.mcs_laws.proofs.Histories.{takes-time, gives-budgets, histories, budgets-kept}
@@ -289,7 +289,7 @@ module _ (system : System) (well : IsWellFormed system) (shift : Shift) (c : ℕ
 
     turn-at : (t : ℕ) → traces.Traced by_priority system c t x (Uses t) (After t) (filter (told.is_order_for x) (filter (turns.is_for_now system c t) system.orders)) (before t) (turn_kept system c t)
     turn-at t =
-        traces.turn-traced by_priority system c t x (by_recursion (λ (order : Order). IsBudget order.config) system.orders (gives-budgets system well).orders)
+        traces.turn-traced by_priority system c t x (by_recursion (λ (order : Order). GivesBudget order.config) system.orders (gives-budgets system well).orders)
         (filter (clocks.arrives_at system t c) (clocks.world system t).mails) (before t)
 
     many : (t : ℕ) → length (before t).contexts ≡ length system.contexts

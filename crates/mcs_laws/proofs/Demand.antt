@@ -16,7 +16,7 @@ use Rattle.mcs_core.specs.Turn.{Turn}
 use Rattle.mcs_core.specs.Clock as clocks
 use Rattle.mcs_core.proofs.Clock.{turn_of-kept}
 use Rattle.mcs_system.specs.WellFormed.{IsWellFormed}
-use Rattle.mcs_laws.specs.Changes.{Change, charges_of, AreSound, changed_by, taken_by, IsBudget}
+use Rattle.mcs_laws.specs.Changes.{Change, charges_of, AreSound, changed_by, taken_by, GivesBudget}
 use Rattle.mcs_laws.specs.Changes.Change.{Charged}
 use Rattle.mcs_laws.specs.Histories as told
 use Rattle.mcs_laws.specs.Places.{times_running}
@@ -49,7 +49,7 @@ module _ (system : System) (well : IsWellFormed system) (x : ℕ) (known : x < l
   context_known : context < length system.contexts
   context_known = bound system well x known
 
-  pub is_budget : IsBudget config
+  pub is_budget : GivesBudget config
   is_budget = (gives-budgets system well).contexts context no_context context_known
 
   -- at most a tick at each moment

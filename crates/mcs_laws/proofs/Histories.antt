@@ -14,7 +14,7 @@ use Rattle.mcs_core.specs.declared.standing.Chosen.{Chosen}
 use Rattle.mcs_core.specs.Turn.{Turn}
 use Rattle.mcs_core.specs.Clock as clocks
 use Rattle.mcs_core.proofs.Clock.{turn_kept, turn_of-kept, core_shown-first, core_shown-kept}
-use Rattle.mcs_laws.specs.Changes.{IsBudget, KeepsItsBudget, changed_by}
+use Rattle.mcs_laws.specs.Changes.{GivesBudget, KeepsItsBudget, changed_by}
 use Rattle.mcs_laws.specs.Histories as told
 use Rattle.mcs_laws.proofs.Ranges.{by_recursion}
 use Rattle.mcs_system.proofs.Linked.{takes_time}
@@ -90,7 +90,7 @@ module _ (system : System) (well : IsWellFormed system) (x : ℕ) (known : x < l
   -- what the turn at t does to the context
   turn-at : (t : ℕ) → traces.Traced by_priority system home t x (Uses t) (After t) (told.orders_at system x t) (before t) (turn_kept system home t)
   turn-at t =
-      traces.turn-traced by_priority system home t x (by_recursion (λ (order : Order). IsBudget order.config) system.orders (gives-budgets system well).orders)
+      traces.turn-traced by_priority system home t x (by_recursion (λ (order : Order). GivesBudget order.config) system.orders (gives-budgets system well).orders)
       (filter (clocks.arrives_at system t home) (clocks.world system t).mails) (before t)
 
   pub before-opening : context_of (before 0) x ≡ first

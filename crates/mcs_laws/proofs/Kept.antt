@@ -16,7 +16,7 @@ use Rattle.mcs_control.specs.Control.{kind_of, checked}
 use Rattle.mcs_control.specs.Context.{Context, Budget, new_context, context_charged, context_unblocked, context_woken, woken_by, chosen_by, context_ordered, head_amount, max_refills_of}
 use Rattle.mcs_control.specs.Context.Budget.{Dates, Slice}
 use Rattle.mcs_core.proofs.Budgets.{accepted-is, head-some}
-use Rattle.mcs_laws.specs.Changes.{Change, KeepsItsBudget, IsBudget, changed, changed_by, IsSound, AreSound}
+use Rattle.mcs_laws.specs.Changes.{Change, KeepsItsBudget, GivesBudget, changed, changed_by, IsSound, AreSound}
 use Rattle.mcs_laws.specs.Changes.Change.{Charged, Woken, Picked, Ordered}
 
 -- the head
@@ -132,7 +132,7 @@ keeps-changes min_budget [] context h s = h
 keeps-changes min_budget (change ∷ changes) context h s = keeps-changes min_budget changes (changed min_budget context change) (keeps-change min_budget change context h s.0) s.1
 
 -- and a new one has it
-pub keeps-new : (config : Config) (mode : Mode) (at : ℕ) → IsBudget config → KeepsItsBudget (new_context config mode at)
+pub keeps-new : (config : Config) (mode : Mode) (at : ℕ) → GivesBudget config → KeepsItsBudget (new_context config mode at)
 keeps-new config mode at h = record { config = h; whole = by (kind_of config) refl }
   where
     by : (kind : Kind) → kind_of config ≡ kind → IsWhole config (new_context config mode at).budget
@@ -149,5 +149,5 @@ sound-append min_budget [] ys k p q = q
 sound-append min_budget (x ∷ xs) ys k p q = (p.0, sound-append min_budget xs ys (changed min_budget k x) p.1 q)
 
 -- what SchedControl accepts gives a budget
-pub accepted-gives : (min_budget : ℕ) (config : Config) → IsOk (checked min_budget config) → IsBudget config
+pub accepted-gives : (min_budget : ℕ) (config : Config) → IsOk (checked min_budget config) → GivesBudget config
 accepted-gives min_budget config h = let accepted = accepted-is min_budget config h in record { some = accepted.some; fits = accepted.within }

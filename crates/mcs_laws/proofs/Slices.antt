@@ -10,7 +10,7 @@ use Rattle.mcs_control.specs.declared.config.Mode.TheVariants as modes
 use Rattle.mcs_control.specs.declared.config.Order.{Order}
 use Rattle.mcs_control.specs.Context.{Context, Budget}
 use Rattle.mcs_control.specs.Context.Budget.{Dates, Slice}
-use Rattle.mcs_control.specs.laws.Contexts.{IsBudget}
+use Rattle.mcs_control.specs.laws.Contexts.{IsBudgetOf}
 use Rattle.mcs_control.proofs.Contexts.{less-sporadic}
 use Rattle.mcs_ticks.specs.Queue.{in_one_list}
 use Rattle.mcs_system.specs.System.{System}
@@ -96,7 +96,7 @@ module _ (system : System) (well : IsWellFormed system) (x : ℕ) (has : HasSlic
   holds : (t : ℕ) → Holds (before t)
   holds t = by (before t).budget refl (has-the-budget system well x has.known t).whole.budget
     where
-      by : (b : Budget) → (before t).budget ≡ b → IsBudget (before t).config b → Holds (before t)
+      by : (b : Budget) → (before t).budget ≡ b → IsBudgetOf (before t).config b → Holds (before t)
       by (Slice left) e h = record { left = left; is = e }
       by (Dates dates) e h =
           let bad : Sporadic ≡ RoundRobin = sym (less-sporadic (before t).config h.0) ∙ kind-kept system well x has.known t ∙ has.kind in

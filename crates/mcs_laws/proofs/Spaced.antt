@@ -15,7 +15,7 @@ use Rattle.mcs_control.specs.declared.config.Kind.TheVariants.{Sporadic, RoundRo
 use Rattle.mcs_control.specs.Control.{kind_of}
 use Rattle.mcs_control.specs.Context.{Context, Budget, max_refills_of}
 use Rattle.mcs_control.specs.Context.Budget.{Dates, Slice}
-use Rattle.mcs_control.specs.laws.Contexts.{IsContext, IsBudget}
+use Rattle.mcs_control.specs.laws.Contexts.{IsContext, IsBudgetOf}
 use Rattle.mcs_control.proofs.Contexts.{equal-round_robin}
 use Rattle.mcs_system.specs.System.{System, context_part, no_context, start_of}
 use Rattle.mcs_system.specs.WellFormed.{IsWellFormed}
@@ -153,7 +153,7 @@ stretch-spaced : (least : ℕ) (changes : List Change) (k : Context) → IsConte
     IsSpaced k.config.budget k.config.period (taken_by least changes k)
 stretch-spaced least changes k whole kind none sound = by k.budget whole.budget sound
   where
-    by : (budget : Budget) → IsBudget k.config budget → AreSound least changes (record { config = k.config; mode = k.mode; budget = budget }) →
+    by : (budget : Budget) → IsBudgetOf k.config budget → AreSound least changes (record { config = k.config; mode = k.mode; budget = budget }) →
         IsSpaced k.config.budget k.config.period (taken_by least changes (record { config = k.config; mode = k.mode; budget = budget }))
     by (Dates dates) h s =
         let steps = are_steps least changes k.config k.mode dates none s in

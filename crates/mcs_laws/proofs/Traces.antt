@@ -40,7 +40,7 @@ use Rattle.mcs_core.specs.declared.standing.Standing.{Standing}
 use Rattle.mcs_release.specs.Release.{is_due}
 use Rattle.mcs_core.specs.Turn as turns
 use Rattle.mcs_core.specs.Turn.{Turn, each, silent, says, ◌followed_by◌, is_for_now}
-use Rattle.mcs_laws.specs.Changes.{Change, charges_of, wakes_of, choices_of, orders_of, IsBudget, KeepsItsBudget, changed, changed_by, IsSound, AreSound}
+use Rattle.mcs_laws.specs.Changes.{Change, charges_of, wakes_of, choices_of, orders_of, GivesBudget, KeepsItsBudget, changed, changed_by, IsSound, AreSound}
 use Rattle.mcs_laws.specs.Changes.Change.{Charged, Woken, Picked, Ordered}
 use Rattle.mcs_laws.specs.Histories.{charges_told, wakes_told, choices_told, is_order_for}
 use Rattle.mcs_laws.proofs.Taken.{IsDates}
@@ -385,7 +385,7 @@ module _ (queue : Discipline) (system : System) (c t x : ℕ) where
           }
 
   -- an order, of this moment
-  ordering : (P Q : Option Chosen → Context → Type 0) (order : Order) (core : Core) (made : Turn) → order.moment ≡ t → IsBudget order.config →
+  ordering : (P Q : Option Chosen → Context → Type 0) (order : Order) (core : Core) (made : Turn) → order.moment ≡ t → GivesBudget order.config →
       made.core.contexts ≡ (turns.applied t order core).contexts → deeds_told system t x made.rows ≡ [] →
       ((order.context ≢ x → context_of made.core x ≡ context_of core x) → holds P core → holds Q made.core) →
       Traced P Q (filter (is_order_for x) (order ∷ [])) core made
@@ -642,7 +642,7 @@ module _ (queue : Discipline) (system : System) (c t x : ℕ) where
           record { runs = refl; uses = λ own. (omega arith, (q own).1, λ m d. omega (arith, (q own).2 m d)) }
 
   -- an order, of this moment
-  orders_running-traced : (order : Order) → order.moment ≡ t → IsBudget order.config → (o : Option Chosen) (core : Core) → core.running ≡ o →
+  orders_running-traced : (order : Order) → order.moment ≡ t → GivesBudget order.config → (o : Option Chosen) (core : Core) → core.running ≡ o →
       Traced (Uses 1 1 0) (Uses 1 1 0) (filter (is_order_for x) (order ∷ [])) core (turns.orders_running queue system t order o core)
   orders_running-traced order m budget None core e =
       ordering (Uses 1 1 0) (Uses 1 1 0) order core (silent (turns.applied t order core)) m budget refl refl (λ left p. idle 1 1 0 (turns.applied t order core) e)
@@ -700,7 +700,7 @@ module _ (queue : Discipline) (system : System) (c t x : ℕ) where
           again : (o : Option Chosen) → o ≡ Some chosen → Uses 1 1 0 (Some chosen) (context_of (turns.applied t order core) x) → Uses 1 1 0 o (context_of (turns.applied t order core) x)
           again o f q = rw f q
 
-  obeys-traced : (order : Order) → order.moment ≡ t → IsBudget order.config → (core : Core) →
+  obeys-traced : (order : Order) → order.moment ≡ t → GivesBudget order.config → (core : Core) →
       Traced (Uses 1 1 0) (Uses 1 1 0) (filter (is_order_for x) (order ∷ [])) core (turns.obeys queue system t order core)
   obeys-traced order m budget core =
       then_made (Uses 1 1 0) (Uses 1 1 0) (Uses 1 1 0) [] (filter (is_order_for x) (order ∷ [])) core (says (row.Order order.context) core)
@@ -712,7 +712,7 @@ module _ (queue : Discipline) (system : System) (c t x : ℕ) where
   told_as P Q os us core made e h =
       record { changes = h.changes; many = h.many; after = h.after; told = h.told; ordered = sym e ∙ h.ordered; sound = h.sound; runs = h.runs }
 
-  orders-traced : (orders : List Order) → AllByRecursion (λ (order : Order). IsBudget order.config) orders → (core : Core) →
+  orders-traced : (orders : List Order) → AllByRecursion (λ (order : Order). GivesBudget order.config) orders → (core : Core) →
       Traced (Uses 1 1 0) (Uses 1 1 0) (filter (is_order_for x) (filter (is_for_now system c t) orders)) core (each (turns.obeys queue system t) (filter (is_for_now system c t) orders) core)
   orders-traced [] h core = still (Uses 1 1 0) core (silent core) refl refl refl
   orders-traced (order ∷ orders) h core = by (is_for_now system c t order) refl (λ k. orders-traced orders h.1 k)
@@ -776,7 +776,7 @@ module _ (queue : Discipline) (system : System) (c t x : ℕ) where
       (λ differs k kept p own. absurd (differs own)) refl
 
   -- a whole turn
-  pub turn-traced : AllByRecursion (λ (order : Order). IsBudget order.config) system.orders → (mails : List Mail) (core : Core) →
+  pub turn-traced : AllByRecursion (λ (order : Order). GivesBudget order.config) system.orders → (mails : List Mail) (core : Core) →
       Traced (Uses 0 1 1) (Uses 0 1 0) (filter (is_order_for x) (filter (is_for_now system c t) system.orders)) core (turns.turn_with queue system c t mails core)
   turn-traced budgets mails core =
       told_as (Uses 0 1 1) (Uses 0 1 0) _ orders core _ (append-nil _ ∙ append-nil _ ∙ append-nil _)

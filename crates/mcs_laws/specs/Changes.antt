@@ -50,14 +50,14 @@ order_of (Ordered order) = order ∷ []
 abbrev pub orders_of : List Change → List Order
 orders_of changes = flat_map order_of changes
 
--- a budget of at least a tick, and of at most the period
-pub record IsBudget (config : Config) : Type 0 where
+-- the configuration gives a budget: at least a tick, and at most the period
+pub record GivesBudget (config : Config) : Type 0 where
   pub some : 1 ≤ config.budget
   pub fits : config.budget ≤ config.period
 
 -- the context has the budget in force
 pub record KeepsItsBudget (context : Context) : Type 0 where
-  pub config : IsBudget context.config
+  pub config : GivesBudget context.config
   pub whole : IsWhole context.config context.budget
 
 -- with this minimum of ticks at the head
@@ -77,7 +77,7 @@ module _ (min_budget : ℕ) where
   IsSound (Charged k) context = (1 ≤ k) × (k ≤ head_amount context)
   IsSound (Woken t) context = Unit {0}
   IsSound (Picked t) context = Unit {0}
-  IsSound (Ordered order) context = IsBudget order.config
+  IsSound (Ordered order) context = GivesBudget order.config
 
   abbrev pub AreSound : List Change → Context → Type 0
   AreSound [] context = Unit {0}

@@ -11,7 +11,7 @@ use Rattle.mcs_system.specs.declared.part.ContextPart.{ContextPart}
 use Rattle.mcs_core.specs.declared.standing.Chosen.{Chosen}
 use Rattle.mcs_core.specs.Turn.{is_for_now}
 use Rattle.mcs_core.specs.Clock.{world, core_at, turn_of}
-use Rattle.mcs_laws.specs.Changes.{Change, charges_of, wakes_of, choices_of, orders_of, IsBudget, KeepsItsBudget, changed_by, AreSound}
+use Rattle.mcs_laws.specs.Changes.{Change, charges_of, wakes_of, choices_of, orders_of, GivesBudget, KeepsItsBudget, changed_by, AreSound}
 
 -- whether the order is for this context
 abbrev pub is_order_for : ℕ → Order → Bool
@@ -139,8 +139,8 @@ module _ (system : System) where
 
   -- each configuration gives a budget: at least a tick, and at most the period
   pub record GivesBudgets : Type 0 where
-    pub contexts : All (λ (part : ContextPart). IsBudget part.config) system.contexts
-    pub orders : All (λ (order : Order). IsBudget order.config) system.orders
+    pub contexts : All (λ (part : ContextPart). GivesBudget part.config) system.contexts
+    pub orders : All (λ (order : Order). GivesBudget order.config) system.orders
 
   -- at each moment each context has the budget in force, of which its running thread has not used all
   pub record HasItsBudget (context t : ℕ) : Type 0 where

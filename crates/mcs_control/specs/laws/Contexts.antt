@@ -17,16 +17,16 @@ IsWhole config (Slice left) = (1 ≤ left) × (left ≤ config.budget)
 
 -- a budget of the configuration's kind: as many dates as the budget, which ascend and span less than the period, in few refills;
 -- or a slice with something left, and at most the budget
-abbrev pub IsBudget : Config → Budget → Type 0
-IsBudget config (Dates dates) =
+abbrev pub IsBudgetOf : Config → Budget → Type 0
+IsBudgetOf config (Dates dates) =
     (config.budget < config.period) × AreKept config.budget config.period dates
     × (length (refills_of dates) ≤ max_refills_of config)
-IsBudget config (Slice left) = (config.budget ≡ config.period) × (1 ≤ left) × (left ≤ config.budget)
+IsBudgetOf config (Slice left) = (config.budget ≡ config.period) × (1 ≤ left) × (left ≤ config.budget)
 
 -- a context in good order
 pub record IsContext (context : Context) : Type 0 where
   pub config : IsConfig context.config
-  pub budget : IsBudget context.config context.budget
+  pub budget : IsBudgetOf context.config context.budget
 
 -- a new context is in good order, a charge and unblocking, a wake and a choice leave it so, and an order makes it so by the new
 -- configuration

@@ -109,7 +109,7 @@ module _ (system : System) where
 
   -- a context of the core: the configuration in force passed its check, is of the kind that the context has from the
   -- first, and the budget is kept by it
-  pub record IsBudget (k : ℕ) (context : Context) : Type 0 where
+  pub record IsContextOf (k : ℕ) (context : Context) : Type 0 where
     pub accepted : IsOk (checked system.min_budget context.config)
     pub same_kind : kind_of context.config ≡ kind_of (context_part system k).config
     pub kept : IsWhole context.config context.budget
@@ -159,6 +159,6 @@ module _ (system : System) (number from : ℕ) where
     pub early : (x : ℕ) → may_run (standing_of loose x core) ≡ true → IsEarly system x core
     pub dates : AreEarly system core core.releases
     pub running : RunsRight system phase core.running core
-    pub budgets : (k : ℕ) → has_context k core ≡ true → IsBudget system k (context_of core k)
+    pub budgets : (k : ℕ) → has_context k core ≡ true → IsContextOf system k (context_of core k)
     pub own : (k : ℕ) → k < length system.contexts → has_context k core ≡ ((context_part system k).core == number)
     pub later : AllByRecursion (λ dated. from ≤ dated.date) core.releases
