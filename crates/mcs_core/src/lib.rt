@@ -20,6 +20,6 @@ mod tick;
 mod turn;
 mod views;
 
-pub use mcs_system::{ContextPart, Name, NotePart, System, SystemParts, ThreadPart};
+pub use mcs_system::{ContextPart, Link, Name, NotePart, System, SystemParts, ThreadPart};
 pub use standing::{AfterItem, Chosen, Standing, Thread};
 pub use state::CoreState;
