@@ -1,5 +1,7 @@
 -- How much was found, by kind.
-use Rattle.std.specs.Prelude.{ℕ, ◌+◌, ◌-◌, ◌^◌, min, Bool, false, ◌==◌, ◌&&◌, ◌||◌, not, if◌then◌else◌, List, get_or, Option, Some, None}
+use Rattle.std.specs.Prelude.{ℕ, ◌+◌, Bool, false, ◌==◌, ◌&&◌, ◌||◌, not, if◌then◌else◌, List, get_or, Option, Some, None}
+use Rattle.mcs_ticks.specs.Capped.{capped}
+pub use Rattle.mcs_ticks.specs.Capped.{one_more}
 use Rattle.mcs_verdict.specs.declared.finding.Finding.{Finding}
 use Rattle.mcs_verdict.specs.declared.finding.Finding.TheVariants.{Miss, Overdue, Lost, Never}
 use Rattle.mcs_check.specs.declared.counts.Counts.{Counts}
@@ -7,10 +9,6 @@ use Rattle.mcs_check.specs.declared.counts.Counts.{Counts}
 -- nothing was found
 abbrev pub no_counts : Counts
 no_counts = record { missed = 0; overdue = 0; lost = 0; never = 0; merged = 0; allowed = 0; hints = 0 }
-
--- one more, or as many as 64 bits hold
-abbrev pub one_more : ℕ → ℕ
-one_more n = min (n + 1) (2 ^ 64 - 1)
 
 -- a lost signal of a notification at which this is allowed
 abbrev pub is_allowed : List Bool → Finding → Bool
@@ -37,7 +35,7 @@ taken allowed (Some finding) counts =
 
 -- so many hints more
 abbrev pub with_hints : ℕ → Counts → Counts
-with_hints many counts = record counts { hints = min (counts.hints + many) (2 ^ 64 - 1) }
+with_hints many counts = record counts { hints = capped (counts.hints + many) }
 
 -- nothing was missed, overdue, lost or never; where hints count, there is none either
 abbrev pub is_clean : Bool → Counts → Bool

@@ -1,5 +1,6 @@
 -- What is told of what was found, and how much of each kind there is.
-use Rattle.std.specs.Prelude.{ℕ, ◌+◌, ◌-◌, ◌^◌, min, Bool, true, false, not, if◌then◌else◌, List, [], ◌∷◌, count_by, filter, flat_map}
+use Rattle.std.specs.Prelude.{ℕ, ◌+◌, Bool, true, false, not, if◌then◌else◌, List, [], ◌∷◌, count_by, filter, flat_map}
+use Rattle.mcs_ticks.specs.Capped.{capped}
 use Rattle.mcs_ticks.specs.declared.row.Row.{Row}
 use Rattle.mcs_system.specs.System.{System}
 use Rattle.mcs_verdict.specs.declared.finding.Finding.{Finding}
@@ -40,10 +41,6 @@ is_never _ = false
 abbrev pub is_lost : Finding → Bool
 is_lost (Lost note word) = true
 is_lost _ = false
-
--- as many as 64 bits hold
-abbrev pub capped : ℕ → ℕ
-capped n = min n (2 ^ 64 - 1)
 
 -- so many, and those of a list that are of a kind
 abbrev pub more : (Finding → Bool) → List Found → ℕ → ℕ

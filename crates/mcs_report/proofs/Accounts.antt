@@ -1,7 +1,7 @@
 -- Sums that stop at the greatest number.
 use Rattle.std.proofs.Common.{◌≡◌, ℕ, ◌+◌, List, [], ◌∷◌, fold, sum, ap, ◌∙◌, arith}
 use Rattle.std.proofs.lemmas.List.Sums.{sum_by-cons}
-use Rattle.mcs_report.specs.Reports.{capped}
+use Rattle.mcs_ticks.specs.Capped.{capped}
 
 fold_from : (xs : List ℕ) (n : ℕ) → fold (λ total x. capped (total + x)) (capped n) xs ≡ capped (n + sum xs)
 fold_from [] n = omega arith

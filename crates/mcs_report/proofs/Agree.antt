@@ -11,7 +11,8 @@ use Rattle.mcs_system.specs.System.{System, core_of}
 use Rattle.mcs_report.specs.declared.account.Account.{Account}
 use Rattle.mcs_report.specs.declared.reports.ThreadReport.{ThreadReport}
 use Rattle.mcs_report.specs.declared.reports.Reports.{Reports}
-use Rattle.mcs_report.specs.Reports.{capped, responses, least, thread_report, thread_reports, ran_on, core_report_of, reports_of}
+use Rattle.mcs_ticks.specs.Capped.{capped}
+use Rattle.mcs_report.specs.Reports.{responses, least, thread_report, thread_reports, ran_on, core_report_of, reports_of}
 use Rattle.mcs_report.specs.Tally.{Tally, no_report, opened, report_at, ran_by, begun, stopped, responded, opened_tally, finished}
 use Rattle.mcs_report.specs.laws.Agreement.{RunsApart, tally_of, but_ran}
 use Rattle.mcs_report.proofs.Alone.{alone, told_alone, each_from, accounts-fold, horizon-fold, cores-fold}

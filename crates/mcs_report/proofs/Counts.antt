@@ -9,7 +9,8 @@ use Rattle.mcs_ticks.specs.declared.row.Why.{Why}
 use Rattle.mcs_ticks.specs.declared.row.Why.TheVariants as why
 use Rattle.mcs_report.specs.declared.reports.ThreadReport.{ThreadReport}
 use Rattle.mcs_report.specs.declared.account.Account.{Account}
-use Rattle.mcs_report.specs.Reports.{capped, is_late, response_in, wait_in, is_spent, responses, waits}
+use Rattle.mcs_ticks.specs.Capped.{capped}
+use Rattle.mcs_report.specs.Reports.{is_late, response_in, wait_in, is_spent, responses, waits}
 use Rattle.mcs_report.specs.Tally.{begun, ended, waited, stopped, responded}
 use Rattle.mcs_report.proofs.Alone.{alone, told_alone}
 

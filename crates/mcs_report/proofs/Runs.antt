@@ -7,7 +7,8 @@ use Rattle.mcs_ticks.specs.declared.row.What.TheVariants as row
 use Rattle.mcs_ticks.specs.declared.row.Why.{Why}
 use Rattle.mcs_ticks.specs.declared.row.Why.TheVariants as why
 use Rattle.mcs_report.specs.declared.account.Account.{Account}
-use Rattle.mcs_report.specs.Reports.{capped, runs, stops, next_stop, run_lengths}
+use Rattle.mcs_ticks.specs.Capped.{capped}
+use Rattle.mcs_report.specs.Reports.{runs, stops, next_stop, run_lengths}
 use Rattle.mcs_report.specs.Tally.{begun, ticks_since, stopped, responded, report_at}
 use Rattle.mcs_report.specs.laws.Agreement.{StopsFirst, RunsApart}
 use Rattle.mcs_report.proofs.Alone.{alone, told_alone}

@@ -1,6 +1,7 @@
 -- The reports: sums and counts over the rows of a schedule.
-use Rattle.std.specs.Prelude.{ℕ, suc, ◌-◌, ◌^◌, min, max, Bool, false, ◌==◌, ◌&&◌, not, nat_lt, if◌then◌else◌, List, [], ◌∷◌, length, map, sum, count_by, fold, Some}
+use Rattle.std.specs.Prelude.{ℕ, suc, ◌-◌, min, max, Bool, false, ◌==◌, ◌&&◌, not, nat_lt, if◌then◌else◌, List, [], ◌∷◌, length, map, sum, count_by, fold, Some}
 use Rattle.std.specs.List.{range_with_len, flat_map}
+use Rattle.mcs_ticks.specs.Capped.{capped}
 use Rattle.mcs_ticks.specs.declared.row.Row.{Row}
 use Rattle.mcs_ticks.specs.declared.row.What.{What}
 use Rattle.mcs_ticks.specs.declared.row.What.TheVariants as row
@@ -10,10 +11,6 @@ use Rattle.mcs_system.specs.System.{System, core_of}
 use Rattle.mcs_report.specs.declared.reports.ThreadReport.{ThreadReport}
 use Rattle.mcs_report.specs.declared.reports.CoreReport.{CoreReport}
 use Rattle.mcs_report.specs.declared.reports.Reports.{Reports}
-
--- a number, or the greatest that is given
-abbrev pub capped : ℕ → ℕ
-capped n = min n (2 ^ 64 - 1)
 
 -- whether this says that the thread begins to run
 abbrev pub runs : ℕ → What → Bool

@@ -10,7 +10,8 @@ use Rattle.mcs_system.specs.System.{System, core_of}
 use Rattle.mcs_report.specs.declared.account.Account.{Account}
 use Rattle.mcs_report.specs.declared.reports.ThreadReport.{ThreadReport}
 use Rattle.mcs_report.specs.declared.reports.Reports.{Reports}
-use Rattle.mcs_report.specs.Reports.{capped, is_late, core_report_of}
+use Rattle.mcs_ticks.specs.Capped.{capped}
+use Rattle.mcs_report.specs.Reports.{is_late, core_report_of}
 
 -- what is counted of each thread, with its open run; the moment of the last row, at first 0
 pub record Tally : Type 0 where

@@ -1,7 +1,8 @@
 ghost use Rattle.std.specs.Prelude.{◌≡◌, ℕ, ◌≤◌, ◌+◌, [], length, map, fold, vec_capacity, IfOk};
 ghost use Rattle.std.specs.List.{range_with_len};
 ghost use Rattle.mcs_system.specs.System.{core_of};
-ghost use Rattle.mcs_report.specs.Reports.{capped, core_report_of};
+ghost use Rattle.mcs_ticks.specs.Capped.{capped};
+ghost use Rattle.mcs_report.specs.Reports.{core_report_of};
 ghost use Rattle.mcs_report.specs.Tally.{opened, told, report_at, ran_by, opened_tally, added, finished};
 
 use crate::account::Account;

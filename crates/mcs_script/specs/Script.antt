@@ -1,6 +1,7 @@
 -- A script is a list of items. A place in it says the round, the item and what is left of the item.
-use Rattle.std.specs.Prelude.{◌≡◌, ℕ, ◌+◌, ◌-◌, ◌^◌, ◌≤◌, min, Bool, true, false, ◌&&◌, not, nat_lt, nat_le, ◌==◌, if◌then◌else◌, List, length, Option, Some, None}
+use Rattle.std.specs.Prelude.{◌≡◌, ℕ, ◌+◌, ◌-◌, ◌≤◌, Bool, true, false, ◌&&◌, not, nat_lt, nat_le, ◌==◌, if◌then◌else◌, List, length, Option, Some, None}
 use Rattle.std.specs.List.{slice_get}
+use Rattle.mcs_ticks.specs.Capped.{one_more}
 use Rattle.mcs_script.specs.declared.item.Item.{Item}
 use Rattle.mcs_script.specs.declared.item.Item.TheVariants.{Compute, Signal, Wait, Yield}
 use Rattle.mcs_script.specs.declared.moved.Moved.{Moved}
@@ -51,5 +52,5 @@ move_after script rounds place =
 -- the place after a finished item; after the last round it stays
 abbrev pub place_after : ℕ → List Item → Moved → Place → Place
 place_after call script Next place = place_at call script place.round (place.item + 1)
-place_after call script RoundEnds place = place_at call script (min (place.round + 1) (2 ^ 64 - 1)) 0
+place_after call script RoundEnds place = place_at call script (one_more place.round) 0
 place_after call script AllDone place = place

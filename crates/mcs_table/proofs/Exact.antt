@@ -14,7 +14,7 @@ use Rattle.mcs_verdict.specs.Findings.{UpTo}
 use Rattle.mcs_verdict.specs.Jobs.{job, job_of}
 use Rattle.mcs_verdict.specs.Misses.{is_above}
 use Rattle.mcs_table.specs.declared.figures.Rounds.{Rounds}
-use Rattle.mcs_table.specs.Counts.{capped}
+use Rattle.mcs_ticks.specs.Capped.{capped}
 use Rattle.mcs_table.specs.Rounds.{jobs_of, responses_of, greatest, missed_in, is_late, late_in}
 use Rattle.mcs_table.specs.laws.Exact.{RoundsAreExact}
 use Rattle.mcs_table.proofs.Ended.{known_job}

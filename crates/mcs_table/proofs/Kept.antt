@@ -14,7 +14,7 @@ use Rattle.mcs_table.specs.declared.figures.Margin.{Margin}
 use Rattle.mcs_table.specs.declared.figures.Rounds.{Rounds}
 use Rattle.mcs_table.specs.declared.figures.Share.{Share}
 use Rattle.mcs_table.specs.declared.figures.Signals.{Signals}
-use Rattle.mcs_table.specs.Counts.{capped}
+use Rattle.mcs_ticks.specs.Capped.{capped}
 use Rattle.mcs_table.specs.Signals.{lost_by, merged_by, times_at, signals_at, signals_for}
 use Rattle.mcs_table.specs.Table.{Table, account_of, accounts_of}
 use Rattle.mcs_table.specs.Unused.{ran_from}

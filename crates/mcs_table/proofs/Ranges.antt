@@ -5,7 +5,7 @@ use Rattle.std.proofs.Math.Nat.{zero-add}
 use Rattle.std.proofs.lemmas.Bool.{cases_eq, eq-eqb, ne_eqb}
 use Rattle.std.proofs.lemmas.List.{length-set, length-replicate, get_or-set_same, get_or-set_other, get_or-replicate}
 use Rattle.std.proofs.lemmas.List.FromFn.{length-map-range_with_len, get_or-map-range_with_len, fill_by_all}
-use Rattle.mcs_table.specs.Counts.{capped}
+use Rattle.mcs_ticks.specs.Capped.{capped}
 use Rattle.mcs_table.specs.Signals.{is_note}
 use Rattle.mcs_table.specs.Table.{counts_of}
 

@@ -1,4 +1,3 @@
-pub mod Counts
 pub mod Rounds
 pub mod Signals
 pub mod Shares

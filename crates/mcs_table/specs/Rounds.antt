@@ -13,7 +13,7 @@ use Rattle.mcs_verdict.specs.Misses.{is_above}
 use Rattle.mcs_table.specs.declared.figures.Margin.{Margin}
 use Rattle.mcs_table.specs.declared.figures.Margin.TheVariants.{Left, Over}
 use Rattle.mcs_table.specs.declared.figures.Rounds.{Rounds}
-use Rattle.mcs_table.specs.Counts.{capped}
+use Rattle.mcs_ticks.specs.Capped.{capped}
 
 -- the thread's rounds that ended, the latest first
 abbrev pub jobs_of : System → ℕ → List Row → List Job

@@ -9,7 +9,7 @@ use Rattle.mcs_verdict.specs.declared.finding.Finding.TheVariants as finding
 use Rattle.mcs_verdict.specs.Findings.{finding as finding_of}
 use Rattle.mcs_verdict.specs.Words.{merges}
 use Rattle.mcs_table.specs.declared.figures.Signals.{Signals}
-use Rattle.mcs_table.specs.Counts.{capped}
+use Rattle.mcs_ticks.specs.Capped.{capped}
 
 abbrev pub is_note : ℕ → Option ℕ → Bool
 is_note note None = false

@@ -6,7 +6,7 @@ use Rattle.mcs_system.specs.declared.part.ThreadPart.{ThreadPart}
 use Rattle.mcs_system.specs.System.{System}
 use Rattle.mcs_histogram.specs.Histogram.{histogram_of}
 use Rattle.mcs_table.specs.declared.account.Account.{Account}
-use Rattle.mcs_table.specs.Counts.{capped}
+use Rattle.mcs_ticks.specs.Capped.{capped}
 use Rattle.mcs_table.specs.Rounds.{responses_of, greatest, missed_in, late_in}
 use Rattle.mcs_table.specs.Signals.{lost_by, merged_by, times_at}
 

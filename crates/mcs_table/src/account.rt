@@ -1,6 +1,6 @@
 ghost use Rattle.std.specs.Prelude.{◌≡◌, ℕ, ◌+◌, List, [], ◌∷◌, max, Some, if◌then◌else◌, IfOk};
 ghost use Rattle.mcs_verdict.specs.Misses.{is_above};
-ghost use Rattle.mcs_table.specs.Counts.{capped};
+ghost use Rattle.mcs_ticks.specs.Capped.{capped};
 ghost use Rattle.mcs_table.specs.Rounds.{greatest, margin, rounds_of};
 ghost use Rattle.mcs_table.specs.Table.{account_with};
 

@@ -3,7 +3,7 @@ ghost use Rattle.mcs_ticks.specs.declared.row.Row.{Row as TheRow};
 ghost use Rattle.mcs_control.specs.Control.{IsConfig};
 ghost use Rattle.mcs_verdict.specs.Findings.{UpTo};
 ghost use Rattle.mcs_verdict.specs.Watch.{watch_of};
-ghost use Rattle.mcs_table.specs.Counts.{capped};
+ghost use Rattle.mcs_ticks.specs.Capped.{capped};
 ghost use Rattle.mcs_table.specs.Unused.{is_ordered, most_before, ran_from, unused_of};
 
 use mcs_control::{Config, Order};

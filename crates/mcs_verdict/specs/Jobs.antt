@@ -1,5 +1,6 @@
 -- Rounds that ended, as jobs: what a round was, by the rows before its end.
 use Rattle.std.specs.Prelude.{ℕ, ◌+◌, ◌-◌, ◌^◌, min, ◌==◌, nat_lt, if◌then◌else◌, List, [], ◌∷◌, ◌++◌, length, Option, Some, None, option_to_list}
+use Rattle.mcs_ticks.specs.Capped.{one_more}
 use Rattle.mcs_ticks.specs.declared.row.Row.{Row}
 use Rattle.mcs_ticks.specs.declared.row.What.{What}
 use Rattle.mcs_ticks.specs.declared.row.What.TheVariants as row
@@ -9,10 +10,6 @@ use Rattle.mcs_verdict.specs.declared.job.Job.{Job}
 use Rattle.mcs_verdict.specs.declared.standing.Stood.{Stood}
 use Rattle.mcs_verdict.specs.Stood.{stood_in}
 use Rattle.mcs_verdict.specs.Rounds.{first_wait, begun, begun_of, activated}
-
--- one more, or as many as 64 bits hold
-abbrev pub one_more : ℕ → ℕ
-one_more n = min (n + 1) (2 ^ 64 - 1)
 
 -- a preemption counts where a round is under way
 abbrev pub with_preemption : Option ℕ → ℕ → ℕ

@@ -10,7 +10,8 @@ use Rattle.mcs_core.specs.Clock as clocks
 use Rattle.mcs_laws.specs.Places.{times_running}
 use Rattle.mcs_laws.specs.Demand.{ticks_run}
 use Rattle.mcs_report.specs.declared.reports.ThreadReport.{ThreadReport}
-use Rattle.mcs_report.specs.Reports.{capped, thread_report, thread_reports}
+use Rattle.mcs_ticks.specs.Capped.{capped}
+use Rattle.mcs_report.specs.Reports.{thread_report, thread_reports}
 use Rattle.mcs_report.specs.Tally.{no_report}
 use Rattle.mcs_report.proofs.Ticks.{runs-ticks}
 use Rattle.mcs_verdict.specs.declared.standing.Standing.{Standing}

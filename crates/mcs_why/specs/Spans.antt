@@ -9,7 +9,8 @@ use Rattle.mcs_verdict.specs.declared.standing.Standing.{Standing}
 use Rattle.mcs_verdict.specs.declared.standing.Standing.TheVariants.{Blocked, Done}
 use Rattle.mcs_verdict.specs.Standing.{telling}
 use Rattle.mcs_verdict.specs.Rounds.{first_wait, begun_of, activated}
-use Rattle.mcs_verdict.specs.Jobs.{one_more, job_of}
+use Rattle.mcs_ticks.specs.Capped.{one_more}
+use Rattle.mcs_verdict.specs.Jobs.{job_of}
 use Rattle.mcs_verdict.specs.Account.{standing_of}
 use Rattle.mcs_why.specs.declared.span.Span.{Span}
 use Rattle.mcs_why.specs.declared.span.Sought.{Sought}

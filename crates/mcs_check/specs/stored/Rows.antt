@@ -18,7 +18,8 @@ use Rattle.mcs_check_words.specs.declared.asked.Show.TheVariants as show
 use Rattle.mcs_check.specs.declared.counts.Counts.{Counts}
 use Rattle.mcs_check.specs.declared.shown.Shown.{Shown}
 use Rattle.mcs_check.specs.declared.shown.Shown.TheVariants as shown
-use Rattle.mcs_check.specs.Counts.{one_more, taken, told_of}
+use Rattle.mcs_ticks.specs.Capped.{one_more}
+use Rattle.mcs_check.specs.Counts.{taken, told_of}
 use Rattle.mcs_check.specs.Formats.{found_line, head_text, hint_line, job_line}
 use Rattle.mcs_check.specs.Figures.{table_lines}
 use Rattle.mcs_check.specs.Told.{found_lines}

@@ -4,7 +4,8 @@ use Rattle.mcs_ticks.specs.declared.row.Row.{Row}
 use Rattle.mcs_system.specs.System.{System}
 use Rattle.mcs_system.specs.WellFormed.{IsWellFormed}
 use Rattle.mcs_core.specs.Clock.{schedule}
-use Rattle.mcs_report.specs.Reports.{capped, run_lengths, reports_of}
+use Rattle.mcs_ticks.specs.Capped.{capped}
+use Rattle.mcs_report.specs.Reports.{run_lengths, reports_of}
 use Rattle.mcs_report.specs.Tally.{no_report}
 use Rattle.mcs_verdict.specs.Findings.{past_of}
 use Rattle.mcs_verdict.specs.Stood.{stood_in}

@@ -2,7 +2,7 @@ use Rattle.std.proofs.Common.{◌≡◌, ◌+◌, ◌^◌, ◌<◌, List, drop}
 use Rattle.mcs_ticks.specs.declared.row.Row.{Row}
 use Rattle.mcs_verdict.specs.Findings.{UpTo}
 use Rattle.mcs_verdict.specs.Watch.{watch_of}
-use Rattle.mcs_table.specs.Counts.{capped}
+use Rattle.mcs_ticks.specs.Capped.{capped}
 use Rattle.mcs_table.specs.Unused.{ran_from}
 use Rattle.mcs_table.proofs.unused.ran.Given as goal
 

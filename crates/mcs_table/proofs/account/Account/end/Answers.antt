@@ -2,7 +2,7 @@ use Rattle.std.proofs.Common.{◌≡◌, ◌+◌, Bool, cond, ◌∷◌, sym, ap
 use Rattle.mcs_histogram.specs.Histogram.{histogram_of}
 use Rattle.mcs_verdict.specs.Misses.{is_above}
 use Rattle.mcs_table.specs.declared.account.Account.{Account}
-use Rattle.mcs_table.specs.Counts.{capped}
+use Rattle.mcs_ticks.specs.Capped.{capped}
 use Rattle.mcs_table.specs.Rounds.{greatest, missed_in}
 use Rattle.mcs_table.proofs.Ended.{same_account, missed-more}
 use Rattle.mcs_table.proofs.account.Account.end.Goals as goal
