@@ -1,5 +1,5 @@
 -- The reports: sums and counts over the rows of a schedule.
-use Rattle.std.specs.Prelude.{ℕ, suc, ◌-◌, min, max, Bool, false, ◌==◌, ◌&&◌, not, nat_lt, if◌then◌else◌, List, [], ◌∷◌, length, map, sum, count_by, fold, Some}
+use Rattle.std.specs.Prelude.{ℕ, suc, ◌-◌, min, max, Bool, false, ◌==◌, ◌&&◌, not, nat_lt, if◌then◌else◌, List, [], ◌∷◌, length, map, sum, count_by, fold, Option, Some, None}
 use Rattle.std.specs.List.{range_with_len, flat_map}
 use Rattle.mcs_ticks.specs.Capped.{capped}
 use Rattle.mcs_ticks.specs.declared.row.Row.{Row}
@@ -51,9 +51,14 @@ abbrev pub is_spent : ℕ → What → Bool
 is_spent thread (row.Stop x why.Spent charged until) = x == thread
 is_spent thread _ = false
 
+-- the ticks from the moment until the date with which a thread waits, or up to the horizon; none where it doesn't wait
+abbrev pub wait_until : ℕ → ℕ → Option ℕ → ℕ
+wait_until horizon moment None = 0
+wait_until horizon moment (Some until) = min until horizon - moment
+
 abbrev pub wait_in : ℕ → ℕ → ℕ → What → List ℕ
 wait_in horizon thread moment (row.Stop x why.Spent charged (Some until)) =
-    if x == thread then (min until horizon - moment) ∷ [] else []
+    if x == thread then wait_until horizon moment (Some until) ∷ [] else []
 wait_in horizon thread moment _ = []
 
 -- how long the thread waited after each stop with a spent head, up to the horizon

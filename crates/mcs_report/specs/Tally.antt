@@ -11,7 +11,7 @@ use Rattle.mcs_report.specs.declared.account.Account.{Account}
 use Rattle.mcs_report.specs.declared.reports.ThreadReport.{ThreadReport}
 use Rattle.mcs_report.specs.declared.reports.Reports.{Reports}
 use Rattle.mcs_ticks.specs.Capped.{capped}
-use Rattle.mcs_report.specs.Reports.{is_late, core_report_of}
+use Rattle.mcs_report.specs.Reports.{is_late, wait_until, core_report_of}
 
 -- what is counted of each thread, with its open run; the moment of the last row, at first 0
 pub record Tally : Type 0 where
@@ -56,10 +56,6 @@ ended moment account =
       since = None;
       report = record account.report { ran = capped (account.report.ran + ticks_since moment account.since) };
     }
-
-abbrev pub wait_until : ℕ → ℕ → Option ℕ → ℕ
-wait_until horizon moment None = 0
-wait_until horizon moment (Some until) = min until horizon - moment
 
 -- the thread stops with a spent head and waits
 abbrev pub waited : ℕ → Account → Account

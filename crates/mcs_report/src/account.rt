@@ -1,6 +1,6 @@
 ghost use Rattle.std.specs.Prelude.{◌≡◌};
-ghost use Rattle.mcs_report.specs.Reports.{is_late};
-ghost use Rattle.mcs_report.specs.Tally.{opened, begun, ended, waited, wait_until, stopped, responded, ticks_since, report_at};
+ghost use Rattle.mcs_report.specs.Reports.{is_late, wait_until};
+ghost use Rattle.mcs_report.specs.Tally.{opened, begun, ended, waited, stopped, responded, ticks_since, report_at};
 
 use crate::ThreadReport;
 use mcs_ticks::{CoreId, Tick, Why};
