@@ -28,7 +28,7 @@ abbrev pub account_at : System → ℕ → List Row → Account
 account_at system thread past = account_of (length system.notes) (thread_part system thread) thread past
 
 -- how the thread stands at last is what its latest telling row says
-pub stands : (past : List Row) (thread horizon : ℕ) → UpTo horizon past → standing_at horizon None (telling thread past) ≡ standing_of (telling thread past)
+stands : (past : List Row) (thread horizon : ℕ) → UpTo horizon past → standing_at horizon None (telling thread past) ≡ standing_of (telling thread past)
 stands past thread horizon up = by (telling thread past) (since-up_to thread horizon past up)
   where
     by : (rows : List Row) → since_of rows ≤ horizon → standing_at horizon None rows ≡ standing_of rows
@@ -38,9 +38,9 @@ stands past thread horizon up = by (telling thread past) (since-up_to thread hor
         ap (λ b. cond b (settled None (standing_after r.what)) (standing_at horizon (Some r.what) rows)) e ∙ unsettled (standing_after r.what)
 
 -- the round that ends
-job_kept : (system : System) (thread moment number : ℕ) (past : List Row) → UpTo moment past
+pub job-kept : (system : System) (thread : ℕ) (past : List Row) (moment number : ℕ) → UpTo moment past
     → job_by moment thread number (account_at system thread past) ≡ job system past moment thread number
-job_kept system thread moment number past up = by (begun_of system thread past)
+job-kept system thread past moment number up = by (begun_of system thread past)
   where
     part : ThreadPart
     part = thread_part system thread
@@ -73,9 +73,9 @@ job_kept system thread moment number past up = by (begun_of system thread past)
         (since-up_to thread moment past up))
 
 -- what is overdue
-overdue_kept : (system : System) (thread horizon : ℕ) (past : List Row) → UpTo horizon past
+pub overdue-kept : (system : System) (thread : ℕ) (past : List Row) (horizon : ℕ) → UpTo horizon past
     → overdue_by horizon thread (first_word system thread past) (account_at system thread past) ≡ overdue system past horizon thread
-overdue_kept system thread horizon past up = by (begun_of system thread past)
+overdue-kept system thread past horizon up = by (begun_of system thread past)
   where
     deadline : ℕ
     deadline = (thread_part system thread).deadline
@@ -103,18 +103,18 @@ overdue_kept system thread horizon past up = by (begun_of system thread past)
         (active-now deadline (first_wait (thread_part system thread)) from (called_of system thread past) (preemptions_of system thread past) horizon (telling thread past) (since-up_to thread horizon past up))
 
 -- what was never activated
-never_kept : (system : System) (thread horizon : ℕ) (past : List Row) → UpTo horizon past
+pub never-kept : (system : System) (thread horizon : ℕ) (past : List Row) → UpTo horizon past
     → never_by horizon thread (first_word system thread past) (account_at system thread past) ≡ never system past horizon thread
-never_kept system thread horizon past up =
+never-kept system thread horizon past up =
     let part = thread_part system thread in
     ap (λ stood. never_at thread part.deadline (was_activated (first_wait part) (called_of system thread past) (first_word system thread past) stood))
     (total-now part.deadline (first_wait part) (begun_of system thread past) (called_of system thread past) (preemptions_of system thread past) horizon (telling thread past) (since-up_to thread horizon past up))
 
-unended_kept : (system : System) (thread horizon : ℕ) (past : List Row) → UpTo horizon past
+unended-kept : (system : System) (thread horizon : ℕ) (past : List Row) → UpTo horizon past
     → unended_by horizon thread (first_word system thread past) (account_at system thread past) ≡ unended system past horizon thread
-unended_kept system thread horizon past up =
-    ap (λ found. first_of found (never_by horizon thread (first_word system thread past) (account_at system thread past))) (overdue_kept system thread horizon past up)
-    ∙ ap (first_of (overdue system past horizon thread)) (never_kept system thread horizon past up)
+unended-kept system thread horizon past up =
+    ap (λ found. first_of found (never_by horizon thread (first_word system thread past) (account_at system thread past))) (overdue-kept system thread past horizon up)
+    ∙ ap (first_of (overdue system past horizon thread)) (never-kept system thread horizon past up)
 
 -- the account that lies in this place
 account_is : (system : System) (past : List Row) (accounts : List Account) (place thread : ℕ) (d : Account) → place ≡ thread
@@ -150,7 +150,7 @@ job_found : (system : System) (past : List Row) (accounts : List Account) (momen
 job_found system past accounts moment place thread number d found same e up small has it is =
     is (few system past accounts place moment d e has it up small)
     ∙ ap (job_by moment thread number) (account_is system past accounts place thread d same e has it)
-    ∙ job_kept system thread moment number past up
+    ∙ job-kept system thread past moment number up
 
 pub miss_found : (system : System) (past : List Row) (accounts : List Account) (moment place thread number : ℕ) (d : Account) (found : Option Finding)
     → place ≡ thread → accounts ≡ accounts_of (length system.notes) 0 system.threads past → UpTo moment past → moment ≤ 2 ^ 42 → place < length accounts
@@ -160,7 +160,7 @@ pub miss_found : (system : System) (past : List Row) (accounts : List Account) (
 miss_found system past accounts moment place thread number d found same e up small has it is =
     is (few system past accounts place moment d e has it up small)
     ∙ ap (miss_by moment thread number) (account_is system past accounts place thread d same e has it)
-    ∙ ap (missed (thread_part system thread).deadline) (job_kept system thread moment number past up)
+    ∙ ap (missed (thread_part system thread).deadline) (job-kept system thread past moment number up)
 
 -- whether the system has the thread
 known : (system : System) (past : List Row) (accounts : List Account) → accounts ≡ accounts_of (length system.notes) 0 system.threads past
@@ -197,7 +197,7 @@ unended_found system past accounts horizon place thread d held found same e up s
     is (few system past accounts place horizon d e has it up small)
     ∙ ap (λ held. unended_by horizon thread held d) w
     ∙ ap (unended_by horizon thread (first_word system thread past)) a
-    ∙ unended_kept system thread horizon past up
+    ∙ unended-kept system thread horizon past up
 
 -- a thread that the system does not have has no deadline
 no_deadline : (threads : List ThreadPart) (thread : ℕ) → length threads ≤ thread → (get_or threads thread no_thread).deadline ≡ 0

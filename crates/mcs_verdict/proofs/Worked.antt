@@ -1,5 +1,6 @@
 -- Findings that were worked by hand, of the rows of small systems.
-use Rattle.std.specs.Prelude.{◌≡◌, ℕ, true, false, List, [], ◌∷◌, Some, None, refl}
+use Rattle.std.specs.Prelude.{◌≡◌, ℕ, ◌+◌, true, false, List, [], ◌∷◌, Option, Some, None, refl}
+use Rattle.std.proofs.Common.{ap, arith, lit<}
 use Rattle.mcs_ticks.specs.declared.row.Row.{Row}
 use Rattle.mcs_ticks.specs.declared.row.What.{What}
 use Rattle.mcs_ticks.specs.declared.row.What.TheVariants as row
@@ -9,14 +10,18 @@ use Rattle.mcs_script.specs.declared.item.Item.TheVariants.{Compute, Signal, Wai
 use Rattle.mcs_control.specs.declared.config.Mode.TheVariants as mode
 use Rattle.mcs_system.specs.declared.part.ThreadPart.{ThreadPart}
 use Rattle.mcs_system.specs.System.{System}
+use Rattle.mcs_verdict.specs.declared.account.Account.{Account}
 use Rattle.mcs_verdict.specs.declared.finding.Finding.TheVariants as finding
 use Rattle.mcs_verdict.specs.declared.finding.Finding.{Finding}
 use Rattle.mcs_verdict.specs.declared.finding.Found.{Found}
 use Rattle.mcs_verdict.specs.declared.job.Job.{Job}
 use Rattle.mcs_verdict.specs.declared.standing.Stood.{Stood}
 use Rattle.mcs_verdict.specs.Jobs.{jobs_in}
-use Rattle.mcs_verdict.specs.Findings.{findings}
+use Rattle.mcs_verdict.specs.Findings.{findings, past_of}
 use Rattle.mcs_verdict.specs.Words.{merges}
+use Rattle.mcs_verdict.specs.Account.{account_of}
+use Rattle.mcs_verdict.specs.Watch.{Watch, watch_of}
+use Rattle.mcs_verdict.specs.Later.{IsLaterThread, IsSameWord, IsLaterWord, IsSetWord}
 
 -- a thread: its context, deadline and script
 abbrev thread : ℕ → ℕ → List Item → ThreadPart
@@ -183,3 +188,52 @@ preempted_in_the_second = refl
 -- a thread that the system does not have has no rounds
 of_no_thread : jobs_in (two (thread 0 0 (Compute 3 ∷ [])) (thread 1 0 (Compute 100 ∷ []))) [] (at 4 (row.Round 2 1 4) ∷ []) ≡ []
 of_no_thread = refl
+
+-- Thread 0 signals once in 10 ticks, in one round without end. The loop waits for that, and takes 3 ticks.
+abbrev signalled : ℕ → List Row → List Row
+signalled t rest = at t (row.Release 0) ∷ at t (row.Run 0) ∷ at (t + 1) (row.Signal 0 0 1) ∷ at (t + 1) (row.Hold 0 1) ∷ rest
+
+abbrev taken : ℕ → List Row → List Row
+taken t rest = at (t + 1) (row.Stop 0 why.Spent 1 (Some (t + 10))) ∷ at (t + 1) (row.Run 1) ∷ at (t + 1) (row.Got 1 0 1) ∷ rest
+
+abbrev done : ℕ → List Row → List Row
+done t rest = at (t + 4) (row.Round 1 1 3) ∷ at (t + 4) (row.Stop 1 why.Wait 3 None) ∷ rest
+
+abbrev kept : List Row → Watch
+kept rows = watch_of (two (thread 0 0 (Signal 0 1 ∷ [])) (thread 1 0 (Wait 0 ∷ Compute 3 ∷ []))) (past_of [] rows)
+
+abbrev first : Watch
+first = kept (signalled 0 (taken 0 []))
+
+abbrev second : Watch
+second = kept (signalled 0 (taken 0 (done 0 (signalled 10 (taken 10 [])))))
+
+later_thread : IsLaterThread 10 first second 1
+later_thread = record { known_before = lit< tt; known_after = lit< tt; later = λ d. refl }
+
+-- the other one's round began before both
+not_later_thread : IsLaterThread 10 first second 0 → ⊥
+not_later_thread h = no (ap (λ (account : Account). account.begun) (h.later no_account))
+  where
+    no_account : Account
+    no_account = account_of 0 (thread 0 0 []) 0 []
+
+    no : ◌≡◌ {A = Option ℕ} (Some 0) (Some 10) → ⊥
+    no e = cc
+
+later_word : IsLaterWord 10 first second 0
+later_word = record { known_before = lit< tt; known_after = lit< tt; later = λ d. refl }
+
+-- a word that is taken is 0, as it was before
+same_word : IsSameWord first second 0
+same_word = record { known_before = lit< tt; known_after = lit< tt; same = λ d. refl }
+
+set_word : IsSetWord (kept (signalled 0 [])) 0
+set_word = record { known = lit< tt; set = λ d. lit< tt }
+
+-- a thread and a notification that the system does not have
+of_no_thread_later : IsLaterThread 10 first second 2 → ⊥
+of_no_thread_later h = absurd (omega (arith, h.known_before))
+
+of_no_note : IsSetWord first 1 → ⊥
+of_no_note h = absurd (omega (arith, h.known))

@@ -8,4 +8,5 @@ pub mod Misses
 pub mod Findings
 pub mod Account
 pub mod Watch
+pub mod Later
 pub mod laws

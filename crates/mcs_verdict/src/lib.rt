@@ -3,6 +3,7 @@
 #![tactic(auto)]
 
 mod account;
+mod again;
 mod all;
 mod finding;
 mod held;

@@ -23,8 +23,8 @@ use std::marker::Model;
 /// and no memory, since all room is taken when the watch is made.
 #[derive(Drop)]
 pub struct Watch {
-    accounts: Vec<Account>,
-    words: Vec<Held>,
+    pub(crate) accounts: Vec<Account>,
+    pub(crate) words: Vec<Held>,
 }
 
 impl Model for Watch {

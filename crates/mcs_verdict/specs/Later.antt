@@ -1,0 +1,49 @@
+-- What is kept of a thread and of a word, later: with each moment later by as many ticks.
+use Rattle.std.specs.Prelude.{◌≡◌, ℕ, ◌+◌, ◌<◌, length, get_or, Option, option_map}
+use Rattle.mcs_verdict.specs.declared.account.Account.{Account}
+use Rattle.mcs_verdict.specs.declared.held.Held.{Held}
+use Rattle.mcs_verdict.specs.Stood.{no_ticks}
+use Rattle.mcs_verdict.specs.Watch.{Watch}
+
+abbrev pub later_moment : ℕ → Option ℕ → Option ℕ
+later_moment by moment = option_map (λ moment. moment + by) moment
+
+-- how it stands, how it stood in the round that is under way, and how often that was preempted are the same
+abbrev pub later_account : ℕ → Account → Account
+later_account by account =
+    record account {
+      since = account.since + by;
+      begun = later_moment by account.begun;
+      called = later_moment by account.called;
+      active = later_moment by account.active;
+    }
+
+-- but for how it stood from moment 0 on, which grows
+abbrev pub without_total : Account → Account
+without_total account = record account { total = no_ticks }
+
+abbrev pub IsLaterAccount : ℕ → Account → Account → Type 0
+IsLaterAccount by before after = without_total after ≡ later_account by (without_total before)
+
+-- of two watches: both know the thread, and its account is later
+pub record IsLaterThread (by : ℕ) (before after : Watch) (thread : ℕ) : Type 0 where
+  pub known_before : thread < length before.accounts
+  pub known_after : thread < length after.accounts
+  pub later : (d : Account) → IsLaterAccount by (get_or before.accounts thread d) (get_or after.accounts thread d)
+
+-- both know the notification, and its word is the same
+pub record IsSameWord (before after : Watch) (note : ℕ) : Type 0 where
+  pub known_before : note < length before.words
+  pub known_after : note < length after.words
+  pub same : (d : Held) → (get_or after.words note d).word ≡ (get_or before.words note d).word
+
+-- both know the notification, and its word was set later
+pub record IsLaterWord (by : ℕ) (before after : Watch) (note : ℕ) : Type 0 where
+  pub known_before : note < length before.words
+  pub known_after : note < length after.words
+  pub later : (d : Held) → (get_or after.words note d).since ≡ (get_or before.words note d).since + by
+
+-- the watch knows the notification, and its word is not 0
+pub record IsSetWord (watch : Watch) (note : ℕ) : Type 0 where
+  pub known : note < length watch.words
+  pub set : (d : Held) → 0 < (get_or watch.words note d).word

@@ -1,0 +1,108 @@
+ghost use Rattle.std.specs.Prelude.{◌≡◌, ◌+◌, ◌<◌, ℕ, false, length, get_or, IfOk, IsTrue, ◌↔◌};
+ghost use Rattle.mcs_verdict.specs.declared.held.Held.{Held as TheHeld};
+ghost use Rattle.mcs_verdict.specs.Later.{later_moment, IsLaterAccount, IsLaterThread, IsSameWord, IsLaterWord, IsSetWord};
+
+use crate::Watch;
+use crate::account::Account;
+use mcs_ticks::{NoMemory, NoteId, ThreadId, Tick};
+use std::alloc::Global;
+
+// Whether a moment is so many ticks after another.
+fn is_later(moment: Tick, before: Tick, by: u64) -> bool
+    ensures { IsTrue result ↔ (moment ≡ before + by) }
+{
+    before.get() <= moment.get() && moment.get() - before.get() == by
+}
+
+// The same of moments that may be missing: there are both or neither.
+fn is_later_moment(moment: Option<Tick>, before: Option<Tick>, by: u64) -> bool
+    ensures { IsTrue result ↔ (moment ≡ later_moment by before) }
+{
+    match (moment, before) {
+        (Some(moment), Some(before)) => is_later(moment, before, by),
+        (None, None) => true,
+        _ => false,
+    }
+}
+
+fn are_moments_later(after: &Account, before: &Account, by: u64) -> bool
+    ensures { IsTrue result ↔ ((after.now.since ≡ before.now.since + by)
+        × (after.now.begun ≡ later_moment by before.now.begun)
+        × (after.now.called ≡ later_moment by before.now.called)
+        × (after.now.active ≡ later_moment by before.now.active)) }
+{
+    is_later(after.since, before.since, by)
+        && is_later_moment(after.begun, before.begun, by)
+        && is_later_moment(after.called, before.called, by)
+        && is_later_moment(after.active, before.active, by)
+}
+
+// Whether all else is the same, but for how the thread stood from moment 0 on.
+fn stands_so(after: &Account, before: &Account) -> bool
+    ensures { IsTrue result ↔ ((after.now.deadline ≡ before.now.deadline)
+        × (after.now.waits ≡ before.now.waits)
+        × (after.now.standing ≡ before.now.standing)
+        × (after.now.preemptions ≡ before.now.preemptions)
+        × (after.now.stood ≡ before.now.stood)) }
+{
+    after.deadline == before.deadline
+        && after.waits == before.waits
+        && after.standing == before.standing
+        && after.preemptions == before.preemptions
+        && after.stood == before.stood
+}
+
+fn is_later_account(after: &Account, before: &Account, by: u64) -> bool
+    ensures { IsTrue result ↔ IsLaterAccount by before.now after.now }
+{
+    stands_so(after, before) && are_moments_later(after, before, by)
+}
+
+impl Watch {
+    /// The same once more. `NoMemory` where a growth was refused.
+    pub fn copy(&self, alloc: Global) -> Result<Watch, NoMemory>
+        ensures { IfOk result (λ copy. copy ≡ self.now) }
+    {
+        Ok(Watch {
+            accounts: self.accounts.iter().copied().collect(alloc)?,
+            words: self.words.iter().copied().collect(alloc)?,
+        })
+    }
+
+    /// Whether this is kept of the thread as in the watch `before`, with each moment `by` ticks later, but for how the thread stood from
+    /// moment 0 on, which grows. False where one of the two does not know the thread.
+    pub fn thread_is_later(&self, before: &Watch, thread: ThreadId, by: u64) -> bool
+        ensures { IsTrue result ↔ IsLaterThread by before.now self.now thread }
+    {
+        thread.0 < before.accounts.len()
+            && thread.0 < self.accounts.len()
+            && is_later_account(&self.accounts[thread.0], &before.accounts[thread.0], by)
+    }
+
+    /// Whether the notification's word is the same as in the watch `before`. False where one of the two does not know the notification.
+    pub fn word_is_same(&self, before: &Watch, note: NoteId) -> bool
+        ensures { IsTrue result ↔ IsSameWord before.now self.now note }
+    {
+        note.0 < before.words.len()
+            && note.0 < self.words.len()
+            && self.words[note.0].word == before.words[note.0].word
+    }
+
+    /// Whether the moment at which the notification's word was first set, since it was last 0, is `by` ticks later than in the watch
+    /// `before`. False where one of the two does not know the notification.
+    pub fn word_is_later(&self, before: &Watch, note: NoteId, by: u64) -> bool
+        ensures { IsTrue result ↔ IsLaterWord by before.now self.now note }
+    {
+        note.0 < before.words.len()
+            && note.0 < self.words.len()
+            && is_later(self.words[note.0].since, before.words[note.0].since, by)
+    }
+
+    /// Whether the notification's word is not 0. False where there is no such notification.
+    pub fn word_is_set(&self, note: NoteId) -> bool
+        ensures set { IsTrue result ↔ IsSetWord self.now note }
+        ensures unset { result ≡ false → note < length self.now.words → (d : TheHeld) → (get_or self.now.words note d).word ≡ 0 }
+    {
+        note.0 < self.words.len() && self.words[note.0].word != 0
+    }
+}
