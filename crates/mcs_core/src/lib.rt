@@ -12,6 +12,7 @@ mod moves;
 mod open;
 mod orders;
 mod posts;
+mod readings;
 mod releases;
 mod standing;
 mod state;

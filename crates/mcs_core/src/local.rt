@@ -278,6 +278,27 @@ impl Local {
         self.notes.word(note)
     }
 
+    /// The ready queue.
+    pub(crate) fn ready_queue(&self) -> &Ready
+        ensures { result.now.queue ≡ self.now.ready }
+    {
+        &self.ready
+    }
+
+    /// The release queue.
+    pub(crate) fn release_queue(&self) -> &Releases
+        ensures { result.now.queue ≡ self.now.releases }
+    {
+        &self.releases
+    }
+
+    /// The notifications.
+    pub(crate) fn notes(&self) -> &Notes
+        ensures { result.now.notes ≡ self.now.notes }
+    {
+        &self.notes
+    }
+
     /// The thread that runs, and the ticks that it has used.
     pub(crate) fn running(&self) -> Option<Chosen>
         ensures { result ≡ self.now.running }

@@ -81,6 +81,13 @@ impl CoreState {
         self.local.views(alloc, system.parts())
     }
 
+    /// What stands on the core.
+    pub(crate) fn local(&self) -> &Local
+        ensures { result.now ≡ self.now.core }
+    {
+        &self.local
+    }
+
     /// The moment whose turn is next.
     pub fn clock(&self) -> Tick
         ensures { result ≡ self.now.clock }
