@@ -357,8 +357,8 @@ module _ (system : System) (well : IsWellFormed system) (shift : Shift) (c : ℕ
   each-order k [] h = tt
   each-order k (o ∷ cs) h = (h 0 k (omega arith), each-order (k + 1) cs (λ i j e. h (suc i) j (omega (arith, e))))
 
-  -- so are the cores of the clock, which differ from what they show in the order of the ready threads alone
-  pub core-order : (t : ℕ) → IsCore system shift (clocks.core_at system (clocks.world system t) c)
+  -- the core as its state shows it is in order at each moment
+  pub core-order : (t : ℕ) → IsCore system shift (clocks.core_shown system (clocks.world system t) c)
   core-order t =
       record {
         threads = threads-many t;

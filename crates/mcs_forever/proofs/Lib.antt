@@ -9,3 +9,4 @@ pub mod Worlds
 pub mod Schedules
 pub mod Repeats
 pub mod Worked
+pub mod Ordered

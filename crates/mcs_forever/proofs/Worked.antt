@@ -9,7 +9,7 @@ use Rattle.mcs_control.specs.declared.config.Mode.TheVariants.{Sporadic}
 use Rattle.mcs_script.specs.declared.item.Item.TheVariants.{Compute}
 use Rattle.mcs_system.specs.System.{System, thread_part}
 use Rattle.mcs_system.specs.WellFormed.{IsWellFormed}
-use Rattle.mcs_core.specs.Clock.{turn_of, world, core_at}
+use Rattle.mcs_core.specs.Clock.{turn_of, world, core_shown}
 use Rattle.mcs_core.specs.Core.{Core}
 use Rattle.mcs_core.specs.declared.standing.Standing.TheVariants.{Running, Ready}
 use Rattle.mcs_control.specs.Context.Budget.{Dates}
@@ -95,16 +95,16 @@ core_13 = core_as 4 3 10 12 (12 ∷ 13 ∷ []) (8 ∷ 9 ∷ 10 ∷ [])
 abbrev core_25 : Core
 core_25 = core_as 7 5 22 24 (24 ∷ 25 ∷ []) (16 ∷ 17 ∷ 18 ∷ [])
 
-at-13 : (deadline : ℕ) → core_at (worked deadline) (world (worked deadline) 13) 0 ≡ core_13
+at-13 : (deadline : ℕ) → core_shown (worked deadline) (world (worked deadline) 13) 0 ≡ core_13
 at-13 deadline = refl
 
-at-25 : (deadline : ℕ) → core_at (worked deadline) (world (worked deadline) 25) 0 ≡ core_25
+at-25 : (deadline : ℕ) → core_shown (worked deadline) (world (worked deadline) 25) 0 ≡ core_25
 at-25 deadline = refl
 
 moved : core_25 ≡ later_core (shift_of shifts 0) core_13
 moved = refl
 
-first-again : (deadline : ℕ) → core_at (worked deadline) (world (worked deadline) 25) 0 ≡ later_core (shift_of shifts 0) (core_at (worked deadline) (world (worked deadline) 13) 0)
+first-again : (deadline : ℕ) → core_shown (worked deadline) (world (worked deadline) 25) 0 ≡ later_core (shift_of shifts 0) (core_shown (worked deadline) (world (worked deadline) 13) 0)
 first-again deadline = at-25 deadline ∙ moved ∙ ap (later_core (shift_of shifts 0)) (sym (at-13 deadline))
 
 abbrev KeepUp : ℕ → List What → Type 0
@@ -121,7 +121,7 @@ recurs deadline =
       shift = is_shift deadline;
       orders = tt;
       again = record {
-        cores = λ c l own. let P : ℕ → Type 0 = λ c. core_at (worked deadline) (world (worked deadline) 25) c ≡ later_core (shift_of shifts c) (core_at (worked deadline) (world (worked deadline) 13) c) in subst P (only c l) (first-again deadline);
+        cores = λ c l own. let P : ℕ → Type 0 = λ c. core_shown (worked deadline) (world (worked deadline) 25) c ≡ later_core (shift_of shifts c) (core_shown (worked deadline) (world (worked deadline) 13) c) in subst P (only c l) (first-again deadline);
         mails = refl;
       };
       rows = λ t c l m known own.
@@ -155,7 +155,7 @@ ended =
 abbrev pub at_rest : Shifts
 at_rest = record { by = 1; contexts = λ c k. 0; threads = λ c x. 0; rounds = λ c x. 0 }
 
-rest-2 : core_at ended (world ended 3) 0 ≡ later_core (shift_of at_rest 0) (core_at ended (world ended 2) 0)
+rest-2 : core_shown ended (world ended 3) 0 ≡ later_core (shift_of at_rest 0) (core_shown ended (world ended 2) 0)
 rest-2 = refl
 
 pub rests : Recurs ended all at_rest 2
@@ -166,7 +166,7 @@ rests =
       shift = λ c. record { lags = λ k. omega arith; endless = λ x. inl refl };
       orders = tt;
       again = record {
-        cores = λ c l own. let P : ℕ → Type 0 = λ c. core_at ended (world ended 3) c ≡ later_core (shift_of at_rest c) (core_at ended (world ended 2) c) in subst P (only c l) rest-2;
+        cores = λ c l own. let P : ℕ → Type 0 = λ c. core_shown ended (world ended 3) c ≡ later_core (shift_of at_rest c) (core_shown ended (world ended 2) c) in subst P (only c l) rest-2;
         mails = refl;
       };
       rows = λ t c l m known own.

@@ -5,7 +5,7 @@ use Rattle.std.specs.List.{range_with_len, AllByRecursion}
 use Rattle.std.proofs.lemmas.Bool.Decides.{nat_tests}
 use Rattle.std.proofs.lemmas.List.{map-append}
 use Rattle.std.proofs.lemmas.List.Elements.{filter-append}
-use Rattle.mcs_ticks.specs.Queue.{in_one_list}
+use Rattle.mcs_ticks.specs.Queue.{by_priority}
 use Rattle.mcs_ticks.specs.declared.row.What.{What}
 use Rattle.mcs_ticks.specs.declared.row.What.TheVariants as row
 use Rattle.mcs_control.specs.declared.config.Order.{Order}
@@ -15,10 +15,11 @@ use Rattle.mcs_system.specs.WellFormed.{IsWellFormed}
 use Rattle.mcs_core.specs.Core.{Core}
 use Rattle.mcs_core.specs.Orders.{is_for_core}
 use Rattle.mcs_core.specs.Turn as turns
-use Rattle.mcs_core.specs.Turn.{Turn, turn_with}
+use Rattle.mcs_core.specs.Turn.{Turn, turn}
 use Rattle.mcs_core.specs.Clock as clocks
 use Rattle.mcs_core.specs.Clock.{World, Clock}
-use Rattle.mcs_core.proofs.Clock.{core_at-world}
+use Rattle.mcs_core.proofs.Alike.{turn_shown}
+use Rattle.mcs_core.proofs.Clock.{turn_kept, turn_of-kept, core_shown-world}
 use Rattle.mcs_laws.specs.Turns as laws
 use Rattle.mcs_mail.specs.Box.{IsIn}
 use Rattle.mcs_laws.specs.Links.{Signals}
@@ -174,20 +175,31 @@ module _ (system : System) (group : ℕ → Bool) (shifts : Shifts) (a : ℕ) (w
           by false e = refl
           by true e = sym (sym other ∙ ap group (sym s.maker) ∙ recurs.closed s.thread s.place s.note s.badge s.known s.item (ap group s.home ∙ e))
 
+  -- the turn as the state of the core shows it, which is the turn of the core that is shown
+  abbrev seen : ℕ → ℕ → Turn
+  seen t c = turn_shown (made t c)
+
   turn-later : (t c : ℕ) → a ≤ t → c < system.cores → group c ≡ true → Holds t → AgreeAt t →
-      later_turn (shift c) (made t c) ≡ made (t + d) c
+      later_turn (shift c) (seen t c) ≡ seen (t + d) c
   turn-later t c l known own h agree =
-      goes.alike ∙ ap (λ mails. turn_with in_one_list system c (t + d) mails (later_core (shift c) core)) mails ∙ ap (turn_with in_one_list system c (t + d) (filter (clocks.arrives_at system (t + d) c) (clocks.world system (t + d)).mails)) (sym (h.again.cores c known own))
+      ap (later_turn (shift c)) (turn_of-kept system c t)
+      ∙ goes.alike
+      ∙ ap (λ mails. turn system c (t + d) mails (later_core (shift c) core)) mails
+      ∙ ap (turn system c (t + d) (filter (clocks.arrives_at system (t + d) c) (clocks.world system (t + d)).mails)) (sym (h.again.cores c known own))
+      ∙ sym (turn_of-kept system c (t + d))
     where
       core : Core
-      core = clocks.core_at system (clocks.world system t) c
+      core = clocks.core_shown system (clocks.world system t) c
 
-      goes : Goes in_one_list system (shift c) (recurs.shift c) t (made t c)
-          (turn_with in_one_list system c (t + d) (map (later_mail d) (filter (clocks.arrives_at system t c) (clocks.world system t).mails)) (later_core (shift c) core))
+      agrees : AllAgree system (shift c) (turn_kept system c t).rows
+      agrees = let Q : Turn → Type 0 = λ turn. AllAgree system (shift c) turn.rows in subst Q (turn_of-kept system c t) (agree c known own)
+
+      goes : Goes by_priority system (shift c) (recurs.shift c) t (turn_kept system c t)
+          (turn system c (t + d) (map (later_mail d) (filter (clocks.arrives_at system t c) (clocks.world system t).mails)) (later_core (shift c) core))
       goes =
-          turn-goes in_one_list system (shift c) (recurs.shift c) t c (filter (clocks.arrives_at system t c) (clocks.world system t).mails) core
+          turn-goes by_priority system (shift c) (recurs.shift c) t c (filter (clocks.arrives_at system t c) (clocks.world system t).mails) core
           (no-orders system c a t l system.orders recurs.orders) (no-orders system c a (t + d) (omega (arith, l)) system.orders recurs.orders)
-          (core-order system well (shift c) c known t) (agree c known own)
+          (core-order system well (shift c) c known t) agrees
 
       mails : map (later_mail d) (filter (clocks.arrives_at system t c) (clocks.world system t).mails) ≡ filter (clocks.arrives_at system (t + d) c) (clocks.world system (t + d)).mails
       mails =
@@ -246,9 +258,9 @@ module _ (system : System) (group : ℕ → Bool) (shifts : Shifts) (a : ℕ) (w
       after =
           record {
             cores = λ c known own.
-                core_at-world system (takes-time system well) (t + d) c known
+                core_shown-world system (takes-time system well) (t + d) c known
                 ∙ ap (λ (turn : Turn). turn.core) (sym (turn-later t c l known own h agree))
-                ∙ ap (later_core (shift c)) (sym (core_at-world system (takes-time system well) t c known));
+                ∙ ap (later_core (shift c)) (sym (core_shown-world system (takes-time system well) t c known));
             mails =
                 mails-own (t + d)
                 ∙ sym
@@ -333,11 +345,11 @@ module _ (system : System) (group : ℕ → Bool) (shifts : Shifts) (a : ℕ) (w
       }
   upto (suc n) = upto-next n (upto n)
 
-  -- each turn from a on comes again
-  pub again : (t c : ℕ) → a ≤ t → c < system.cores → group c ≡ true → later_turn (shift c) (made t c) ≡ made (t + d) c
+  -- each turn from a on comes again, as the state of the core shows it
+  pub again : (t c : ℕ) → a ≤ t → c < system.cores → group c ≡ true → later_turn (shift c) (seen t c) ≡ seen (t + d) c
   again t c l known own =
       let e : a + (t - a) ≡ t = omega (arith, l) in
-      let P : ℕ → Type 0 = λ m. later_turn (shift c) (made m c) ≡ made (m + d) c in
+      let P : ℕ → Type 0 = λ m. later_turn (shift c) (seen m c) ≡ seen (m + d) c in
       subst P e
       (turn-later (a + (t - a)) c (omega arith) known own ((upto (t - a)).worlds (t - a) (omega arith)) (agree-next (t - a) (upto (t - a))))
 

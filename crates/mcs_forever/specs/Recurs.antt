@@ -5,7 +5,7 @@ use Rattle.mcs_control.specs.declared.config.Order.{Order}
 use Rattle.mcs_script.specs.declared.item.Item.TheVariants.{Signal}
 use Rattle.mcs_mail.specs.declared.mail.Mail.{Mail}
 use Rattle.mcs_system.specs.System.{System, thread_part, note_part, core_of}
-use Rattle.mcs_core.specs.Clock.{World, core_at, world, turn_of}
+use Rattle.mcs_core.specs.Clock.{World, core_shown, world, turn_of}
 use Rattle.mcs_forever.specs.Later.{Shift, later_core, later_mail, IsShift, KeepsUp}
 
 -- how much later each core of a group is; all their releases and signals by the same
@@ -37,10 +37,11 @@ module _ (system : System) (group : ℕ → Bool) where
   is_for mail = group (note_part system mail.note).core
 
   module _ (shifts : Shifts) where
-    -- in one world the group stands as in the other, but later
+    -- in one world the group stands as in the other, but later. Its cores do so as their states show them, with the ready threads by priority:
+    -- in which order those of different priorities became ready plays no part
     pub record IsLater (before after : World) : Type 0 where
-      pub cores : (c : ℕ) → c < system.cores → group c ≡ true → core_at system after c
-          ≡ later_core (shift_of shifts c) (core_at system before c)
+      pub cores : (c : ℕ) → c < system.cores → group c ≡ true → core_shown system after c
+          ≡ later_core (shift_of shifts c) (core_shown system before c)
       pub mails : filter is_for after.mails ≡ map (later_mail shifts.by) (filter is_for before.mails)
 
     -- the group stands before moment `from` + `by` as before `from`, but later, and no order comes from then on; what its cores compare with

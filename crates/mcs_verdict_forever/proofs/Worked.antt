@@ -10,7 +10,7 @@ use Rattle.mcs_script.specs.declared.item.Item.TheVariants.{Compute, Signal}
 use Rattle.mcs_system.specs.System.{System, thread_part}
 use Rattle.mcs_system.specs.WellFormed.{IsWellFormed}
 use Rattle.mcs_core.specs.Core.{Core}
-use Rattle.mcs_core.specs.Clock.{turn_of, world, core_at}
+use Rattle.mcs_core.specs.Clock.{turn_of, world, core_shown}
 use Rattle.mcs_core.specs.declared.standing.Standing.TheVariants.{Pending}
 use Rattle.mcs_verdict.specs.declared.account.Account.{Account}
 use Rattle.mcs_verdict.specs.declared.held.Held.{Held}
@@ -172,16 +172,16 @@ core_as round since date =
       notes = record { word = 1; waiters = [] } ∷ [];
     }
 
-S-3 : core_at signals (world signals 3) 0 ≡ core_as 2 2 4
+S-3 : core_shown signals (world signals 3) 0 ≡ core_as 2 2 4
 S-3 = refl
 
-S-7 : core_at signals (world signals 7) 0 ≡ core_as 3 6 8
+S-7 : core_shown signals (world signals 7) 0 ≡ core_as 3 6 8
 S-7 = refl
 
 moved : core_as 3 6 8 ≡ later_core (shift_of period 0) (core_as 2 2 4)
 moved = refl
 
-again : core_at signals (world signals 7) 0 ≡ later_core (shift_of period 0) (core_at signals (world signals 3) 0)
+again : core_shown signals (world signals 7) 0 ≡ later_core (shift_of period 0) (core_shown signals (world signals 3) 0)
 again = S-7 ∙ moved ∙ ap (later_core (shift_of period 0)) (sym S-3)
 
 none-3 : (world signals 3).mails ≡ []
@@ -227,7 +227,7 @@ signals-recur =
         shift = λ c. record { lags = λ k. omega arith; endless = endless };
         orders = tt;
         again = record {
-          cores = λ c l own. let P : ℕ → Type 0 = λ c. core_at signals (world signals 7) c ≡ later_core (shift_of period c) (core_at signals (world signals 3) c) in subst P (only c l) again;
+          cores = λ c l own. let P : ℕ → Type 0 = λ c. core_shown signals (world signals 7) c ≡ later_core (shift_of period c) (core_shown signals (world signals 3) c) in subst P (only c l) again;
           mails = ap (filter (is_for signals all)) none-7 ∙ sym (ap (λ mails. map (later_mail 4) (filter (is_for signals all) mails)) none-3);
         };
         rows = λ t c l m known own.
