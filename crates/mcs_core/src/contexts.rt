@@ -1,4 +1,5 @@
 ghost use Rattle.std.specs.Prelude.{◌≡◌, ◌^◌, ◌<◌, ◌≤◌, true, length, get_or, set, Some, None, option_map, IfOk};
+ghost use Rattle.std.specs.Option.{option_copied};
 ghost use Rattle.mcs_control.specs.Context.{head_amount, head_moment, context_charged, context_woken, context_chosen, context_ordered, view_of, date_from};
 ghost use Rattle.mcs_control.specs.Control.{IsConfig, kind_of};
 ghost use Rattle.mcs_core.specs.stored.Contexts.{seen_contexts, HaveRoom};
@@ -132,6 +133,14 @@ impl Contexts {
         ensures { result ≡ seen_contexts contexts.items }
     {
         Contexts { contexts }
+    }
+
+    /// A context, if the core holds it.
+    pub(crate) fn get(&self, number: ContextId) -> Option<&Context>
+        requires known { number < length self.now }
+        ensures { option_map (λ kept. kept.context) (option_copied result) ≡ get_or self.now number None }
+    {
+        self.contexts[number.0].as_ref()
     }
 
     /// What there is to see of a context, if the core holds it. `NoMemory` is answered where the list of refills is

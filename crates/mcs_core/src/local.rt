@@ -292,6 +292,13 @@ impl Local {
         &self.releases
     }
 
+    /// The contexts.
+    pub(crate) fn contexts(&self) -> &Contexts
+        ensures { result.now ≡ self.now.contexts }
+    {
+        &self.contexts
+    }
+
     /// The notifications.
     pub(crate) fn notes(&self) -> &Notes
         ensures { result.now.notes ≡ self.now.notes }

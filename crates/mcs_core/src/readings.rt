@@ -1,9 +1,11 @@
-ghost use Rattle.std.specs.Prelude.{◌≡◌, ◌<◌, length, IfOk};
+ghost use Rattle.std.specs.Prelude.{◌≡◌, ◌<◌, length, get_or, None, option_map, IfOk};
+ghost use Rattle.std.specs.Option.{option_copied};
 ghost use Rattle.mcs_core.specs.Core.{thread_of, note_of};
 
 use crate::{Chosen, CoreState, Thread};
+use mcs_control::Context;
 use mcs_release::Dated;
-use mcs_ticks::{NoMemory, NoteId, Queued, ThreadId};
+use mcs_ticks::{ContextId, NoMemory, NoteId, Queued, ThreadId};
 use std::alloc::Global;
 
 impl CoreState {
@@ -36,6 +38,14 @@ impl CoreState {
         ensures { IfOk result (λ list. list.items ≡ self.now.core.releases) }
     {
         self.local().release_queue().list(alloc)
+    }
+
+    /// A context, or None where it belongs to another core.
+    pub fn context(&self, context: ContextId) -> Option<&Context>
+        requires { context < length self.now.core.contexts }
+        ensures { option_map (λ kept. kept.context) (option_copied result) ≡ get_or self.now.core.contexts context None }
+    {
+        self.local().contexts().get(context)
     }
 
     /// The word of a notification.
