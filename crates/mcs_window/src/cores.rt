@@ -2,7 +2,7 @@ ghost use Rattle.std.specs.Prelude.{◌≡◌, ◌≤◌, ◌<◌, ◌^◌, ◌+
 ghost use Rattle.std.specs.Arc.{arc_value};
 ghost use Rattle.mcs_system.specs.System.{delay_between};
 ghost use Rattle.mcs_window.specs.Idle.{IsIdleUntil};
-ghost use Rattle.mcs_window.specs.Stretch.{rows_between, NothingArrivesBefore};
+ghost use Rattle.mcs_window.specs.Stretch.{rows_between, NothingArrivesBefore, StandsAt};
 ghost use Rattle.mcs_window.specs.Views.{views_at, AreShownAt};
 ghost use Rattle.mcs_window.specs.Progress.{Progress, opening_progress, clock_of, taken_of, advanced, stepped, skipped, with_taken, with_failed, after_fault, IsReady, IsFault, IsBehind, IsFirstBehind};
 
@@ -82,6 +82,22 @@ impl Cores {
         ensures { result ≡ clock_of self.now core }
     {
         self.clocks[core.0]
+    }
+
+    /// Whether memory was refused to a step or an advance, so that each later one answers `NoMemory`, too.
+    pub fn failed(&self) -> bool
+        ensures { result ≡ self.now.failed }
+    {
+        self.failed
+    }
+
+    /// How a core stands at its clock, before it takes its turn then.
+    pub fn state(&self, core: CoreId) -> &CoreState
+        requires known { core < self.now.system.cores }
+        requires whole { self.now.failed ≡ false }
+        ensures { StandsAt self.now.system core (clock_of self.now core) result.now }
+    {
+        &self.states[core.0]
     }
 
     // How long a signal of this core is under way to another.
