@@ -8,5 +8,6 @@ pub mod Proper
 pub mod Worlds
 pub mod Schedules
 pub mod Repeats
+pub mod Marking
 pub mod Worked
 pub mod Ordered

@@ -1,9 +1,9 @@
 -- Worked systems that recur. In the first one a context falls back for ever: H has half of the core, and L, which may have three quarters of it,
 -- has what is left. From moment 13 on all is repeated after 12 ticks, but the dates of L's context are only 8 later.
 use Rattle.std.proofs.Common.{◌≡◌, ℕ, zero, suc, ◌+◌, ◌<◌, ◌≤◌, ◌⊎◌, inl, inr, Bool, true, false, cond, List, [], ◌∷◌, refl, sym, ap, subst, ◌∙◌, Some, arith}
-use Rattle.std.specs.Prelude.{◌==◌}
+use Rattle.std.specs.Prelude.{◌==◌, flat_map}
 use Rattle.std.proofs.lemmas.Bool.Decides.{nat_tests}
-use Rattle.std.specs.List.{AllByRecursion}
+use Rattle.std.specs.List.{range_with_len, AllByRecursion}
 use Rattle.mcs_ticks.specs.declared.row.What.{What}
 use Rattle.mcs_control.specs.declared.config.Mode.TheVariants.{Sporadic}
 use Rattle.mcs_script.specs.declared.item.Item.TheVariants.{Compute}
@@ -14,6 +14,7 @@ use Rattle.mcs_core.specs.Core.{Core}
 use Rattle.mcs_core.specs.declared.standing.Standing.TheVariants.{Running, Ready}
 use Rattle.mcs_control.specs.Context.Budget.{Dates}
 use Rattle.mcs_forever.specs.Later.{KeepsUp, IsShift, later_core}
+use Rattle.mcs_forever.specs.Marks.{marks_of}
 use Rattle.mcs_forever.specs.Recurs.{Shifts, shift_of, Recurs}
 use Rattle.mcs_forever.specs.laws.Repeats.{IsNeverLate, EndsNoRound}
 use Rattle.mcs_forever.proofs.Repeats.{never-late, no-round-ends-again}
@@ -128,6 +129,11 @@ recurs deadline =
           let P : ℕ → Type 0 = λ c. AllByRecursion (KeepsUp (worked deadline) (shift_of shifts c)) (turn_of (worked deadline) c t).rows in
           subst P (only c known) (between (λ t. KeepUp deadline (turn_of (worked deadline) 0 t).rows) 12 13 t (first-rows deadline) l m);
     }
+
+-- the rows of that period mark all but the dates of L's context, which may lag so
+marked : (deadline : ℕ) → marks_of (worked deadline) (flat_map (λ t. (turn_of (worked deadline) 0 t).rows) (range_with_len 13 12))
+    ≡ record { context = true; round = true } ∷ record { context = false; round = true } ∷ []
+marked deadline = refl
 
 -- so H, whose deadline is 4, is never late
 pub never : IsWellFormed (worked 0) → (horizon : ℕ) → IsNeverLate (worked 0) all horizon

@@ -1,3 +1,4 @@
 pub mod Later
 pub mod Recurs
+pub mod Marks
 pub mod laws

@@ -1,4 +1,5 @@
 ghost use Rattle.mcs_forever.specs.laws.Home.{RowsAreOfOwn};
+ghost use Rattle.mcs_forever.specs.laws.Marked.{MarksTell, MarksAskNoMore};
 ghost use Rattle.mcs_forever.specs.laws.Repeats.{TurnsRepeat, TestsAreForever, NeverLate, NoRoundEndsAgain};
 
 /// A law of the clock: each row of a core's turn names threads of that core alone, and tells of the words of its own notifications alone.
@@ -28,4 +29,15 @@ pub fn never_late()
 /// horizon.
 pub fn no_round_ends_again()
     ensures { NoRoundEndsAgain }
+{}
+
+/// A law of rows: where nothing lags that rows mark of a core's threads, the rows of that core among them have kept up. The rows of all cores may
+/// be marked together.
+pub fn marks_tell()
+    ensures { MarksTell }
+{}
+
+/// A law of rows: marks ask no more than that. Where rows have kept up, nothing lags that they mark.
+pub fn marks_ask_no_more()
+    ensures { MarksAskNoMore }
 {}
