@@ -9,5 +9,7 @@ pub mod Worlds
 pub mod Schedules
 pub mod Repeats
 pub mod Marking
+pub mod Closing
 pub mod Worked
 pub mod Ordered
+pub mod Pair
