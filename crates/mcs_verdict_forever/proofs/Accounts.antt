@@ -21,8 +21,9 @@ use Rattle.mcs_verdict.specs.Rounds.{begun_at, activated_by}
 use Rattle.mcs_verdict.specs.Jobs.{with_preemption, or_now, ended}
 use Rattle.mcs_verdict.specs.Misses.{is_above, is_reached, missed, overdue_at, yet_to_begin}
 use Rattle.mcs_verdict.specs.Account.{stood_since, or_first, active_since, told, ends, preempted, given_by, given, seen_own, activated_since, job_by, overdue_from, overdue_by}
+use Rattle.mcs_verdict.specs.Later.{later_moment, later_account, without_total, IsLaterAccount}
 use Rattle.mcs_forever.specs.Later.{Shift, later_what, more_rounds}
-use Rattle.mcs_verdict_forever.specs.Later.{later_moment, later_account, without_total, IsLaterAccount, later_job, later_finding}
+use Rattle.mcs_verdict_forever.specs.Later.{later_job, later_finding}
 
 module _ (shift : Shift) where
   abbrev d : ℕ

@@ -19,16 +19,16 @@ use Rattle.mcs_verdict.specs.Jobs.{job, job_of, jobs_in}
 use Rattle.mcs_verdict.specs.Misses.{missed}
 use Rattle.mcs_verdict.specs.Findings.{finding, UpTo, past_of, found_at, found_in}
 use Rattle.mcs_verdict.specs.Account.{set_for, is_about, seen_own}
+use Rattle.mcs_verdict.specs.Later.{IsLaterAccount}
 use Rattle.mcs_verdict.proofs.Accounts.{same, own}
 use Rattle.mcs_verdict.proofs.Watches.{since-up_to}
-use Rattle.mcs_verdict.proofs.Kept.{account_at}
+use Rattle.mcs_verdict.proofs.Kept.{account_at, job-kept}
 use Rattle.mcs_forever.specs.Later.{Shift, later_what, more_rounds}
 use Rattle.mcs_forever.specs.Recurs.{Shifts, shift_of}
 use Rattle.mcs_forever.specs.laws.Home.{IsOwnThread, IsOfOwn}
-use Rattle.mcs_verdict_forever.specs.Later.{IsLaterAccount, later_job, later_finding, later_found}
+use Rattle.mcs_verdict_forever.specs.Later.{later_job, later_finding, later_found}
 use Rattle.mcs_verdict_forever.specs.laws.Repeats.{later_job_of}
 use Rattle.mcs_verdict_forever.proofs.Accounts.{later_set, account-seen, account-jobs, missed-later}
-use Rattle.mcs_verdict_forever.proofs.Kept.{job-kept}
 
 equal : (a b : ℕ) → (a == b) ≡ true → a ≡ b
 equal a b e = grind (arith, nat_tests)

@@ -19,32 +19,21 @@ use Rattle.mcs_verdict.specs.Standing.{standing_at, telling}
 use Rattle.mcs_verdict.specs.Stood.{no_ticks, stood_in}
 use Rattle.mcs_verdict.specs.Words.{held}
 use Rattle.mcs_verdict.specs.Rounds.{first_wait, begun_of, called_of, activated}
-use Rattle.mcs_verdict.specs.Jobs.{preemptions_of}
 use Rattle.mcs_verdict.specs.Misses.{overdue_at, yet_to_begin, word_for, first_word, overdue_since, overdue, was_activated, never_at, never, first_of, unended}
 use Rattle.mcs_verdict.specs.Findings.{UpTo, past_of, found_at, found_in, found_at_end}
 use Rattle.mcs_verdict.specs.Watch.{accounts_of}
-use Rattle.mcs_verdict.specs.Account.{total_at, overdue_from, overdue_by, never_by}
-use Rattle.mcs_verdict.proofs.Accounts.{total-now}
-use Rattle.mcs_verdict.proofs.Watches.{since-up_to}
-use Rattle.mcs_verdict.proofs.Kept.{account_at}
+use Rattle.mcs_verdict.specs.Account.{total_at, overdue_from, overdue_by}
+use Rattle.mcs_verdict.specs.Later.{IsLaterAccount, later_moment}
+use Rattle.mcs_verdict.proofs.Kept.{account_at, overdue-kept, never-kept}
 use Rattle.mcs_verdict_laws.proofs.Order.{in_order}
 use Rattle.mcs_forever.specs.Recurs.{Shifts, shift_of}
-use Rattle.mcs_verdict_forever.specs.Later.{IsLaterAccount, later_moment, later_finding}
+use Rattle.mcs_verdict_forever.specs.Later.{later_finding}
 use Rattle.mcs_verdict_forever.specs.Recurs.{past_before, ThreadIsLater, WordIsNotSet, FirstWordRecurs, ThreadIsIdle, EndRecurs, FindingsRecur}
 use Rattle.mcs_verdict_forever.specs.laws.Repeats.{found_up_to, all_found, NothingIsEverFound}
-use Rattle.mcs_verdict_forever.proofs.Kept.{overdue-kept}
 use Rattle.mcs_verdict_forever.proofs.Alike.{Alike, held-known}
 use Rattle.mcs_verdict_forever.proofs.Moments.{Later, Set, account-kept, alike, later-thread}
 use Rattle.mcs_verdict_forever.proofs.Carried.{active-more, stays}
 use Rattle.mcs_verdict_forever.proofs.Findings.{yet-none, waits-first, word-none, overdue-repeats, nothing-is-found}
-
--- what was never activated, by what is kept
-never-kept : (system : System) (thread horizon : ℕ) (past : List Row) → UpTo horizon past
-    → never_by horizon thread (first_word system thread past) (account_at system thread past) ≡ never system past horizon thread
-never-kept system thread horizon past up =
-    let part = thread_part system thread in
-    ap (λ stood. never_at thread part.deadline (was_activated (first_wait part) (called_of system thread past) (first_word system thread past) stood))
-    (total-now part.deadline (first_wait part) (begun_of system thread past) (called_of system thread past) (preemptions_of system thread past) horizon (telling thread past) (since-up_to thread horizon past up))
 
 -- a thread without a deadline
 no-overdue : (h x begun : ℕ) (stood : Stood) (activated : Option ℕ) → overdue_at h x 0 begun stood activated ≡ None

@@ -21,14 +21,14 @@ use Rattle.mcs_verdict.specs.Rounds.{waited_on, first_wait}
 use Rattle.mcs_verdict.specs.declared.job.Job.{Job}
 use Rattle.mcs_verdict.specs.Jobs.{jobs_in}
 use Rattle.mcs_verdict.specs.Findings.{found_in}
-use Rattle.mcs_verdict.proofs.Kept.{account_at}
+use Rattle.mcs_verdict.specs.Later.{later_moment}
+use Rattle.mcs_verdict.proofs.Kept.{account_at, overdue-kept}
 use Rattle.mcs_verdict_laws.proofs.Order.{in_order}
 use Rattle.mcs_forever.specs.Recurs.{Shifts, shift_of}
-use Rattle.mcs_verdict_forever.specs.Later.{later_moment, later_finding, later_found}
+use Rattle.mcs_verdict_forever.specs.Later.{later_finding, later_found}
 use Rattle.mcs_verdict_forever.specs.Recurs.{past_before, WordIsLater, WordIsNotSet, FindingsRecur}
 use Rattle.mcs_verdict_forever.specs.laws.Repeats.{rows_at, found_at_moment, is_of_group, jobs_at_moment, later_job_of, FindingsRepeat, NothingIsFound, OverdueRepeats, JobsRepeat, JobTestsAreForever}
 use Rattle.mcs_verdict_forever.proofs.Accounts.{account-overdue}
-use Rattle.mcs_verdict_forever.proofs.Kept.{overdue-kept}
 use Rattle.mcs_verdict_forever.proofs.Alike.{Alike, held-known}
 use Rattle.mcs_verdict_forever.proofs.Carried.{not-set}
 use Rattle.mcs_verdict_forever.proofs.Moments.{word-kept, Later, Set, found_in-append, alike, later-thread, later-word, found-later, jobs_in-append, jobs-later}

@@ -1,5 +1,4 @@
 pub mod Accounts
-pub mod Kept
 pub mod Alike
 pub mod Moments
 pub mod Carried

@@ -21,6 +21,7 @@ use Rattle.mcs_verdict.specs.declared.job.Job.{Job}
 use Rattle.mcs_verdict.specs.Jobs.{job_of, jobs_in}
 use Rattle.mcs_verdict.specs.Findings.{UpTo, past_of, found_at, found_in, finding}
 use Rattle.mcs_verdict.specs.Watch.{accounts_of, words_of}
+use Rattle.mcs_verdict.specs.Later.{IsLaterAccount}
 use Rattle.mcs_verdict.proofs.Kept.{account_at}
 use Rattle.mcs_verdict.proofs.Watches.{account_kept}
 use Rattle.mcs_verdict.proofs.Words.{length-words, word_kept}
@@ -33,7 +34,7 @@ use Rattle.mcs_forever.proofs.Home.{rows-of-own}
 use Rattle.mcs_forever.proofs.Worlds.{rows-again}
 use Rattle.mcs_forever.proofs.Schedules.{each-turn}
 use Rattle.mcs_forever.proofs.Repeats.{forever}
-use Rattle.mcs_verdict_forever.specs.Later.{IsLaterAccount, later_found}
+use Rattle.mcs_verdict_forever.specs.Later.{later_found}
 use Rattle.mcs_verdict_forever.specs.Recurs.{takes_word, TakesNoWord, past_before, ThreadIsLater, WordIsSame, WordIsLater, FindingsRecur}
 use Rattle.mcs_verdict_forever.specs.laws.Repeats.{rows_at, later_job_of}
 use Rattle.mcs_verdict_forever.proofs.Alike.{Alike, Counts, alike-turn, found-turn, jobs-turn}

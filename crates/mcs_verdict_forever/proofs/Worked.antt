@@ -19,11 +19,12 @@ use Rattle.mcs_verdict.specs.declared.finding.Finding.TheVariants.{Miss, Lost}
 use Rattle.mcs_verdict.specs.declared.standing.Standing.{Standing}
 use Rattle.mcs_verdict.specs.declared.standing.Standing.TheVariants.{Ready, Running, Throttled}
 use Rattle.mcs_verdict.specs.declared.standing.Stood.{Stood}
+use Rattle.mcs_verdict.specs.Later.{later_account, without_total}
 use Rattle.mcs_forever.specs.Later.{KeepsUp, later_core, later_mail}
 use Rattle.mcs_forever.specs.Recurs.{Shifts, shift_of, is_for}
 use Rattle.mcs_forever.specs.laws.Repeats.{EndsNoRound}
 use Rattle.mcs_forever.proofs.Worked.{worked, shifts, all, recurs, only, AllIn, between, ended, at_rest, rests}
-use Rattle.mcs_verdict_forever.specs.Later.{later_account, without_total, later_found}
+use Rattle.mcs_verdict_forever.specs.Later.{later_found}
 use Rattle.mcs_verdict_forever.specs.Recurs.{FindingsRecur, ThreadIsLater, ThreadIsIdle, FirstWordRecurs, TakesNoWord, watch_before}
 use Rattle.mcs_verdict_forever.specs.laws.Repeats.{found_at_moment, found_up_to, all_found, later_job_of, jobs_at_moment, jobs_up_to}
 use Rattle.mcs_verdict_forever.proofs.Findings.{findings-repeat, nothing-is-found, jobs-repeat, job-tests-are-forever}

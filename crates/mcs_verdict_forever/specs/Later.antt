@@ -1,33 +1,11 @@
--- What is kept of a thread and of a word, and what is found, later: with each moment later by as many ticks.
-use Rattle.std.specs.Prelude.{◌≡◌, ℕ, ◌+◌, Option, option_map}
-use Rattle.mcs_verdict.specs.declared.account.Account.{Account}
+-- What is found, and each round that ended, later: with each moment later by as many ticks.
+use Rattle.std.specs.Prelude.{◌+◌}
 use Rattle.mcs_verdict.specs.declared.finding.Finding.{Finding}
 use Rattle.mcs_verdict.specs.declared.finding.Finding.TheVariants.{Miss, Overdue, Lost, Never}
 use Rattle.mcs_verdict.specs.declared.finding.Found.{Found}
 use Rattle.mcs_verdict.specs.declared.job.Job.{Job}
-use Rattle.mcs_verdict.specs.Stood.{no_ticks}
 use Rattle.mcs_forever.specs.Later.{Shift, more_rounds}
 use Rattle.mcs_forever.specs.Recurs.{Shifts, shift_of}
-
-abbrev pub later_moment : ℕ → Option ℕ → Option ℕ
-later_moment by moment = option_map (λ moment. moment + by) moment
-
--- how it stands, how it stood in the round that is under way, and how often that was preempted are the same
-abbrev pub later_account : ℕ → Account → Account
-later_account by account =
-    record account {
-      since = account.since + by;
-      begun = later_moment by account.begun;
-      called = later_moment by account.called;
-      active = later_moment by account.active;
-    }
-
--- but for how it stood from moment 0 on, which grows
-abbrev pub without_total : Account → Account
-without_total account = record account { total = no_ticks }
-
-abbrev pub IsLaterAccount : ℕ → Account → Account → Type 0
-IsLaterAccount by before after = without_total after ≡ later_account by (without_total before)
 
 -- a round that ended: as many rounds before it more, and its response and its parts are the same
 abbrev pub later_job : Shift → Job → Job

@@ -14,9 +14,9 @@ use Rattle.mcs_verdict.specs.Account.{is_about}
 use Rattle.mcs_verdict.specs.Rounds.{first_wait}
 use Rattle.mcs_verdict.specs.Findings.{past_of}
 use Rattle.mcs_verdict.specs.Watch.{Watch, watch_of}
+use Rattle.mcs_verdict.specs.Later.{IsLaterAccount}
 use Rattle.mcs_forever.specs.Recurs.{Shifts, Recurs}
 use Rattle.mcs_forever.specs.laws.Repeats.{EndsNoRound}
-use Rattle.mcs_verdict_forever.specs.Later.{IsLaterAccount}
 
 -- whether a thread takes the word of the notification
 abbrev pub takes_word : ℕ → What → Bool
