@@ -1,4 +1,4 @@
-ghost use Rattle.std.specs.Prelude.{◌≡◌, ◌+◌, ◌<◌, ℕ, false, length, get_or, IfOk, IsTrue, ◌↔◌};
+ghost use Rattle.std.specs.Prelude.{◌≡◌, ◌+◌, ◌<◌, false, length, get_or, IfOk, IsTrue, ◌↔◌};
 ghost use Rattle.mcs_verdict.specs.declared.held.Held.{Held as TheHeld};
 ghost use Rattle.mcs_verdict.specs.Later.{later_moment, IsLaterAccount, IsLaterThread, IsSameWord, IsLaterWord, IsSetWord};
 
