@@ -23,7 +23,7 @@ use Rattle.mcs_verdict.specs.declared.standing.Standing.{Standing}
 use Rattle.mcs_verdict.specs.declared.standing.Standing.TheVariants.{Pending, Ready, Running, Throttled, Blocked, Done}
 use Rattle.mcs_verdict.specs.Rounds.{begun_at, begun_by_word, begun_after}
 use Rattle.mcs_verdict.specs.Standing.{standing_stopped}
-use Rattle.mcs_verdict_laws.proofs.Steps.{told_of, Turns, Passes, Step}
+use Rattle.mcs_verdict_laws.proofs.Steps.{told_of, EndsAfter, Turns, Passes, Step}
 use Rattle.mcs_verdict_laws.proofs.Holds.{beginning_of, first, start_at, IsUnderWay, IsStarted, Holds, Loose, same-context, holds-same, Goes, goes_if}
 
 pub self : (x : ℕ) → (x == x) ≡ true
@@ -41,31 +41,32 @@ by_date (Some date) = Throttled
 pub record IsPlain (x : ℕ) (waits : Option ℕ) (t : ℕ) (cause : Why) : Type 0 where
   pub standing : (date : Option ℕ) → by_date date ≡ standing_stopped cause date
   pub begun : (n : ℕ) (date begun : Option ℕ) → begun ≡ begun_after waits x t (row.Stop x cause n date) begun
+  pub ended : (before : Option What) (n : ℕ) (date : Option ℕ) → EndsAfter x before (row.Stop x cause n date)
 
 module _ (x : ℕ) (waits : Option ℕ) (t : ℕ) where
   pub plain_spent : IsPlain x waits t why.Spent
-  plain_spent = record { standing = by; begun = λ n date begun. refl }
+  plain_spent = record { standing = by; begun = λ n date begun. refl; ended = λ before n date. tt }
     where
       by : (date : Option ℕ) → by_date date ≡ standing_stopped why.Spent date
       by None = refl
       by (Some date) = refl
 
   pub plain_yield : IsPlain x waits t why.Yield
-  plain_yield = record { standing = by; begun = λ n date begun. refl }
+  plain_yield = record { standing = by; begun = λ n date begun. refl; ended = λ before n date. tt }
     where
       by : (date : Option ℕ) → by_date date ≡ standing_stopped why.Yield date
       by None = refl
       by (Some date) = refl
 
   pub plain_preempt : IsPlain x waits t why.Preempt
-  plain_preempt = record { standing = by; begun = λ n date begun. refl }
+  plain_preempt = record { standing = by; begun = λ n date begun. refl; ended = λ before n date. tt }
     where
       by : (date : Option ℕ) → by_date date ≡ standing_stopped why.Preempt date
       by None = refl
       by (Some date) = refl
 
   pub plain_order : IsPlain x waits t why.Order
-  plain_order = record { standing = by; begun = λ n date begun. refl }
+  plain_order = record { standing = by; begun = λ n date begun. refl; ended = λ before n date. tt }
     where
       by : (date : Option ℕ) → by_date date ≡ standing_stopped why.Order date
       by None = refl
@@ -86,6 +87,7 @@ module _ (x : ℕ) (waits : Option ℕ) (t : ℕ) where
         timed = tt;
         alive = λ g. absurd (cc);
         allows = tt;
+        takes = tt;
       }
 
   pub step-round : (number response beginning : ℕ) (begun : Option ℕ) → begun ≡ Some beginning → t ≡ beginning + response
@@ -97,32 +99,35 @@ module _ (x : ℕ) (waits : Option ℕ) (t : ℕ) where
         timed = λ g. (beginning, e, f);
         alive = λ g. absurd (cc);
         allows = λ g. refl;
+        takes = tt;
       }
 
-  pub step-got : (note word : ℕ) (begun : Option ℕ)
+  pub step-got : (note word : ℕ) (begun : Option ℕ) → (begun ≡ None → waits ≡ Some note)
       → Step x waits t (told_of Running begun) (row.Got x note word) (told_of Running (begun_by_word waits t begun))
-  step-got note word begun =
+  step-got note word begun first =
       record {
         passes = refl;
         begins = sym (ap (λ b. cond b (begun_by_word waits t begun) begun) (self x));
         timed = tt;
         alive = λ g. absurd (cc);
         allows = tt;
+        takes = λ own. first;
       }
 
   woken_to : (date : Option ℕ) → (by_date date ≡ Ready) ⊎ (by_date date ≡ Throttled)
   woken_to None = inl refl
   woken_to (Some date) = inr refl
 
-  pub step-wake : (note word : ℕ) (date begun : Option ℕ)
+  pub step-wake : (note word : ℕ) (date begun : Option ℕ) → (begun ≡ None → waits ≡ Some note)
       → Step x waits t (told_of Blocked begun) (row.Wake x note word) (told_of (by_date date) (begun_by_word waits t begun))
-  step-wake note word date begun =
+  step-wake note word date begun first =
       record {
         passes = passes_own (x == x) Blocked (by_date date) (row.Wake x note word) (self x) (refl, woken_to date);
         begins = sym (ap (λ b. cond b (begun_by_word waits t begun) begun) (self x));
         timed = tt;
         alive = λ g. absurd (cc);
         allows = tt;
+        takes = λ own. first;
       }
 
   pub step-run : (begun : Option ℕ) → Step x waits t (told_of Ready begun) (row.Run x) (told_of Running begun)
@@ -133,6 +138,7 @@ module _ (x : ℕ) (waits : Option ℕ) (t : ℕ) where
         timed = tt;
         alive = λ g. absurd (cc);
         allows = tt;
+        takes = tt;
       }
 
   pub step-release : (standing : Standing) (begun : Option ℕ) → (standing ≡ Pending) ⊎ (standing ≡ Throttled)
@@ -145,6 +151,7 @@ module _ (x : ℕ) (waits : Option ℕ) (t : ℕ) where
         timed = tt;
         alive = λ g. absurd (by h g);
         allows = λ own. early;
+        takes = tt;
       }
     where
       by : (standing ≡ Pending) ⊎ (standing ≡ Throttled) → standing ≡ Done → ⊥
@@ -269,6 +276,7 @@ module _ (system : System) (x : ℕ) where
           refl,
         );
         holds = enter date (off k) (loose-off from t begun k h);
+        ended = λ before. (plain.ended before n date, tt);
       }
 
   pub stops_to_back-goes : (from t n : ℕ) (cause : Why) (begun : Option ℕ) (k : Core) → IsPlain x (first system x) t cause
@@ -292,7 +300,7 @@ module _ (system : System) (x : ℕ) where
       (turns.stops_to_back by_priority system t x why.Spent using k)
       (silent k)
       (stops_to_back-goes from t using why.Spent begun k (plain_spent x (first system x) t) h)
-      record { last = told_of Running begun; walks = refl; holds = h }
+      record { last = told_of Running begun; walks = refl; holds = h; ended = λ before. tt }
 
   -- what may follow an item where the thread neither ends nor blocks
   abbrev pub IsCalm : AfterItem → Type 0

@@ -1,5 +1,5 @@
 -- The running thread finishes an item, and a waiting one is woken.
-use Rattle.std.proofs.Common.{◌≡◌, ℕ, ◌+◌, ◌-◌, ◌<◌, ◌≤◌, ◌⊎◌, inl, inr, Bool, true, false, cond, ◌==◌, List, length, get_or, slice_get, Option, Some, None, refl, sym, ap, subst, ◌∙◌, arith, nat_lt}
+use Rattle.std.proofs.Common.{◌≡◌, ◌≢◌, ℕ, zero, suc, ◌+◌, ◌-◌, ◌<◌, ◌≤◌, ◌⊎◌, inl, inr, Bool, true, false, cond, ◌==◌, List, [], ◌∷◌, length, get_or, slice_get, Option, Some, None, refl, sym, ap, subst, ◌∙◌, arith, nat_lt}
 use Rattle.std.proofs.lemmas.Bool.{cases_lt}
 use Rattle.std.proofs.lemmas.Bool.Decides.{nat_tests}
 use Rattle.std.proofs.lemmas.List.{get_or-set_same}
@@ -8,7 +8,7 @@ use Rattle.std.proofs.Math.ListN.{length-set}
 use Rattle.mcs_ticks.specs.Queue.{by_priority}
 use Rattle.mcs_ticks.specs.declared.row.What.TheVariants as row
 use Rattle.mcs_ticks.specs.declared.row.Why.TheVariants as why
-use Rattle.mcs_notify.specs.Note.{after_post, after_wait}
+use Rattle.mcs_notify.specs.Note.{Note, quiet_note, after_post, after_wait}
 use Rattle.mcs_notify.specs.declared.posted.Posted.TheVariants.{Woke}
 use Rattle.mcs_notify.specs.declared.posted.Waited.TheVariants.{Got, Blocks}
 use Rattle.mcs_script.specs.declared.item.Item.{Item}
@@ -24,10 +24,10 @@ use Rattle.mcs_core.specs.declared.standing.AfterItem.TheVariants as after
 use Rattle.mcs_core.specs.declared.standing.Standing as core_standing
 use Rattle.mcs_core.specs.declared.standing.Thread.{Thread}
 use Rattle.mcs_core.specs.Core.{Core, no_state, thread_of, note_of, with_note, off}
-use Rattle.mcs_core.specs.Places.{times_queued}
+use Rattle.mcs_core.specs.Places.{times_queued, times_waiting}
 use Rattle.mcs_core.specs.Turn as turns
 use Rattle.mcs_core.specs.Turn.{Turn, silent, says, ◌followed_by◌}
-use Rattle.mcs_core.proofs.Counts.{times_queued-append, times_queued-without, times_waiting-set}
+use Rattle.mcs_core.proofs.Counts.{times_queued-append, times_queued-without, times_waiting-set, times_waiting-at}
 use Rattle.mcs_laws.proofs.Places.{set-waiting}
 use Rattle.mcs_verdict.specs.declared.standing.Standing.{Standing}
 use Rattle.mcs_verdict.specs.declared.standing.Standing.TheVariants.{Pending, Ready, Running, Throttled, Blocked, Woken, Done}
@@ -49,6 +49,38 @@ unless_first script (Some note) item since e f = by (item == 0) refl
         let i : Some note ≡ None = e ∙ ap (λ n. waited_on (slice_get script n)) (sym h) ∙ f in
         absurd (cc)
     by false g = refl
+
+-- where none is under way its thread is at that wait
+at_wait : (script : List Item) (waits : Option ℕ) (item since note : ℕ) → waits ≡ waited_on (slice_get script 0)
+    → slice_get script item ≡ Some (Wait note) → beginning_of waits item since ≡ None → waits ≡ Some note
+at_wait script None item since note e f g = absurd (cc)
+at_wait script (Some first) item since note e f g = by (item == 0) refl g
+  where
+    by : (b : Bool) → (item == 0) ≡ b → cond b None (Some since) ≡ None → Some first ≡ Some note
+    by true h g =
+        let i : item ≡ 0 = equal item 0 h in
+        e ∙ ap (λ n. waited_on (slice_get script n)) (sym i) ∙ ap waited_on f
+    by false h g = absurd (cc)
+
+-- a thread that waits once waits for one signal
+two_waiting : (x : ℕ) (notes : List Note) (i j : ℕ) → i ≢ j
+    → times_queued x (get_or notes i quiet_note).waiters + times_queued x (get_or notes j quiet_note).waiters ≤ times_waiting x notes
+two_waiting x [] i j n = omega arith
+two_waiting x (note ∷ notes) zero zero n = absurd (n refl)
+two_waiting x (note ∷ notes) zero (suc j) n = let l = times_waiting-at x j notes in omega (arith, l)
+two_waiting x (note ∷ notes) (suc i) zero n = let l = times_waiting-at x i notes in omega (arith, l)
+two_waiting x (note ∷ notes) (suc i) (suc j) n = let l = two_waiting x notes i j (λ e. n (ap suc e)) in omega (arith, l)
+
+one_note : (x : ℕ) (notes : List Note) (i j : ℕ) → times_waiting x notes ≡ 1 → 1 ≤ times_queued x (get_or notes i quiet_note).waiters
+    → 1 ≤ times_queued x (get_or notes j quiet_note).waiters → i ≡ j
+one_note x notes i j one here there = by (i == j) refl
+  where
+    differ : (a b : ℕ) → (a == b) ≡ false → a ≢ b
+    differ a b e = grind (arith, nat_tests)
+
+    by : (b : Bool) → (i == j) ≡ b → i ≡ j
+    by true e = equal i j e
+    by false e = let l = two_waiting x notes i j (differ i j e) in absurd (omega (arith, l, one, here, there))
 
 -- a wait is given its word: its round is under way from then on
 when_given : (script : List Item) (waits : Option ℕ) (item since t note : ℕ) → waits ≡ waited_on (slice_get script 0)
@@ -213,7 +245,7 @@ module _ (system : System) (well : IsWellFormed system) (x : ℕ) where
       (placed-holds from t (thread_of k x).since Next begun begun k h h.own.1.since
       (e ∙ sym (past_first (first system x) (thread_of k x).place.item (thread_of k x).since)))
       in
-      record { last = q.last; walks = q.walks; holds = q.holds }
+      record { last = q.last; walks = q.walks; holds = q.holds; ended = q.ended }
   finish-goes from t using begun k RoundEnds cause calm h e =
       let moved = turns.placed system t x RoundEnds t k in
       let next = begun_at (first system x) t in
@@ -228,6 +260,7 @@ module _ (system : System) (well : IsWellFormed system) (x : ℕ) where
           q.walks,
         );
         holds = q.holds;
+        ended = λ before. (tt, q.ended (Some (row.Round x (thread_of k x).place.round (t - (thread_of k x).since))));
       }
   finish-goes from t using begun k AllDone cause calm h e =
       let next = begun_at (first system x) t in
@@ -244,20 +277,26 @@ module _ (system : System) (well : IsWellFormed system) (x : ℕ) where
           ),
         );
         holds = record { runs = refl; ready = h.ready; dated = h.dated; waits = h.waits; own = tt };
+        ended = λ before. (tt, (λ own. self x, tt));
       }
 
   -- a wait that is given a word goes on, and one that is given none blocks
-  pub got-goes : (from t using note word : ℕ) (begun : Option ℕ) (k : Core) → Holds system x from t (told_of Running begun) k → IsWaiting system x k
+  pub got-goes : (from t using note word : ℕ) (begun : Option ℕ) (k : Core) → Holds system x from t (told_of Running begun) k
+      → slice_get (thread_part system x).script (thread_of k x).place.item ≡ Some (Wait note)
       → Goes system x from t (told_of Running begun)
       (turns.waits_as system t x note (Got word) k followed_by turns.may_stop by_priority system t x using after.GoesOn)
   unfolding moved_on
-  got-goes from t using note word begun k h w =
+  got-goes from t using note word begun k h item =
       let noted = with_note note (after_wait (Got word) (turns.queued system x) (note_of k note)) k in
       let given = turns.given t x noted in
       let was = holds-same system x from t (told_of Running begun) k noted
       (same-note system x note (after_wait (Got word) (turns.queued system x) (note_of k note)) k refl) h in
-      let waits : IsWaiting system x noted = record { note = w.note; item = w.item } in
+      let waits : IsWaiting system x noted = record { note = note; item = item } in
       let next = begun_by_word (first system x) t begun in
+      let yet : begun ≡ None → first system x ≡ Some note =
+      λ none. at_wait (thread_part system x).script (first system x) (thread_of k x).place.item (thread_of k x).since note refl item
+      (sym h.own.0.begins ∙ none)
+      in
       let holds : Holds system x from t (told_of Running next) (moved_on t noted) =
       record {
         runs = was.runs;
@@ -273,7 +312,12 @@ module _ (system : System) (well : IsWellFormed system) (x : ℕ) where
       (says (row.Got x note word) given followed_by turns.moves system t x move followed_by turns.may_stop by_priority system t x using after.GoesOn)
       in
       subst P (sym (given-next t noted was.own.0.has was.own.0.known waits))
-      record { last = q.last; walks = (told_of Running next, step-got x (first system x) t note word begun, q.walks); holds = q.holds }
+      record {
+        last = q.last;
+        walks = (told_of Running next, step-got x (first system x) t note word begun yet, q.walks);
+        holds = q.holds;
+        ended = λ before. (tt, q.ended (Some (row.Got x note word)));
+      }
 
   pub blocks-goes : (from t using note : ℕ) (begun : Option ℕ) (k : Core) → Holds system x from t (told_of Running begun) k
       → slice_get (thread_part system x).script (thread_of k x).place.item ≡ Some (Wait note)
@@ -298,6 +342,7 @@ module _ (system : System) (well : IsWellFormed system) (x : ℕ) where
       record {
         last = told_of Blocked begun;
         walks = (told_of Blocked begun, step-stop x (first system x) t using why.Wait None Blocked begun begun refl refl, refl);
+        ended = λ before. (tt, tt);
         holds =
             record {
               runs = refl;
@@ -307,7 +352,13 @@ module _ (system : System) (well : IsWellFormed system) (x : ℕ) where
               own = (
                 under-stands system x begun core_standing.TheVariants.Blocked gone under,
                 started-stands system x t core_standing.TheVariants.Blocked gone u.has started,
-                record { note = note; item = ap (λ (s : Thread). slice_get (thread_part system x).script s.place.item) state ∙ item },
+                record {
+                  note = note;
+                  item = ap (λ (s : Thread). slice_get (thread_part system x).script s.place.item) state ∙ item;
+                  listed =
+                      let there = ap (λ (n : Note). times_queued x n.waiters) (get_or-set_same k.notes note ready quiet_note within) in
+                      omega (arith, there, more, one);
+                },
               );
             };
       }
@@ -340,6 +391,11 @@ module _ (system : System) (well : IsWellFormed system) (x : ℕ) where
       let started : IsStarted system x t woken = record { start = h.own.1.start; since = h.own.1.since } in
       let waiting : IsWaiting system x woken = record { note = h.own.2.note; item = h.own.2.item } in
       let next = begun_by_word (first system x) t begun in
+      let own = one_note x k.notes note h.own.2.note h.waits waits h.own.2.listed in
+      let yet : begun ≡ None → first system x ≡ Some note =
+      λ none. at_wait (thread_part system x).script (first system x) (thread_of k x).place.item (thread_of k x).since h.own.2.note refl h.own.2.item
+      (sym u.begins ∙ none) ∙ ap Some (sym own)
+      in
       let moved = moved_on t woken in
       let loose : Loose system x t next moved =
       record {
@@ -361,6 +417,7 @@ module _ (system : System) (well : IsWellFormed system) (x : ℕ) where
       subst P (sym (given-next t woken under.has under.known waiting))
       record {
         last = told_of (by_date date) next;
-        walks = (told_of (by_date date) next, step-wake x (first system x) t note word date begun, refl);
+        walks = (told_of (by_date date) next, step-wake x (first system x) t note word date begun yet, refl);
         holds = enters-back system x from t date next moved loose;
+        ended = λ before. (tt, tt);
       }

@@ -25,7 +25,7 @@ use Rattle.mcs_laws.specs.Places.{times_running}
 use Rattle.mcs_verdict.specs.declared.standing.Standing.{Standing}
 use Rattle.mcs_verdict.specs.declared.standing.Standing.TheVariants.{Pending, Ready, Running, Throttled, Blocked, Woken, Done}
 use Rattle.mcs_verdict.specs.Rounds.{first_wait}
-use Rattle.mcs_verdict_laws.proofs.Steps.{Told, AreOther, other-append, Walks, walks-append, walks-other}
+use Rattle.mcs_verdict_laws.proofs.Steps.{Told, AreOther, other-append, AreEnded, ended-append, ended-other, Walks, walks-append, walks-other}
 
 -- how often a thread that stands so runs, is ready, is in the release queue, and waits
 abbrev pub runs_as : Standing → ℕ
@@ -93,6 +93,12 @@ module _ (system : System) (x : ℕ) where
     pub note : ℕ
     pub item : slice_get (thread_part system x).script (thread_of k x).place.item ≡ Some (Wait note)
 
+  -- and it is among those that wait for its signal
+  pub record IsListed (k : Core) : Type 0 where
+    pub note : ℕ
+    pub item : slice_get (thread_part system x).script (thread_of k x).place.item ≡ Some (Wait note)
+    pub listed : 1 ≤ times_queued x (note_of k note).waiters
+
   -- its dates in the release queue are this one
   abbrev pub AreDated : ℕ → List Dated → Type 0
   AreDated date releases = AllByRecursion (λ (dated : Dated). dated.thread ≡ x → dated.date ≡ date) releases
@@ -109,7 +115,7 @@ module _ (system : System) (x : ℕ) where
   Own from now Ready begun k = IsUnderWay begun k × IsStarted now k
   Own from now Running begun k = IsUnderWay begun k × IsStarted now k
   Own from now Throttled begun k = IsUnderWay begun k × IsStarted now k
-  Own from now Blocked begun k = IsUnderWay begun k × IsStarted now k × IsWaiting k
+  Own from now Blocked begun k = IsUnderWay begun k × IsStarted now k × IsListed k
   Own from now Woken begun k = ⊥
   Own from now Done begun k = Unit {0}
 
@@ -137,6 +143,7 @@ module _ (system : System) (x : ℕ) where
     pub dated : times_dated x after.releases ≡ times_dated x k.releases
     pub dates : (date : ℕ) → AreDated date k.releases → AreDated date after.releases
     pub waits : times_waiting x after.notes ≡ times_waiting x k.notes
+    pub listed : (note : ℕ) → times_queued x (note_of after note).waiters ≡ times_queued x (note_of k note).waiters
     pub place : (thread_of after x).place ≡ (thread_of k x).place
     pub since : (thread_of after x).since ≡ (thread_of k x).since
     pub has : length after.threads ≡ length k.threads
@@ -144,7 +151,7 @@ module _ (system : System) (x : ℕ) where
 
   pub same-refl : (k : Core) → Same k k
   same-refl k =
-      record { runs = refl; ready = refl; dated = refl; dates = λ date h. h; waits = refl; place = refl; since = refl; has = refl; notes = refl }
+      record { runs = refl; ready = refl; dated = refl; dates = λ date h. h; waits = refl; listed = λ note. refl; place = refl; since = refl; has = refl; notes = refl }
 
   pub same-trans : (a b c : Core) → Same a b → Same b c → Same a c
   same-trans a b c p q =
@@ -154,6 +161,7 @@ module _ (system : System) (x : ℕ) where
         dated = q.dated ∙ p.dated;
         dates = λ date h. q.dates date (p.dates date h);
         waits = q.waits ∙ p.waits;
+        listed = λ note. q.listed note ∙ p.listed note;
         place = q.place ∙ p.place;
         since = q.since ∙ p.since;
         has = q.has ∙ p.has;
@@ -173,9 +181,13 @@ module _ (system : System) (x : ℕ) where
   started-same : (now : ℕ) (k after : Core) → Same k after → IsStarted now k → IsStarted now after
   started-same now k after s u = record { start = u.start; since = let e = s.since in let h = u.since in omega arith }
 
-  waiting-same : (k after : Core) → Same k after → IsWaiting k → IsWaiting after
-  waiting-same k after s w =
-      record { note = w.note; item = ap (λ p. slice_get (thread_part system x).script p.item) s.place ∙ w.item }
+  listed-same : (k after : Core) → Same k after → IsListed k → IsListed after
+  listed-same k after s w =
+      record {
+        note = w.note;
+        item = ap (λ p. slice_get (thread_part system x).script p.item) s.place ∙ w.item;
+        listed = let e = s.listed w.note in let l = w.listed in omega (arith, e, l);
+      }
 
   pending-same : (from : ℕ) (k after : Core) → Same k after → IsPending from k → IsPending from after
   pending-same from k after s p = record { later = p.later; since = s.since ∙ p.since; dates = s.dates start_at p.dates }
@@ -186,7 +198,7 @@ module _ (system : System) (x : ℕ) where
   own-same from now Ready begun k after s o = (under-same begun k after s o.0, started-same now k after s o.1)
   own-same from now Running begun k after s o = (under-same begun k after s o.0, started-same now k after s o.1)
   own-same from now Throttled begun k after s o = (under-same begun k after s o.0, started-same now k after s o.1)
-  own-same from now Blocked begun k after s o = (under-same begun k after s o.0, started-same now k after s o.1, waiting-same k after s o.2)
+  own-same from now Blocked begun k after s o = (under-same begun k after s o.0, started-same now k after s o.1, listed-same k after s o.2)
   own-same from now Woken begun k after s o = o
   own-same from now Done begun k after s o = tt
 
@@ -214,7 +226,7 @@ module _ (system : System) (x : ℕ) where
   -- contexts are no matter
   pub same-context : (context : ℕ) (state : Context) (k : Core) → Same k (with_context context state k)
   same-context context state k =
-      record { runs = refl; ready = refl; dated = refl; dates = λ date h. h; waits = refl; place = refl; since = refl; has = refl; notes = refl }
+      record { runs = refl; ready = refl; dated = refl; dates = λ date h. h; waits = refl; listed = λ note. refl; place = refl; since = refl; has = refl; notes = refl }
 
   differs : (y : ℕ) → (y == x) ≡ false → x ≢ y
   differs y e = grind (arith, nat_tests)
@@ -229,6 +241,7 @@ module _ (system : System) (x : ℕ) where
         dated = refl;
         dates = λ date h. h;
         waits = refl;
+        listed = λ note. refl;
         place = ap (λ (s : Thread). s.place) other;
         since = ap (λ (s : Thread). s.since) other;
         has = length-set k.threads y state;
@@ -237,11 +250,11 @@ module _ (system : System) (x : ℕ) where
 
   pub same-running : (o : Option Chosen) (k : Core) → times_running x o ≡ times_running x k.running → Same k (record k { running = o })
   same-running o k e =
-      record { runs = e; ready = refl; dated = refl; dates = λ date h. h; waits = refl; place = refl; since = refl; has = refl; notes = refl }
+      record { runs = e; ready = refl; dated = refl; dates = λ date h. h; waits = refl; listed = λ note. refl; place = refl; since = refl; has = refl; notes = refl }
 
   pub same-ready : (ready : List Queued) (k : Core) → times_queued x ready ≡ times_queued x k.ready → Same k (record k { ready = ready })
   same-ready ready k e =
-      record { runs = refl; ready = e; dated = refl; dates = λ date h. h; waits = refl; place = refl; since = refl; has = refl; notes = refl }
+      record { runs = refl; ready = e; dated = refl; dates = λ date h. h; waits = refl; listed = λ note. refl; place = refl; since = refl; has = refl; notes = refl }
 
   one_other : (y : ℕ) → (y == x) ≡ false → ◌≡◌ {A = ℕ} (cond (y == x) 1 0) 0
   one_other y e = ap (λ b. cond b 1 0) e
@@ -260,6 +273,7 @@ module _ (system : System) (x : ℕ) where
         dated = more ∙ ap (λ n. n + times_dated x k.releases) (one_other y e) ∙ omega arith;
         dates = λ m h. dates-push m k.releases (record { thread = y; date = date }) (λ f. absurd (differs y e (sym f))) h;
         waits = refl;
+        listed = λ note. refl;
         place = refl;
         since = refl;
         has = refl;
@@ -286,6 +300,14 @@ module _ (system : System) (x : ℕ) where
       by true f = omega (arith, e, times_waiting-set x i n notes (inside i (length notes) f))
       by false f = ap (times_waiting x) (set-past notes i n (outside i (length notes) f))
 
+  listed-set : (notes : List Note) (i : ℕ) (n : Note) (j : ℕ) → times_queued x n.waiters ≡ times_queued x (get_or notes i quiet_note).waiters
+      → times_queued x (get_or (set notes i n) j quiet_note).waiters ≡ times_queued x (get_or notes j quiet_note).waiters
+  listed-set [] i n j e = refl
+  listed-set (m ∷ notes) zero n zero e = e
+  listed-set (m ∷ notes) zero n (suc j) e = refl
+  listed-set (m ∷ notes) (suc i) n zero e = refl
+  listed-set (m ∷ notes) (suc i) n (suc j) e = listed-set notes i n j e
+
   pub same-note : (note : ℕ) (state : Note) (k : Core) → times_queued x state.waiters ≡ times_queued x (note_of k note).waiters
       → Same k (with_note note state k)
   same-note note state k e =
@@ -295,6 +317,7 @@ module _ (system : System) (x : ℕ) where
         dated = refl;
         dates = λ date h. h;
         waits = waiting-set k.notes note state e;
+        listed = λ n. listed-set k.notes note state n e;
         place = refl;
         since = refl;
         has = refl;
@@ -351,10 +374,16 @@ module _ (system : System) (x : ℕ) where
     pub last : Told
     pub walks : Walks x first now told turn.rows last
     pub holds : Holds from now last turn.core
+    pub ended : (before : Option What) → AreEnded x before turn.rows
 
   pub goes-aside : (from now : ℕ) (told : Told) (k : Core) (turn : Turn) → Holds from now told k → Aside k turn → Goes from now told turn
   goes-aside from now told k turn h a =
-      record { last = told; walks = walks-other x first now told turn.rows a.rows; holds = holds-same from now told k turn.core a.same h }
+      record {
+        last = told;
+        walks = walks-other x first now told turn.rows a.rows;
+        holds = holds-same from now told k turn.core a.same h;
+        ended = λ before. ended-other x before turn.rows a.rows;
+      }
 
   -- one part and then another, of which the first may end where other dates are to come
   pub goes-then : (from to now : ℕ) (told : Told) (made : Turn) (part : Core → Turn) → Goes from now told made
@@ -365,6 +394,7 @@ module _ (system : System) (x : ℕ) where
         last = q.last;
         walks = walks-append x first now made.rows (part made.core).rows told p.last q.last p.walks q.walks;
         holds = q.holds;
+        ended = λ before. ended-append x before made.rows (part made.core).rows (p.ended before) q.ended;
       }
 
   pub goes-assoc : (from now : ℕ) (told : Told) (made : Turn) (part others : Core → Turn)
@@ -372,7 +402,8 @@ module _ (system : System) (x : ℕ) where
   goes-assoc from now told made part others g =
       let P : List What → Type 0 = λ rows. Walks x first now told rows g.last in
       let e = append_assoc made.rows (part made.core).rows (others (part made.core).core).rows in
-      record { last = g.last; walks = subst P (sym e) g.walks; holds = g.holds }
+      let Q : List What → Type 0 = λ rows. (before : Option What) → AreEnded x before rows in
+      record { last = g.last; walks = subst P (sym e) g.walks; holds = g.holds; ended = subst Q (sym e) g.ended }
 
   pub goes-each : {A : Type 0} (from now : ℕ) (part : A → Core → Turn)
       → ((item : A) (told : Told) (k : Core) → Holds from now told k → Goes from now told (part item k))

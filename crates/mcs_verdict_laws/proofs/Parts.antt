@@ -33,7 +33,7 @@ use Rattle.mcs_laws.proofs.Places.{woke, moves-running, signals-running}
 use Rattle.mcs_verdict.specs.declared.standing.Standing.{Standing}
 use Rattle.mcs_verdict.specs.declared.standing.Standing.TheVariants.{Pending, Ready, Running, Throttled, Blocked, Woken, Done}
 use Rattle.mcs_verdict.specs.Rounds.{waited_on}
-use Rattle.mcs_verdict_laws.proofs.Steps.{Told, told_of, walks-append, walks-other}
+use Rattle.mcs_verdict_laws.proofs.Steps.{Told, told_of, ended-append, ended-other, walks-append, walks-other}
 use Rattle.mcs_verdict_laws.proofs.Holds.{runs_as, ready_as, first, IsUnderWay, IsStarted, Holds, Same, same-refl, same-trans, same-context, same-thread, same-running, same-ready, same-front, holds-same, Aside, aside-silent, aside_if, Goes, goes-aside, goes-then, goes-assoc, goes_if}
 use Rattle.mcs_verdict_laws.proofs.Entering.{self, equal, plain_order, plain_preempt, step-run, under-thread, started-thread, under-stands, started-stands, stops_to_front-goes, calm-goes}
 use Rattle.mcs_verdict_laws.proofs.Others.{moves_on-aside, woke-aside, held-aside, signals-aside, waits_as-aside, leaves-aside, charged-aside, may_stop-aside}
@@ -197,6 +197,7 @@ module _ (system : System) (well : IsWellFormed system) (x : ℕ) where
         walks = walks-append x (first system x) t sent.rows _ (told_of Running begun) (told_of Running begun) q.last
             (walks-other x (first system x) t (told_of Running begun) sent.rows a.rows) q.walks;
         holds = q.holds;
+        ended = λ before. ended-append x before sent.rows _ (ended-other x before sent.rows a.rows) q.ended;
       }
 
   finishes-wait : (from t using note : ℕ) (w : Waited) (begun : Option ℕ) (k : Core) → Holds system x from t (told_of Running begun) k
@@ -204,7 +205,7 @@ module _ (system : System) (well : IsWellFormed system) (x : ℕ) where
       → Goes system x from t (told_of Running begun)
       (turns.waits_as system t x note w k followed_by turns.may_stop by_priority system t x using (turns.after_waited w))
   finishes-wait from t using note (Got word) begun k h item =
-      got-goes system well x from t using note word begun k h record { note = note; item = item }
+      got-goes system well x from t using note word begun k h item
   finishes-wait from t using note Blocks begun k h item = blocks-goes system well x from t using note begun k h item
 
   finishes-own : (from c t using : ℕ) (item : Option Item) (begun : Option ℕ) (k : Core) → turns.item_of system x k ≡ item
@@ -422,6 +423,7 @@ module _ (system : System) (well : IsWellFormed system) (x : ℕ) where
           (λ holds. record {
             last = told_of Running told.begun;
             walks = (told_of Running told.begun, step-run x (first system x) t told.begun, refl);
+            ended = λ before. (tt, tt);
             holds = chooses-own from t told.begun best k f same holds;
           })
           h)

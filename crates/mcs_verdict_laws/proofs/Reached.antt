@@ -18,7 +18,7 @@ use Rattle.mcs_laws.specs.Places.{places}
 use Rattle.mcs_laws.proofs.Homes.{own_core, own_core_known, away}
 use Rattle.mcs_verdict.specs.declared.standing.Standing.{Standing}
 use Rattle.mcs_verdict.specs.declared.standing.Standing.TheVariants.{Pending, Ready, Running, Throttled, Blocked, Woken, Done}
-use Rattle.mcs_verdict_laws.proofs.Steps.{Told, told_of, AreOther, Walks, walks-other, walks-done, Leads, leads-append, leads-stamped}
+use Rattle.mcs_verdict_laws.proofs.Steps.{Told, told_of, AreOther, AreEnded, ended-other, Walks, walks-other, walks-done, Leads, leads-append, leads-stamped}
 use Rattle.mcs_verdict_laws.proofs.Holds.{first, IsStarted, Own, Holds}
 use Rattle.mcs_verdict_laws.proofs.Turns.{turn-goes}
 use Rattle.mcs_verdict_laws.proofs.Opening.{opening_told, opening-holds}
@@ -71,7 +71,7 @@ module _ (system : System) (well : IsWellFormed system) (x : ℕ) where
   mails t c = filter (clocks.arrives_at system t c) (clocks.world system t).mails
 
   -- the turn of another core tells nothing of it
-  other-turn : (t c : ℕ) → c < system.cores → c ≢ home → AreOther x (clocks.turn_of system c t).rows
+  pub other-turn : (t c : ℕ) → c < system.cores → c ≢ core_of system (thread_part system x) → AreOther x (clocks.turn_of system c t).rows
   unfolding own_core mails
   other-turn t c known other =
       let k = clocks.core_shown system (clocks.world system t) c in
@@ -88,6 +88,7 @@ module _ (system : System) (well : IsWellFormed system) (x : ℕ) where
     pub last : Told
     pub walks : Walks x (first system x) t told (clocks.turn_of system (core_of system (thread_part system x)) t).rows last
     pub holds : Holds system x (suc t) t last (core_before (suc t))
+    pub ended : AreEnded x None (clocks.turn_of system (core_of system (thread_part system x)) t).rows
 
   own-turn : (t : ℕ) (told : Told) → Holds system x t t told (core_before t) → OwnTurn t told
   unfolding mails
@@ -96,10 +97,12 @@ module _ (system : System) (well : IsWellFormed system) (x : ℕ) where
       let goes = turn-goes system well c t x (mails t c) told (core_before t) holds in
       let P : Turn → Type 0 = λ made. Walks x (first system x) t told made.rows goes.last in
       let Q : Core → Type 0 = λ k. Holds system x (suc t) t goes.last k in
+      let R : Turn → Type 0 = λ made. AreEnded x None made.rows in
       record {
         last = goes.last;
         walks = subst P (sym (turn_of-kept system c t)) goes.walks;
         holds = subst Q (sym (core_shown-kept system takes t c home_known)) goes.holds;
+        ended = subst R (sym (turn_of-kept system c t)) (goes.ended None);
       }
 
   -- the rows of the cores from a on, n of them
@@ -182,6 +185,25 @@ module _ (system : System) (well : IsWellFormed system) (x : ℕ) where
   pub after : (t : ℕ) → Holds system x (suc t) t (reached (suc t)).told (core_before (suc t))
   unfolding reached next
   after t = (turned t (reached t)).holds
+
+  -- the thread is done only after a round of its own
+  pub turn_ended : (t c : ℕ) → c < system.cores → AreEnded x None (clocks.turn_of system c t).rows
+  unfolding own_core
+  turn_ended t c known = by (cases_eq c home)
+    where
+      cases_eq : (a b : ℕ) → (a ≡ b) ⊎ (a ≢ b)
+      cases_eq a b = go (cases_lt a b) (cases_lt b a)
+        where
+          go : (a < b) ⊎ (b ≤ a) → (b < a) ⊎ (a ≤ b) → (a ≡ b) ⊎ (a ≢ b)
+          go (inl l) other = inr (λ e. omega (arith, l, e))
+          go (inr l) (inl m) = inr (λ e. omega (arith, m, e))
+          go (inr l) (inr m) = inl (omega (arith, l, m))
+
+      by : (c ≡ home) ⊎ (c ≢ home) → AreEnded x None (clocks.turn_of system c t).rows
+      by (inl e) =
+          let P : ℕ → Type 0 = λ d. AreEnded x None (clocks.turn_of system d t).rows in
+          subst P (sym e) (turned t (reached t)).ended
+      by (inr n) = ended-other x None (clocks.turn_of system c t).rows (other-turn t c known n)
 
   -- the rows from one moment on
   pub record Later (t h : ℕ) : Type 0 where

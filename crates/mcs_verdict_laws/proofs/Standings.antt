@@ -162,7 +162,7 @@ module _ (x : ℕ) where
       by true turn rest = turn_next before.standing leads.0.standing r.what turn
       by false same rest = let P : Standing → Type 0 = λ s. IsNext (first_told None rows) s in subst P same rest
 
-past-append : (past rows more : List Row) → past_of past (rows ++ more) ≡ past_of (past_of past rows) more
+pub past-append : (past rows more : List Row) → past_of past (rows ++ more) ≡ past_of (past_of past rows) more
 past-append past [] more = refl
 past-append past (r ∷ rows) more = past-append (r ∷ past) rows more
 

@@ -1,5 +1,5 @@
 -- How a thread goes on from row to row: as its core has it, and not only as its rows tell.
-use Rattle.std.proofs.Common.{◌≡◌, ℕ, ◌+◌, ◌≤◌, ◌⊎◌, Bool, true, false, ◌==◌, List, [], ◌∷◌, ◌++◌, Option, Some, refl, sym, subst, ◌∙◌}
+use Rattle.std.proofs.Common.{◌≡◌, ℕ, ◌+◌, ◌≤◌, ◌⊎◌, Bool, true, false, ◌==◌, List, [], ◌∷◌, ◌++◌, Option, Some, None, refl, sym, subst, ◌∙◌}
 use Rattle.mcs_ticks.specs.declared.row.Row.{Row}
 use Rattle.mcs_ticks.specs.declared.row.What.{What}
 use Rattle.mcs_ticks.specs.declared.row.What.TheVariants as row
@@ -50,6 +50,54 @@ module _ (x : ℕ) where
   other-append [] more first second = second
   other-append (what ∷ rows) more first second = (first.0, other-append rows more first.1 second)
 
+  -- whether a row ends a round of the thread
+  abbrev pub ends_round : What → Bool
+  ends_round (row.Round y number response) = y == x
+  ends_round _ = false
+
+  abbrev pub ended_last : Option What → Bool
+  ended_last None = false
+  ended_last (Some what) = ends_round what
+
+  -- the thread is done right after a round of its own: the row before tells its end
+  abbrev pub EndsAfter : Option What → What → Type 0
+  EndsAfter last (row.Stop y why.Done charged until) = (y == x) ≡ true → ended_last last ≡ true
+  EndsAfter last _ = Unit {0}
+
+  abbrev pub AreEnded : Option What → List What → Type 0
+  AreEnded last [] = Unit {0}
+  AreEnded last (what ∷ rows) = EndsAfter last what × AreEnded (Some what) rows
+
+  pub ended-append : (last : Option What) (rows more : List What) → AreEnded last rows → ((last : Option What) → AreEnded last more)
+      → AreEnded last (rows ++ more)
+  ended-append last [] more first second = second last
+  ended-append last (what ∷ rows) more first second = (first.0, ended-append (Some what) rows more first.1 second)
+
+  contrary_own : (b : Bool) → b ≡ false → b ≡ true → ⊥
+  contrary_own true e f = let g : true ≡ false = e in cc
+  contrary_own false e f = let g : false ≡ true = f in cc
+
+  ends-other : (last : Option What) (what : What) → IsOther what → EndsAfter last what
+  ends-other last (row.Stop y why.Done charged until) e = λ own. absurd (contrary_own (y == x) e own)
+  ends-other last (row.Stop y why.Spent charged until) e = tt
+  ends-other last (row.Stop y why.Yield charged until) e = tt
+  ends-other last (row.Stop y why.Wait charged until) e = tt
+  ends-other last (row.Stop y why.Preempt charged until) e = tt
+  ends-other last (row.Stop y why.Order charged until) e = tt
+  ends-other last (row.Release y) e = tt
+  ends-other last (row.Run y) e = tt
+  ends-other last (row.Signal y note badge) e = tt
+  ends-other last (row.Arrive note badge maker) e = tt
+  ends-other last (row.Wake y note word) e = tt
+  ends-other last (row.Hold note word) e = tt
+  ends-other last (row.Got y note word) e = tt
+  ends-other last (row.Round y number response) e = tt
+  ends-other last (row.Order context) e = tt
+
+  pub ended-other : (last : Option What) (rows : List What) → AreOther rows → AreEnded last rows
+  ended-other last [] other = tt
+  ended-other last (what ∷ rows) other = (ends-other last what other.0, ended-other (Some what) rows other.1)
+
   -- a round of the thread that ends at moment t: its response is counted from its beginning
   abbrev pub IsTimed : ℕ → What → Option ℕ → Type 0
   IsTimed t (row.Round y number response) begun =
@@ -64,6 +112,12 @@ module _ (x : ℕ) where
 
 -- the thread, and the notification for which its script waits first
 module _ (x : ℕ) (waits : Option ℕ) where
+  -- a thread whose round is yet to begin takes no other word, and is woken by no other signal
+  abbrev pub Takes : What → Told → Type 0
+  Takes (row.Got y note word) told = (y == x) ≡ true → told.begun ≡ None → waits ≡ Some note
+  Takes (row.Wake y note word) told = (y == x) ≡ true → told.begun ≡ None → waits ≡ Some note
+  Takes _ told = Unit {0}
+
   -- one row more
   pub record Step (t : ℕ) (before : Told) (what : What) (after : Told) : Type 0 where
     pub passes : Passes (tells x what) before.standing what after.standing
@@ -71,6 +125,7 @@ module _ (x : ℕ) (waits : Option ℕ) where
     pub timed : IsTimed x t what before.begun
     pub alive : before.standing ≡ Done → IsOther x what
     pub allows : Allows x t what before
+    pub takes : Takes what before
 
   -- the rows of a moment
   abbrev pub Walks : ℕ → Told → List What → Told → Type 0
@@ -107,9 +162,10 @@ module _ (x : ℕ) (waits : Option ℕ) where
         timed = tt;
         alive = λ f. e;
         allows = λ f. absurd (contrary (y == x) e f);
+        takes = tt;
       }
   step-other t told (row.Run y) e =
-      record { passes = untold (y == x) told.standing (row.Run y) e; begins = refl; timed = tt; alive = λ f. e; allows = tt }
+      record { passes = untold (y == x) told.standing (row.Run y) e; begins = refl; timed = tt; alive = λ f. e; allows = tt; takes = tt }
   step-other t told (row.Stop y cause charged until) e =
       record {
         passes = untold (y == x) told.standing (row.Stop y cause charged until) e;
@@ -117,10 +173,19 @@ module _ (x : ℕ) (waits : Option ℕ) where
         timed = tt;
         alive = λ f. e;
         allows = tt;
+        takes = tt;
       }
   step-other t told (row.Wake y note word) e =
-      record { passes = untold (y == x) told.standing (row.Wake y note word) e; begins = rw e refl; timed = tt; alive = λ f. e; allows = tt }
-  step-other t told (row.Got y note word) e = record { passes = refl; begins = rw e refl; timed = tt; alive = λ f. e; allows = tt }
+      record {
+        passes = untold (y == x) told.standing (row.Wake y note word) e;
+        begins = rw e refl;
+        timed = tt;
+        alive = λ f. e;
+        allows = tt;
+        takes = λ f. absurd (contrary (y == x) e f);
+      }
+  step-other t told (row.Got y note word) e =
+      record { passes = refl; begins = rw e refl; timed = tt; alive = λ f. e; allows = tt; takes = λ f. absurd (contrary (y == x) e f) }
   step-other t told (row.Round y number response) e =
       record {
         passes = refl;
@@ -128,11 +193,12 @@ module _ (x : ℕ) (waits : Option ℕ) where
         timed = λ f. absurd (contrary (y == x) e f);
         alive = λ f. e;
         allows = λ f. absurd (contrary (y == x) e f);
+        takes = tt;
       }
-  step-other t told (row.Signal y note badge) e = record { passes = refl; begins = refl; timed = tt; alive = λ f. tt; allows = tt }
-  step-other t told (row.Arrive note badge maker) e = record { passes = refl; begins = refl; timed = tt; alive = λ f. tt; allows = tt }
-  step-other t told (row.Hold note word) e = record { passes = refl; begins = refl; timed = tt; alive = λ f. tt; allows = tt }
-  step-other t told (row.Order context) e = record { passes = refl; begins = refl; timed = tt; alive = λ f. tt; allows = tt }
+  step-other t told (row.Signal y note badge) e = record { passes = refl; begins = refl; timed = tt; alive = λ f. tt; allows = tt; takes = tt }
+  step-other t told (row.Arrive note badge maker) e = record { passes = refl; begins = refl; timed = tt; alive = λ f. tt; allows = tt; takes = tt }
+  step-other t told (row.Hold note word) e = record { passes = refl; begins = refl; timed = tt; alive = λ f. tt; allows = tt; takes = tt }
+  step-other t told (row.Order context) e = record { passes = refl; begins = refl; timed = tt; alive = λ f. tt; allows = tt; takes = tt }
 
   pub walks-other : (t : ℕ) (told : Told) (rows : List What) → AreOther x rows → Walks t told rows told
   walks-other t told [] other = refl

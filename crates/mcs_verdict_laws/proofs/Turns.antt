@@ -15,7 +15,7 @@ use Rattle.mcs_core.specs.Turn as turns
 use Rattle.mcs_core.specs.Turn.{Turn, silent, says, ◌followed_by◌, each, is_for_now}
 use Rattle.mcs_verdict.specs.declared.standing.Standing.{Standing}
 use Rattle.mcs_verdict.specs.declared.standing.Standing.TheVariants.{Pending, Ready, Running, Throttled, Blocked, Woken, Done}
-use Rattle.mcs_verdict_laws.proofs.Steps.{Told, told_of, walks-append, walks-other}
+use Rattle.mcs_verdict_laws.proofs.Steps.{Told, told_of, ended-append, ended-other, walks-append, walks-other}
 use Rattle.mcs_verdict_laws.proofs.Holds.{dated_as, beginning_of, first, start_at, IsUnderWay, IsStarted, IsPending, AreDated, Own, Holds, Loose, Same, same-refl, same-back, holds-same, loose-same, Aside, Goes, goes-aside, goes-then, goes-each}
 use Rattle.mcs_verdict_laws.proofs.Entering.{equal, step-release, enters-back}
 use Rattle.mcs_verdict_laws.proofs.Parts.{tick_of-goes, arrives-goes, obeys-goes, preempts_by-goes, chooses_of-goes}
@@ -119,6 +119,7 @@ module _ (system : System) (x : ℕ) where
           record {
             last = told_of Ready begun;
             walks = (told_of Ready begun, step-release x (first system x) t standing begun was early, refl);
+            ended = λ before. (tt, tt);
             holds = enters-back system x from t None begun k l;
           }
           in
@@ -144,6 +145,7 @@ module _ (system : System) (x : ℕ) where
             walks = walks-append x (first system x) t next.rows _ (told_of standing begun) (told_of standing begun) q.last
                 (walks-other x (first system x) t (told_of standing begun) next.rows a.rows) q.walks;
             holds = q.holds;
+            ended = λ before. ended-append x before next.rows _ (ended-other x before next.rows a.rows) q.ended;
           }
 
   -- a thread that has started does not become pending
@@ -172,6 +174,7 @@ module _ (system : System) (x : ℕ) where
         dated = omega (arith, all, none);
         dates = λ date h. filter-dated (λ dated. not (is_due t dated)) date k.releases h;
         waits = refl;
+        listed = λ note. refl;
         place = refl;
         since = refl;
         has = refl;
@@ -187,7 +190,7 @@ module _ (system : System) (x : ℕ) where
   unfolding left
   not-due t told k none h =
       let q = none-released (suc t) t (filter (is_due t) k.releases) told (left t k) none h in
-      record { last = q.last; walks = q.walks; holds = q.holds }
+      record { last = q.last; walks = q.walks; holds = q.holds; ended = q.ended }
 
   is-due : (t : ℕ) (standing : Standing) (begun : Option ℕ) (k : Core) → (standing ≡ Pending) ⊎ (standing ≡ Throttled)
       → (standing ≡ Pending → (beginning : ℕ) → begun ≡ Some beginning → t ≤ beginning) → times_dated x (filter (is_due t) k.releases) ≡ 1
@@ -196,7 +199,7 @@ module _ (system : System) (x : ℕ) where
   unfolding left
   is-due t standing begun k was early one l =
       let q = one-released (suc t) t (filter (is_due t) k.releases) standing begun (left t k) was early one l in
-      record { last = q.last; walks = q.walks; holds = q.holds }
+      record { last = q.last; walks = q.walks; holds = q.holds; ended = q.ended }
 
   loose-left : (t : ℕ) (begun : Option ℕ) (k : Core) (standing : Standing) → (standing ≡ Pending) ⊎ (standing ≡ Throttled)
       → times_dated x (filter (is_due t) k.releases) ≡ 1

@@ -1,5 +1,5 @@
 -- Standings and beginnings that were worked by hand.
-use Rattle.std.specs.Prelude.{◌≡◌, ℕ, List, [], ◌∷◌, Some, None, refl}
+use Rattle.std.specs.Prelude.{◌≡◌, ℕ, Bool, true, false, List, [], ◌∷◌, Some, None, is_some, refl}
 use Rattle.std.proofs.Common.{sym, ◌∙◌, arith}
 use Rattle.mcs_control.specs.declared.config.Mode.TheVariants as mode
 use Rattle.mcs_script.specs.declared.item.Item.{Item}
@@ -10,11 +10,13 @@ use Rattle.mcs_system.specs.System.{System}
 use Rattle.mcs_core.specs.Clock.{schedule}
 use Rattle.mcs_verdict.specs.declared.standing.Standing.{Standing}
 use Rattle.mcs_verdict.specs.declared.standing.Standing.TheVariants.{Pending, Ready, Running, Throttled, Blocked, Woken, Done}
-use Rattle.mcs_verdict.specs.Findings.{past_of}
+use Rattle.mcs_verdict.specs.Findings.{past_of, found_in}
 use Rattle.mcs_verdict.specs.Jobs.{job}
+use Rattle.mcs_verdict.specs.Misses.{overdue, never}
 use Rattle.mcs_verdict.specs.Rounds.{begun_of}
 use Rattle.mcs_verdict.specs.Standing.{standing_at, telling}
 use Rattle.mcs_verdict_laws.specs.Standing.{standing_in_clock}
+use Rattle.mcs_verdict_laws.specs.laws.Horizons.{has_miss_of}
 use Rattle.mcs_verdict_laws.specs.laws.Responses.{HasParts, IsTold}
 use Rattle.mcs_verdict_laws.specs.laws.Running.{ticks_running}
 
@@ -122,3 +124,58 @@ its_parts = record { sum = refl; pending = refl; woken = refl; done = refl }
 
 its_throttled_ticks : (job woken (past_of [] (schedule woken 10)) 11 1 1).stood.throttled ≡ 5
 its_throttled_ticks = refl
+
+-- whether a thread is overdue at a horizon, and whether a round of its own missed its deadline up to there
+abbrev is_overdue : System → ℕ → ℕ → Bool
+is_overdue system horizon thread = is_some (overdue system (past_of [] (schedule system horizon)) horizon thread)
+
+abbrev missed_by : System → ℕ → ℕ → Bool
+missed_by system horizon thread = has_miss_of thread (found_in system [] (schedule system horizon))
+
+-- Thread 0 signals at 4 and is done; thread 1 is behind a third one, which runs from 4 to 8. Its round was activated at 4, and it takes the word at 9.
+abbrev late : System
+late =
+    one_core (context 20 20 ∷ context 20 20 ∷ context 20 20 ∷ [])
+    (thread 0 9 0 1 (Compute 3 ∷ Signal 0 1 ∷ []) ∷ record (thread 1 5 0 0 (Wait 0 ∷ Compute 1 ∷ [])) { deadline = 3 }
+    ∷ thread 2 7 0 1 (Compute 4 ∷ []) ∷ [])
+
+not_before_its_deadline : is_overdue late 6 1 ≡ false
+not_before_its_deadline = refl
+
+at_its_deadline : is_overdue late 7 1 ≡ true
+at_its_deadline = refl
+
+also_when_it_took_its_word : is_overdue late 9 1 ≡ true
+also_when_it_took_its_word = refl
+
+no_miss_yet : missed_by late 9 1 ≡ false
+no_miss_yet = refl
+
+not_when_its_round_ended : is_overdue late 10 1 ≡ false
+not_when_its_round_ended = refl
+
+which_missed_its_deadline : missed_by late 10 1 ≡ true
+which_missed_its_deadline = refl
+
+-- The third one now takes the word, as its second item, at 9: thread 1 is overdue until then, and at 20 there is neither a miss nor a round
+-- that is overdue. This is what `TakesItAlone` is for.
+abbrev taken_by_another : System
+taken_by_another =
+    one_core (context 20 20 ∷ context 20 20 ∷ context 20 20 ∷ [])
+    (thread 0 9 0 1 (Compute 3 ∷ Signal 0 1 ∷ []) ∷ record (thread 1 5 0 0 (Wait 0 ∷ Compute 1 ∷ [])) { deadline = 3 }
+    ∷ thread 2 7 0 1 (Compute 4 ∷ Wait 0 ∷ Compute 1 ∷ []) ∷ [])
+
+overdue_before : is_overdue taken_by_another 8 1 ≡ true
+overdue_before = refl
+
+not_overdue_after : is_overdue taken_by_another 20 1 ≡ false
+not_overdue_after = refl
+
+and_no_miss : missed_by taken_by_another 20 1 ≡ false
+and_no_miss = refl
+
+activated_before : never taken_by_another (past_of [] (schedule taken_by_another 8)) 8 1 ≡ None
+activated_before = refl
+
+never_after : is_some (never taken_by_another (past_of [] (schedule taken_by_another 20)) 20 1) ≡ true
+never_after = refl
