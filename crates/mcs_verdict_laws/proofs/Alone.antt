@@ -12,7 +12,7 @@ use Rattle.mcs_notify.specs.declared.posted.Posted.TheVariants.{Woke, Held}
 use Rattle.mcs_notify.specs.declared.posted.Waited.{Waited}
 use Rattle.mcs_notify.specs.declared.posted.Waited.TheVariants.{Got, Blocks}
 use Rattle.mcs_script.specs.declared.item.Item.TheVariants.{Wait}
-use Rattle.mcs_system.specs.System.{System, TakesTime, thread_part, core_of}
+use Rattle.mcs_system.specs.System.{System, TakesTime, thread_part}
 use Rattle.mcs_system.specs.WellFormed.{IsWellFormed}
 use Rattle.mcs_system.proofs.Linked.{takes_time}
 use Rattle.mcs_core.specs.Core.{Core, note_of, with_note}
@@ -23,8 +23,8 @@ use Rattle.mcs_core.proofs.Clock.{turn_of-kept, rows-clock}
 use Rattle.mcs_verdict.specs.Rounds.{first_wait}
 use Rattle.mcs_verdict_laws.specs.laws.Horizons.{is_taken_by_another, TakesItAlone, WaitsAlone, WhoWaitsAloneTakesIt}
 use Rattle.mcs_verdict_laws.proofs.Entering.{self, equal}
-use Rattle.mcs_verdict_laws.proofs.Signals.{IsPlain, Plain, moves-plain, wakes-plain, whole-turn}
-use Rattle.mcs_verdict_laws.proofs.Fitting.{mails-home, runs-home}
+use Rattle.mcs_verdict_laws.proofs.Signals.{IsPlain, moves-plain, wakes-plain, whole-turn}
+use Rattle.mcs_verdict_laws.proofs.Homes.{mails-home, runs-home}
 
 -- a row by which no other thread takes the word
 module _ (x : ℕ) (waits : Option ℕ) where

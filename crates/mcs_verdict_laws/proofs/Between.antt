@@ -1,5 +1,5 @@
 -- Between two horizons at which nothing is found of a group of cores nothing is found of it.
-use Rattle.std.proofs.Common.{◌≡◌, ◌≢◌, ℕ, zero, suc, ◌+◌, ◌-◌, ◌<◌, ◌≤◌, ◌⊎◌, inl, inr, Bool, true, false, cond, not, ◌&&◌, ◌||◌, ◌==◌, nat_lt, List, [], ◌∷◌, ◌++◌, length, get_or, Option, Some, None, refl, sym, ap, subst, ◌∙◌, arith}
+use Rattle.std.proofs.Common.{◌≡◌, ◌≢◌, ℕ, zero, suc, ◌+◌, ◌-◌, ◌<◌, ◌≤◌, Bool, true, false, cond, ◌&&◌, ◌||◌, ◌==◌, nat_lt, List, [], ◌∷◌, ◌++◌, length, get_or, Option, Some, None, refl, sym, ap, subst, ◌∙◌, arith}
 use Rattle.std.specs.Prelude.{filter}
 use Rattle.std.specs.List.{AllByRecursion, list_any}
 use Rattle.std.proofs.lemmas.Bool.Decides.{nat_tests}
@@ -13,26 +13,21 @@ use Rattle.mcs_system.specs.System.{System, no_thread, thread_part, core_of}
 use Rattle.mcs_system.specs.WellFormed.{IsWellFormed}
 use Rattle.mcs_core.specs.Clock.{schedule}
 use Rattle.mcs_verdict.specs.declared.finding.Finding.{Finding}
-use Rattle.mcs_verdict.specs.declared.finding.Finding.TheVariants.{Miss, Overdue, Lost, Never}
+use Rattle.mcs_verdict.specs.declared.finding.Finding.TheVariants.{Miss, Lost}
 use Rattle.mcs_verdict.specs.declared.finding.Found.{Found}
-use Rattle.mcs_verdict.specs.declared.job.Job.{Job}
 use Rattle.mcs_verdict.specs.declared.standing.Stood.{Stood}
 use Rattle.mcs_verdict.specs.Rounds.{first_wait, begun_of, called_of, activated}
 use Rattle.mcs_verdict.specs.Standing.{standing_at, telling}
 use Rattle.mcs_verdict.specs.Stood.{stood_in}
 use Rattle.mcs_verdict.specs.Jobs.{job}
-use Rattle.mcs_verdict.specs.Words.{held_of, leaves, lost}
-use Rattle.mcs_verdict.specs.Misses.{is_above, missed, overdue_at, yet_to_begin, first_word, overdue_since, overdue, was_activated, never_at, never, first_of, unended}
+use Rattle.mcs_verdict.specs.Words.{held_of, leaves}
+use Rattle.mcs_verdict.specs.Misses.{is_above, overdue_at, yet_to_begin, first_word, overdue_since, overdue, was_activated, never_at, never, first_of, unended}
 use Rattle.mcs_verdict.specs.Findings.{finding, past_of, found_at, found_in, found_at_end, findings}
-use Rattle.mcs_verdict_laws.specs.laws.Horizons.{is_taken_by_another, TakesItAlone, is_miss_of, has_miss_of, found_of, NothingIsFoundBetween}
-use Rattle.mcs_verdict_laws.proofs.Steps.{ends_round}
+use Rattle.mcs_verdict_laws.specs.laws.Horizons.{is_taken_by_another, TakesItAlone, is_miss_of, has_miss_of, found_of, NothingIsFoundBetween, NothingAtAllIsFoundBetween}
+use Rattle.mcs_verdict_laws.proofs.Steps.{contrary, ends_round}
 use Rattle.mcs_verdict_laws.proofs.Reached.{later}
-use Rattle.mcs_verdict_laws.proofs.Fitting.{rounds-home}
+use Rattle.mcs_verdict_laws.proofs.Homes.{rounds-home}
 use Rattle.mcs_verdict_laws.proofs.Horizons.{found-append, overdue-stays, activation-stays}
-
-contrary : (b : Bool) → b ≡ false → b ≡ true → ⊥
-contrary true e f = let g : true ≡ false = e in cc
-contrary false e f = let g : false ≡ true = f in cc
 
 -- of two lists that make an empty one each is empty
 first-empty : {A : Type 0} (xs ys : List A) → xs ++ ys ≡ [] → xs ≡ []
@@ -290,3 +285,15 @@ nothing-between system group well earlier last alone before after m from to =
     ∙ end-all group system (past_of [] (schedule system m)) m 0 system.threads
     (λ x known own. ap (unended system (past_of [] (schedule system m)) m) (omega arith)
     ∙ ends-none system group well earlier last m from to x known own (alone x known own) before after)
+
+-- of all cores
+all-pass : {A : Type 0} (items : List A) → filter (λ item. true) items ≡ items
+all-pass [] = refl
+all-pass (item ∷ items) = ap (λ rest. item ∷ rest) (all-pass items)
+
+pub nothing-at-all : NothingAtAllIsFoundBetween
+nothing-at-all system well earlier last alone before after m from to =
+    sym (all-pass (findings system m (schedule system m)))
+    ∙ nothing-between system (λ core. true) well earlier last (λ x known own deadline. alone x known deadline)
+    (all-pass (findings system earlier (schedule system earlier)) ∙ before)
+    (all-pass (findings system last (schedule system last)) ∙ after) m from to

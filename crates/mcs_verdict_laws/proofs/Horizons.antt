@@ -1,42 +1,34 @@
 -- Nothing is found between two horizons at which nothing is found.
-use Rattle.std.proofs.Common.{◌≡◌, ◌≢◌, ℕ, suc, ◌+◌, ◌-◌, ◌<◌, ◌≤◌, ◌⊎◌, inl, inr, Bool, true, false, cond, not, ◌&&◌, ◌||◌, ◌==◌, nat_le, List, [], ◌∷◌, ◌++◌, length, get_or, Option, Some, None, refl, sym, ap, subst, ◌∙◌, arith}
-use Rattle.std.specs.Prelude.{filter, nat_lt}
+use Rattle.std.proofs.Common.{◌≡◌, ℕ, suc, ◌-◌, ◌≤◌, Bool, true, false, cond, not, ◌&&◌, ◌||◌, ◌==◌, nat_le, List, [], ◌∷◌, ◌++◌, Option, Some, None, refl, sym, ap, subst, ◌∙◌, arith}
+use Rattle.std.specs.Prelude.{nat_lt}
 use Rattle.std.specs.List.{AllByRecursion, list_any}
 use Rattle.std.proofs.lemmas.Bool.Decides.{nat_tests}
 use Rattle.std.proofs.lemmas.List.Folds.{list_any-append}
-use Rattle.std.proofs.lemmas.List.Elements.{filter-append}
 use Rattle.std.proofs.lemmas.List.{append_assoc}
 use Rattle.mcs_ticks.specs.declared.row.Row.{Row}
-use Rattle.mcs_ticks.specs.declared.row.What.{What}
-use Rattle.mcs_ticks.specs.declared.row.What.TheVariants as row
-use Rattle.mcs_system.specs.declared.part.ThreadPart.{ThreadPart}
-use Rattle.mcs_system.specs.System.{System, no_thread, thread_part, core_of}
+use Rattle.mcs_system.specs.System.{System, thread_part}
 use Rattle.mcs_system.specs.WellFormed.{IsWellFormed}
-use Rattle.mcs_core.specs.Clock.{clock, schedule}
+use Rattle.mcs_core.specs.Clock.{schedule}
 use Rattle.mcs_verdict.specs.declared.account.Account.{Account}
-use Rattle.mcs_verdict.specs.declared.finding.Finding.{Finding}
-use Rattle.mcs_verdict.specs.declared.finding.Finding.TheVariants.{Miss, Overdue, Lost, Never}
+use Rattle.mcs_verdict.specs.declared.finding.Finding.TheVariants.{Overdue}
 use Rattle.mcs_verdict.specs.declared.finding.Found.{Found}
-use Rattle.mcs_verdict.specs.declared.held.Held.{Held}
 use Rattle.mcs_verdict.specs.declared.standing.Stood.{Stood}
 use Rattle.mcs_verdict.specs.Rounds.{first_wait, called_of}
-use Rattle.mcs_verdict.specs.Misses.{is_reached, overdue_at, first_word, overdue, was_activated, never, first_of, unended}
-use Rattle.mcs_verdict.specs.Findings.{finding, InOrder, UpTo, past_of, found_at, found_in, found_at_end, findings}
+use Rattle.mcs_verdict.specs.Misses.{is_reached, overdue_at, first_word, overdue, was_activated, never}
+use Rattle.mcs_verdict.specs.Findings.{finding, InOrder, UpTo, past_of, found_at, found_in}
 use Rattle.mcs_verdict.specs.Account.{total_at}
 use Rattle.mcs_verdict.proofs.Kept.{account_at}
-use Rattle.mcs_verdict_laws.specs.laws.Horizons.{is_taken_by_another, TakesItAlone, is_miss_of, has_miss_of, OverdueStays, ActivationStays, found_of, NothingIsFoundBetween}
+use Rattle.mcs_verdict_laws.specs.laws.Horizons.{is_taken_by_another, TakesItAlone, is_miss_of, has_miss_of, OverdueStays, ActivationStays}
+use Rattle.mcs_verdict_laws.proofs.Steps.{contrary}
 use Rattle.mcs_verdict_laws.proofs.Order.{in_order}
 use Rattle.mcs_verdict_laws.proofs.Standings.{past-append}
 use Rattle.mcs_verdict_laws.proofs.Reached.{later}
 use Rattle.mcs_verdict_laws.proofs.Kept.{overdue-kept, never-kept}
 use Rattle.mcs_verdict_laws.proofs.Fits.{AreFit, fit-later}
 use Rattle.mcs_verdict_laws.proofs.Fitting.{fitting}
-use Rattle.mcs_verdict_laws.proofs.Overdue.{due_at, due-later, stays, open-up_to, overdue-due}
+use Rattle.mcs_verdict_laws.proofs.Due.{due_at, due-later}
+use Rattle.mcs_verdict_laws.proofs.Overdue.{stays, open-up_to, overdue-due}
 use Rattle.mcs_verdict_laws.proofs.Once.{once-stays, once-later, never-none}
-
-contrary : (b : Bool) → b ≡ false → b ≡ true → ⊥
-contrary true e f = let g : true ≡ false = e in cc
-contrary false e f = let g : false ≡ true = f in cc
 
 order-later : (past rows more : List Row) → InOrder past (rows ++ more) → InOrder (past_of past rows) more
 order-later past [] more order = order

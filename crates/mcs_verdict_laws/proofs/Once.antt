@@ -17,18 +17,19 @@ use Rattle.mcs_verdict.specs.declared.standing.Standing.TheVariants.{Pending, Re
 use Rattle.mcs_verdict.specs.declared.standing.Stood.{Stood}
 use Rattle.mcs_verdict.specs.Stood.{counted}
 use Rattle.mcs_verdict.specs.Standing.{standing_after, settled}
-use Rattle.mcs_verdict.specs.Rounds.{first_wait, begun_by_word, begun, called_by, called_after, called, called_of}
+use Rattle.mcs_verdict.specs.Rounds.{first_wait, begun_by_word, begun, called_by, called}
 use Rattle.mcs_verdict.specs.Words.{no_word, held_with, held_after, held, held_of}
-use Rattle.mcs_verdict.specs.Misses.{word_for, first_word, was_activated, never_at, never}
+use Rattle.mcs_verdict.specs.Misses.{word_for, was_activated, never_at}
 use Rattle.mcs_verdict.specs.Findings.{UpTo, InOrder, past_of}
-use Rattle.mcs_verdict.specs.Account.{account_of, total_at, told, given_by, given, seen_own, set_for, is_about, never_by}
+use Rattle.mcs_verdict.specs.Account.{total_at, told, given_by, given, seen_own, set_for, is_about}
 use Rattle.mcs_verdict.proofs.Accounts.{same, own}
 use Rattle.mcs_verdict.proofs.Watches.{since-up_to}
 use Rattle.mcs_verdict.proofs.Kept.{account_at}
 use Rattle.mcs_verdict_laws.specs.laws.Horizons.{is_taken_by_another, TakesItAlone}
+use Rattle.mcs_verdict_laws.proofs.Steps.{contrary}
 use Rattle.mcs_verdict_laws.proofs.Entering.{equal}
 use Rattle.mcs_verdict_laws.proofs.Fits.{Fits, AreFit}
-use Rattle.mcs_verdict_laws.proofs.Overdue.{contrary, takes, takes_first, takes-another}
+use Rattle.mcs_verdict_laws.proofs.Due.{takes, takes-another}
 
 -- in how many ticks the thread was ready or running
 abbrev pub active_ticks : Stood → ℕ

@@ -11,6 +11,10 @@ use Rattle.mcs_verdict.specs.declared.standing.Standing.TheVariants.{Pending, Re
 use Rattle.mcs_verdict.specs.Rounds.{begun_after}
 use Rattle.mcs_verdict.specs.Standing.{tells, standing_stopped}
 
+pub contrary : (b : Bool) → b ≡ false → b ≡ true → ⊥
+contrary true e f = let g : true ≡ false = e in cc
+contrary false e f = let g : false ≡ true = f in cc
+
 -- how a thread stands on its core, and when its round began by the rows so far
 pub record Told : Type 0 where
   pub standing : Standing
@@ -73,12 +77,8 @@ module _ (x : ℕ) where
   ended-append last [] more first second = second last
   ended-append last (what ∷ rows) more first second = (first.0, ended-append (Some what) rows more first.1 second)
 
-  contrary_own : (b : Bool) → b ≡ false → b ≡ true → ⊥
-  contrary_own true e f = let g : true ≡ false = e in cc
-  contrary_own false e f = let g : false ≡ true = f in cc
-
   ends-other : (last : Option What) (what : What) → IsOther what → EndsAfter last what
-  ends-other last (row.Stop y why.Done charged until) e = λ own. absurd (contrary_own (y == x) e own)
+  ends-other last (row.Stop y why.Done charged until) e = λ own. absurd (contrary (y == x) e own)
   ends-other last (row.Stop y why.Spent charged until) e = tt
   ends-other last (row.Stop y why.Yield charged until) e = tt
   ends-other last (row.Stop y why.Wait charged until) e = tt
@@ -135,10 +135,6 @@ module _ (x : ℕ) (waits : Option ℕ) where
   pub walks-append : (t : ℕ) (rows more : List What) (a b c : Told) → Walks t a rows b → Walks t b more c → Walks t a (rows ++ more) c
   walks-append t [] more a b c first second = let P : Told → Type 0 = λ d. Walks t d more c in subst P (sym first) second
   walks-append t (what ∷ rows) more a b c first second = (first.0, first.1, walks-append t rows more first.0 b c first.2 second)
-
-  contrary : (b : Bool) → b ≡ false → b ≡ true → ⊥
-  contrary true e f = let g : true ≡ false = e in cc
-  contrary false e f = let g : false ≡ true = f in cc
 
   -- rows of others change nothing
   untold : (b : Bool) (s : Standing) (what : What) → b ≡ false → Passes b s what s

@@ -1,15 +1,13 @@
 -- The word of a notification, as its core has it, is the one that the rows tell, and it is 0 while a thread waits.
-use Rattle.std.proofs.Common.{◌≡◌, ◌≢◌, ℕ, zero, suc, ◌+◌, ◌<◌, ◌≤◌, ◌⊎◌, inl, inr, Bool, true, false, cond, ◌==◌, ◌&&◌, List, [], ◌∷◌, ◌++◌, length, get_or, set, Option, Some, None, refl, sym, ap, subst, ◌∙◌, arith}
-use Rattle.std.specs.Prelude.{bit_or, filter, flat_map}
-use Rattle.std.specs.List.{AllByRecursion, range_with_len}
-use Rattle.std.proofs.lemmas.Bool.{cases_lt}
+use Rattle.std.proofs.Common.{◌≡◌, ◌≢◌, ℕ, ◌<◌, ◌⊎◌, inl, inr, Bool, true, false, cond, ◌==◌, List, [], ◌∷◌, ◌++◌, length, get_or, set, refl, sym, ap, subst, ◌∙◌, arith}
+use Rattle.std.specs.Prelude.{bit_or}
+use Rattle.std.specs.List.{AllByRecursion}
 use Rattle.std.proofs.lemmas.Bool.Decides.{nat_tests}
 use Rattle.std.proofs.lemmas.Nat.{le_or_l}
 use Rattle.std.proofs.lemmas.List.{get_or-set_same, get_or-set_other}
 use Rattle.std.proofs.Math.ListN.{length-set}
 use Rattle.mcs_ticks.specs.Queue.{by_priority}
 use Rattle.mcs_ticks.specs.declared.queue.Queued.{Queued}
-use Rattle.mcs_ticks.specs.declared.row.Row.{Row}
 use Rattle.mcs_ticks.specs.declared.row.What.{What}
 use Rattle.mcs_ticks.specs.declared.row.What.TheVariants as row
 use Rattle.mcs_notify.specs.Note.{Note, quiet_note, posted, after_post, waited, after_wait}
@@ -17,17 +15,13 @@ use Rattle.mcs_notify.specs.declared.posted.Posted.{Posted}
 use Rattle.mcs_notify.specs.declared.posted.Posted.TheVariants.{Woke, Held}
 use Rattle.mcs_notify.specs.declared.posted.Waited.{Waited}
 use Rattle.mcs_notify.specs.declared.posted.Waited.TheVariants.{Got, Blocks}
-use Rattle.mcs_mail.specs.declared.mail.Mail.{Mail}
-use Rattle.mcs_system.specs.System.{System, note_part}
+use Rattle.mcs_system.specs.System.{System}
 use Rattle.mcs_core.specs.Core.{Core, note_of, with_note}
 use Rattle.mcs_core.specs.Turn as turns
 use Rattle.mcs_core.specs.Turn.{Turn, silent, says, ◌followed_by◌, stamped}
+use Rattle.mcs_verdict_laws.proofs.Steps.{contrary}
 use Rattle.mcs_verdict_laws.proofs.Entering.{equal}
 use Rattle.mcs_verdict_laws.proofs.Signals.{IsPlain, Plain, moves-plain, wakes-plain}
-
-contrary : (b : Bool) → b ≡ false → b ≡ true → ⊥
-contrary true e f = let g : true ≡ false = e in cc
-contrary false e f = let g : false ≡ true = f in cc
 
 differ : (a b : ℕ) → (a == b) ≡ false → a ≢ b
 differ a b e = grind (arith, nat_tests)
@@ -95,38 +89,38 @@ module _ (note : ℕ) where
         sound = q.sound;
       }
 
-  -- a row of a notification, and what it makes of it
+  -- a notification is made otherwise, which may be this one
+  set-sound : (notes : List Note) (n : ℕ) (state : Note) → IsSound notes → ((n == note) ≡ true → (state.waiters ≡ []) ⊎ (state.word ≡ 0))
+      → (word_in (set notes n state) ≡ cond (n == note) state.word (word_in notes)) × IsSound (set notes n state)
+  set-sound notes n state sound quiet = by (n == note) refl quiet
+    where
+      there : note < length (set notes n state)
+      there = let l = sound.there in let e = length-set notes n state in omega (arith, l, e)
+
+      by : (b : Bool) → (n == note) ≡ b → (b ≡ true → (state.waiters ≡ []) ⊎ (state.word ≡ 0))
+          → (word_in (set notes n state) ≡ cond b state.word (word_in notes)) × IsSound (set notes n state)
+      by true e quiet =
+          let P : ℕ → Type 0 = λ m. get_or (set notes m state) note quiet_note ≡ state in
+          let now : get_or (set notes n state) note quiet_note ≡ state =
+          subst P (sym (equal n note e)) (get_or-set_same notes note state quiet_note sound.there)
+          in
+          let Q : Note → Type 0 = λ made. (made.waiters ≡ []) ⊎ (made.word ≡ 0) in
+          (ap (λ (made : Note). made.word) now, record { there = there; quiet = subst Q (sym now) (quiet refl) })
+      by false e quiet =
+          let now : get_or (set notes n state) note quiet_note ≡ get_or notes note quiet_note =
+          get_or-set_other notes n note state quiet_note (λ f. differ n note e (sym f))
+          in
+          let Q : Note → Type 0 = λ made. (made.waiters ≡ []) ⊎ (made.word ≡ 0) in
+          (ap (λ (made : Note). made.word) now, record { there = there; quiet = subst Q (sym now) sound.quiet })
+
+  -- of which a row tells
   said-sounds : (n : ℕ) (state : Note) (what : What) (k : Core) → IsSound k.notes → IsRight (word_in k.notes) what
       → word_after what (word_in k.notes) ≡ cond (n == note) state.word (word_in k.notes)
       → ((n == note) ≡ true → (state.waiters ≡ []) ⊎ (state.word ≡ 0))
       → Sounds k.notes (says what (with_note n state k))
-  said-sounds n state what k sound right word quiet = by (n == note) refl word quiet
-    where
-      there : note < length (set k.notes n state)
-      there = let l = sound.there in let e = length-set k.notes n state in omega (arith, l, e)
-
-      by : (b : Bool) → (n == note) ≡ b → word_after what (word_in k.notes) ≡ cond b state.word (word_in k.notes)
-          → (b ≡ true → (state.waiters ≡ []) ⊎ (state.word ≡ 0)) → Sounds k.notes (says what (with_note n state k))
-      by true e word quiet =
-          let same = equal n note e in
-          let P : ℕ → Type 0 = λ m. get_or (set k.notes m state) note quiet_note ≡ state in
-          let now : get_or (set k.notes n state) note quiet_note ≡ state =
-          subst P (sym same) (get_or-set_same k.notes note state quiet_note sound.there)
-          in
-          let Q : Note → Type 0 = λ made. (made.waiters ≡ []) ⊎ (made.word ≡ 0) in
-          record {
-            words = (right, word ∙ ap (λ (made : Note). made.word) (sym now));
-            sound = record { there = there; quiet = subst Q (sym now) (quiet refl) };
-          }
-      by false e word quiet =
-          let now : get_or (set k.notes n state) note quiet_note ≡ get_or k.notes note quiet_note =
-          get_or-set_other k.notes n note state quiet_note (λ f. differ n note e (sym f))
-          in
-          let Q : Note → Type 0 = λ made. (made.waiters ≡ []) ⊎ (made.word ≡ 0) in
-          record {
-            words = (right, word ∙ ap (λ (made : Note). made.word) (sym now));
-            sound = record { there = there; quiet = subst Q (sym now) sound.quiet };
-          }
+  said-sounds n state what k sound right word quiet =
+      let now = set-sound k.notes n state sound quiet in
+      record { words = (right, word ∙ sym now.0); sound = now.1 }
 
   -- who is woken waits
   woke-waits : (badge y word : ℕ) (state : Note) → posted badge state ≡ Woke y word → state.waiters ≡ [] → ⊥
@@ -198,8 +192,8 @@ module _ (note : ℕ) where
       (plain-sounds given.notes (turns.moves_on system t y given) first.sound (moves-plain system t y (turns.move_of system y given) given))
   waits_as-sounds system t y n Blocks k e sound =
       let state = after_wait Blocks (turns.queued system y) (note_of k n) in
-      let first = said-sounds n state (row.Order 0) k sound tt (same-word (n == note) refl) (λ f. inr (zero-word (note_of k n) e)) in
-      record { words = first.words.1; sound = first.sound }
+      let now = set-sound k.notes n state sound (λ f. inr (zero-word (note_of k n) e)) in
+      record { words = same-word (n == note) refl ∙ sym now.0; sound = now.1 }
     where
       zero-word : (state : Note) → waited state ≡ Blocks → state.word ≡ 0
       zero-word state f = by (state.word == 0) refl f

@@ -5,7 +5,7 @@ ghost use Rattle.mcs_verdict_laws.specs.laws.Order.{SchedulesAreInOrder};
 ghost use Rattle.mcs_verdict_laws.specs.laws.Responses.{ResponsesAreTold, PartsSumToResponses};
 ghost use Rattle.mcs_verdict_laws.specs.laws.Standings.{StandingsAreTheClocks};
 ghost use Rattle.mcs_verdict_laws.specs.laws.Running.{RunningIsRan};
-ghost use Rattle.mcs_verdict_laws.specs.laws.Horizons.{WhoWaitsAloneTakesIt, OverdueStays, ActivationStays, NothingIsFoundBetween};
+ghost use Rattle.mcs_verdict_laws.specs.laws.Horizons.{WhoWaitsAloneTakesIt, OverdueStays, ActivationStays, NothingIsFoundBetween, NothingAtAllIsFoundBetween};
 
 /// A law of the clock: each row of a schedule is of no earlier moment than those before it, and none is after the horizon. So all that is
 /// found in a schedule is found as its rows go by.
@@ -57,4 +57,9 @@ pub fn activation_stays()
 /// So where nothing is found of a group of cores up to a horizon and up to a later one, nothing is found of it up to any horizon between them.
 pub fn nothing_is_found_between()
     ensures { NothingIsFoundBetween }
+{}
+
+/// And so of all cores.
+pub fn nothing_at_all_is_found_between()
+    ensures { NothingAtAllIsFoundBetween }
 {}

@@ -74,3 +74,12 @@ NothingIsFoundBetween =
     (thread_part system thread).deadline ≢ 0 → TakesItAlone system thread earlier (schedule system later)) →
     found_of system group earlier ≡ [] → found_of system group later ≡ [] →
     (horizon : ℕ) → earlier ≤ horizon → horizon ≤ later → found_of system group horizon ≡ []
+
+-- and of all cores
+abbrev pub NothingAtAllIsFoundBetween : Type 0
+NothingAtAllIsFoundBetween =
+    (system : System) → IsWellFormed system → (earlier later : ℕ) →
+    ((thread : ℕ) → thread < length system.threads → (thread_part system thread).deadline ≢ 0 →
+    TakesItAlone system thread earlier (schedule system later)) →
+    findings system earlier (schedule system earlier) ≡ [] → findings system later (schedule system later) ≡ [] →
+    (horizon : ℕ) → earlier ≤ horizon → horizon ≤ later → findings system horizon (schedule system horizon) ≡ []
