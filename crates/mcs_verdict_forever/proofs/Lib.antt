@@ -4,4 +4,5 @@ pub mod Moments
 pub mod Carried
 pub mod Findings
 pub mod Ends
+pub mod After
 pub mod Worked

@@ -20,6 +20,7 @@ use Rattle.mcs_verdict.specs.declared.standing.Standing.{Standing}
 use Rattle.mcs_verdict.specs.declared.standing.Standing.TheVariants.{Ready, Running, Throttled}
 use Rattle.mcs_verdict.specs.declared.standing.Stood.{Stood}
 use Rattle.mcs_verdict.specs.Later.{later_account, without_total}
+use Rattle.mcs_verdict.specs.Rounds.{first_wait}
 use Rattle.mcs_forever.specs.Later.{KeepsUp, later_core, later_mail}
 use Rattle.mcs_forever.specs.Recurs.{Shifts, shift_of, is_for}
 use Rattle.mcs_forever.specs.laws.Repeats.{EndsNoRound}
@@ -29,6 +30,8 @@ use Rattle.mcs_verdict_forever.specs.Recurs.{FindingsRecur, ThreadIsLater, Threa
 use Rattle.mcs_verdict_forever.specs.laws.Repeats.{found_at_moment, found_up_to, all_found, later_job_of, jobs_at_moment, jobs_up_to}
 use Rattle.mcs_verdict_forever.proofs.Findings.{findings-repeat, nothing-is-found, jobs-repeat, job-tests-are-forever}
 use Rattle.mcs_verdict_forever.proofs.Ends.{nothing-is-ever-found}
+use Rattle.mcs_verdict_laws.proofs.Alone.{takes-alone}
+use Rattle.mcs_verdict_forever.proofs.After.{nothing-is-found-after}
 
 abbrev parts : ℕ → ℕ → ℕ → Stood
 parts ready running throttled = record { pending = 0; ready = ready; running = running; throttled = throttled; blocked = 0; woken = 0; done = 0 }
@@ -98,15 +101,26 @@ nothing well horizon = nothing-is-found (worked 7) all shifts 13 well (findings-
 at-each : AllIn (λ h. all_found (worked 7) all h ≡ []) 13 13
 at-each = (refl, (refl, (refl, (refl, (refl, (refl, (refl, (refl, (refl, (refl, (refl, (refl, (refl, tt)))))))))))))
 
+ends : (x : ℕ) → x < 2 → ThreadIsLater (worked 7) 12 13 x × FirstWordRecurs (worked 7) 12 13 x
+ends zero l = (later 7 0 l, λ note e. cc)
+ends (suc zero) l = (later 7 1 l, λ note e. cc)
+ends (suc (suc x)) l = absurd (omega (arith, l))
+
 pub nothing-at-all : IsWellFormed (worked 7) → (horizon : ℕ) → 13 ≤ horizon → all_found (worked 7) all horizon ≡ []
 nothing-at-all well =
     nothing-is-ever-found (worked 7) all shifts 13 well (findings-recur 7) (λ x known own. inr (inl (ends x known)))
     (λ h l m. between (λ h. all_found (worked 7) all h ≡ []) 13 13 h at-each l (omega (arith, m)))
-  where
-    ends : (x : ℕ) → x < 2 → ThreadIsLater (worked 7) 12 13 x × FirstWordRecurs (worked 7) 12 13 x
-    ends zero l = (later 7 0 l, λ note e. cc)
-    ends (suc zero) l = (later 7 1 l, λ note e. cc)
-    ends (suc (suc x)) l = absurd (omega (arith, l))
+
+-- which its first and its last horizon tell, too: no script begins with a wait
+waits-none : (x note : ℕ) → x < 2 → first_wait (thread_part (worked 7) x) ≡ Some note → ⊥
+waits-none zero note l e = cc
+waits-none (suc zero) note l e = cc
+waits-none (suc (suc x)) note l e = absurd (omega (arith, l))
+
+pub nothing-after : IsWellFormed (worked 7) → (horizon : ℕ) → 13 ≤ horizon → all_found (worked 7) all horizon ≡ []
+nothing-after well =
+    nothing-is-found-after (worked 7) all shifts 13 well (findings-recur 7) (λ x known own. inr (inl (ends x known)))
+    (λ x known own deadline. takes-alone (worked 7) well x (λ note e other place item. absurd (waits-none x note known e)) 13 25) refl refl
 
 -- a thread that is done is idle: it is no more overdue than it was
 idle : ThreadIsIdle ended 1 2 0

@@ -1,4 +1,4 @@
-ghost use Rattle.mcs_verdict_forever.specs.laws.Repeats.{FindingsRepeat, NothingIsFound, OverdueRepeats, NothingIsEverFound, JobsRepeat, JobTestsAreForever};
+ghost use Rattle.mcs_verdict_forever.specs.laws.Repeats.{FindingsRepeat, NothingIsFound, OverdueRepeats, NothingIsEverFound, NothingIsFoundAfter, JobsRepeat, JobTestsAreForever};
 
 /// A law of schedules: where a group of cores recurs in what is kept of its rows, each missed deadline and each lost signal comes again a
 /// period later, without end, and no other comes.
@@ -22,6 +22,12 @@ pub fn overdue_repeats()
 /// at all is found of them at each horizon of the first period, nothing is found at any horizon from then on.
 pub fn nothing_is_ever_found()
     ensures { NothingIsEverFound }
+{}
+
+/// A law of schedules: the same by the first and the last horizon of the first period alone, where no other thread takes in it the word for which one
+/// of the group waits first.
+pub fn nothing_is_found_after()
+    ensures { NothingIsFoundAfter }
 {}
 
 /// A law of schedules: where a group of cores recurs in what is kept of its rows, each round that ends comes again a period later, without end, with

@@ -6,5 +6,5 @@ mod laws;
 
 pub use laws::{
     findings_repeat, job_tests_are_forever, jobs_repeat, nothing_is_ever_found, nothing_is_found,
-    overdue_repeats,
+    nothing_is_found_after, overdue_repeats,
 };

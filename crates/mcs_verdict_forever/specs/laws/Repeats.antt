@@ -1,5 +1,5 @@
 -- Where a group of cores recurs in what is kept of its rows, what is found in them comes again, without end.
-use Rattle.std.specs.Prelude.{◌≡◌, ℕ, ◌+◌, ◌<◌, ◌≤◌, Bool, true, List, [], filter, map, flat_map, length, option_map}
+use Rattle.std.specs.Prelude.{◌≡◌, ◌≢◌, ℕ, ◌+◌, ◌<◌, ◌≤◌, Bool, true, List, [], filter, map, flat_map, length, option_map}
 use Rattle.std.specs.List.{AllByRecursion}
 use Rattle.mcs_ticks.specs.declared.row.Row.{Row}
 use Rattle.mcs_system.specs.System.{System, thread_part, core_of}
@@ -11,6 +11,7 @@ use Rattle.mcs_verdict.specs.declared.job.Job.{Job}
 use Rattle.mcs_verdict.specs.Findings.{past_of, found_in, findings}
 use Rattle.mcs_verdict.specs.Jobs.{jobs_in}
 use Rattle.mcs_verdict.specs.Misses.{overdue}
+use Rattle.mcs_verdict_laws.specs.laws.Horizons.{TakesItAlone}
 use Rattle.mcs_forever.specs.Recurs.{Shifts, shift_of}
 use Rattle.mcs_verdict_forever.specs.Later.{later_job, later_finding, later_found}
 use Rattle.mcs_verdict_forever.specs.Recurs.{past_before, ThreadIsLater, FirstWordRecurs, EndRecurs, FindingsRecur}
@@ -74,6 +75,17 @@ NothingIsEverFound =
     ((thread : ℕ) → thread < length system.threads → group (core_of system (thread_part system thread)) ≡ true →
     EndRecurs system shifts.by from thread) →
     ((horizon : ℕ) → from ≤ horizon → horizon ≤ from + shifts.by → all_found system group horizon ≡ []) →
+    (horizon : ℕ) → from ≤ horizon → all_found system group horizon ≡ []
+
+-- and where no other thread takes in that period the word for which one of them waits first, its first and its last horizon alone tell this
+abbrev pub NothingIsFoundAfter : Type 0
+NothingIsFoundAfter =
+    (system : System) (group : ℕ → Bool) (shifts : Shifts) (from : ℕ) → IsWellFormed system → FindingsRecur system group shifts from →
+    ((thread : ℕ) → thread < length system.threads → group (core_of system (thread_part system thread)) ≡ true →
+    EndRecurs system shifts.by from thread) →
+    ((thread : ℕ) → thread < length system.threads → group (core_of system (thread_part system thread)) ≡ true →
+    (thread_part system thread).deadline ≢ 0 → TakesItAlone system thread from (schedule system (from + shifts.by))) →
+    all_found system group from ≡ [] → all_found system group (from + shifts.by) ≡ [] →
     (horizon : ℕ) → from ≤ horizon → all_found system group horizon ≡ []
 
 -- a round that ended, later as its thread's core is
