@@ -13,6 +13,7 @@ from unittest import mock
 
 CHECKS = pathlib.Path(__file__).resolve().parent.parent
 sys.path.insert(0, str(CHECKS))
+import analyses
 import bandwidth
 import checker
 import common
@@ -26,6 +27,7 @@ import stress
 import theorems
 import traces
 import waves
+from analyses import Form, Task
 from refusing import Answer
 
 
@@ -103,6 +105,24 @@ class WrongPrograms(unittest.TestCase):
     def test_a_thread_that_always_runs_has_more_than_its_budget(self) -> None:
         found = self.tally('bandwidth', 'for n in 0 1 2 3 4 5 6 7 8 9; do echo 0 0 run "tc$n"; done', '--systems', '3')
         self.assertEqual(found, (1, 3, 0))
+
+    def test_a_program_that_says_nothing_shows_no_response(self) -> None:
+        # what is seen of each of two sets, and each table of them
+        self.assertGreaterEqual(self.tally('analyses', 'exit 0', '--sets', '2').failed, 2 + len(analyses.AS_CLOCKS) + len(analyses.WITH_CLOCKS))
+
+    def test_a_table_has_the_greatest_responses_of_the_analysis(self) -> None:
+        # a takes 1 tick of each 4, and b 2 of each 6 behind one a, with a deadline of 2
+        form = Form([Task('a', 1, 4, 4, priority=2), Task('b', 2, 6, 2, priority=1)], False)
+        for rows, failed in (
+            (['a,1,3,0', 'b,3,-1,2'], 0), (['b,3,-1,2', 'c,9,,0', 'a,1,3,0'], 0), (['a,1,3,0', 'b,2,0,0'], 1), (['a,1,3,0', 'b,4,-2,2'], 1),
+            (['a,1,3,0', 'b,3,1,2'], 1), (['a,1,3,0', 'b,3,-1,0'], 1), (['a,1,3,1', 'b,3,-1,2'], 1), (['a,1,3,0', 'b,,,0'], 1), (['a,1,3,0'], 1), ([], 1),
+        ):
+            self.program.write_text('\n'.join(['#!/bin/sh', 'cat <<END', 'thread,greatest,margin,missed', *rows, 'END', '']))
+            self.program.chmod(0o755)
+            trial = analyses.Trial(self.program, self.program)
+            with contextlib.redirect_stdout(io.StringIO()):
+                trial.try_table('two tasks', form, {'a': 1, 'b': 3}, 10)
+            self.assertEqual(trial.count.tally.failed, failed, rows)
 
     def test_systems_that_show_nothing_are_a_failure(self) -> None:
         self.assertEqual(self.tally('bandwidth', 'exit 0', '--systems', '3'), (3, 1, 0))
