@@ -1,7 +1,7 @@
 #!/usr/bin/env python3
 """Tells whether the pages show what the built programs write: those of examples/, README.md and the guides of docs/. Each of their commands that runs
 a system is run, at the top of the repository. mcscheck is that beside the program that is tried, or the repository's; where there is none, its commands
-are skipped.
+are skipped, and so are those of scripts over pandas where Debian's Python has none.
 
 The lines of a block that follows a command are lines of its output, in order; a page may leave lines out, and marks that by a line of two dots.
 Each command says nothing on standard error, and ends with status 0, or with 5 where its verdict is that something was found.
@@ -10,6 +10,7 @@ The jobs of pipelines on docs/CI.md are YAML, and the lines of their scripts are
 well and for one in which a deadline is missed."""
 from __future__ import annotations
 
+import functools
 import os
 import pathlib
 import re
@@ -32,6 +33,9 @@ LEFT_OUT = '..'
 # tools that run a program by themselves: the first mcsim, the second mcscheck
 ANALYSES = ' --analyse'
 LEAST = ' --least '
+# scripts of examples that ask the second for data frames, by Debian's Python
+FRAMES = ('examples/python/responses.py ',)
+DEBIAN_PYTHON = '/usr/bin/python3'
 # a search for a least value makes some hundred runs
 SECONDS = 600
 # the status of a verdict that is not clean, and the lines by which it is told
@@ -92,9 +96,25 @@ def is_shown(block: str, written: Sequence[str]) -> bool:
     return bool(lines) and are_in(lines, written)
 
 
+def wants_pandas(block: str) -> bool:
+    return any(script in block for script in FRAMES)
+
+
+@functools.cache
+def has_pandas() -> bool:
+    return common.is_program(pathlib.Path(DEBIAN_PYTHON)) and common.run([DEBIAN_PYTHON, '-c', 'import pandas']).status == 0
+
+
+def missing(block: str, has_checker: bool) -> str | None:
+    """What a block of commands needs and is not there, if anything."""
+    if not has_checker and (gives_a_verdict(block) or wants_pandas(block)):
+        return 'mcscheck'
+    return 'the package pandas of Python' if wants_pandas(block) and not has_pandas() else None
+
+
 def runs_a_system(block: str) -> bool:
     """Whether a block of commands runs a program with a file, or with a text in the block."""
-    runs = PROGRAM in block or ANALYSES in block or gives_a_verdict(block)
+    runs = PROGRAM in block or ANALYSES in block or gives_a_verdict(block) or wants_pandas(block)
     return runs and any(source in block for source in SOURCES) and WRITES not in block
 
 
@@ -104,8 +124,8 @@ def try_page(program: pathlib.Path, page: pathlib.Path, count: Count) -> None:
     shows_others = name in SHOW_OTHERS
     written: list[str] | None = None if shows_others else []
     for kind, block in blocks_in(page.read_text()):
-        if kind == 'sh' and runs_a_system(block) and gives_a_verdict(block) and not has_checker:
-            count.skip(f'{name}: mcscheck is not there: {block.strip()}')
+        if kind == 'sh' and runs_a_system(block) and (needed := missing(block, has_checker)):
+            count.skip(f'{name}: {needed} is not there: {block.strip()}')
             written = None
         elif kind == 'sh' and runs_a_system(block):
             status, stdout, stderr = ran(program, block)

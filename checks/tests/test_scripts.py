@@ -155,6 +155,14 @@ class Rules(unittest.TestCase):
             self.assertEqual(pages.status_of(block, ['first', last]), status, (block, last))
         self.assertEqual(pages.status_of('./mcscheck one.toml || status=$?\nexit $status', [late, clean]), 5)
 
+    def test_what_a_block_needs_is_named_where_it_is_not_there(self) -> None:
+        frames = 'examples/python/responses.py one.toml'
+        self.assertTrue(pages.runs_a_system(frames))
+        for has_pandas in (True, False):
+            with mock.patch('pages.has_pandas', lambda: has_pandas):
+                self.assertEqual(pages.missing(frames, True), None if has_pandas else 'the package pandas of Python')
+                self.assertEqual([pages.missing(block, False) for block in (frames, './mcscheck one.toml', './mcsim one.toml')], ['mcscheck', 'mcscheck', None])
+
     def test_the_lines_of_a_job_are_those_for_a_shell(self) -> None:
         job = {'name': 'one', 'steps': [{'uses': 'other'}, {'run': 'a'}, {'name': 'two', 'run': 'b'}]}
         self.assertEqual(list(pages.script_lines({'jobs': job})), ['a', 'b'])
