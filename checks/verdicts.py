@@ -1,12 +1,12 @@
 #!/usr/bin/env python3
 """Tells whether mcscheck finds what a second, plain reading finds in the rows that mcsim writes, byte by byte, and its statuses.
 
-Each random system has deadlines, signals that are lost or merged, orders, and contexts without a thread; it is checked as it is, once more with
-some of the words --workers, --strict and --allow-lost, and with the rounds that ended or figures in place of findings, and some with a notification that it has
-not. A system that mcsim refuses is refused with the same fault. Two laws of schedules are tried meanwhile on what is written: a round's parts are
-the ticks of its response in its `round` row, and
-the ticks in which the rows say that a thread runs are those of the reports. Then come systems of this repository whose findings are known. A kind of
-finding, of a part or of a status that was seen nowhere is a failure: a test that sees nothing of it tells nothing."""
+Each random system has deadlines, signals that are lost or merged, orders, and contexts without a thread; it is checked as it is, once more with some
+of the words --workers, --strict and --allow-lost, and with the rounds that ended or figures in place of findings, and some with a notification that
+it has not. A system that mcsim refuses is refused with the same fault. Two laws of schedules are tried meanwhile on what is written: a round's parts
+are the ticks of its response in its `round` row, and the ticks in which the rows say that a thread runs are those of the reports. Then come systems
+of this repository whose findings are known. A kind of finding, of a part or of a status that was seen nowhere is a failure: a test that sees nothing
+of it tells nothing."""
 from __future__ import annotations
 
 import collections
