@@ -4,7 +4,8 @@ a system is run, at the top of the repository. mcscheck is that beside the progr
 are skipped, and so are those of scripts over pandas where Debian's Python has none.
 
 The lines of a block that follows a command are lines of its output, in order; a page may leave lines out, and marks that by a line of two dots.
-Each command says nothing on standard error, and ends with status 0, or with 5 where its verdict is that something was found.
+Each command says nothing on standard error, and ends with status 0, or with 5 where its verdict is that something was found. So does that of each row
+of a table of questions and commands, and the words that the row names are in what it writes.
 
 The jobs of pipelines on docs/CI.md are YAML, and the lines of their scripts are run in a shell with an empty environment, for a system in which all is
 well and for one in which a deadline is missed."""
@@ -63,6 +64,16 @@ def blocks_in(text: str) -> list[tuple[str, str]]:
     return re.findall(r'^```(\w*)\n(.*?)^```', text, re.M | re.S)
 
 
+def questions_in(text: str) -> Iterator[tuple[str, list[str]]]:
+    """The command of each row of a page's table of questions, and the words of its answer that the row names."""
+    for table in re.findall(r'^\| Question \| Command \|\n\|---\|---\|\n((?:\|.*\n)+)', text, re.M):
+        for row in table.splitlines():
+            if found := re.findall(r'`([^`]+)`', row):
+                yield found[0], found[1:]
+
+
+# a page may show once more what another one shows
+@functools.cache
 def ran(program: pathlib.Path, block: str) -> Ran:
     """What a block of commands comes to, with this program in place of ./mcsim, its mcscheck in place of ./mcscheck, and both for the tools."""
     block, environment = block.replace(PROGRAM, shlex.quote(str(program))), {**os.environ, 'MCSIM': str(program)}
@@ -118,6 +129,28 @@ def runs_a_system(block: str) -> bool:
     return runs and any(source in block for source in SOURCES) and WRITES not in block
 
 
+def try_block(program: pathlib.Path, name: pathlib.Path, block: str, count: Count) -> list[str]:
+    """Tries a block of commands, and gives the lines that it wrote."""
+    status, stdout, stderr = ran(program, block.strip())
+    written = stdout.decode().splitlines()
+    is_good = status == status_of(block, written) and not stderr
+    count.expect(f'{name}: {block.strip()}: status {status}, {stderr.decode().strip()}', is_good)
+    return written
+
+
+def try_questions(program: pathlib.Path, page: pathlib.Path, count: Count) -> None:
+    """Tries the commands of a page's tables of questions; where a row says FILE it is for a file of the reader's own."""
+    name, has_checker = page.relative_to(TOP), common.checker_of(program) is not None
+    for command, named in questions_in(page.read_text()):
+        if not runs_a_system(command):
+            continue
+        if needed := missing(command, has_checker):
+            count.skip(f'{name}: {needed} is not there: {command}')
+            continue
+        words = ' '.join(try_block(program, name, command, count)).split()
+        count.expect(f'{name}: {command}: an answer without one of {named}', all(word in words for word in named))
+
+
 def try_page(program: pathlib.Path, page: pathlib.Path, count: Count) -> None:
     """Tries a page. On those that show other blocks too, only one that follows a command directly is its output."""
     name, has_checker = page.relative_to(TOP), common.checker_of(program) is not None
@@ -128,10 +161,7 @@ def try_page(program: pathlib.Path, page: pathlib.Path, count: Count) -> None:
             count.skip(f'{name}: {needed} is not there: {block.strip()}')
             written = None
         elif kind == 'sh' and runs_a_system(block):
-            status, stdout, stderr = ran(program, block)
-            written = stdout.decode().splitlines()
-            is_good = status == status_of(block, written) and not stderr
-            count.expect(f'{name}: {block.strip()}: status {status}, {stderr.decode().strip()}', is_good)
+            written = try_block(program, name, block, count)
         elif kind == '' and written is not None:
             count.expect(f'{name}: a block that its command did not write: {block.splitlines()[:1]}', is_shown(block, written))
             written = None if shows_others else written
@@ -190,6 +220,7 @@ def main() -> None:
     program = common.built_program(common.asking_program(__doc__).parse_args().program)
     count = Count()
     for page in (*sorted((TOP / 'examples').glob('*.md')), TOP / 'README.md', *GUIDES):
+        try_questions(program, page, count)
         try_page(program, page, count)
     try_jobs(program, count)
     count.end()

@@ -163,6 +163,25 @@ class Rules(unittest.TestCase):
                 self.assertEqual(pages.missing(frames, True), None if has_pandas else 'the package pandas of Python')
                 self.assertEqual([pages.missing(block, False) for block in (frames, './mcscheck one.toml', './mcsim one.toml')], ['mcscheck', 'mcscheck', None])
 
+    def test_a_row_of_questions_has_a_command_and_words_of_its_answer(self) -> None:
+        head, other = '| Question | Command |\n|---|---|\n', '| Command | What it does |\n|---|---|\n| `./mcsim two.toml` | runs |\n'
+        rows = '| is it? | `./mcscheck one.toml`: by its status |\n| what? | `./mcscheck one.toml --show both`: `miss`, `margin` of `A` |\n| who? | nobody |\n'
+        wanted = [('./mcscheck one.toml', []), ('./mcscheck one.toml --show both', ['miss', 'margin', 'A'])]
+        self.assertEqual(list(pages.questions_in(f'{other}\n{head}{rows}\n{other}')), wanted)
+        # a row for a file of the reader's own is not run
+        self.assertFalse(pages.runs_a_system('./mcscheck FILE --horizon N'))
+
+    def test_a_word_that_no_answer_has_is_a_failure(self) -> None:
+        answer = common.Ran(0, b'margin 3\nmissed 0 overdue 0 lost 0 never 0 merged 0 allowed 0 hints 0\n', b'')
+        for named, failed in (('margin', 0), ('unused', 1)):
+            count = common.Count()
+            with tempfile.TemporaryDirectory() as folder, mock.patch('pages.ran', lambda *_: answer), mock.patch('common.checker_of', lambda program: program):
+                page = pathlib.Path(folder, 'page.md')
+                page.write_text(f'| Question | Command |\n|---|---|\n| what? | `./mcscheck one.toml --show table`: `{named}` |\n')
+                with contextlib.redirect_stdout(io.StringIO()), mock.patch('pages.TOP', page.parent):
+                    pages.try_questions(pathlib.Path('mcsim'), page, count)
+            self.assertEqual((count.tally.passed, count.tally.failed), (2 - failed, failed))
+
     def test_the_lines_of_a_job_are_those_for_a_shell(self) -> None:
         job = {'name': 'one', 'steps': [{'uses': 'other'}, {'run': 'a'}, {'name': 'two', 'run': 'b'}]}
         self.assertEqual(list(pages.script_lines({'jobs': job})), ['a', 'b'])
