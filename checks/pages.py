@@ -148,7 +148,8 @@ def try_questions(program: pathlib.Path, page: pathlib.Path, count: Count) -> No
             count.skip(f'{name}: {needed} is not there: {command}')
             continue
         words = ' '.join(try_block(program, name, command, count)).split()
-        count.expect(f'{name}: {command}: an answer without one of {named}', all(word in words for word in named))
+        for word in named:
+            count.expect(f'{name}: {command}: an answer without {word}', word in words)
 
 
 def try_page(program: pathlib.Path, page: pathlib.Path, count: Count) -> None:
