@@ -113,7 +113,9 @@ def wants_pandas(block: str) -> bool:
 
 @functools.cache
 def has_pandas() -> bool:
-    return common.is_program(pathlib.Path(DEBIAN_PYTHON)) and common.run([DEBIAN_PYTHON, '-c', 'import pandas']).status == 0
+    """Whether Debian's Python has pandas; it is not loaded, which takes long on a busy machine."""
+    asking = 'import importlib.util, sys; sys.exit(importlib.util.find_spec("pandas") is None)'
+    return common.is_program(pathlib.Path(DEBIAN_PYTHON)) and common.run([DEBIAN_PYTHON, '-c', asking], seconds=SECONDS).status == 0
 
 
 def missing(block: str, has_checker: bool) -> str | None:
