@@ -1,0 +1,3 @@
+pub mod Lag
+pub mod Lags
+pub mod stored

@@ -1,0 +1,113 @@
+ghost use Rattle.std.specs.Prelude.{◌≡◌, ◌↔◌, map, IsTrue};
+ghost use Rattle.mcs_refills.specs.Server.{dates_of, refills_of};
+ghost use Rattle.mcs_forever.specs.Later.{later_dates, later_budget};
+ghost use Rattle.mcs_image.specs.Lag.{later_refill, TellsLag};
+ghost use Rattle.mcs_image.specs.stored.Budget.{budget_of};
+
+use mcs_refills::Refill;
+use std::marker::Model;
+
+/// The refills of a sporadic context, in order. Contracts see their dates.
+#[derive(Debug, Drop)]
+pub(crate) struct RefillsImage {
+    refills: Vec<Refill>,
+}
+
+/// What a context has to spend, by kind.
+#[derive(Debug, Drop)]
+pub(crate) enum BudgetImage {
+    /// The refills of a sporadic context.
+    Sporadic(RefillsImage),
+    /// The ticks that are left of the slice of a round robin context.
+    RoundRobin(u64),
+}
+
+impl Model for RefillsImage {
+    ghost use Rattle.std.specs.Prelude.{◌≡◌, ℕ, List};
+    ghost use Rattle.mcs_refills.specs.Server.{dates_of, refills_of};
+
+    ghost Value = { List ℕ };
+
+    ghost view = { λ a. dates_of a.refills.items };
+
+    ghost invariant = { λ a. refills_of (dates_of a.refills.items) ≡ a.refills.items };
+}
+
+impl RefillsImage {
+    /// These refills, which are those of their dates.
+    pub(crate) fn new(refills: Vec<Refill>) -> Self
+        requires { refills_of (dates_of refills.items) ≡ refills.items }
+        ensures { result ≡ dates_of refills.items }
+    {
+        RefillsImage { refills }
+    }
+
+    /// By how many ticks, at most `by`, the dates are later than they were: `by` where there are none. None where they are not the
+    /// same dates later by one such number.
+    pub(crate) fn lag(&self, before: &RefillsImage, by: u64) -> Option<u64>
+        ensures { TellsLag result by (λ lag. self.now ≡ later_dates lag before.now) }
+    {
+        refills_lag(&before.refills, &self.refills, by)
+    }
+}
+
+impl BudgetImage {
+    /// By how many ticks, at most `by`, the budget is later than it was: a slice, which has no date, by `by`. None where it is not the
+    /// same budget later by one such number.
+    pub(crate) fn lag(&self, before: &BudgetImage, by: u64) -> Option<u64>
+        ensures { TellsLag result by (λ lag. budget_of self.now ≡ later_budget lag (budget_of before.now)) }
+    {
+        match (self, before) {
+            (BudgetImage::Sporadic(after), BudgetImage::Sporadic(before)) => after.lag(before, by),
+            (BudgetImage::RoundRobin(after), BudgetImage::RoundRobin(before))
+                if *after == *before => { Some(by) }
+            _ => None,
+        }
+    }
+}
+
+/// Whether a refill is the other one, so many ticks later.
+fn refill_is_later(before: Refill, after: Refill, lag: u64) -> bool
+    ensures { IsTrue result ↔ (after ≡ later_refill lag before) }
+{
+    after.begins >= before.begins
+        && after.begins - before.begins == lag
+        && after.amount == before.amount
+}
+
+/// Whether the refills are the other ones, so many ticks later.
+fn refills_are_later(before: &[Refill], after: &[Refill], lag: u64) -> bool
+    ensures { IsTrue result ↔ (after.now ≡ map (later_refill lag) before.now) }
+{
+    if before.len() != after.len() {
+        return false;
+    }
+    for i in 0..before.len() {
+        if !refill_is_later(before[i], after[i], lag) {
+            return false;
+        }
+    }
+    true
+}
+
+/// By how many ticks, at most `by`, the refills are later than they were: `by` where there are none.
+fn refills_lag(before: &[Refill], after: &[Refill], by: u64) -> Option<u64>
+    ensures { TellsLag result by (λ lag. after.now ≡ map (later_refill lag) before.now) }
+{
+    if before.is_empty() || after.is_empty() {
+        return if before.len() == after.len() {
+            Some(by)
+        } else {
+            None
+        };
+    }
+    if after[0].begins < before[0].begins {
+        return None;
+    }
+    let lag = after[0].begins - before[0].begins;
+    if lag <= by && refills_are_later(before, after, lag) {
+        Some(lag)
+    } else {
+        None
+    }
+}

@@ -1,0 +1,73 @@
+ghost use Rattle.std.specs.Prelude.{◌≡◌, ℕ, ◌≤◌, get_or, option_map, IfOk, IsNone};
+ghost use Rattle.mcs_forever.specs.Later.{later_context, later_contexts};
+ghost use Rattle.mcs_image.specs.Lag.{TellsLag, TellsContextLags};
+
+use crate::budget::BudgetImage;
+use mcs_control::{Config, Mode};
+use mcs_ticks::NoMemory;
+use std::alloc::Global;
+use std::marker::Model;
+
+/// A scheduling context at a moment: the configuration in force, its mode, and its budget. Contracts see the context.
+#[derive(Debug, Drop)]
+pub(crate) struct ContextImage {
+    config: Config,
+    mode: Mode,
+    budget: BudgetImage,
+}
+
+impl Model for ContextImage {
+    ghost use Rattle.mcs_control.specs.Context.{Context};
+
+    ghost Value = { Context };
+
+    ghost use Rattle.mcs_image.specs.stored.Budget.{budget_of};
+
+    ghost view = { λ a. record { config = a.config; mode = a.mode; budget = budget_of a.budget } };
+}
+
+impl ContextImage {
+    /// By how many ticks, at most `by`, the budget is later than it was, where all else is the same: `by` where it has no date. None
+    /// where it is not the same context later by one such number.
+    fn lag(&self, before: &ContextImage, by: u64) -> Option<u64>
+        ensures { TellsLag result by (λ lag. self.now ≡ later_context lag before.now) }
+    {
+        if self.config != before.config || self.mode != before.mode {
+            return None;
+        }
+        self.budget.lag(&before.budget, by)
+    }
+}
+
+/// The same of a context that a core may hold: `by` where it does not.
+fn context_lag(before: &Option<ContextImage>, after: &Option<ContextImage>, by: u64) -> Option<u64>
+    ensures { TellsLag result by (λ lag. after.now ≡ option_map (later_context lag) before.now) }
+{
+    match (before, after) {
+        (Some(before), Some(after)) => after.lag(before, by),
+        (None, None) => Some(by),
+        _ => None,
+    }
+}
+
+/// By how many ticks, at most `by`, each context is later than it was. None where one of them is not the same context later.
+pub(crate) fn context_lags(
+    alloc: Global,
+    before: &[Option<ContextImage>],
+    after: &[Option<ContextImage>],
+    by: u64,
+) -> Result<Option<Vec<u64>>, NoMemory>
+    ensures { IfOk result (λ found. TellsContextLags (option_map (λ lags. lags.items) found) by before.now after.now) }
+{
+    if before.len() != after.len() {
+        return Ok(None);
+    }
+    let mut lags = Vec::with_capacity(alloc, before.len())?;
+    for i in 0..before.len() {
+        let Some(lag) = context_lag(&before[i], &after[i], by) else {
+            return Ok(None);
+        };
+        lags.push(lag)?;
+    }
+    Ok(Some(lags))
+}

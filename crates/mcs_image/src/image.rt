@@ -1,0 +1,84 @@
+ghost use Rattle.std.specs.Prelude.{◌≡◌, ◌↔◌, map, IfOk, IsTrue};
+ghost use Rattle.mcs_forever.specs.Later.{later_dated};
+ghost use Rattle.mcs_image.specs.Lags.{TellsLags};
+
+use crate::Lags;
+use crate::context::{ContextImage, context_lags};
+use crate::note::{NoteImage, notes_are_same};
+use crate::queues::{queues_are_same, releases_are_later};
+use crate::threads::thread_lags;
+use mcs_core::{Chosen, Thread};
+use mcs_release::Dated;
+use mcs_ticks::{NoMemory, Queued, Sequence};
+use std::alloc::Global;
+use std::marker::Model;
+
+/// A core between two turns in plain lists, so that it can be kept and compared. Contracts see the core.
+#[derive(Debug, Drop)]
+pub struct CoreImage {
+    running: Option<Chosen>,
+    threads: Vec<Thread>,
+    ready: Vec<Queued>,
+    releases: Vec<Dated>,
+    contexts: Vec<Option<ContextImage>>,
+    notes: Vec<NoteImage>,
+}
+
+impl Model for CoreImage {
+    ghost use Rattle.mcs_core.specs.Core.{Core};
+
+    ghost Value = { Core };
+
+    ghost view = { λ a. record {
+      running = a.running;
+      threads = a.threads.items;
+      ready = a.ready.items;
+      releases = a.releases.items;
+      contexts = a.contexts.items;
+      notes = a.notes.items;
+    } };
+}
+
+impl CoreImage {
+    /// By how much this core is later than it was: it stands as it stood before, but `by` ticks later. Who runs, and with how many ticks in
+    /// use, how each thread stands, its item and what is left of it, the ready threads in their order, the words and who waits for them, and
+    /// the contexts' configurations, modes and slices are the same; the releases are the same in the same order, their dates later by
+    /// `by`; the dates of each context are later by a number of its own, at most `by`, and so is the beginning of each thread's round,
+    /// and a thread may have ended more rounds.
+    ///
+    /// None where it stands otherwise: by no such numbers is it what it was. `NoMemory` is answered where the room for the numbers is
+    /// refused.
+    pub fn lags(&self, alloc: Global, before: &CoreImage, by: u64) -> Result<Option<Lags>, NoMemory>
+        ensures { IfOk result (λ found. TellsLags found by before.now self.now) }
+    {
+        if !self.queues_are_later(before, by) {
+            return Ok(None);
+        }
+        let Some(threads) = thread_lags(alloc, &before.threads, &self.threads)? else {
+            return Ok(None);
+        };
+        let Some(contexts) = context_lags(alloc, &before.contexts, &self.contexts, by)? else {
+            return Ok(None);
+        };
+        Ok(Some(Lags {
+            contexts: Sequence::new(contexts),
+            threads: Sequence::new(threads.since),
+            rounds: Sequence::new(threads.rounds),
+        }))
+    }
+
+    /// Whether the same thread runs, with as many ticks in use, the ready threads and the notifications are the same, and the releases
+    /// are later by so many ticks.
+    fn queues_are_later(&self, before: &CoreImage, by: u64) -> bool
+        ensures { IsTrue result
+            ↔ ((self.now.running ≡ before.now.running)
+            × (self.now.ready ≡ before.now.ready)
+            × (self.now.releases ≡ map (later_dated by) before.now.releases)
+            × (self.now.notes ≡ before.now.notes)) }
+    {
+        self.running == before.running
+            && queues_are_same(&before.ready, &self.ready)
+            && releases_are_later(&before.releases, &self.releases, by)
+            && notes_are_same(&before.notes, &self.notes)
+    }
+}

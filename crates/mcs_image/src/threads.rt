@@ -1,0 +1,59 @@
+ghost use Rattle.std.specs.Prelude.{ℕ, IfOk};
+ghost use Rattle.mcs_image.specs.Lag.{TellsThreadLag, TellsThreadLags};
+
+use mcs_core::Thread;
+use mcs_ticks::NoMemory;
+use std::alloc::Global;
+
+/// How much later a thread's round began, in ticks, and how many rounds more the thread has ended.
+#[derive(Clone, Copy, Debug)]
+pub(crate) struct ThreadLag {
+    since: u64,
+    rounds: u64,
+}
+
+/// The same of each thread, by number.
+#[derive(Debug, Drop)]
+pub(crate) struct ThreadLags {
+    pub(crate) since: Vec<u64>,
+    pub(crate) rounds: Vec<u64>,
+}
+
+/// How much later a thread's round began, and how many rounds more it has ended. None where it is not the same thread but for that.
+fn thread_lag(before: &Thread, after: &Thread) -> Option<ThreadLag>
+    ensures { TellsThreadLag result before.now after.now }
+{
+    let same = after.standing == before.standing
+        && after.place.item == before.place.item
+        && after.place.left == before.place.left;
+    if !same || after.place.round < before.place.round || after.since.get() < before.since.get() {
+        return None;
+    }
+    Some(ThreadLag {
+        since: after.since.get() - before.since.get(),
+        rounds: after.place.round - before.place.round,
+    })
+}
+
+/// The same of all threads. None where one of them is not the same thread but for that.
+pub(crate) fn thread_lags(
+    alloc: Global,
+    before: &[Thread],
+    after: &[Thread],
+) -> Result<Option<ThreadLags>, NoMemory>
+    ensures { (past : ℕ) → IfOk result (λ found. TellsThreadLags found past before.now after.now) }
+{
+    if before.len() != after.len() {
+        return Ok(None);
+    }
+    let mut since = Vec::with_capacity(alloc, before.len())?;
+    let mut rounds = Vec::with_capacity(alloc, before.len())?;
+    for i in 0..before.len() {
+        let Some(lag) = thread_lag(&before[i], &after[i]) else {
+            return Ok(None);
+        };
+        since.push(lag.since)?;
+        rounds.push(lag.rounds)?;
+    }
+    Ok(Some(ThreadLags { since, rounds }))
+}
