@@ -1,5 +1,5 @@
 -- A core that is later in each part is later.
-use Rattle.std.proofs.Common.{◌≡◌, ℕ, List, map, Option}
+use Rattle.std.proofs.Common.{◌≡◌, List, map, Option}
 use Rattle.mcs_ticks.specs.declared.queue.Queued.{Queued}
 use Rattle.mcs_control.specs.Context.{Context}
 use Rattle.mcs_notify.specs.Note.{Note}

@@ -1,5 +1,5 @@
 -- Refills that begin later, and their dates.
-use Rattle.std.proofs.Common.{◌≡◌, ℕ, ◌+◌, ◌<◌, ◌≤◌, Bool, true, false, cond, List, [], ◌∷◌, ◌++◌, length, map, get_or, refl, sym, ap, ◌∙◌, arith}
+use Rattle.std.proofs.Common.{◌≡◌, ℕ, Some, None, ◌+◌, ◌<◌, Bool, true, false, cond, List, [], ◌∷◌, ◌++◌, length, map, get_or, refl, sym, ap, ◌∙◌, arith}
 use Rattle.std.specs.Prelude.{◌==◌}
 use Rattle.std.specs.List.{range_with_len}
 use Rattle.std.proofs.lemmas.Bool.Decides.{nat_tests}
@@ -7,6 +7,9 @@ use Rattle.std.proofs.lemmas.List.{map-append, get_or-map, length-map, ext_get_o
 use Rattle.mcs_refills.specs.declared.refill.Refill.{Refill}
 use Rattle.mcs_refills.specs.Server.{dates_of, with_date, refills_of}
 use Rattle.mcs_refills.proofs.Dates.{map-range}
+use Rattle.mcs_refills.proofs.Spaces.{dates_of-refills_of}
+use Rattle.mcs_control.specs.Context.{Budget, refills_shown, left_shown}
+use Rattle.mcs_control.specs.Context.Budget.{Dates, Slice}
 use Rattle.mcs_forever.specs.Later.{later_dates}
 use Rattle.mcs_image.specs.Lag.{later_refill}
 
@@ -68,3 +71,17 @@ refills-are-later lag before after regular regular' same =
 
 pub dates-are-later : (lag : ℕ) (before after : List Refill) → after ≡ map (later_refill lag) before → dates_of after ≡ later_dates lag (dates_of before)
 dates-are-later lag before after same = ap dates_of same ∙ dates_of-later lag before
+
+-- the refills that are shown of a budget are those of their dates
+pub regular-shown : (budget : Budget) → refills_of (dates_of (refills_shown budget)) ≡ refills_shown budget
+regular-shown (Dates dates) = ap refills_of (dates_of-refills_of dates)
+regular-shown (Slice left) = refl
+
+-- and the budget is what they show
+pub slice-shown : (left : ℕ) (budget : Budget) → Some left ≡ left_shown budget → Slice left ≡ budget
+slice-shown left (Dates dates) shown = cc
+slice-shown left (Slice left') shown = cc
+
+pub dates-shown : (refills : List Refill) (budget : Budget) → refills ≡ refills_shown budget → None ≡ left_shown budget → Dates (dates_of refills) ≡ budget
+dates-shown refills (Dates dates) shown none = ap (λ refills. Dates (dates_of refills)) shown ∙ ap Dates (dates_of-refills_of dates)
+dates-shown refills (Slice left) shown none = cc

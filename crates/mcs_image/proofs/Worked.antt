@@ -11,7 +11,7 @@ use Rattle.mcs_core.specs.declared.standing.Standing.TheVariants.{Running, Ready
 use Rattle.mcs_core.specs.declared.standing.Thread.{Thread}
 use Rattle.mcs_forever.specs.Later.{later_dates, later_budget}
 use Rattle.mcs_image.specs.Lag.{later_refill, TellsLag}
-use Rattle.mcs_image.specs.Lags.{shift_by, IsCoreLater, TellsLags}
+use Rattle.mcs_image.specs.Lags.{TellsLags}
 use Rattle.mcs_image.specs.declared.lags.Lags.{Lags}
 
 abbrev r : ℕ → ℕ → Refill

@@ -1,5 +1,5 @@
 -- By how many ticks a part of a core is later than it was.
-use Rattle.std.specs.Prelude.{◌≡◌, ℕ, ◌+◌, ◌≤◌, List, get_or, Option, Some, None, All}
+use Rattle.std.specs.Prelude.{◌≡◌, ℕ, ◌+◌, ◌≤◌, List, get_or, Option, Some, None}
 use Rattle.mcs_refills.specs.declared.refill.Refill.{Refill}
 use Rattle.mcs_control.specs.Context.{Context}
 use Rattle.mcs_core.specs.declared.standing.Thread.{Thread}

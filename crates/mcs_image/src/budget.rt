@@ -1,5 +1,6 @@
 ghost use Rattle.std.specs.Prelude.{◌≡◌, ◌↔◌, map, IsTrue};
 ghost use Rattle.mcs_refills.specs.Server.{dates_of, refills_of};
+ghost use Rattle.mcs_control.specs.Context.{Budget, refills_shown, left_shown};
 ghost use Rattle.mcs_forever.specs.Later.{later_dates, later_budget};
 ghost use Rattle.mcs_image.specs.Lag.{later_refill, TellsLag};
 ghost use Rattle.mcs_image.specs.stored.Budget.{budget_of};
@@ -35,7 +36,7 @@ impl Model for RefillsImage {
 
 impl RefillsImage {
     /// These refills, which are those of their dates.
-    pub(crate) fn new(refills: Vec<Refill>) -> Self
+    fn new(refills: Vec<Refill>) -> Self
         requires { refills_of (dates_of refills.items) ≡ refills.items }
         ensures { result ≡ dates_of refills.items }
     {
@@ -52,6 +53,17 @@ impl RefillsImage {
 }
 
 impl BudgetImage {
+    /// The budget that shows these refills, or this rest of a slice.
+    pub(crate) fn new(refills: Vec<Refill>, left: Option<u64>) -> Self
+        requires { refills_of (dates_of refills.items) ≡ refills.items }
+        ensures { (budget : Budget) → refills.items ≡ refills_shown budget → left ≡ left_shown budget → budget_of result ≡ budget }
+    {
+        match left {
+            Some(left) => BudgetImage::RoundRobin(left),
+            None => BudgetImage::Sporadic(RefillsImage::new(refills)),
+        }
+    }
+
     /// By how many ticks, at most `by`, the budget is later than it was: a slice, which has no date, by `by`. None where it is not the
     /// same budget later by one such number.
     pub(crate) fn lag(&self, before: &BudgetImage, by: u64) -> Option<u64>

@@ -1,10 +1,10 @@
-ghost use Rattle.std.specs.Prelude.{◌≡◌, ℕ, ◌≤◌, get_or, option_map, IfOk, IsNone};
-ghost use Rattle.mcs_forever.specs.Later.{later_context, later_contexts};
+ghost use Rattle.std.specs.Prelude.{◌≡◌, option_map, IfOk};
+ghost use Rattle.mcs_forever.specs.Later.{later_context};
 ghost use Rattle.mcs_image.specs.Lag.{TellsLag, TellsContextLags};
 
 use crate::budget::BudgetImage;
-use mcs_control::{Config, Mode};
-use mcs_ticks::NoMemory;
+use mcs_control::{Config, Context, ContextView, Mode};
+use mcs_ticks::{ContextId, NoMemory};
 use std::alloc::Global;
 use std::marker::Model;
 
@@ -27,6 +27,23 @@ impl Model for ContextImage {
 }
 
 impl ContextImage {
+    /// A context as it is. `NoMemory` is answered where the list of its refills is refused.
+    pub(crate) fn new(alloc: Global, context: &Context) -> Result<Self, NoMemory>
+        ensures { IfOk result (λ image. image ≡ context.now.context) }
+    {
+        let ContextView {
+            refills,
+            left,
+            context: _,
+            using: _,
+        } = context.view(alloc, ContextId(0), 0)?;
+        Ok(ContextImage {
+            config: context.config(),
+            mode: context.mode(),
+            budget: BudgetImage::new(refills.into_vec(), left),
+        })
+    }
+
     /// By how many ticks, at most `by`, the budget is later than it was, where all else is the same: `by` where it has no date. None
     /// where it is not the same context later by one such number.
     fn lag(&self, before: &ContextImage, by: u64) -> Option<u64>

@@ -1,15 +1,18 @@
-ghost use Rattle.std.specs.Prelude.{◌≡◌, ◌↔◌, map, IfOk, IsTrue};
-ghost use Rattle.mcs_forever.specs.Later.{later_dated};
+ghost use Rattle.std.specs.Prelude.{◌≡◌, ◌↔◌, false, map, IfOk, IsTrue};
+ghost use Rattle.mcs_core.specs.State.{Fits};
+ghost use Rattle.mcs_forever.specs.Later.{Shift, later_core, later_dated};
 ghost use Rattle.mcs_image.specs.Lags.{TellsLags};
 
 use crate::Lags;
 use crate::context::{ContextImage, context_lags};
 use crate::note::{NoteImage, notes_are_same};
 use crate::queues::{queues_are_same, releases_are_later};
-use crate::threads::thread_lags;
-use mcs_core::{Chosen, Thread};
+use crate::reading::{read_contexts, read_notes, read_threads};
+use crate::threads::{runs_alike, stands_alike, thread_lags};
+use mcs_core::{Chosen, CoreState, Thread};
 use mcs_release::Dated;
-use mcs_ticks::{NoMemory, Queued, Sequence};
+use mcs_system::System;
+use mcs_ticks::{NoMemory, Queued, Sequence, ThreadId};
 use std::alloc::Global;
 use std::marker::Model;
 
@@ -40,6 +43,45 @@ impl Model for CoreImage {
 }
 
 impl CoreImage {
+    /// The image of a core as it stands. `NoMemory` is answered where a list is refused.
+    pub fn new(alloc: Global, system: &System, state: &CoreState) -> Result<Self, NoMemory>
+        requires fits { Fits system.now state.now }
+        requires going { state.now.failed ≡ false }
+        ensures { IfOk result (λ image. image ≡ state.now.core) }
+    {
+        let parts = system.parts();
+        Ok(CoreImage {
+            running: state.running(),
+            threads: read_threads(alloc, state, parts.threads.len())?,
+            ready: state.ready(alloc)?,
+            releases: state.releases(alloc)?,
+            contexts: read_contexts(alloc, state, parts.contexts.len())?,
+            notes: read_notes(alloc, state, parts.notes.len())?,
+        })
+    }
+
+    /// Whether a core may stand again as it did here, but later: the same thread runs, with as many ticks in use, and each thread stands at
+    /// the same item with as much left of it. It takes no memory. Where it answers no, the core is not this one, later by any shift.
+    pub fn may_be_again(&self, system: &System, state: &CoreState) -> bool
+        requires fits { Fits system.now state.now }
+        requires going { state.now.failed ≡ false }
+        ensures { (shift : Shift) → state.now.core ≡ later_core shift self.now → IsTrue result }
+    {
+        if !runs_alike(self.running, state.running()) {
+            return false;
+        }
+        let count = system.parts().threads.len();
+        if self.threads.len() != count {
+            return false;
+        }
+        for i in 0..count {
+            if !stands_alike(&self.threads[i], &state.thread(ThreadId(i))) {
+                return false;
+            }
+        }
+        true
+    }
+
     /// By how much this core is later than it was: it stands as it stood before, but `by` ticks later. Who runs, and with how many ticks in
     /// use, how each thread stands, its item and what is left of it, the ready threads in their order, the words and who waits for them, and
     /// the contexts' configurations, modes and slices are the same; the releases are the same in the same order, their dates later by
@@ -76,7 +118,7 @@ impl CoreImage {
             × (self.now.releases ≡ map (later_dated by) before.now.releases)
             × (self.now.notes ≡ before.now.notes)) }
     {
-        self.running == before.running
+        runs_alike(before.running, self.running)
             && queues_are_same(&before.ready, &self.ready)
             && releases_are_later(&before.releases, &self.releases, by)
             && notes_are_same(&before.notes, &self.notes)

@@ -7,6 +7,7 @@ mod image;
 mod lags;
 mod note;
 mod queues;
+mod reading;
 mod threads;
 
 pub use image::CoreImage;

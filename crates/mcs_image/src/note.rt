@@ -20,6 +20,13 @@ impl Model for NoteImage {
 }
 
 impl NoteImage {
+    /// A notification with this word and these waiters.
+    pub(crate) fn new(word: u32, waiters: Vec<Queued>) -> Self
+        ensures { result ≡ record { word = word; waiters = waiters.items } }
+    {
+        NoteImage { word, waiters }
+    }
+
     /// Whether both have the same word and the same waiters in the same order.
     fn is_same(&self, before: &NoteImage) -> bool
         ensures { IsTrue result ↔ (self.now ≡ before.now) }

@@ -1,7 +1,7 @@
-ghost use Rattle.std.specs.Prelude.{ℕ, IfOk};
+ghost use Rattle.std.specs.Prelude.{◌≡◌, ◌↔◌, ℕ, IfOk, IsTrue};
 ghost use Rattle.mcs_image.specs.Lag.{TellsThreadLag, TellsThreadLags};
 
-use mcs_core::Thread;
+use mcs_core::{Chosen, Thread};
 use mcs_ticks::NoMemory;
 use std::alloc::Global;
 
@@ -19,14 +19,33 @@ pub(crate) struct ThreadLags {
     pub(crate) rounds: Vec<u64>,
 }
 
+/// Whether the same thread runs, with as many ticks in use, or none.
+pub(crate) fn runs_alike(before: Option<Chosen>, after: Option<Chosen>) -> bool
+    ensures { IsTrue result ↔ (after ≡ before) }
+{
+    after == before
+}
+
+/// Whether the thread stands as it did, at the same item, with as much left of it.
+pub(crate) fn stands_alike(before: &Thread, after: &Thread) -> bool
+    ensures { IsTrue result
+        ↔ ((after.now.standing ≡ before.now.standing)
+        × (after.now.place.item ≡ before.now.place.item)
+        × (after.now.place.left ≡ before.now.place.left)) }
+{
+    after.standing == before.standing
+        && after.place.item == before.place.item
+        && after.place.left == before.place.left
+}
+
 /// How much later a thread's round began, and how many rounds more it has ended. None where it is not the same thread but for that.
 fn thread_lag(before: &Thread, after: &Thread) -> Option<ThreadLag>
     ensures { TellsThreadLag result before.now after.now }
 {
-    let same = after.standing == before.standing
-        && after.place.item == before.place.item
-        && after.place.left == before.place.left;
-    if !same || after.place.round < before.place.round || after.since.get() < before.since.get() {
+    if !stands_alike(before, after)
+        || after.place.round < before.place.round
+        || after.since.get() < before.since.get()
+    {
         return None;
     }
     Some(ThreadLag {

@@ -1,4 +1,4 @@
-use Rattle.std.proofs.Common.{arith, rules, sym}
+use Rattle.std.proofs.Common.{arith, rules}
 use Rattle.std.proofs.lemmas.List.{ext_get_or}
 use Rattle.mcs_notify.specs.Note.{quiet_note}
 use Rattle.mcs_image.proofs.note.notes_are_same.Goals as goal

@@ -1,6 +1,5 @@
-use Rattle.std.proofs.Common.{◌≡◌, ℕ, List, map, sym, ap, ◌∙◌}
+use Rattle.std.proofs.Common.{◌≡◌, List, map, sym, ap, ◌∙◌}
 use Rattle.mcs_refills.specs.declared.refill.Refill.{Refill}
-use Rattle.mcs_refills.specs.Server.{dates_of}
 use Rattle.mcs_forever.specs.Later.{later_dates}
 use Rattle.mcs_image.specs.Lag.{later_refill, TellsLag}
 use Rattle.mcs_image.proofs.Dates.{dates-are-later, refills-are-later}
