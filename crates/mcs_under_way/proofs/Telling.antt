@@ -1,0 +1,198 @@
+-- The rows of a turn tell its signals, part by part; so the rows before a moment tell what is under way then.
+use Rattle.std.proofs.Common.{◌≡◌, ℕ, zero, suc, ◌+◌, ◌<◌, Bool, true, false, not, cond, List, [], ◌∷◌, ◌++◌, Option, Some, None, refl, sym, ap, ◌∙◌, arith}
+use Rattle.std.specs.Prelude.{◌==◌, ◌&&◌, nat_lt, nat_le, filter, filter_map, flat_map}
+use Rattle.std.specs.List.{cons_option}
+use Rattle.std.proofs.lemmas.Bool.Decides.{nat_tests}
+use Rattle.std.proofs.lemmas.List.Elements.{filter_agree, filter_map-append}
+use Rattle.mcs_ticks.specs.Queue.{Discipline, in_one_list}
+use Rattle.mcs_ticks.specs.declared.queue.Queued.{Queued}
+use Rattle.mcs_ticks.specs.declared.row.What.{What}
+use Rattle.mcs_ticks.specs.declared.row.What.TheVariants as row
+use Rattle.mcs_control.specs.declared.config.Order.{Order}
+use Rattle.mcs_control.specs.Context.{head_amount}
+use Rattle.mcs_notify.specs.Note.{posted, after_post, waited, after_wait}
+use Rattle.mcs_notify.specs.declared.posted.Posted.{Posted}
+use Rattle.mcs_notify.specs.declared.posted.Posted.TheVariants.{Woke, Held}
+use Rattle.mcs_notify.specs.declared.posted.Waited.{Waited}
+use Rattle.mcs_notify.specs.declared.posted.Waited.TheVariants.{Got, Blocks}
+use Rattle.mcs_script.specs.declared.item.Item.{Item}
+use Rattle.mcs_script.specs.declared.item.Item.TheVariants.{Compute, Signal, Wait, Yield}
+use Rattle.mcs_script.specs.declared.moved.Moved.{Moved}
+use Rattle.mcs_script.specs.declared.moved.Moved.TheVariants.{Next, RoundEnds, AllDone}
+use Rattle.mcs_mail.specs.declared.mail.Mail.{Mail}
+use Rattle.mcs_system.specs.System.{System, note_part}
+use Rattle.mcs_system.specs.WellFormed.{IsWellFormed}
+use Rattle.mcs_core.specs.Core.{Core, thread_of, note_of, with_note}
+use Rattle.mcs_core.specs.declared.standing.AfterItem.{AfterItem}
+use Rattle.mcs_core.specs.declared.standing.AfterItem.TheVariants as after
+use Rattle.mcs_core.specs.declared.standing.Chosen.{Chosen}
+use Rattle.mcs_release.specs.Release.{is_due}
+use Rattle.mcs_core.specs.Turn as turns
+use Rattle.mcs_core.specs.Turn.{Turn, each, silent, says, ◌followed_by◌, is_for_now, stamped}
+use Rattle.mcs_under_way.specs.Told.{mail_told, told_mails}
+
+module _ (queue : Discipline) (system : System) (c t : ℕ) where
+  abbrev told : List What → List Mail
+  told whats = filter_map (mail_told system c t) whats
+
+  -- a part of a turn whose rows tell its signals
+  abbrev Tells : Turn → Type 0
+  Tells made = made.mails ≡ told made.rows
+
+  tells-then : (first : Turn) (part : Core → Turn) → Tells first → ((k : Core) → Tells (part k)) → Tells (first followed_by part)
+  tells-then first part f h = both _ _ _ _ f (h first.core) ∙ sym (filter_map-append (mail_told system c t) first.rows (part first.core).rows)
+    where
+      both : (xs ys us vs : List Mail) → xs ≡ ys → us ≡ vs → xs ++ us ≡ ys ++ vs
+      both xs ys us vs e g = cc
+
+  tells-each : {A : Type 0} (part : A → Core → Turn) → ((y : A) (k : Core) → Tells (part y k)) → (ys : List A) (core : Core) → Tells (each part ys core)
+  tells-each part h [] core = refl
+  tells-each part h (y ∷ ys) core = tells-then (part y core) (each part ys) (h y core) (λ k. tells-each part h ys k)
+
+  tells-either : (b : Bool) (u v : Turn) → Tells u → Tells v → Tells (cond b u v)
+  tells-either true u v p q = p
+  tells-either false u v p q = q
+
+  moves-tells : (y : ℕ) (m : Moved) (core : Core) → Tells (turns.moves system t y m core)
+  moves-tells y Next core = refl
+  moves-tells y RoundEnds core = refl
+  moves-tells y AllDone core = refl
+
+  moves_on-tells : (y : ℕ) (core : Core) → Tells (turns.moves_on system t y core)
+  moves_on-tells y core = moves-tells y (turns.move_of system y core) core
+
+  wakes-tells : (y : ℕ) (core : Core) → Tells (turns.wakes queue system t y core)
+  wakes-tells y core =
+      tells-then (turns.moves_on system t y (turns.given t y (turns.with_woken_context system t y core)))
+      (λ k. silent (turns.enters_back queue system y (turns.date_of system t y k) k))
+      (moves_on-tells y (turns.given t y (turns.with_woken_context system t y core))) (λ k. refl)
+
+  posts_as-tells : (note : ℕ) (p : Posted) (core : Core) → Tells (turns.posts_as queue system t note p core)
+  posts_as-tells note (Woke y word) core =
+      tells-then (says (row.Wake y note word) (with_note note (after_post (Woke y word) (note_of core note)) core)) (turns.wakes queue system t y)
+      refl (λ k. wakes-tells y k)
+  posts_as-tells note (Held word) core = refl
+
+  posts-tells : (note badge : ℕ) (core : Core) → Tells (turns.posts queue system t note badge core)
+  posts-tells note badge core = posts_as-tells note (posted badge (note_of core note)) core
+
+  -- the one row that tells a signal for another core: one for the core's own is a post
+  signals-tells : (y note badge : ℕ) (core : Core) → Tells (turns.signals queue system c t y note badge core)
+  signals-tells y note badge core = by ((note_part system note).core == c) (turns.posts queue system t note badge core) (posts-tells note badge core)
+    where
+      sent : Turn
+      sent = record { core = core; rows = []; mails = turns.mail_to system c t note badge ∷ [] }
+
+      by : (b : Bool) (posts : Turn) → Tells posts →
+          (cond b posts sent).mails
+          ≡ cons_option (cond b None (Some (turns.mail_to system c t note badge))) (told (cond b posts sent).rows)
+      by true posts h = h
+      by false posts h = refl
+
+  waits_as-tells : (y note : ℕ) (w : Waited) (core : Core) → Tells (turns.waits_as system t y note w core)
+  waits_as-tells y note (Got word) core =
+      tells-then (says (row.Got y note word) (turns.given t y (with_note note (after_wait (Got word) (turns.queued system y) (note_of core note)) core)))
+      (turns.moves_on system t y) refl (λ k. moves_on-tells y k)
+  waits_as-tells y note Blocks core = refl
+
+  takes_effect-tells : (y : ℕ) (item : Option Item) (core : Core) → Tells (turns.takes_effect queue system c t y item core)
+  takes_effect-tells y (Some (Signal note badge)) core =
+      tells-then (turns.signals queue system c t y note badge core) (turns.moves_on system t y) (signals-tells y note badge core) (λ k. moves_on-tells y k)
+  takes_effect-tells y (Some (Wait note)) core = waits_as-tells y note (waited (note_of core note)) core
+  takes_effect-tells y (Some (Compute ticks)) core = moves_on-tells y core
+  takes_effect-tells y (Some Yield) core = moves_on-tells y core
+  takes_effect-tells y None core = refl
+
+  may_stop-tells : (y using : ℕ) (cause : AfterItem) (core : Core) → Tells (turns.may_stop queue system t y using cause core)
+  may_stop-tells y using after.Ends core = refl
+  may_stop-tells y using after.Blocks core = refl
+  may_stop-tells y using after.Yields core = refl
+  may_stop-tells y using after.GoesOn core =
+      tells-either (using == head_amount (turns.its_context system y core)) _ (silent core) refl refl
+
+  after_count-tells : (y using : ℕ) (core : Core) → Tells (turns.after_count queue system c t y using core)
+  after_count-tells y using core =
+      tells-either ((thread_of core y).place.left == 0)
+      (turns.finishes queue system c t y using (turns.item_of system y core) core) (turns.may_stop queue system t y using after.GoesOn core)
+      (
+      tells-then (turns.takes_effect queue system c t y (turns.item_of system y core) core)
+      (turns.may_stop queue system t y using (turns.after_item system y (turns.item_of system y core) core))
+      (takes_effect-tells y (turns.item_of system y core) core)
+      (λ k. may_stop-tells y using (turns.after_item system y (turns.item_of system y core) core) k)
+      )
+      (may_stop-tells y using after.GoesOn core)
+
+  tick_of-tells : (o : Option Chosen) (core : Core) → Tells (turns.tick_of queue system c t o core)
+  tick_of-tells None core = refl
+  tick_of-tells (Some chosen) core = after_count-tells chosen.thread (chosen.using + 1) (turns.counts chosen core)
+
+  arrives-tells : (mail : Mail) (core : Core) → Tells (turns.arrives queue system t mail core)
+  arrives-tells mail core =
+      tells-then (says (row.Arrive mail.note mail.badge mail.maker) core) (turns.posts queue system t mail.note mail.badge)
+      refl (λ k. posts-tells mail.note mail.badge k)
+
+  orders_running-tells : (order : Order) (o : Option Chosen) (core : Core) → Tells (turns.orders_running queue system t order o core)
+  orders_running-tells order None core = refl
+  orders_running-tells order (Some chosen) core =
+      tells-either ((turns.part_of system chosen.thread).context == order.context) _ (silent (turns.applied t order core)) refl refl
+
+  obeys-tells : (order : Order) (core : Core) → Tells (turns.obeys queue system t order core)
+  obeys-tells order core =
+      tells-then (says (row.Order order.context) core) (turns.orders_running queue system t order core.running)
+      refl (λ k. orders_running-tells order core.running k)
+
+  releases-tells : (core : Core) → Tells (turns.releases queue system t core)
+  releases-tells core = tells-each (turns.released queue system) (λ due k. refl) (filter (is_due t) core.releases) _
+
+  preempts_by-tells : (o : Option Chosen) (best : Option Queued) (core : Core) → Tells (turns.preempts_by queue system t o best core)
+  preempts_by-tells (Some chosen) (Some best) core =
+      tells-either (nat_lt (turns.part_of system chosen.thread).priority best.priority) _ (silent core) refl refl
+  preempts_by-tells (Some chosen) None core = refl
+  preempts_by-tells None best core = refl
+
+  chooses_of-tells : (o : Option Chosen) (best : Option Queued) (core : Core) → Tells (turns.chooses_of queue system t o best core)
+  chooses_of-tells (Some chosen) best core = refl
+  chooses_of-tells None None core = refl
+  chooses_of-tells None (Some best) core = refl
+
+  pub turn-tells : (mails : List Mail) (core : Core) → Tells (turns.turn_with queue system c t mails core)
+  turn-tells mails core =
+      tells-then preempted (turns.chooses queue system t)
+      (
+      tells-then released (turns.preempts queue system t)
+      (
+      tells-then ordered (turns.releases queue system t)
+      (
+      tells-then arrived (each (turns.obeys queue system t) orders)
+      (
+      tells-then (turns.tick queue system c t core) (each (turns.arrives queue system t) mails)
+      (tick_of-tells core.running core)
+      (λ k. tells-each (turns.arrives queue system t) arrives-tells mails k)
+      )
+      (λ k. tells-each (turns.obeys queue system t) obeys-tells orders k)
+      )
+      releases-tells
+      )
+      (λ k. preempts_by-tells k.running (queue.best k.ready) k)
+      )
+      (λ k. chooses_of-tells k.running (queue.best k.ready) k)
+    where
+      orders : List Order
+      orders = filter (is_for_now system c t) system.orders
+
+      arrived : Turn
+      arrived = turns.tick queue system c t core followed_by each (turns.arrives queue system t) mails
+
+      ordered : Turn
+      ordered = arrived followed_by each (turns.obeys queue system t) orders
+
+      released : Turn
+      released = ordered followed_by turns.releases queue system t
+
+      preempted : Turn
+      preempted = released followed_by turns.preempts queue system t
+
+  -- rows tell as what they say does
+  pub told-stamped : (whats : List What) → told_mails system (stamped c t whats) ≡ told whats
+  told-stamped [] = refl
+  told-stamped (what ∷ whats) = ap (cons_option (mail_told system c t what)) (told-stamped whats)
