@@ -17,13 +17,12 @@ use Rattle.mcs_verdict.specs.Rounds.{first_wait, called_of}
 use Rattle.mcs_verdict.specs.Misses.{is_reached, overdue_at, first_word, overdue, was_activated, never}
 use Rattle.mcs_verdict.specs.Findings.{finding, InOrder, UpTo, past_of, found_at, found_in}
 use Rattle.mcs_verdict.specs.Account.{total_at}
-use Rattle.mcs_verdict.proofs.Kept.{account_at}
+use Rattle.mcs_verdict.proofs.Kept.{account_at, overdue-kept, never-kept}
 use Rattle.mcs_verdict_laws.specs.laws.Horizons.{is_taken_by_another, TakesItAlone, is_miss_of, has_miss_of, OverdueStays, ActivationStays}
 use Rattle.mcs_verdict_laws.proofs.Steps.{contrary}
 use Rattle.mcs_verdict_laws.proofs.Order.{in_order}
 use Rattle.mcs_verdict_laws.proofs.Standings.{past-append}
 use Rattle.mcs_verdict_laws.proofs.Reached.{later}
-use Rattle.mcs_verdict_laws.proofs.Kept.{overdue-kept, never-kept}
 use Rattle.mcs_verdict_laws.proofs.Fits.{AreFit, fit-later}
 use Rattle.mcs_verdict_laws.proofs.Fitting.{fitting}
 use Rattle.mcs_verdict_laws.proofs.Due.{due_at, due-later}
@@ -162,12 +161,12 @@ module _ (system : System) (well : IsWellFormed system) (x h k : ℕ) (l : h ≤
       let P : List Row → Type 0 =
       λ rows. was_activated waits (called_of system x rows) (first_word system x rows) (total_at h (kept rows).standing (kept rows)) ≡ true
       in
-      sym (never-kept system x (past k) k (up k))
+      sym (never-kept system x k (past k) (up k))
       ∙ never-none x deadline (once h h) (once k k)
       (λ was. once-later h k waits (called_of system x (past k)) (first_word system x (past k)) (kept (past k)) l
       (subst P (past-later rest)
       (once-stays system x h (past h) rest.rows rest.moments rest.order rest.fits (alone-later rest alone) was)))
-      (never-kept system x (past h) h (up h) ∙ none)
+      (never-kept system x h (past h) (up h) ∙ none)
 
 pub overdue-stays : OverdueStays
 overdue-stays system well thread earlier later l alone none late = overdue-before system well thread earlier later l alone none late

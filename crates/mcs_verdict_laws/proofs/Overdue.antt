@@ -28,12 +28,11 @@ use Rattle.mcs_verdict.specs.Findings.{finding, UpTo, InOrder, past_of, found_at
 use Rattle.mcs_verdict.specs.Account.{stood_since, told, given, seen_own, set_for, is_about, activated_since, overdue_from, overdue_by}
 use Rattle.mcs_verdict.proofs.Accounts.{same, own}
 use Rattle.mcs_verdict.proofs.Watches.{since-up_to}
-use Rattle.mcs_verdict.proofs.Kept.{account_at}
+use Rattle.mcs_verdict.proofs.Kept.{account_at, job-kept}
 use Rattle.mcs_verdict_laws.specs.laws.Horizons.{is_taken_by_another, TakesItAlone, is_miss_of, has_miss_of}
 use Rattle.mcs_verdict_laws.proofs.Entering.{equal}
 use Rattle.mcs_verdict_laws.proofs.Steps.{contrary, ends_round}
 use Rattle.mcs_verdict_laws.proofs.Fits.{JustEnded, Fits, AreFit}
-use Rattle.mcs_verdict_laws.proofs.Kept.{job-kept}
 use Rattle.mcs_verdict_laws.proofs.Due.{due_in, due_at, yet-set, set-since, due-word, due-later, due-told, given-under, given-begins, stopped-not_done, takes, takes_first, word-stays, takes-none, takes-another, word-none, since-due}
 
 -- a finding among others
