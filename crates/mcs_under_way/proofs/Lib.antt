@@ -1,2 +1,5 @@
 pub mod Telling
 pub mod Clock
+pub mod Seen
+pub mod Grouped
+mod Worked

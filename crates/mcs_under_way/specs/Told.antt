@@ -1,5 +1,5 @@
 -- The signals that rows tell, and those of them that are under way.
-use Rattle.std.specs.Prelude.{ℕ, Bool, ◌==◌, nat_le, if◌then◌else◌, List, filter, filter_map, Option, Some, None}
+use Rattle.std.specs.Prelude.{ℕ, Bool, ◌^◌, ◌==◌, nat_le, if◌then◌else◌, List, filter, filter_map, Option, Some, None}
 use Rattle.mcs_ticks.specs.declared.row.Row.{Row}
 use Rattle.mcs_ticks.specs.declared.row.What.{What}
 use Rattle.mcs_ticks.specs.declared.row.What.TheVariants as what
@@ -36,3 +36,7 @@ arrives_from t mail = nat_le t mail.arrives
 -- of the signals that the rows before moment t tell, those that are under way then
 abbrev pub under_way : System → ℕ → List Row → List Mail
 under_way system t rows = filter (arrives_from t) (told_mails system rows)
+
+-- whether it arrives at a moment that can be told, which each signal of a run does
+abbrev pub can_arrive : Mail → Bool
+can_arrive mail = nat_le mail.arrives (2 ^ 42)

@@ -1,6 +1,10 @@
 //! The signals under way between cores, as the rows of a schedule tell them.
 #![tactic(auto)]
 
+mod later;
 mod laws;
+mod signals;
+mod told;
 
 pub use laws::{signals_are_told, under_way_is_told};
+pub use signals::UnderWay;
