@@ -1,14 +1,14 @@
 -- Values that were worked by hand.
-use Rattle.std.specs.Prelude.{◌≡◌, ℕ, ◌+◌, true, false, List, [], ◌∷◌, Some, None, refl}
+use Rattle.std.specs.Prelude.{◌≡◌, ℕ, ◌+◌, true, false, [], ◌∷◌, Some, None, refl}
 use Rattle.mcs_ticks.specs.declared.row.Row.{Row}
 use Rattle.mcs_ticks.specs.declared.row.What.{What}
 use Rattle.mcs_ticks.specs.declared.row.What.TheVariants as row
 use Rattle.mcs_mail.specs.declared.mail.Mail.{Mail}
 use Rattle.mcs_control.specs.declared.config.Mode.TheVariants.{Sporadic}
-use Rattle.mcs_script.specs.declared.item.Item.TheVariants.{Compute, Signal, Wait}
+use Rattle.mcs_script.specs.declared.item.Item.TheVariants.{Compute, Signal}
 use Rattle.mcs_system.specs.System.{System}
-use Rattle.mcs_core.specs.Clock.{clock, world, rows_of}
-use Rattle.mcs_under_way.specs.Told.{mail_of, told_mails, under_way}
+use Rattle.mcs_core.specs.Clock.{clock, world}
+use Rattle.mcs_under_way.specs.Told.{mail_of, under_way}
 use Rattle.mcs_under_way.specs.Group.{for_group, AreLater}
 
 -- core 0 signals notification 0, at home on core 1, after two ticks, and notification 1, its own, a tick later; three ticks lie between the cores

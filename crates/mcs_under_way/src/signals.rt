@@ -48,6 +48,7 @@ impl UnderWay {
         ensures told { OnOk result ((t : ℕ) (past : List TheRow) → self.old ≡ under_way system.now t past → t ≤ row.now.moment →
             row.now.moment ≤ 2 ^ 40 → self.new ≡ under_way system.now t (past ++ row.now ∷ [])) }
     {
+        // well formed, so that no signal of a run is under way for too long
         let _parts = system.parts();
         if let Some(mail) = mail_of(system, row) {
             self.mails.push(mail)?;

@@ -12,6 +12,7 @@ pub(crate) fn home_of(system: &System, note: NoteId) -> CoreId
     ensures home { result ≡ (note_part system.now note).core }
     ensures few { result < 64 }
 {
+    // well formed, so that there are at most 64 cores
     let _parts = system.parts();
     system.home_of(note)
 }
