@@ -7,8 +7,8 @@ use mcs_mail::Mail;
 use mcs_system::System;
 use mcs_ticks::{Limits, Tick};
 
-// Whether the signals for a group of cores are the same in both lists, but in the latter later by so many ticks.
-pub(crate) fn are_later(
+/// Whether the signals for a group of cores are the same in both lists, but in the latter later by so many ticks.
+pub fn are_later(
     system: &System,
     group: &[bool; Limits::CORES],
     by: u64,

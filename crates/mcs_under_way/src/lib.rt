@@ -6,5 +6,6 @@ mod laws;
 mod signals;
 mod told;
 
+pub use later::are_later;
 pub use laws::{signals_are_told, under_way_is_told};
 pub use signals::UnderWay;

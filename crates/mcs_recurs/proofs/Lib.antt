@@ -1,0 +1,5 @@
+pub mod Again
+pub mod Marking
+pub mod Rows
+pub mod Recurring
+pub mod Schedule

@@ -1,0 +1,4 @@
+pub mod Snapshot
+pub mod Told
+pub mod Period
+pub mod Schedule

@@ -1,0 +1,56 @@
+ghost use Rattle.std.specs.Prelude.{◌≡◌};
+
+use mcs_image::CoreImage;
+use mcs_mail::Mail;
+use mcs_ticks::Tick;
+use std::marker::Model;
+
+/// All cores of a system before one moment, in plain lists, and the signals that are under way between them then.
+#[derive(Debug, Drop)]
+pub struct Snapshot {
+    moment: Tick,
+    cores: Vec<CoreImage>,
+    mails: Vec<Mail>,
+}
+
+impl Model for Snapshot {
+    ghost use Rattle.mcs_recurs.specs.Snapshot.{Snapshot as TheSnapshot};
+
+    ghost Value = { TheSnapshot };
+
+    ghost view = { λ a. record { moment = a.moment; each = a.cores.items; mails = a.mails.items } };
+}
+
+impl Snapshot {
+    /// The cores before a moment, in order of their numbers, and the signals that are under way then, in order of making.
+    pub fn new(moment: Tick, cores: Vec<CoreImage>, mails: Vec<Mail>) -> Self
+        ensures { result ≡ record { moment = moment; each = cores.items; mails = mails.items } }
+    {
+        Snapshot {
+            moment,
+            cores,
+            mails,
+        }
+    }
+
+    /// The moment before which the cores stood so.
+    pub fn moment(&self) -> Tick
+        ensures { result ≡ self.now.moment }
+    {
+        self.moment
+    }
+
+    /// The cores, in order of their numbers.
+    pub(crate) fn cores(&self) -> &[CoreImage]
+        ensures { result.now ≡ self.now.each }
+    {
+        self.cores.as_slice()
+    }
+
+    /// The signals under way, in order of making.
+    pub(crate) fn mails(&self) -> &[Mail]
+        ensures { result.now ≡ self.now.mails }
+    {
+        self.mails.as_slice()
+    }
+}
