@@ -31,7 +31,8 @@ pub(crate) struct Account {
     pub total: Stood,
 }
 
-fn first_wait(part: &ThreadPart) -> Option<NoteId>
+/// The notification on which the thread's script waits first, where it begins with a wait.
+pub fn first_wait(part: &ThreadPart) -> Option<NoteId>
     ensures { result ≡ first_wait part.now }
 {
     match part.script.get(0) {

@@ -1,9 +1,9 @@
 ghost use Rattle.std.specs.Prelude.{◌≡◌, ◌+◌, ◌<◌, false, length, get_or, IfOk, IsTrue, ◌↔◌};
 ghost use Rattle.mcs_verdict.specs.declared.held.Held.{Held as TheHeld};
-ghost use Rattle.mcs_verdict.specs.Later.{later_moment, IsLaterAccount, IsLaterThread, IsSameWord, IsLaterWord, IsSetWord};
+ghost use Rattle.mcs_verdict.specs.Later.{later_moment, IsLaterAccount, IsLaterThread, IsSameWord, IsLaterWord, IsSetWord, IsBetweenRounds, IsDoneThread};
 
-use crate::Watch;
 use crate::account::Account;
+use crate::{Standing, Watch};
 use mcs_ticks::{NoMemory, NoteId, ThreadId, Tick};
 use std::alloc::Global;
 
@@ -104,5 +104,19 @@ impl Watch {
         ensures unset { result ≡ false → note < length self.now.words → (d : TheHeld) → (get_or self.now.words note d).word ≡ 0 }
     {
         note.0 < self.words.len() && self.words[note.0].word != 0
+    }
+
+    /// Whether no round of the thread is under way. False where there is no such thread.
+    pub fn is_between_rounds(&self, thread: ThreadId) -> bool
+        ensures { IsTrue result ↔ IsBetweenRounds self.now thread }
+    {
+        thread.0 < self.accounts.len() && self.accounts[thread.0].begun.is_none()
+    }
+
+    /// Whether the last round of the thread ended. False where there is no such thread.
+    pub fn is_done(&self, thread: ThreadId) -> bool
+        ensures { IsTrue result ↔ IsDoneThread self.now thread }
+    {
+        thread.0 < self.accounts.len() && self.accounts[thread.0].standing == Standing::Done
     }
 }

@@ -12,6 +12,7 @@ mod laws;
 mod standing;
 mod watch;
 
+pub use account::first_wait;
 pub use all::{find_all, find_unended};
 pub use finding::{Finding, Found};
 pub use job::Job;

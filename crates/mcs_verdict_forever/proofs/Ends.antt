@@ -1,6 +1,6 @@
 -- What horizons tell: where the ends of all the group's threads recur, and nothing is found in the first period, nothing is found ever.
 use Rattle.std.proofs.Common.{◌≡◌, ℕ, zero, suc, ◌+◌, ◌-◌, ◌<◌, ◌≤◌, ◌⊎◌, inl, inr, Bool, true, false, cond, not, ◌&&◌, ◌||◌, List, [], ◌∷◌, ◌++◌, length, get_or, refl, sym, ap, subst, ◌∙◌, Option, Some, None, option_map, arith}
-use Rattle.std.specs.Prelude.{filter, nat_le, ◌==◌, is_some}
+use Rattle.std.specs.Prelude.{filter, nat_lt, ◌==◌, is_some}
 use Rattle.std.proofs.lemmas.Bool.Decides.{nat_tests}
 use Rattle.std.proofs.lemmas.List.Elements.{filter-append}
 use Rattle.mcs_ticks.specs.declared.row.Row.{Row}
@@ -26,44 +26,15 @@ use Rattle.mcs_verdict.specs.Account.{total_at, overdue_from, overdue_by}
 use Rattle.mcs_verdict.specs.Later.{IsLaterAccount, later_moment}
 use Rattle.mcs_verdict.proofs.Kept.{account_at, overdue-kept, never-kept}
 use Rattle.mcs_verdict_laws.proofs.Order.{in_order}
+use Rattle.mcs_verdict_laws.proofs.Between.{no-deadline, first-none, second-none}
 use Rattle.mcs_forever.specs.Recurs.{Shifts, shift_of}
 use Rattle.mcs_verdict_forever.specs.Later.{later_finding}
 use Rattle.mcs_verdict_forever.specs.Recurs.{past_before, ThreadIsLater, WordIsNotSet, FirstWordRecurs, ThreadIsIdle, EndRecurs, FindingsRecur}
-use Rattle.mcs_verdict_forever.specs.laws.Repeats.{found_up_to, all_found, NothingIsEverFound}
+use Rattle.mcs_verdict_forever.specs.laws.Repeats.{found_before, all_found, NothingIsEverFound}
 use Rattle.mcs_verdict_forever.proofs.Alike.{Alike, held-known}
 use Rattle.mcs_verdict_forever.proofs.Moments.{Later, Set, account-kept, alike, later-thread}
 use Rattle.mcs_verdict_forever.proofs.Carried.{active-more, stays}
 use Rattle.mcs_verdict_forever.proofs.Findings.{yet-none, waits-first, word-none, overdue-repeats, nothing-is-found}
-
--- a thread without a deadline
-no-overdue : (h x begun : ℕ) (stood : Stood) (activated : Option ℕ) → overdue_at h x 0 begun stood activated ≡ None
-no-overdue h x begun stood None = refl
-no-overdue h x begun stood (Some activated) = refl
-
-no-deadline : (system : System) (past : List Row) (h x : ℕ) → (thread_part system x).deadline ≡ 0 → unended system past h x ≡ None
-no-deadline system past h x e = ap (λ found. first_of found (never system past h x)) (by (begun_of system x past)) ∙ ap (λ deadline. never_at x deadline once) e
-  where
-    once : Bool
-    once = was_activated (first_wait (thread_part system x)) (called_of system x past) (first_word system x past) (stood_in x past 0 h)
-
-    by : (begun : Option ℕ) → overdue_since system past h x begun ≡ None
-    by None =
-        ap (λ deadline. overdue_at h x deadline h (stood_in x past h h) yet) e ∙ no-overdue h x h (stood_in x past h h) yet
-      where
-        yet : Option ℕ
-        yet = yet_to_begin (standing_at h None (telling x past)) (first_word system x past)
-    by (Some from) =
-        ap (λ deadline. overdue_at h x deadline from (stood_in x past from h) (activated system x past from h)) e
-        ∙ no-overdue h x from (stood_in x past from h) (activated system x past from h)
-
--- nothing is found of either
-first-none : (a b : Option Finding) → first_of a b ≡ None → a ≡ None
-first-none None b e = refl
-first-none (Some found) b e = cc
-
-second-none : (a b : Option Finding) → first_of a b ≡ None → b ≡ None
-second-none None b e = e
-second-none (Some found) b e = cc
 
 -- once activated
 never-none : (x deadline : ℕ) (once again : Bool) → (once ≡ true → again ≡ true) → never_at x deadline once ≡ None → never_at x deadline again ≡ None
@@ -197,7 +168,7 @@ module _ (system : System) (group : ℕ → Bool) (shifts : Shifts) (from : ℕ)
             ∙ ap (λ begun. overdue_from h x (first_word system x (past_before system (suc h))) begun first) begun
             ∙ ap (overdue_at h x first.deadline h no_ticks) (yet h l)
 
-    end-again : EndRecurs system d from x → (h : ℕ) → from ≤ h → unended system (past h) h x ≡ None → unended system (past (h + d)) (h + d) x ≡ None
+    pub end-again : EndRecurs system d from x → (h : ℕ) → from ≤ h → unended system (past h) h x ≡ None → unended system (past (h + d)) (h + d) x ≡ None
     end-again (inl e) h l none = no-deadline system (past (h + d)) (h + d) x e
     end-again (inr (inl later)) h l none = later-again later.0 later.1 h l none
     end-again (inr (inr idle)) h l none = idle-again idle h l none
@@ -276,26 +247,29 @@ nothing-is-ever-found system group shifts from well recur ends first horizon l =
         filter (of_group system group) (found_in system [] (schedule system h)) ++ filter (of_group system group) (found_at_end system (past_of [] (schedule system h)) h 0 system.threads) ≡ []
     split h e = sym (filter-append (of_group system group) (found_in system [] (schedule system h)) (found_at_end system (past_of [] (schedule system h)) h 0 system.threads)) ∙ e
 
-    rows : found_up_to system group (from + shifts.by) ≡ []
-    rows = first-empty _ _ (split (from + shifts.by) (first (from + shifts.by) (omega arith) (omega arith)))
-
     some : 1 ≤ shifts.by
     some = recur.recurs.some
 
+    rows : found_before system group (from + shifts.by) ≡ []
+    rows =
+        let last : suc (from + shifts.by - 1) ≡ from + shifts.by = omega (arith, some) in
+        let P : ℕ → Type 0 = λ n. found_before system group n ≡ [] in
+        subst P last (first-empty _ _ (split (from + shifts.by - 1) (first (from + shifts.by - 1) (omega (arith, some)) (omega (arith, some)))))
+
     at-end : (n i j h : ℕ) → 0 + i ≡ j → i < length system.threads → group (core_of system (get_or system.threads i no_thread)) ≡ true → h < n → from ≤ h → unended system (past_of [] (schedule system h)) h j ≡ None
     at-end zero i j h e m own k l = absurd (omega (arith, k))
-    at-end (suc n) i j h e m own k l = by (at-end n i j (h - shifts.by) e m own) (nat_le h (from + shifts.by)) refl
+    at-end (suc n) i j h e m own k l = by (at-end n i j (h - shifts.by) e m own) (nat_lt h (from + shifts.by)) refl
       where
         same : i ≡ j
         same = omega (arith, e)
 
-        by : (h - shifts.by < n → from ≤ h - shifts.by → unended system (past_of [] (schedule system (h - shifts.by))) (h - shifts.by) j ≡ None) → (b : Bool) → nat_le h (from + shifts.by) ≡ b →
+        by : (h - shifts.by < n → from ≤ h - shifts.by → unended system (past_of [] (schedule system (h - shifts.by))) (h - shifts.by) j ≡ None) → (b : Bool) → nat_lt h (from + shifts.by) ≡ b →
             unended system (past_of [] (schedule system h)) h j ≡ None
         by q true f =
-            let less : h ≤ from + shifts.by = grind (arith, nat_tests) in
+            let less : h < from + shifts.by = grind (arith, nat_tests) in
             to-none system group (past_of [] (schedule system h)) h 0 system.threads (second-empty _ _ (split h (first h l less))) i j e m own
         by q false f =
-            let more : from + shifts.by < h = grind (arith, nat_tests) in
+            let more : from + shifts.by ≤ h = grind (arith, nat_tests) in
             let g : h - shifts.by + shifts.by ≡ h = omega (arith, more) in
             let P : ℕ → Type 0 = λ h. unended system (past_of [] (schedule system h)) h j ≡ None in
             let known : j < length system.threads = omega (arith, same, m) in

@@ -105,7 +105,7 @@ job-tests-are-forever system group shifts from well recur test timeless first ho
         by : (t - shifts.by < n → Pass (jobs_at_moment system group (t - shifts.by))) → (b : Bool) → nat_lt t (from + shifts.by) ≡ b → Pass (jobs_at_moment system group t)
         by i true e =
             let less : t < from + shifts.by = grind (arith, nat_tests) in
-            all-at system group well (λ job. test job ≡ true) (suc (from + shifts.by)) t (omega (arith, less)) first
+            all-at system group well (λ job. test job ≡ true) (from + shifts.by) t less first
         by i false e =
             let m : from + shifts.by ≤ t = grind (arith, nat_tests) in
             let f : t - shifts.by + shifts.by ≡ t = omega (arith, m) in
@@ -116,10 +116,10 @@ job-tests-are-forever system group shifts from well recur test timeless first ho
 
 -- the findings before a moment are those of the moments before it
 module _ (system : System) (group : ℕ → Bool) (well : IsWellFormed system) where
-  abbrev found_before : ℕ → List Found
+  abbrev pub found_before : ℕ → List Found
   found_before t = filter (λ (found : Found). group found.core) (found_in system [] (clock system t).rows)
 
-  found-next : (t : ℕ) → found_before (suc t) ≡ found_before t ++ found_at_moment system group t
+  pub found-next : (t : ℕ) → found_before (suc t) ≡ found_before t ++ found_at_moment system group t
   found-next t =
       ap (λ rows. filter (λ (found : Found). group found.core) (found_in system [] rows)) (rows-clock system (takes-time system well) t)
       ∙ ap (filter (λ (found : Found). group found.core)) (found_in-append system [] (clock system t).rows (rows_at system t))
@@ -171,7 +171,7 @@ nothing-is-found system group shifts from well recur first horizon = none-before
         by : (t - shifts.by < n → found_at_moment system group (t - shifts.by) ≡ []) → (b : Bool) → nat_lt t (from + shifts.by) ≡ b → found_at_moment system group t ≡ []
         by i true e =
             let less : t < from + shifts.by = grind (arith, nat_tests) in
-            none-at system group well (suc (from + shifts.by)) t (omega (arith, less)) first
+            none-at system group well (from + shifts.by) t less first
         by i false e =
             let m : from + shifts.by ≤ t = grind (arith, nat_tests) in
             let f : t - shifts.by + shifts.by ≡ t = omega (arith, m) in

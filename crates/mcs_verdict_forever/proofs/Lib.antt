@@ -5,4 +5,5 @@ pub mod Carried
 pub mod Findings
 pub mod Ends
 pub mod After
+pub mod Never
 pub mod Worked

@@ -93,13 +93,13 @@ fourth = refl
 fifth : found_at_moment (worked 6) all 31 ≡ record { moment = 31; core = 0; finding = Miss 1 5 7 6 24 0 (parts 4 3 0) } ∷ []
 fifth = refl
 
--- with one of 7 nothing is found up to 25, and so nothing ever
+-- with one of 7 nothing is found before 25, and so nothing ever
 pub nothing : IsWellFormed (worked 7) → (horizon : ℕ) → found_up_to (worked 7) all horizon ≡ []
 nothing well horizon = nothing-is-found (worked 7) all shifts 13 well (findings-recur 7) refl horizon
 
 -- from 13 on it is found of no horizon, either: neither H nor L is overdue at one of the first period
-at-each : AllIn (λ h. all_found (worked 7) all h ≡ []) 13 13
-at-each = (refl, (refl, (refl, (refl, (refl, (refl, (refl, (refl, (refl, (refl, (refl, (refl, (refl, tt)))))))))))))
+at-each : AllIn (λ h. all_found (worked 7) all h ≡ []) 13 12
+at-each = (refl, (refl, (refl, (refl, (refl, (refl, (refl, (refl, (refl, (refl, (refl, (refl, tt))))))))))))
 
 ends : (x : ℕ) → x < 2 → ThreadIsLater (worked 7) 12 13 x × FirstWordRecurs (worked 7) 12 13 x
 ends zero l = (later 7 0 l, λ note e. cc)
@@ -109,18 +109,18 @@ ends (suc (suc x)) l = absurd (omega (arith, l))
 pub nothing-at-all : IsWellFormed (worked 7) → (horizon : ℕ) → 13 ≤ horizon → all_found (worked 7) all horizon ≡ []
 nothing-at-all well =
     nothing-is-ever-found (worked 7) all shifts 13 well (findings-recur 7) (λ x known own. inr (inl (ends x known)))
-    (λ h l m. between (λ h. all_found (worked 7) all h ≡ []) 13 13 h at-each l (omega (arith, m)))
+    (λ h l m. between (λ h. all_found (worked 7) all h ≡ []) 12 13 h at-each l (omega (arith, m)))
 
--- which its first and its last horizon tell, too: no script begins with a wait
+-- which two horizons tell, too: no script begins with a wait
 waits-none : (x note : ℕ) → x < 2 → first_wait (thread_part (worked 7) x) ≡ Some note → ⊥
 waits-none zero note l e = cc
 waits-none (suc zero) note l e = cc
 waits-none (suc (suc x)) note l e = absurd (omega (arith, l))
 
-pub nothing-after : IsWellFormed (worked 7) → (horizon : ℕ) → 13 ≤ horizon → all_found (worked 7) all horizon ≡ []
+pub nothing-after : IsWellFormed (worked 7) → (horizon : ℕ) → 12 ≤ horizon → all_found (worked 7) all horizon ≡ []
 nothing-after well =
-    nothing-is-found-after (worked 7) all shifts 13 well (findings-recur 7) (λ x known own. inr (inl (ends x known)))
-    (λ x known own deadline. takes-alone (worked 7) well x (λ note e other place item. absurd (waits-none x note known e)) 13 25) refl refl
+    nothing-is-found-after (worked 7) all shifts 13 well (findings-recur 7) (λ x known own. inr (inl (ends x known))) 12 24 (omega arith) (omega arith)
+    (λ x known own deadline. takes-alone (worked 7) well x (λ note e other place item. absurd (waits-none x note known e)) 12 24) refl refl
 
 -- a thread that is done is idle: it is no more overdue than it was
 idle : ThreadIsIdle ended 1 2 0
@@ -128,7 +128,7 @@ idle = record { told = (refl, (refl, (refl, (refl, tt)))); begun = λ d. refl; w
 
 pub at-rest : IsWellFormed ended → (horizon : ℕ) → 2 ≤ horizon → all_found ended all horizon ≡ []
 at-rest well = nothing-is-ever-found ended all at_rest 2 well done (λ x known own. inr (inr (let P : ℕ → Type 0 = λ x. ThreadIsIdle ended 1 2 x in subst P (only x known) idle)))
-    (λ h l m. between (λ h. all_found ended all h ≡ []) 2 2 h (refl, (refl, tt)) l (omega (arith, m)))
+    (λ h l m. between (λ h. all_found ended all h ≡ []) 1 2 h (refl, tt) l (omega (arith, m)))
   where
     done : FindingsRecur ended all at_rest 2
     done =

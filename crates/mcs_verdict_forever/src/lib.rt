@@ -5,6 +5,7 @@
 mod laws;
 
 pub use laws::{
-    findings_repeat, job_tests_are_forever, jobs_repeat, nothing_is_ever_found, nothing_is_found,
-    nothing_is_found_after, overdue_repeats,
+    findings_repeat, job_tests_are_forever, jobs_repeat, no_deadline_is_missed, no_signal_is_lost,
+    nothing_is_ever_found, nothing_is_found, nothing_is_found_after, overdue_repeats,
+    thread_is_never_found,
 };

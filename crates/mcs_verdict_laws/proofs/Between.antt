@@ -39,11 +39,11 @@ second-empty [] ys e = e
 second-empty (x ∷ xs) ys e = absurd (cc)
 
 -- nothing is found of either
-first-none : (a b : Option Finding) → first_of a b ≡ None → a ≡ None
+pub first-none : (a b : Option Finding) → first_of a b ≡ None → a ≡ None
 first-none None b e = refl
 first-none (Some found) b e = cc
 
-second-none : (a b : Option Finding) → first_of a b ≡ None → b ≡ None
+pub second-none : (a b : Option Finding) → first_of a b ≡ None → b ≡ None
 second-none None b e = e
 second-none (Some found) b e = absurd (cc)
 
@@ -52,7 +52,7 @@ no-overdue : (h x begun : ℕ) (stood : Stood) (activated : Option ℕ) → over
 no-overdue h x begun stood None = refl
 no-overdue h x begun stood (Some activated) = refl
 
-no-deadline : (system : System) (past : List Row) (h x : ℕ) → (thread_part system x).deadline ≡ 0 → unended system past h x ≡ None
+pub no-deadline : (system : System) (past : List Row) (h x : ℕ) → (thread_part system x).deadline ≡ 0 → unended system past h x ≡ None
 no-deadline system past h x e =
     ap (λ found. first_of found (never system past h x)) (by (begun_of system x past))
     ∙ ap
@@ -66,6 +66,48 @@ no-deadline system past h x e =
     by (Some from) =
         ap (λ deadline. overdue_at h x deadline from (stood_in x past from h) (activated system x past from h)) e
         ∙ no-overdue h x from (stood_in x past from h) (activated system x past from h)
+
+-- a round of a thread that misses its deadline is found on its core
+pub miss-home : (system : System) (x m home core : ℕ) (past : List Row) (what : What) → (ends_round x what ≡ true → core ≡ home)
+    → (f : Finding) → finding system past m what ≡ Some f → is_miss_of x f ≡ true → core ≡ home
+miss-home system x m home core past (row.Round y number response) own f e miss =
+    by (is_above (thread_part system y).deadline (job system past m y number).response) e
+  where
+    told : Finding
+    told =
+        let j = job system past m y number in
+        Miss j.thread j.number j.response (thread_part system y).deadline j.activated j.queued j.stood
+
+    by : (b : Bool)
+        → cond b
+        (Some
+        (Miss y number (job system past m y number).response (thread_part system y).deadline (job system past m y number).activated
+        (job system past m y number).queued (job system past m y number).stood))
+        None ≡ Some f
+        → core ≡ home
+    by true g =
+        let P : Finding → Type 0 = λ f. is_miss_of x f ≡ true in
+        let same :
+        Miss y number (job system past m y number).response (thread_part system y).deadline (job system past m y number).activated
+        (job system past m y number).queued (job system past m y number).stood ≡ f = cc
+        in
+        own (ap (is_miss_of x) same ∙ miss)
+    by false g = absurd (cc)
+miss-home system x m home core past (row.Hold note word) own f e miss = by (leaves (held_of (length system.notes) note past).word word) e
+  where
+    by : (b : Bool) → cond b (Some (Lost note word)) None ≡ Some f → core ≡ home
+    by true g =
+        let same : Lost note word ≡ f = cc in
+        absurd (contrary false refl (ap (is_miss_of x) same ∙ miss))
+    by false g = absurd (cc)
+miss-home system x m home core past (row.Release y) own f e miss = absurd (cc)
+miss-home system x m home core past (row.Run y) own f e miss = absurd (cc)
+miss-home system x m home core past (row.Stop y cause charged until) own f e miss = absurd (cc)
+miss-home system x m home core past (row.Signal y note badge) own f e miss = absurd (cc)
+miss-home system x m home core past (row.Arrive note badge maker) own f e miss = absurd (cc)
+miss-home system x m home core past (row.Wake y note word) own f e miss = absurd (cc)
+miss-home system x m home core past (row.Got y note word) own f e miss = absurd (cc)
+miss-home system x m home core past (row.Order context) own f e miss = absurd (cc)
 
 module _ (group : ℕ → Bool) where
   abbrev mine : List Found → List Found
@@ -117,7 +159,7 @@ module _ (group : ℕ → Bool) where
           ap (λ o. mine (found_at h (core_of system part) o)) nothing
       by false e = apart (unended system past h n) e
 
-  -- a round of a thread that misses its deadline is found on its core
+  -- so where nothing is found on its core
   no-miss-at : (x m core : ℕ) (o : Option Finding) → ((f : Finding) → o ≡ Some f → is_miss_of x f ≡ true → group core ≡ true)
       → mine (found_at m core o) ≡ [] → has_miss_of x (found_at m core o) ≡ false
   no-miss-at x m core None own e = refl
@@ -129,47 +171,6 @@ module _ (group : ℕ → Bool) where
         where
           none : Some found ≡ None → ⊥
           none g = cc
-
-  miss-home : (system : System) (x m home core : ℕ) (past : List Row) (what : What) → (ends_round x what ≡ true → core ≡ home)
-      → (f : Finding) → finding system past m what ≡ Some f → is_miss_of x f ≡ true → core ≡ home
-  miss-home system x m home core past (row.Round y number response) own f e miss =
-      by (is_above (thread_part system y).deadline (job system past m y number).response) e
-    where
-      told : Finding
-      told =
-          let j = job system past m y number in
-          Miss j.thread j.number j.response (thread_part system y).deadline j.activated j.queued j.stood
-
-      by : (b : Bool)
-          → cond b
-          (Some
-          (Miss y number (job system past m y number).response (thread_part system y).deadline (job system past m y number).activated
-          (job system past m y number).queued (job system past m y number).stood))
-          None ≡ Some f
-          → core ≡ home
-      by true g =
-          let P : Finding → Type 0 = λ f. is_miss_of x f ≡ true in
-          let same :
-          Miss y number (job system past m y number).response (thread_part system y).deadline (job system past m y number).activated
-          (job system past m y number).queued (job system past m y number).stood ≡ f = cc
-          in
-          own (ap (is_miss_of x) same ∙ miss)
-      by false g = absurd (cc)
-  miss-home system x m home core past (row.Hold note word) own f e miss = by (leaves (held_of (length system.notes) note past).word word) e
-    where
-      by : (b : Bool) → cond b (Some (Lost note word)) None ≡ Some f → core ≡ home
-      by true g =
-          let same : Lost note word ≡ f = cc in
-          absurd (contrary false refl (ap (is_miss_of x) same ∙ miss))
-      by false g = absurd (cc)
-  miss-home system x m home core past (row.Release y) own f e miss = absurd (cc)
-  miss-home system x m home core past (row.Run y) own f e miss = absurd (cc)
-  miss-home system x m home core past (row.Stop y cause charged until) own f e miss = absurd (cc)
-  miss-home system x m home core past (row.Signal y note badge) own f e miss = absurd (cc)
-  miss-home system x m home core past (row.Arrive note badge maker) own f e miss = absurd (cc)
-  miss-home system x m home core past (row.Wake y note word) own f e miss = absurd (cc)
-  miss-home system x m home core past (row.Got y note word) own f e miss = absurd (cc)
-  miss-home system x m home core past (row.Order context) own f e miss = absurd (cc)
 
   no-miss : (system : System) (x home : ℕ) (past rows : List Row) → group home ≡ true
       → AllByRecursion (λ (r : Row). ends_round x r.what ≡ true → r.core ≡ home) rows → mine (found_in system past rows) ≡ []
@@ -208,6 +209,41 @@ alone-from system x from to (r ∷ rows) l alone =
     by true e = ap (λ b. b && is_taken_by_another x (first_wait (thread_part system x)) r.what) (sym (earlier r.moment e)) ∙ alone.0
     by false e = refl
 
+-- of a thread of which no round missed its deadline up to a horizon, and of which nothing is found there and at an earlier one, nothing is found between
+module _ (system : System) (well : IsWellFormed system) (earlier last m : ℕ) (from : earlier ≤ m) (to : m ≤ last) where
+  -- the rows up to the later horizon begin with those up to this one
+  more-rows : (rows : List Row) × (schedule system last ≡ schedule system m ++ rows)
+  more-rows = let l = later system well 0 (last - m) (suc m) (suc last) (omega (arith, to)) in (l.rows, l.more)
+
+  pub thread-between : (x : ℕ) → ((thread_part system x).deadline ≢ 0 → TakesItAlone system x earlier (schedule system last))
+      → has_miss_of x (found_in system [] (schedule system last)) ≡ false
+      → unended system (past_of [] (schedule system earlier)) earlier x ≡ None → unended system (past_of [] (schedule system last)) last x ≡ None
+      → unended system (past_of [] (schedule system m)) m x ≡ None
+  thread-between x alone missed before after = by ((thread_part system x).deadline == 0) refl
+    where
+      zero-one : (d : ℕ) → (d == 0) ≡ true → d ≡ 0
+      zero-one d e = grind (arith, nat_tests)
+
+      some-one : (d : ℕ) → (d == 0) ≡ false → d ≢ 0
+      some-one d e = grind (arith, nat_tests)
+
+      by : (b : Bool) → ((thread_part system x).deadline == 0) ≡ b → unended system (past_of [] (schedule system m)) m x ≡ None
+      by true e = no-deadline system (past_of [] (schedule system m)) m x (zero-one (thread_part system x).deadline e)
+      by false e =
+          let taken = alone (some-one (thread_part system x).deadline e) in
+          let past = past_of [] (schedule system m) in
+          let more = more-rows in
+          let P : List Row → Type 0 = λ rows. TakesItAlone system x earlier rows in
+          let late : overdue system past m x ≡ None =
+          overdue-stays system well x m last to (alone-from system x earlier m (schedule system last) from taken) missed
+          (first-none (overdue system (past_of [] (schedule system last)) last x) (never system (past_of [] (schedule system last)) last x) after)
+          in
+          let once : never system past m x ≡ None =
+          activation-stays system well x earlier m from (alone-first system x earlier (schedule system m) more.0 (subst P more.1 taken))
+          (second-none (overdue system (past_of [] (schedule system earlier)) earlier x) (never system (past_of [] (schedule system earlier)) earlier x) before)
+          in
+          ap (λ found. first_of found (never system past m x)) late ∙ once
+
 module _ (system : System) (group : ℕ → Bool) (well : IsWellFormed system) (earlier last m : ℕ) (from : earlier ≤ m) (to : m ≤ last) where
   abbrev rows-of : ℕ → List Found
   rows-of n = mine group (found_in system [] (schedule system n))
@@ -222,13 +258,9 @@ module _ (system : System) (group : ℕ → Bool) (well : IsWellFormed system) (
       (found_at_end system (past_of [] (schedule system n)) n 0 system.threads))
       ∙ e
 
-  -- the rows up to the later horizon begin with those up to this one
-  more-rows : (rows : List Row) × (schedule system last ≡ schedule system m ++ rows)
-  more-rows = let l = later system well 0 (last - m) (suc m) (suc last) (omega (arith, to)) in (l.rows, l.more)
-
   rows-none : rows-of last ≡ [] → rows-of m ≡ []
   rows-none e =
-      let more = more-rows in
+      let more = more-rows system well earlier last m from to in
       let before = found_in system [] (schedule system m) in
       let rest = found_in system (past_of [] (schedule system m)) more.0 in
       first-empty (mine group before) (mine group rest)
@@ -239,39 +271,16 @@ module _ (system : System) (group : ℕ → Bool) (well : IsWellFormed system) (
       → ((thread_part system x).deadline ≢ 0 → TakesItAlone system x earlier (schedule system last))
       → found_of system group earlier ≡ [] → found_of system group last ≡ []
       → unended system (past_of [] (schedule system m)) m x ≡ None
-  ends-none x known own alone before after = by ((thread_part system x).deadline == 0) refl
+  ends-none x known own alone before after =
+      thread-between system well earlier last m from to x alone
+      (no-miss group system x (core_of system (thread_part system x)) [] (schedule system last) own (rounds-home system well x (suc last))
+      (first-empty (rows-of last) (end-of last) (apart last after)))
+      (end earlier before) (end last after)
     where
       end : (n : ℕ) → found_of system group n ≡ [] → unended system (past_of [] (schedule system n)) n x ≡ None
       end n e =
           ap (unended system (past_of [] (schedule system n)) n) (omega arith)
           ∙ end-none group system (past_of [] (schedule system n)) n 0 x system.threads (second-empty (rows-of n) (end-of n) (apart n e)) known own
-
-      zero-one : (d : ℕ) → (d == 0) ≡ true → d ≡ 0
-      zero-one d e = grind (arith, nat_tests)
-
-      some-one : (d : ℕ) → (d == 0) ≡ false → d ≢ 0
-      some-one d e = grind (arith, nat_tests)
-
-      by : (b : Bool) → ((thread_part system x).deadline == 0) ≡ b → unended system (past_of [] (schedule system m)) m x ≡ None
-      by true e = no-deadline system (past_of [] (schedule system m)) m x (zero-one (thread_part system x).deadline e)
-      by false e =
-          let taken = alone (some-one (thread_part system x).deadline e) in
-          let past = past_of [] (schedule system m) in
-          let more = more-rows in
-          let P : List Row → Type 0 = λ rows. TakesItAlone system x earlier rows in
-          let missed =
-          no-miss group system x (core_of system (thread_part system x)) [] (schedule system last) own (rounds-home system well x (suc last))
-          (first-empty (rows-of last) (end-of last) (apart last after))
-          in
-          let late : overdue system past m x ≡ None =
-          overdue-stays system well x m last to (alone-from system x earlier m (schedule system last) from taken) missed
-          (first-none (overdue system (past_of [] (schedule system last)) last x) (never system (past_of [] (schedule system last)) last x) (end last after))
-          in
-          let once : never system past m x ≡ None =
-          activation-stays system well x earlier m from (alone-first system x earlier (schedule system m) more.0 (subst P more.1 taken))
-          (second-none (overdue system (past_of [] (schedule system earlier)) earlier x) (never system (past_of [] (schedule system earlier)) earlier x) (end earlier before))
-          in
-          ap (λ found. first_of found (never system past m x)) late ∙ once
 
 pub nothing-between : NothingIsFoundBetween
 nothing-between system group well earlier last alone before after m from to =

@@ -1,10 +1,10 @@
 -- Where a group of cores recurs in what is kept of its rows, what is found in them comes again, without end.
-use Rattle.std.specs.Prelude.{◌≡◌, ◌≢◌, ℕ, ◌+◌, ◌<◌, ◌≤◌, Bool, true, List, [], filter, map, flat_map, length, option_map}
+use Rattle.std.specs.Prelude.{◌≡◌, ◌≢◌, ℕ, suc, ◌+◌, ◌<◌, ◌≤◌, Bool, true, List, [], filter, map, flat_map, length, option_map}
 use Rattle.std.specs.List.{AllByRecursion}
 use Rattle.mcs_ticks.specs.declared.row.Row.{Row}
 use Rattle.mcs_system.specs.System.{System, thread_part, core_of}
 use Rattle.mcs_system.specs.WellFormed.{IsWellFormed}
-use Rattle.mcs_core.specs.Clock.{rows_of, schedule}
+use Rattle.mcs_core.specs.Clock.{clock, rows_of, schedule}
 use Rattle.mcs_laws.specs.Turns.{cores}
 use Rattle.mcs_verdict.specs.declared.finding.Found.{Found}
 use Rattle.mcs_verdict.specs.declared.job.Job.{Job}
@@ -26,6 +26,10 @@ module _ (system : System) where
     abbrev pub found_at_moment : ℕ → List Found
     found_at_moment t = filter (λ (found : Found). group found.core) (found_in system (past_before system t) (rows_at t))
 
+    -- in its rows before moment t
+    abbrev pub found_before : ℕ → List Found
+    found_before t = filter (λ (found : Found). group found.core) (found_in system [] (clock system t).rows)
+
     -- and in its rows up to the horizon
     abbrev pub found_up_to : ℕ → List Found
     found_up_to horizon = filter (λ (found : Found). group found.core) (found_in system [] (schedule system horizon))
@@ -34,12 +38,15 @@ module _ (system : System) where
     abbrev pub all_found : ℕ → List Found
     all_found horizon = filter (λ (found : Found). group found.core) (findings system horizon (schedule system horizon))
 
-    -- the rounds of the group's threads that the rows of moment t end, and that its rows up to the horizon do
+    -- the rounds of the group's threads that the rows of moment t end, that its rows before moment t do, and that those up to the horizon do
     abbrev pub is_of_group : Job → Bool
     is_of_group job = group (core_of system (thread_part system job.thread))
 
     abbrev pub jobs_at_moment : ℕ → List Job
     jobs_at_moment t = filter is_of_group (jobs_in system (past_before system t) (rows_at t))
+
+    abbrev pub jobs_before : ℕ → List Job
+    jobs_before t = filter is_of_group (jobs_in system [] (clock system t).rows)
 
     abbrev pub jobs_up_to : ℕ → List Job
     jobs_up_to horizon = filter is_of_group (jobs_in system [] (schedule system horizon))
@@ -50,11 +57,11 @@ FindingsRepeat =
     (system : System) (group : ℕ → Bool) (shifts : Shifts) (from : ℕ) → IsWellFormed system → FindingsRecur system group shifts from →
     (t : ℕ) → from ≤ t → found_at_moment system group (t + shifts.by) ≡ map (later_found shifts) (found_at_moment system group t)
 
--- where nothing is found up to the end of the first period, nothing is found up to any horizon: no round misses its deadline, and no signal is lost
+-- where nothing is found before the end of the first period, nothing is found up to any horizon: no round misses its deadline, and no signal is lost
 abbrev pub NothingIsFound : Type 0
 NothingIsFound =
     (system : System) (group : ℕ → Bool) (shifts : Shifts) (from : ℕ) → IsWellFormed system → FindingsRecur system group shifts from →
-    found_up_to system group (from + shifts.by) ≡ [] → (horizon : ℕ) → found_up_to system group horizon ≡ []
+    found_before system group (from + shifts.by) ≡ [] → (horizon : ℕ) → found_up_to system group horizon ≡ []
 
 -- a thread of the group that is later is overdue a period later where it is overdue
 abbrev pub OverdueRepeats : Type 0
@@ -74,19 +81,21 @@ NothingIsEverFound =
     (system : System) (group : ℕ → Bool) (shifts : Shifts) (from : ℕ) → IsWellFormed system → FindingsRecur system group shifts from →
     ((thread : ℕ) → thread < length system.threads → group (core_of system (thread_part system thread)) ≡ true →
     EndRecurs system shifts.by from thread) →
-    ((horizon : ℕ) → from ≤ horizon → horizon ≤ from + shifts.by → all_found system group horizon ≡ []) →
+    ((horizon : ℕ) → from ≤ horizon → horizon < from + shifts.by → all_found system group horizon ≡ []) →
     (horizon : ℕ) → from ≤ horizon → all_found system group horizon ≡ []
 
--- and where no other thread takes in that period the word for which one of them waits first, its first and its last horizon alone tell this
+-- and where no other thread takes the word for which one of them waits first, this is told by two horizons alone: one that is not after the first
+-- period's first, and one that is not before its last. So it is at each horizon from the one of the two on
 abbrev pub NothingIsFoundAfter : Type 0
 NothingIsFoundAfter =
     (system : System) (group : ℕ → Bool) (shifts : Shifts) (from : ℕ) → IsWellFormed system → FindingsRecur system group shifts from →
     ((thread : ℕ) → thread < length system.threads → group (core_of system (thread_part system thread)) ≡ true →
     EndRecurs system shifts.by from thread) →
+    (earlier last : ℕ) → earlier ≤ from → from + shifts.by ≤ suc last →
     ((thread : ℕ) → thread < length system.threads → group (core_of system (thread_part system thread)) ≡ true →
-    (thread_part system thread).deadline ≢ 0 → TakesItAlone system thread from (schedule system (from + shifts.by))) →
-    all_found system group from ≡ [] → all_found system group (from + shifts.by) ≡ [] →
-    (horizon : ℕ) → from ≤ horizon → all_found system group horizon ≡ []
+    (thread_part system thread).deadline ≢ 0 → TakesItAlone system thread earlier (schedule system last)) →
+    all_found system group earlier ≡ [] → all_found system group last ≡ [] →
+    (horizon : ℕ) → earlier ≤ horizon → all_found system group horizon ≡ []
 
 -- a round that ended, later as its thread's core is
 abbrev pub later_job_of : System → Shifts → Job → Job
@@ -98,11 +107,11 @@ JobsRepeat =
     (system : System) (group : ℕ → Bool) (shifts : Shifts) (from : ℕ) → IsWellFormed system → FindingsRecur system group shifts from →
     (t : ℕ) → from ≤ t → jobs_at_moment system group (t + shifts.by) ≡ map (later_job_of system shifts) (jobs_at_moment system group t)
 
--- a test of rounds that does not ask when, nor how many there were before, and that all pass up to the end of the first period: all pass it up to
--- any horizon. So the greatest response of each thread up to then is the greatest ever
+-- a test of rounds that does not ask when, nor how many there were before, and that all pass before the end of the first period: all pass it up to
+-- any horizon. So the greatest response of each thread before then is the greatest ever
 abbrev pub JobTestsAreForever : Type 0
 JobTestsAreForever =
     (system : System) (group : ℕ → Bool) (shifts : Shifts) (from : ℕ) → IsWellFormed system → FindingsRecur system group shifts from →
     (test : Job → Bool) → ((job : Job) → test job ≡ true → test (later_job_of system shifts job) ≡ true) →
-    AllByRecursion (λ job. test job ≡ true) (jobs_up_to system group (from + shifts.by)) →
+    AllByRecursion (λ job. test job ≡ true) (jobs_before system group (from + shifts.by)) →
     (horizon : ℕ) → AllByRecursion (λ job. test job ≡ true) (jobs_up_to system group horizon)
