@@ -5,7 +5,7 @@ use mcs_forever::CoreSet;
 use mcs_ticks::{CoreId, Limits};
 
 /// Whether a core is one of the group.
-pub(crate) fn is_own(group: &CoreSet, core: CoreId) -> bool
+pub fn is_own(group: &CoreSet, core: CoreId) -> bool
     ensures { result ≡ has group.now core }
 {
     core.0 < Limits::CORES && group[core.0]

@@ -8,6 +8,7 @@ mod marked;
 mod shifts;
 mod snapshot;
 
+pub use group::is_own;
 pub use laws::rows_tell_turns;
 pub use shifts::Shifts;
 pub use snapshot::Snapshot;

@@ -41,7 +41,7 @@ impl Snapshot {
     }
 
     /// The cores, in order of their numbers.
-    pub(crate) fn cores(&self) -> &[CoreImage]
+    pub fn cores(&self) -> &[CoreImage]
         ensures { result.now ≡ self.now.each }
     {
         self.cores.as_slice()

@@ -1,0 +1,5 @@
+pub mod Flags
+pub mod Quiet
+pub mod Kept
+pub mod Ending
+mod Worked

@@ -1,0 +1,27 @@
+-- What rows did that were read by hand, in the system of mcs_verdict_forever of which each signal but the first is lost: one thread, one notification.
+use Rattle.std.specs.Prelude.{◌≡◌, ℕ, true, false, List, [], ◌∷◌, Some, None, refl}
+use Rattle.mcs_ticks.specs.declared.row.What.{What}
+use Rattle.mcs_ticks.specs.declared.row.What.TheVariants as row
+use Rattle.mcs_ticks.specs.declared.row.Why.TheVariants as why
+use Rattle.mcs_verdict_forever.proofs.Worked.{signals}
+use Rattle.mcs_recurring.specs.Doings.{doings_of}
+
+-- chosen and stopped, the thread ends no round
+chosen : doings_of signals (row.Release 0 ∷ row.Run 0 ∷ row.Stop 0 why.Spent 2 (Some 4) ∷ [])
+    ≡ record { ended = false ∷ []; told = true ∷ []; taken = false ∷ []; held = false ∷ [] }
+chosen = refl
+
+-- its signal, by itself, is not about it
+signalled : doings_of signals (row.Signal 0 0 1 ∷ row.Hold 0 1 ∷ [])
+    ≡ record { ended = false ∷ []; told = false ∷ []; taken = false ∷ []; held = true ∷ [] }
+signalled = refl
+
+-- who takes a word is told of
+took : doings_of signals (row.Got 0 0 1 ∷ [])
+    ≡ record { ended = false ∷ []; told = true ∷ []; taken = true ∷ []; held = false ∷ [] }
+took = refl
+
+-- and so is who ends a round; a row of another number does nothing to these
+ended : doings_of signals (row.Round 0 1 3 ∷ row.Round 1 1 3 ∷ row.Got 1 1 1 ∷ row.Hold 1 1 ∷ [])
+    ≡ record { ended = true ∷ []; told = true ∷ []; taken = false ∷ []; held = false ∷ [] }
+ended = refl

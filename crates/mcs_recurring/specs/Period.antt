@@ -1,0 +1,21 @@
+-- What is kept of a run between two moments.
+use Rattle.std.specs.Prelude.{◌≡◌, ℕ, ◌+◌, List, ◌++◌, map}
+use Rattle.mcs_ticks.specs.declared.row.Row.{Row}
+use Rattle.mcs_ticks.specs.declared.row.What.{What}
+use Rattle.mcs_system.specs.System.{System}
+use Rattle.mcs_core.specs.Clock.{clock}
+use Rattle.mcs_verdict.specs.Watch.{Watch}
+use Rattle.mcs_verdict_forever.specs.Recurs.{watch_before}
+use Rattle.mcs_recurring.specs.Doings.{Doings, doings_of}
+
+-- what rows tell, without where and when
+abbrev pub whats : List Row → List What
+whats rows = map (λ (row : Row). row.what) rows
+
+-- kept of the rows before moment `from`, and of those before `from` + `by`; and what the rows did by which these go on after those
+pub record AreKept (system : System) (by from : ℕ) (before after : Watch) (doings : Doings) : Type 0 where
+  pub earlier : before ≡ watch_before system from
+  pub later : after ≡ watch_before system (from + by)
+  pub between : List Row
+  pub on : (clock system (from + by)).rows ≡ (clock system from).rows ++ between
+  pub done : doings ≡ doings_of system (whats between)

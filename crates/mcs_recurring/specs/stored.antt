@@ -1,0 +1,3 @@
+pub mod Flags
+pub mod Tests
+pub mod Waits

@@ -1,0 +1,94 @@
+ghost use Rattle.std.specs.Prelude.{◌≡◌, ℕ, length, IsTrue};
+ghost use Rattle.mcs_forever.specs.Closed.{has};
+ghost use Rattle.mcs_forever.specs.Recurs.{Shifts, Recurs};
+ghost use Rattle.mcs_verdict_forever.specs.Recurs.{FindingsRecur};
+ghost use Rattle.mcs_recurring.specs.Period.{AreKept};
+ghost use Rattle.mcs_recurring.specs.stored.Tests.{ThreadRecurs, WordRecurs, ThreadsRecur, WordsRecur};
+
+use crate::Doings;
+use crate::group::{has_note, has_thread};
+use mcs_forever::CoreSet;
+use mcs_system::System;
+use mcs_ticks::{NoteId, ThreadId};
+use mcs_verdict::Watch;
+
+// Whether the thread is later, or no round of it ended.
+fn thread_recurs(by: u64, before: &Watch, after: &Watch, doings: &Doings, thread: ThreadId) -> bool
+    ensures { IsTrue result → ThreadRecurs by before.now after.now doings.now thread }
+{
+    after.thread_is_later(before, thread, by) || !doings.ends_round(thread)
+}
+
+// Whether the word is the same, and was set later or is not taken.
+fn word_recurs(by: u64, before: &Watch, after: &Watch, doings: &Doings, note: NoteId) -> bool
+    ensures { IsTrue result → WordRecurs by before.now after.now doings.now note }
+{
+    after.word_is_same(before, note)
+        && (after.word_is_later(before, note, by) || !doings.takes_word(note))
+}
+
+// So it is of each thread on a core of the group.
+fn threads_recur(
+    system: &System,
+    group: &CoreSet,
+    by: u64,
+    before: &Watch,
+    after: &Watch,
+    doings: &Doings,
+) -> bool
+    ensures { IsTrue result →
+        ThreadsRecur system.now (has group.now) by before.now after.now doings.now (length system.now.threads) }
+{
+    for thread in 0..system.parts().threads.len() {
+        if !has_thread(system, group, ThreadId(thread)) {
+            continue;
+        }
+        if !thread_recurs(by, before, after, doings, ThreadId(thread)) {
+            return false;
+        }
+    }
+    true
+}
+
+// And of each notification there.
+fn words_recur(
+    system: &System,
+    group: &CoreSet,
+    by: u64,
+    before: &Watch,
+    after: &Watch,
+    doings: &Doings,
+) -> bool
+    ensures { IsTrue result →
+        WordsRecur system.now (has group.now) by before.now after.now doings.now (length system.now.notes) }
+{
+    for note in 0..system.parts().notes.len() {
+        if !has_note(system, group, NoteId(note)) {
+            continue;
+        }
+        if !word_recurs(by, before, after, doings, NoteId(note)) {
+            return false;
+        }
+    }
+    true
+}
+
+/// Whether what is found in a group's rows recurs, where the group itself does, `by` ticks later: by what was kept before the one moment and before
+/// the other, and by what the rows between did. Then each missed deadline and each lost signal comes again, and no other comes. False says nothing.
+pub fn findings_recur(
+    system: &System,
+    group: &CoreSet,
+    by: u64,
+    before: &Watch,
+    after: &Watch,
+    doings: &Doings,
+) -> bool
+    ensures { IsTrue result → (shifts : Shifts) (from : ℕ) → shifts.by ≡ by → Recurs system.now (has group.now) shifts from →
+        AreKept system.now by from before.now after.now doings.now → FindingsRecur system.now (has group.now) shifts from }
+{
+    let _parts = system.parts();
+    if !threads_recur(system, group, by, before, after, doings) {
+        return false;
+    }
+    words_recur(system, group, by, before, after, doings)
+}

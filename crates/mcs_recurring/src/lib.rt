@@ -1,0 +1,13 @@
+//! Whether what is found in the rows of a group of cores recurs between two moments.
+#![tactic(auto)]
+
+mod alone;
+mod doings;
+mod ends;
+mod findings;
+mod group;
+
+pub use alone::{wait_alone, waits_alone};
+pub use doings::Doings;
+pub use ends::{end_recurs, ends_recur};
+pub use findings::findings_recur;
