@@ -1,0 +1,4 @@
+pub mod Compared
+pub mod Sampling
+pub mod Repeats
+pub mod stored

@@ -1,0 +1,30 @@
+-- A search goes on from moment to moment.
+use Rattle.std.specs.Prelude.{◌≡◌, ℕ, ◌<◌, ◌≤◌, ◌⊎◌, false, List, [], ◌++◌, None}
+use Rattle.mcs_ticks.specs.declared.row.Row.{Row}
+use Rattle.mcs_system.specs.System.{System}
+use Rattle.mcs_core.specs.Clock.{core_at, world}
+use Rattle.mcs_core.specs.Quiet.{IsNextBusy}
+use Rattle.mcs_lockstep.specs.Together.{rows_at, rows_before}
+use Rattle.mcs_search.specs.Compared.{Compared, at_moment}
+
+-- from this moment on no core does more than count a tick, and no signal is under way
+pub record IsAtRest (system : System) (clock : ℕ) : Type 0 where
+  pub mails : (world system clock).mails ≡ []
+  pub cores : (core : ℕ) → core < system.cores → IsNextBusy system core clock [] (core_at system (world system clock) core) None
+
+-- the cores stand at the same moment or at a later one, up to which the schedule has no row more
+pub record StandsOn (before after : Compared) : Type 0 where
+  pub same : after ≡ at_moment before after.clock
+  pub later : before.clock ≤ after.clock
+  pub rows : rows_before before.system after.clock ≡ rows_before before.system before.clock
+
+-- the cores have taken their turns of the moment and stand at a later one, up to which the schedule has no row but those of the turns; it is
+-- compared with the moment that was kept, or with the one whose turns they took
+pub record GoesOn (before after : Compared) (old new : List Row) : Type 0 where
+  pub system : after.system ≡ before.system
+  pub horizon : after.horizon ≡ before.horizon
+  pub going : after.failed ≡ false
+  pub later : before.clock < after.clock
+  pub kept : (after.kept ≡ before.kept) ⊎ (after.kept ≡ before.clock)
+  pub rows : new ≡ old ++ rows_at before.system before.clock
+  pub schedule : rows_before before.system after.clock ≡ rows_before before.system before.clock ++ rows_at before.system before.clock

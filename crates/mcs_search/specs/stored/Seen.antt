@@ -1,0 +1,27 @@
+-- What was seen of rows.
+use Rattle.std.specs.Prelude.{◌≡◌, ℕ, List, []}
+use Rattle.mcs_ticks.specs.declared.row.Row.{Row}
+use Rattle.mcs_ticks.specs.declared.row.What.{What}
+use Rattle.mcs_system.specs.System.{System}
+use Rattle.mcs_verdict.specs.Findings.{past_of}
+use Rattle.mcs_verdict.specs.Watch.{watch_of}
+use Rattle.mcs_forever.specs.Marks.{marks_of}
+use Rattle.mcs_under_way.specs.Told.{under_way}
+use Rattle.mcs_recurs.specs.Period.{told_between}
+use Rattle.mcs_recurring.specs.Doings.{doings_of}
+use Rattle.mcs_course.specs.Course.{course_of}
+use Rattle.mcs_lockstep.specs.Together.{rows_before}
+use Rattle.mcs_search.specs.declared.seen.Seen.{Seen}
+
+-- the watch, the signals under way before moment t and what the rows came to are those of these rows, and what rows of late tell is marked, as is
+-- what they did
+pub record IsOfRows (system : System) (before : List Row) (since : List What) (t : ℕ) (seen : Seen) : Type 0 where
+  pub watch : seen.watch ≡ watch_of system (past_of [] before)
+  pub under_way : seen.under_way ≡ under_way system t before
+  pub marks : seen.marks ≡ marks_of system since
+  pub doings : seen.doings ≡ doings_of system since
+  pub course : seen.course ≡ course_of system (past_of [] before)
+
+-- of all rows before a moment, and what is marked of those since the kept one
+abbrev pub HasSeen : System → ℕ → ℕ → Seen → Type 0
+HasSeen system kept clock seen = IsOfRows system (rows_before system clock) (told_between system kept clock) clock seen

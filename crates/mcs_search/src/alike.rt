@@ -1,0 +1,37 @@
+ghost use Rattle.std.specs.Prelude.{◌≡◌, ℕ, ◌<◌, false, map, length, IsTrue};
+ghost use Rattle.mcs_core.specs.Clock.{core_shown, world};
+ghost use Rattle.mcs_forever.specs.Later.{Shift};
+ghost use Rattle.mcs_laws.specs.Turns.{cores};
+ghost use Rattle.mcs_search.specs.Compared.{CoresAreLater};
+
+use mcs_forever::CoreSet;
+use mcs_image::CoreImage;
+use mcs_lockstep::Lockstep;
+use mcs_recurs::is_own;
+use mcs_system::System;
+use mcs_ticks::CoreId;
+
+/// Whether each core of a group may stand again as it stood before some moment, but later: the same thread runs, and each thread stands at
+/// the same item. It takes no memory. Where it answers no, some core of the group is not what it was, later by whatever shift.
+pub(crate) fn may_stand_again(
+    system: &System,
+    lockstep: &Lockstep,
+    before: &[CoreImage],
+    group: &CoreSet,
+) -> bool
+    requires same { lockstep.now.system ≡ system.now }
+    requires going { lockstep.now.failed ≡ false }
+    requires many { length before.now ≡ system.now.cores }
+    ensures { (kept : ℕ) (shifts : ℕ → Shift) → before.now ≡ map (core_shown system.now (world system.now kept)) (cores system.now) →
+        CoresAreLater system.now kept lockstep.now.clock group.now shifts → IsTrue result }
+{
+    for core in 0..before.len() {
+        if !is_own(group, CoreId(core)) {
+            continue;
+        }
+        if !before[core].may_be_again(system, lockstep.state(CoreId(core))) {
+            return false;
+        }
+    }
+    true
+}

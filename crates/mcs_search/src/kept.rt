@@ -1,0 +1,47 @@
+ghost use Rattle.std.specs.Prelude.{◌≡◌, false, IfOk};
+ghost use Rattle.mcs_core.specs.Clock.{world};
+ghost use Rattle.mcs_verdict_forever.specs.Recurs.{past_before, watch_before};
+ghost use Rattle.mcs_course.specs.Course.{course_of};
+ghost use Rattle.mcs_search.specs.stored.Kept.{IsKeptOf};
+
+use crate::seen::Seen;
+use crate::snapshot::snapshot;
+use mcs_course::Course;
+use mcs_lockstep::Lockstep;
+use mcs_recurs::Snapshot;
+use mcs_system::System;
+use mcs_ticks::NoMemory;
+use mcs_verdict::Watch;
+use std::alloc::Global;
+
+/// What there was before the moment with which later ones are compared.
+#[derive(Drop)]
+pub(crate) struct Kept {
+    pub(crate) snapshot: Snapshot,
+    pub(crate) watch: Watch,
+    pub(crate) course: Course,
+}
+
+impl Kept {
+    /// The present moment.
+    pub(crate) fn new(
+        alloc: Global,
+        system: &System,
+        lockstep: &Lockstep,
+        seen: &Seen,
+    ) -> Result<Self, NoMemory>
+        requires same { lockstep.now.system ≡ system.now }
+        requires going { lockstep.now.failed ≡ false }
+        requires mails { seen.now.under_way ≡ (world system.now lockstep.now.clock).mails }
+        requires watch { seen.now.watch ≡ watch_before system.now lockstep.now.clock }
+        requires course { seen.now.course ≡ course_of system.now (past_before system.now lockstep.now.clock) }
+        ensures kept { IfOk result (IsKeptOf system.now) }
+        ensures moment { IfOk result (λ kept. kept.snapshot.moment ≡ lockstep.now.clock) }
+    {
+        Ok(Kept {
+            snapshot: snapshot(alloc, system, lockstep, &seen.under_way)?,
+            watch: seen.watch.copy(alloc)?,
+            course: seen.course.copy(alloc)?,
+        })
+    }
+}

@@ -1,0 +1,16 @@
+//! A search for repetitions: a system is run moment by moment, and groups of its cores are compared with how they stood before a kept moment.
+#![tactic(auto)]
+
+mod alike;
+mod kept;
+mod orders;
+mod repeats;
+mod rest;
+mod sampling;
+mod search;
+mod seen;
+mod snapshot;
+
+pub use repeats::{Repeats, compare, find_repeats, nothing_told};
+pub use sampling::Sampling;
+pub use search::Search;

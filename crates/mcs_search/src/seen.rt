@@ -1,0 +1,111 @@
+ghost use Rattle.std.specs.Prelude.{◌≡◌, ℕ, ◌^◌, ◌≤◌, [], ◌∷◌, ◌++◌, List, length, take, drop, IfOk, OnOk, OnErr};
+ghost use Rattle.std.specs.List.{AllByRecursion};
+ghost use Rattle.mcs_ticks.specs.declared.row.Row.{Row as TheRow};
+ghost use Rattle.mcs_ticks.specs.declared.row.What.{What as TheWhat};
+ghost use Rattle.mcs_system.specs.System.{System as TheSystem};
+ghost use Rattle.mcs_recurs.specs.Schedule.{whats};
+ghost use Rattle.mcs_verdict.specs.Findings.{UpTo, past_of};
+ghost use Rattle.mcs_search.specs.stored.Seen.{IsOfRows};
+
+use mcs_course::Course;
+use mcs_forever::Marks;
+use mcs_recurring::Doings;
+use mcs_system::System;
+use mcs_ticks::{NoMemory, Row, Tick};
+use mcs_under_way::UnderWay;
+use mcs_verdict::Watch;
+use std::alloc::Global;
+
+/// What is kept of the rows that go by: a watch of all of them, what they came to, the signals under way, and what those of late did and show to
+/// have been compared with now.
+#[derive(Drop)]
+pub(crate) struct Seen {
+    pub(crate) watch: Watch,
+    pub(crate) under_way: UnderWay,
+    pub(crate) marks: Marks,
+    pub(crate) doings: Doings,
+    pub(crate) course: Course,
+}
+
+impl Seen {
+    /// Before the first row.
+    pub(crate) fn new(alloc: Global, system: &System) -> Result<Self, NoMemory>
+        ensures { IfOk result (IsOfRows system.now [] [] 0) }
+    {
+        Ok(Seen {
+            watch: Watch::new(alloc, system)?,
+            under_way: UnderWay::new(alloc),
+            marks: Marks::new(alloc, system)?,
+            doings: Doings::new(alloc, system)?,
+            course: Course::new(alloc, system)?,
+        })
+    }
+
+    /// After one row more.
+    fn see(&mut self, system: &System, row: &Row) -> Result<(), NoMemory>
+        ensures { (before : List TheRow) (since : List TheWhat) → IsOfRows system.now before since row.now.moment self.old →
+            UpTo row.now.moment (past_of [] before) → row.now.moment ≤ 2 ^ 40 →
+            OnOk result (IsOfRows system.now (before ++ row.now ∷ []) (since ++ row.now.what ∷ []) row.now.moment self.new) }
+    {
+        self.under_way.see(system, row)?;
+        let job = self.watch.job(row);
+        let found = self.watch.see(row);
+        self.course.see(&found, &job, row);
+        self.marks.see(system, &row.what);
+        self.doings.see(&row.what);
+        Ok(())
+    }
+
+    /// After all rows of a moment.
+    pub(crate) fn see_all(&mut self, system: &System, rows: &[Row]) -> Result<(), NoMemory>
+        ensures { (before : List TheRow) (since : List TheWhat) (t : ℕ) → IsOfRows system.now before since t self.old →
+            UpTo t (past_of [] before) → t ≤ 2 ^ 40 → AllByRecursion (λ (row : TheRow). row.moment ≡ t) rows.now →
+            OnOk result (IsOfRows system.now (before ++ rows.now) (since ++ whats rows.now) t self.new) }
+    {
+        for row in rows {
+            self.see(system, row)?;
+        }
+        Ok(())
+    }
+
+    /// After the rows of a moment, which stand from `start` on. Where memory is refused, they are taken away.
+    pub(crate) fn see_from(
+        &mut self,
+        system: &System,
+        rows: &mut Vec<Row>,
+        start: usize,
+    ) -> Result<(), NoMemory>
+        requires { start ≤ length rows.old.items }
+        ensures seen { (before : List TheRow) (since : List TheWhat) (t : ℕ) → IsOfRows system.now before since t self.old →
+            UpTo t (past_of [] before) → t ≤ 2 ^ 40 →
+            AllByRecursion (λ (row : TheRow). row.moment ≡ t) (drop start rows.old.items) →
+            OnOk result (IsOfRows system.now (before ++ drop start rows.old.items) (since ++ whats (drop start rows.old.items)) t self.new) }
+        ensures rows { OnOk result (rows.new.items ≡ rows.old.items) }
+        ensures refused { OnErr result (rows.new.items ≡ take start rows.old.items) }
+    {
+        match self.see_all(system, &rows.as_slice()[start..]) {
+            Ok(()) => Ok(()),
+            Err(refused) => {
+                rows.truncate(start);
+                Err(refused)
+            }
+        }
+    }
+
+    /// Before a later moment, where there was no row meanwhile.
+    pub(crate) fn go_to(&mut self, moment: Tick)
+        ensures { (system : TheSystem) (before : List TheRow) (since : List TheWhat) (t : ℕ) → IsOfRows system before since t self.old →
+            t ≤ moment → IsOfRows system before since moment self.new }
+    {
+        self.under_way.forget_before(moment);
+    }
+
+    /// The rows so far are not of late any more.
+    pub(crate) fn clear(&mut self)
+        ensures { (system : TheSystem) (before : List TheRow) (since : List TheWhat) (t : ℕ) → IsOfRows system before since t self.old →
+            IsOfRows system before [] t self.new }
+    {
+        self.marks.clear();
+        self.doings.clear();
+    }
+}

@@ -1,0 +1,93 @@
+use crate::systems::{repeats_up_to, told};
+use std::test::Fail;
+
+/// A loop that computes for 2 ticks in each period of 10, and then yields.
+const YIELDS: &str = r#"
+version = 1
+cores = 1
+delay = 1
+context = [{ name = "a", core = 0, budget = 3, period = 10 }]
+thread = [{ name = "Loop", context = "a", priority = 9, deadline = 5, script = ["compute 2", "yield"] }]
+"#;
+
+/// A clock on core 1 that signals a loop on core 0 once in each period of 10.
+const CLOCK: &str = r#"
+version = 1
+cores = 2
+delay = 1
+context = [{ name = "a", core = 0, budget = 4, period = 10 }, { name = "clock", core = 1, budget = 1, period = 10 }]
+note = [{ name = "tick", core = 0 }]
+thread = [
+    { name = "Loop", context = "a", priority = 9, deadline = 5, script = ["wait tick", "compute 2"] },
+    { name = "Clock", context = "clock", priority = 9, script = ["signal tick 1"] },
+]
+"#;
+
+/// A thread that computes for a tick, and no more.
+const RESTS: &str = r#"
+version = 1
+cores = 1
+delay = 1
+context = [{ name = "a", core = 0, budget = 3, period = 10 }]
+thread = [{ name = "Once", context = "a", priority = 9, rounds = 1, script = ["compute 1"] }]
+"#;
+
+/// The same, but for an order at 100.
+const ORDERED: &str = r#"
+version = 1
+cores = 1
+delay = 1
+context = [{ name = "a", core = 0, budget = 3, period = 10 }]
+thread = [{ name = "Once", context = "a", priority = 9, rounds = 1, script = ["compute 1"] }]
+order = [{ at = 100, core = 0, context = "a", budget = 4, period = 10 }]
+"#;
+
+// The loop computes for two ticks and yields in a third one, and each of its rounds but the first begins where the one before ended: at 0, 3, 13, 23
+// and so on. It goes on to its next item, ends a round or is released at 0, 2, 3, 10, 12, 13, 20 and so on. Of these 2 is kept, and 10 two later. At
+// 20 the loop waits for its budget as at 10, and the round that is under way began 10 ticks later.
+#[test]
+fn a_loop_repeats_with_its_period(rt: HostRuntime) -> Result<(), Fail> {
+    let found = repeats_up_to(rt.alloc(), YIELDS, 1000)?;
+    assert_eq!(rt; found.len(), 1);
+    assert!(rt; told(found.as_slice(), 0) == (10, 10));
+    Ok(())
+}
+
+// The last moment that is compared is the one after the horizon. So a horizon of 19 suffices, and one of 18 does not.
+#[test]
+fn a_horizon_that_is_met_first(rt: HostRuntime) -> Result<(), Fail> {
+    let found = repeats_up_to(rt.alloc(), YIELDS, 19)?;
+    assert!(rt; told(found.as_slice(), 0) == (10, 10));
+    let found = repeats_up_to(rt.alloc(), YIELDS, 18)?;
+    assert!(rt; told(found.as_slice(), 0) == (0, 0));
+    Ok(())
+}
+
+// Both cores repeat with the period of the clock: no date of theirs is later by less.
+#[test]
+fn a_clock_and_its_loop_repeat_with_their_period(rt: HostRuntime) -> Result<(), Fail> {
+    let found = repeats_up_to(rt.alloc(), CLOCK, 1000)?;
+    assert_eq!(rt; found.len(), 2);
+    assert!(rt; told(found.as_slice(), 0).1 == 10);
+    assert!(rt; told(found.as_slice(), 1).1 == 10);
+    Ok(())
+}
+
+// The thread ends at 1, and nothing happens from 2 on.
+#[test]
+fn a_system_at_rest_repeats_with_each_tick(rt: HostRuntime) -> Result<(), Fail> {
+    let found = repeats_up_to(rt.alloc(), RESTS, 1000)?;
+    assert_eq!(rt; found.len(), 1);
+    assert!(rt; told(found.as_slice(), 0) == (2, 1));
+    Ok(())
+}
+
+// With an order to come nothing is told before: the system rests from the moment after the order on, which is 101.
+#[test]
+fn nothing_repeats_before_the_last_order(rt: HostRuntime) -> Result<(), Fail> {
+    let found = repeats_up_to(rt.alloc(), ORDERED, 1000)?;
+    assert!(rt; told(found.as_slice(), 0) == (101, 1));
+    let found = repeats_up_to(rt.alloc(), ORDERED, 100)?;
+    assert!(rt; told(found.as_slice(), 0) == (0, 0));
+    Ok(())
+}
