@@ -1,0 +1,4 @@
+pub mod Lines
+pub mod Fields
+pub mod Formats
+pub mod stored

@@ -1,0 +1,41 @@
+//! A set of cores, as it is told.
+ghost use Rattle.std.specs.Prelude.{◌≡◌, ◌++◌, ◌∷◌, cond, decimal, IfOk};
+ghost use Rattle.std.specs.String.{string_bytes};
+ghost use Rattle.mcs_forever_text.specs.Lines.{cores_text};
+
+use itoa::Buffer;
+use mcs_forever::CoreSet;
+use mcs_system::System;
+use mcs_ticks::NoMemory;
+use std::alloc::Global;
+
+/// The cores of the set that the system has.
+pub(crate) fn cores_text(
+    alloc: Global,
+    system: &System,
+    cores: &CoreSet,
+) -> Result<String, NoMemory>
+    ensures { IfOk result (λ text. string_bytes text ≡ cores_text system.now cores.now) }
+{
+    let mut text = String::new(alloc);
+    let mut later = false;
+    for core in 0..system.parts().cores {
+        if cores[core] {
+            push_core(&mut text, later, core)?;
+            later = true;
+        }
+    }
+    Ok(text)
+}
+
+/// Puts the number of a core behind the text, and a space before it where there is one already.
+fn push_core(text: &mut String, later: bool, core: usize) -> Result<(), NoMemory>
+    ensures { IfOk result (λ done. string_bytes text.new ≡ string_bytes text.old ++ cond later (32 ∷ decimal core) (decimal core)) }
+{
+    let mut buffer = Buffer::new();
+    if later {
+        text.push(' ')?;
+    }
+    text.push_str(buffer.format(core as u64))?;
+    Ok(())
+}

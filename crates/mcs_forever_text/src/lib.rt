@@ -1,0 +1,13 @@
+//! What is found of a system for all time, as lines of words or as JSON objects.
+#![tactic(auto)]
+
+mod cores;
+mod line;
+mod object;
+mod put;
+mod text;
+mod thread;
+mod word;
+
+pub use line::{Line, LineFormat, Often};
+pub use put::{put_line, put_lines};
