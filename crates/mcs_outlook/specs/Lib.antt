@@ -1,0 +1,5 @@
+pub mod Sets
+pub mod Lines
+pub mod Outlook
+pub mod Progress
+pub mod stored

@@ -1,0 +1,5 @@
+pub mod Told
+pub mod Groups
+pub mod Left
+pub mod Looks
+pub mod Kept

@@ -1,0 +1,10 @@
+-- The sets of cores that are told, each with the cores that are told with it.
+use Rattle.std.specs.Prelude.{ℕ, Bool, List, [], get_or, map}
+use Rattle.mcs_outlook.specs.Sets.{own_of, firsts}
+use Rattle.mcs_outlook.specs.declared.sets.Group.{Group}
+
+abbrev pub group_of : List (List Bool) → ℕ → Group
+group_of sets core = record { set = get_or sets core []; own = own_of sets core }
+
+abbrev pub groups_of : List (List Bool) → List Group
+groups_of sets = map (group_of sets) (firsts sets)

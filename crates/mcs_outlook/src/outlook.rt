@@ -1,0 +1,163 @@
+ghost use Rattle.std.specs.Prelude.{◌≡◌, ◌≤◌, ◌<◌, ◌^◌, ◌&&◌, true, false, nat_le, IfOk};
+ghost use Rattle.std.specs.Arc.{arc_value};
+ghost use Rattle.mcs_outlook.specs.Outlook.{AreTold};
+ghost use Rattle.mcs_outlook.specs.Progress.{IsOpening, IsOfSame};
+
+use crate::look::Look;
+use crate::sets::{Group, groups_of};
+use crate::tell::{all_told, is_any_left, nothing_told, tell_now};
+use crate::told::Told;
+use mcs_forever::{CoreSet, closed_sets};
+use mcs_search::{Sampling, Search};
+use mcs_system::System;
+use mcs_ticks::{NoMemory, Row, Tick};
+use std::alloc::Global;
+use std::marker::Model;
+use std::sync::Arc;
+
+/// What is found of the cores of a system for all time, as a run goes on in which repetitions are looked for.
+#[derive(Drop)]
+pub struct Outlook {
+    system: Arc<System>,
+    allowed: Vec<bool>,
+    horizon: Tick,
+    sets: Vec<CoreSet>,
+    groups: Vec<Group>,
+    search: Search,
+    sampling: Sampling,
+    rows: Vec<Row>,
+    told: Vec<Option<Told>>,
+    failed: bool,
+}
+
+impl Model for Outlook {
+    ghost use Rattle.mcs_outlook.specs.Progress.{Progress};
+
+    ghost Value = { Progress };
+
+    ghost use Rattle.mcs_outlook.specs.stored.Kept.{IsKept, progress_of};
+
+    ghost view = { progress_of };
+
+    ghost invariant = { IsKept };
+}
+
+impl Outlook {
+    /// Before the first moment: repetitions are looked for up to this horizon, and nothing is told of signals that these notifications lose.
+    /// `NoMemory` where a growth was refused.
+    pub fn new(
+        alloc: Global,
+        system: Arc<System>,
+        allowed: &[bool],
+        horizon: Tick,
+    ) -> Result<Outlook, NoMemory>
+        requires { horizon ≤ 2 ^ 40 }
+        ensures { IfOk result (IsOpening (arc_value system) allowed.now horizon) }
+    {
+        let sets = closed_sets(alloc, &system)?;
+        let groups = groups_of(alloc, sets.as_slice())?;
+        let told = nothing_told(alloc, groups.len())?;
+        let allowed = allowed.iter().copied().collect(alloc)?;
+        let shared = Arc::try_clone(&system)?;
+        let search = Search::new(alloc, shared, horizon)?;
+        Ok(Outlook {
+            system,
+            allowed,
+            horizon,
+            sets,
+            groups,
+            search,
+            sampling: Sampling::new(),
+            rows: Vec::new(alloc),
+            told,
+            failed: false,
+        })
+    }
+
+    /// The moment before which all cores stand.
+    pub fn clock(&self) -> Tick
+        ensures { result ≡ self.now.clock }
+    {
+        self.search.clock()
+    }
+
+    /// Goes on to the next moment at which something happens, unless something is told of all sets or the horizon is met: tells whether it did.
+    /// `NoMemory` where a growth was refused, now or before.
+    pub fn step(&mut self, alloc: Global) -> Result<bool, NoMemory>
+        ensures same { IsOfSame self.old self.new }
+        ensures on { IfOk result (λ on. on ≡ (nat_le self.old.clock self.old.horizon && self.old.left)) }
+        ensures stays { IfOk result (λ on. on ≡ false → self.new ≡ self.old) }
+        ensures later { IfOk result (λ on. on ≡ true → self.old.clock < self.new.clock) }
+    {
+        if self.failed {
+            return Err(NoMemory);
+        }
+        if self.search.clock() > self.horizon || !is_any_left(self.told.as_slice()) {
+            return Ok(false);
+        }
+        self.failed = true;
+        self.sampling
+            .go_on(alloc, &mut self.search, &mut self.rows)?;
+        self.rows.clear();
+        let look = Look {
+            system: &self.system,
+            search: &self.search,
+            allowed: self.allowed.as_slice(),
+        };
+        tell_now(
+            alloc,
+            &look,
+            self.groups.as_slice(),
+            self.told.as_mut_slice(),
+        )?;
+        self.failed = false;
+        Ok(true)
+    }
+
+    /// What is told of each set of cores, in order of the first core of each, once the run has gone on until something is told of all of them or
+    /// the horizon is met. `NoMemory` where a growth was refused, now or before.
+    pub fn finish(mut self, alloc: Global) -> Result<Vec<Told>, NoMemory>
+        ensures { IfOk result (λ told. AreTold self.system self.allowed self.horizon told.items) }
+    {
+        'steps: while self.step(alloc)? {}
+        self.close(alloc)
+    }
+
+    // What is told, where something is told of all sets or the horizon is met.
+    fn close(&mut self, alloc: Global) -> Result<Vec<Told>, NoMemory>
+        requires { (nat_le self.old.clock self.old.horizon && self.old.left) ≡ false }
+        ensures { IfOk result (λ told. AreTold self.old.system self.old.allowed self.old.horizon told.items) }
+    {
+        if self.failed {
+            return Err(NoMemory);
+        }
+        let _in_time = self.search.clock();
+        let look = Look {
+            system: &self.system,
+            search: &self.search,
+            allowed: self.allowed.as_slice(),
+        };
+        self.failed = true;
+        all_told(
+            alloc,
+            &look,
+            self.groups.as_slice(),
+            self.told.as_mut_slice(),
+        )
+    }
+}
+
+/// What is told of each set of cores of a system that no core outside it signals, in order of the first core of each: whether and how its doings
+/// repeat, by a run up to this horizon, and what is found of it for ever. Signals that these notifications lose are not told. `NoMemory` where a
+/// growth was refused.
+pub fn tell_all(
+    alloc: Global,
+    system: Arc<System>,
+    allowed: &[bool],
+    horizon: Tick,
+) -> Result<Vec<Told>, NoMemory>
+    requires { horizon ≤ 2 ^ 40 }
+    ensures { IfOk result (λ told. AreTold (arc_value system) allowed.now horizon told.items) }
+{
+    Outlook::new(alloc, system, allowed, horizon)?.finish(alloc)
+}

@@ -1,0 +1,7 @@
+//! Tests of `mcs_outlook`, over its public items.
+#![tactic(auto)]
+
+#[cfg(test)]
+mod systems;
+#[cfg(test)]
+mod told;
