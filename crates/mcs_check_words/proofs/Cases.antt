@@ -7,7 +7,7 @@ use Rattle.clap.proofs.OnLiterals.{clap_on_literals}
 use Rattle.mcs_cli.specs.CommandLine.{number_of, text_of}
 use Rattle.mcs_check_words.specs.declared.asked.Show.TheVariants as show
 use Rattle.mcs_check_words.specs.declared.asked.Format.TheVariants as format
-use Rattle.mcs_check_words.specs.CommandLine.{command_line, format_named, format_words, is_set, show_named, show_words, texts_of}
+use Rattle.mcs_check_words.specs.CommandLine.{command_line, first_two, format_named, format_words, is_given, is_set, show_named, show_words, texts_of, horizon_of}
 
 abbrev at : {X : Type 0} → X → Bor X
 at x = record { ref_ptr = (0, 0); now = x }
@@ -21,10 +21,12 @@ no_words : (takes line [] ≡ true)
     × (number_of (codes "workers") (matches_of line []) ≡ 1)
     × (texts_of (codes "allow-lost") (matches_of line []) ≡ [])
     × (is_set (codes "strict") (matches_of line []) ≡ false)
-    × (show_named (text_of (codes "show") (matches_of line [])) ≡ show.Findings)
+    × (show_named (text_of (codes "show") (matches_of line [])) ≡ show.Both)
     × (format_named (text_of (codes "format") (matches_of line [])) ≡ format.Text)
+    × (is_given (codes "show") (matches_of line []) ≡ false)
+    × (first_two (texts_of (codes "why") (matches_of line [])) ≡ None)
 unfolding clap_on_literals
-no_words = (refl, refl, refl, refl, refl, refl, refl, refl)
+no_words = (refl, refl, refl, refl, refl, refl, refl, refl, refl, refl)
 
 -- `--allow-lost irq in.toml --horizon=10 --strict --allow-lost=timer --workers 2 --show jobs --format csv`
 abbrev all_words : List Text
@@ -39,8 +41,39 @@ many : (takes line all_words ≡ true)
     × (is_set (codes "strict") (matches_of line all_words) ≡ true)
     × (show_named (text_of (codes "show") (matches_of line all_words)) ≡ show.Jobs)
     × (format_named (text_of (codes "format") (matches_of line all_words)) ≡ format.Csv)
+    × (is_given (codes "show") (matches_of line all_words) ≡ true)
 unfolding clap_on_literals
-many = (refl, refl, refl, refl, refl, refl, refl, refl)
+many = (refl, refl, refl, refl, refl, refl, refl, refl, refl)
+
+-- `in.toml --why High 1 --horizon 9`
+abbrev a_question : List Text
+a_question = codes "in.toml" ∷ codes "--why" ∷ codes "High" ∷ codes "1" ∷ codes "--horizon" ∷ codes "9" ∷ []
+
+asks : (takes line a_question ≡ true)
+    × (first_of (codes "FILE") (matches_of line a_question) ≡ Some (codes "in.toml"))
+    × (first_two (texts_of (codes "why") (matches_of line a_question)) ≡ Some (codes "High", codes "1"))
+    × (is_given (codes "show") (matches_of line a_question) ≡ false)
+unfolding clap_on_literals
+asks = (refl, refl, refl, refl)
+
+-- the file's name behind the round
+asks_first : (takes line (codes "--why" ∷ codes "High" ∷ codes "1" ∷ codes "in.toml" ∷ []) ≡ true)
+    × (first_of (codes "FILE") (matches_of line (codes "--why" ∷ codes "High" ∷ codes "1" ∷ codes "in.toml" ∷ [])) ≡ Some (codes "in.toml"))
+unfolding clap_on_literals
+asks_first = (refl, refl)
+
+no_round : fault_of line (codes "--why" ∷ codes "High" ∷ []) ≡ kind.WrongNumberOfValues ∷ []
+unfolding clap_on_literals
+no_round = refl
+
+asks_twice : fault_of line (codes "--why" ∷ codes "A" ∷ codes "1" ∷ codes "--why" ∷ codes "B" ∷ codes "1" ∷ []) ≡ kind.ArgumentConflict ∷ []
+unfolding clap_on_literals
+asks_twice = refl
+
+-- `findings` may be asked for in words
+shows_findings : is_given (codes "show") (matches_of line (codes "--show=findings" ∷ [])) ≡ true
+unfolding clap_on_literals
+shows_findings = refl
 
 abbrev two_allowed : List Text
 two_allowed = codes "--allow-lost" ∷ codes "b" ∷ codes "--allow-lost" ∷ codes "a" ∷ []
@@ -110,3 +143,19 @@ unknown = refl
 nothing_allowed : fault_of line (codes "--allow-lost" ∷ []) ≡ kind.InvalidValue ∷ []
 unfolding clap_on_literals
 nothing_allowed = refl
+
+-- `in.toml --forever`
+abbrev for_ever : List Text
+for_ever = codes "in.toml" ∷ codes "--forever" ∷ []
+
+looks_far : (takes line for_ever ≡ true)
+    × (is_set (codes "forever") (matches_of line for_ever) ≡ true)
+    × (horizon_of (matches_of line for_ever) ≡ 10000000)
+    × (horizon_of (matches_of line []) ≡ 1000)
+    × (is_set (codes "forever") (matches_of line []) ≡ false)
+unfolding clap_on_literals
+looks_far = (refl, refl, refl, refl, refl)
+
+looks_as_far_as_said : horizon_of (matches_of line (codes "--forever" ∷ codes "--horizon=1000" ∷ [])) ≡ 1000
+unfolding clap_on_literals
+looks_as_far_as_said = refl

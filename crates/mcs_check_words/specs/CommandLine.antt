@@ -1,5 +1,5 @@
 -- The command line of `mcscheck`, as clap reads it.
-use Rattle.std.specs.Prelude.{◌≡◌, ◌^◌, Bool, true, List, [], ◌∷◌, map, codes, Some, option_map, unwrap_or, if◌then◌else◌, Result, IfOk, IfErr, string_bytes}
+use Rattle.std.specs.Prelude.{◌≡◌, ◌^◌, ℕ, ◌&&◌, not, Bool, true, false, List, [], ◌∷◌, map, codes, find, Option, Some, None, option_and_then, option_map, unwrap_or, if◌then◌else◌, Result, IfOk, IfErr, string_bytes}
 use Rattle.std.specs.Str.{bytes_eq}
 use Rattle.std.specs.Borrow.{Bor}
 use Rattle.clap.specs.Words.{App, FailsBy, IsParsedFrom, Row, Rule, Text, all_of, app_of, fault_of, first_of, found_of, kind_of, matches_of, new_app, new_rule, one_of, rows_of, takes, with_rule}
@@ -9,10 +9,13 @@ use Rattle.clap.specs.declared.Command.{Command}
 use Rattle.clap.specs.declared.builder.ArgAction.TheVariants.{Append, Set, SetTrue}
 use Rattle.clap.specs.declared.builder.ValueParser.TheVariants as parser
 use Rattle.clap.specs.declared.error.kind.ErrorKind.TheVariants as kind
+use Rattle.clap.specs.declared.parser.matches.ValueSource.{ValueSource}
+use Rattle.clap.specs.declared.parser.matches.ValueSource.TheVariants.{CommandLine}
 use Rattle.mcs_cli.specs.CommandLine.{HasNumber, IsFaultOf, file_rule, horizon_rule, number_of, text_of, workers_rule}
 use Rattle.mcs_cli.specs.declared.asked.WordsFault.{WordsFault}
 use Rattle.mcs_cli.specs.declared.asked.WordsFault.TheVariants as fault
 use Rattle.mcs_check_words.specs.declared.asked.Options.{Options}
+use Rattle.mcs_check_words.specs.declared.asked.Question.{Question}
 use Rattle.mcs_check_words.specs.declared.asked.Format.{Format}
 use Rattle.mcs_check_words.specs.declared.asked.Format.TheVariants as format
 use Rattle.mcs_check_words.specs.declared.asked.Show.{Show}
@@ -28,6 +31,14 @@ allow_lost_rule = record (new_rule (codes "allow-lost")) {
 
 abbrev pub strict_rule : Rule
 strict_rule = record (new_rule (codes "strict")) { long = Some (codes "strict"); action = Some SetTrue }
+
+-- `--why THREAD ROUND`
+abbrev pub why_rule : Rule
+why_rule = record (new_rule (codes "why")) { long = Some (codes "why"); action = Some Set; value_names = 2 }
+
+-- `--forever`
+abbrev pub forever_rule : Rule
+forever_rule = record (new_rule (codes "forever")) { long = Some (codes "forever"); action = Some SetTrue }
 
 -- what `--show` takes
 abbrev pub show_words : List Text
@@ -53,16 +64,18 @@ bare_line = let start = new_app (codes "mcscheck") in record { top = record star
 
 module _ (shows formats : Bor (List (Bor Text))) where
   abbrev pub show_rule : Rule
-  show_rule = choice_rule (codes "show") (codes "findings") shows
+  show_rule = choice_rule (codes "show") (codes "both") shows
 
   abbrev pub format_rule : Rule
   format_rule = choice_rule (codes "format") (codes "text") formats
 
-  -- `[FILE] [--horizon N] [--workers W] [--allow-lost NOTE].. [--strict] [--show findings|jobs|table|both] [--format text|csv|json]`
+  -- `[FILE] [--horizon N] [--workers W] [--allow-lost NOTE].. [--strict] [--show findings|jobs|table|both] [--format text|csv|json]
+  -- [--why THREAD ROUND] [--forever]`
   abbrev pub command_line : App
   command_line =
       let numbers = with_rule (with_rule (with_rule bare_line file_rule) horizon_rule) workers_rule in
-      with_rule (with_rule (with_rule (with_rule numbers allow_lost_rule) strict_rule) show_rule) format_rule
+      let shown = with_rule (with_rule (with_rule (with_rule numbers allow_lost_rule) strict_rule) show_rule) format_rule in
+      with_rule (with_rule shown why_rule) forever_rule
 
 -- the texts of all values of the id, in the order of the words
 abbrev pub texts_of : Text → List Row → List Text
@@ -71,6 +84,27 @@ texts_of id rows = unwrap_or (all_of id rows) []
 -- the option that takes no value is among the words: clap gives it the value `true` then, else `false`
 abbrev pub is_set : Text → List Row → Bool
 is_set id rows = bytes_eq (unwrap_or (one_of id rows) []) (codes "true")
+
+-- the option has its value by the words, and not by default
+abbrev pub is_by_words : Option ValueSource → Bool
+is_by_words (Some CommandLine) = true
+is_by_words _ = false
+
+abbrev pub is_given : Text → List Row → Bool
+is_given id rows = is_by_words (option_and_then (λ r. r.source) (find (λ r. bytes_eq r.id id) rows))
+
+-- the last moment of the run: where all time is looked at, and no number is given, that up to which a repetition is looked for
+abbrev pub horizon_of : List Row → ℕ
+horizon_of rows = if is_set (codes "forever") rows && not (is_given (codes "horizon") rows) then 10000000 else number_of (codes "horizon") rows
+
+-- the first two of these texts: a thread and a round
+abbrev pub first_two : List Text → Option (Text × Text)
+first_two [] = None
+first_two (thread ∷ []) = None
+first_two (thread ∷ round ∷ more) = Some (thread, round)
+
+abbrev pub question_texts : Question → Text × Text
+question_texts question = (string_bytes question.thread, string_bytes question.round)
 
 -- what a word asks to be shown
 abbrev pub show_named : Text → Show
@@ -108,12 +142,15 @@ pub record IsParse (words : List Text) (r : Result ArgMatches Error) : Type 0 wh
 -- the options have the values of these matches
 pub record HasValues (rows : List Row) (o : Options) : Type 0 where
   pub file : option_map string_bytes o.file ≡ first_of (codes "FILE") rows
-  pub horizon : o.horizon ≡ number_of (codes "horizon") rows
+  pub horizon : o.horizon ≡ horizon_of rows
   pub workers : o.workers ≡ number_of (codes "workers") rows
   pub allowed : map string_bytes o.allowed.items ≡ texts_of (codes "allow-lost") rows
   pub strict : o.strict ≡ is_set (codes "strict") rows
   pub shown : o.show ≡ show_named (text_of (codes "show") rows)
+  pub shown_by_words : o.show_given ≡ is_given (codes "show") rows
   pub written : o.format ≡ format_named (text_of (codes "format") rows)
+  pub why : option_map question_texts o.why ≡ first_two (texts_of (codes "why") rows)
+  pub forever : o.forever ≡ is_set (codes "forever") rows
 
 -- What the words are answered: the values that the command line gives them, where they have no fault; where it takes them, nothing but
 -- being out of memory; else help where help is among their faults, or the text of another of them.

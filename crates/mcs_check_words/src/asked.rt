@@ -26,6 +26,16 @@ pub enum Format {
     Json,
 }
 
+/// A round of which it is asked why it took so long, by the words of the command line. No system is known yet, so there may be no such thread or
+/// round, and the round may be no number.
+#[derive(Debug, Drop)]
+pub struct Question {
+    /// The thread's name.
+    pub thread: String,
+    /// The round's number, from 1.
+    pub round: String,
+}
+
 /// What the words of the command line ask for.
 #[derive(Debug, Drop)]
 pub struct Options {
@@ -41,7 +51,13 @@ pub struct Options {
     /// Hints count as found, too.
     pub strict: bool,
     pub show: Show,
+    /// Whether the words say what is shown, and not the default alone.
+    pub show_given: bool,
     pub format: Format,
+    /// The round that is asked about, if one is.
+    pub why: Option<Question>,
+    /// All time is looked at: a repetition is looked for up to the horizon.
+    pub forever: bool,
     ghost horizon_in_range: { horizon ≤ 2 ^ 40 },
     ghost workers_in_range: { (1 ≤ workers) × (workers ≤ 64) },
 }

@@ -4,6 +4,6 @@
 mod asked;
 mod words;
 
-pub use asked::{Format, Options, Show};
+pub use asked::{Format, Options, Question, Show};
 pub use mcs_cli::WordsFault;
 pub use words::options;

@@ -2,8 +2,8 @@ use mcs_check_words::{Format, Show, WordsFault, options};
 use std::alloc::{AllocError, Global};
 use std::test::Fail;
 
-/// What words are answered: the file, the horizon, the workers, the names that are allowed, whether hints count and what is shown, or the
-/// status and the text of their fault.
+/// What words are answered: the file, the horizon, the workers, the names that are allowed, whether hints count, what is shown, whether the words
+/// say so, in which format, and the thread and the round that are asked about; or the status and the text of their fault.
 fn answer(alloc: Global, words: &[String]) -> Result<String, AllocError> {
     match options(alloc, words) {
         Ok(options) => {
@@ -23,7 +23,14 @@ fn answer(alloc: Global, words: &[String]) -> Result<String, AllocError> {
                 Format::Csv => "csv",
                 Format::Json => "json",
             };
-            format!(in alloc; "{file} {horizon} {workers} {allowed:?} {strict} {show} {format}")
+            let given = options.show_given;
+            let (thread, round) = match &options.why {
+                Some(question) => (question.thread.as_str(), question.round.as_str()),
+                None => ("-", "-"),
+            };
+            format!(in alloc;
+                "{file} {horizon} {workers} {allowed:?} {strict} {show} {given} {format} {thread} {round}"
+            )
         }
         Err(fault) => refusal(alloc, &fault),
     }
@@ -46,31 +53,45 @@ fn answer_to(alloc: Global, line: &str) -> Result<String, AllocError> {
     answer(alloc, words.as_slice())
 }
 
-static TAKEN: [(&str, &str); 10] = [
-    ("", " 1000 1 [] false findings text"),
+static TAKEN: [(&str, &str); 12] = [
+    ("", " 1000 1 [] false both false text - -"),
     (
         "--allow-lost irq in.toml --horizon=1099511627776 --strict --allow-lost=timer --workers 64",
-        "in.toml 1099511627776 64 [\"irq\", \"timer\"] true findings text",
+        "in.toml 1099511627776 64 [\"irq\", \"timer\"] true both false text - -",
     ),
     (
         "--strict --horizon 0 --allow-lost b --allow-lost a --allow-lost b -- -",
-        "- 0 1 [\"b\", \"a\", \"b\"] true findings text",
+        "- 0 1 [\"b\", \"a\", \"b\"] true both false text - -",
     ),
     (
         "--allow-lost= --horizon +7",
-        " 7 1 [\"\"] false findings text",
+        " 7 1 [\"\"] false both false text - -",
     ),
     (
         "--allow-lost x,y in.toml",
-        "in.toml 1000 1 [\"x,y\"] false findings text",
+        "in.toml 1000 1 [\"x,y\"] false both false text - -",
     ),
-    ("--show=jobs --strict", " 1000 1 [] true jobs text"),
-    ("--show=table", " 1000 1 [] false table text"),
-    ("--show both --horizon 9", " 9 1 [] false both text"),
-    ("--show jobs --format=csv", " 1000 1 [] false jobs csv"),
+    ("--show=jobs --strict", " 1000 1 [] true jobs true text - -"),
+    ("--show=table", " 1000 1 [] false table true text - -"),
+    (
+        "--show both --horizon 9",
+        " 9 1 [] false both true text - -",
+    ),
+    (
+        "--show jobs --format=csv",
+        " 1000 1 [] false jobs true csv - -",
+    ),
     (
         "--show findings in.toml",
-        "in.toml 1000 1 [] false findings text",
+        "in.toml 1000 1 [] false findings true text - -",
+    ),
+    (
+        "--why High 1 in.toml",
+        "in.toml 1000 1 [] false both false text High 1",
+    ),
+    (
+        "in.toml --why Loop last --show=jobs",
+        "in.toml 1000 1 [] false jobs true text Loop last",
     ),
 ];
 
@@ -84,7 +105,7 @@ fn words_are_taken(rt: HostRuntime) -> Result<(), Fail> {
 }
 
 // Each line is not understood, and its text says what is wrong.
-static REFUSED: [(&str, &str); 15] = [
+static REFUSED: [(&str, &str); 18] = [
     ("--workers 65", "65"),
     ("--workers 0", "0"),
     ("--horizon 1099511627777", "1099511627777"),
@@ -100,6 +121,9 @@ static REFUSED: [(&str, &str); 15] = [
     ("--show jobs --show jobs", "--show"),
     ("--list both", "--list"),
     ("one two", "two"),
+    ("--why High", "--why"),
+    ("--why High 1 in.toml two", "two"),
+    ("--why High 1 --why Low 1", "--why"),
 ];
 
 #[test]
@@ -112,7 +136,7 @@ fn other_words_are_refused(rt: HostRuntime) -> Result<(), Fail> {
     Ok(())
 }
 
-static HELP: [&str; 16] = [
+static HELP: [&str; 17] = [
     "Tells which deadlines a system misses, which signals are lost, and what never happens",
     "Usage: mcscheck [OPTIONS] [FILE]",
     "--horizon <N>",
@@ -122,9 +146,10 @@ static HELP: [&str; 16] = [
     "--allow-lost <NOTE>",
     "--strict",
     "--show <WHAT>",
-    "[default: findings] [possible values: findings, jobs, table, both]",
+    "[default: both] [possible values: findings, jobs, table, both]",
     "--format <HOW>",
     "[default: text] [possible values: text, csv, json]",
+    "--why <THREAD> <ROUND>",
     "mcscheck system.toml --horizon 100000",
     "Exit status:",
     "0  nothing is found, or this help",
