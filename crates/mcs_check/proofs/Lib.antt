@@ -4,10 +4,17 @@ mod Sums
 mod Words
 mod Rows
 mod Finders
+mod Seekers
+mod Tellers
+mod Numbers
+mod Runners
+mod Spans
+mod Questions
 mod Names
 mod Results
 mod Texts
 mod Unknown
 mod Values
 mod Worked
+mod Answered
 mod Figured

@@ -2,9 +2,14 @@ pub mod Allowed
 pub mod Counts
 pub mod Lines
 pub mod Fields
+pub mod RowFields
 pub mod Formats
 pub mod Figures
 pub mod Told
 pub mod Check
 pub mod Fault
+pub mod Asked
+pub mod Why
+pub mod Explained
+pub mod WhyFault
 pub mod stored

@@ -12,12 +12,8 @@ use mcs_ticks::NoMemory;
 use std::alloc::{AllocError, Global};
 use strsim::levenshtein;
 
-/// Of each notification whether it has one of these names.
-pub(crate) fn flags_of(
-    alloc: Global,
-    parts: &SystemParts,
-    names: &[String],
-) -> Result<Vec<bool>, NoMemory>
+/// Of each notification whether it has one of these names. `NoMemory` where a growth was refused.
+pub fn flags_of(alloc: Global, parts: &SystemParts, names: &[String]) -> Result<Vec<bool>, NoMemory>
     ensures { IfOk result (λ flags. flags.items ≡ flags_of (map (λ name. string_bytes name) names.now) parts.now.notes) }
 {
     let notes = parts.notes.as_slice().iter();
@@ -48,8 +44,9 @@ fn is_known(parts: &SystemParts, name: &str) -> bool
     notes.iter().any(|part| part.name.as_str() == name)
 }
 
-/// Refuses the first of the names that no notification has.
-pub(crate) fn refuse_unknown(
+/// Refuses the first of the names that no notification has: `Unknown` with the nearest name that one has, or `Sim` where there was no memory for these
+/// texts.
+pub fn refuse_unknown(
     alloc: Global,
     parts: &SystemParts,
     names: &[String],
@@ -108,7 +105,7 @@ fn nearest<'a>(
 }
 
 /// The nearer one of two names, the first where both are as near.
-fn nearer<'a>(
+pub(crate) fn nearer<'a>(
     alloc: Global,
     name: &str,
     near: Option<&'a str>,

@@ -155,7 +155,7 @@ fn append_line(
 }
 
 /// Appends a line of figures behind a word and a name. After a refusal the text is as it was.
-fn put_line(
+pub(crate) fn put_line(
     text: &mut Vec<u8>,
     word: &str,
     name: &str,
@@ -173,7 +173,7 @@ fn put_line(
 }
 
 /// The values behind the first two.
-fn behind_two<'a, 's>(fields: &'a [Field<'s>]) -> &'a [Field<'s>]
+pub(crate) fn behind_two<'a, 's>(fields: &'a [Field<'s>]) -> &'a [Field<'s>]
     requires { 2 ≤ length fields.now }
     ensures { map field_of result.now ≡ drop 2 (map field_of fields.now) }
 {

@@ -8,6 +8,7 @@ ghost use Rattle.mcs_check.specs.stored.Rows.{counted_at, failed_after, kept_tab
 
 use crate::Progress;
 use crate::format::put_shown;
+use crate::progress::pass;
 use crate::seen::Seen;
 use crate::shown::Shown;
 use mcs_check_words::{Format, Options, Show};
@@ -19,13 +20,10 @@ use std::alloc::Global;
 /// Lines are written in pieces of at most this many bytes and one line more.
 const FULL: usize = 65_536;
 
-/// How many rows pass before it is told again how far the run is.
-const STRIDE: u32 = 4_096;
-
 /// A target for lines: the first one is written at once, and later ones in pieces that grow.
 #[derive(Drop)]
 pub(crate) struct Lines<'t, T: Target> {
-    target: &'t mut T,
+    pub(crate) target: &'t mut T,
     /// So many bytes of lines are written, 1 to those of a full piece.
     limit: usize,
     /// Whether a line was refused since there was no memory for it, and not by the target.
@@ -45,7 +43,7 @@ impl<'t, T: Target> Lines<'t, T> {
     }
 
     /// One line more, behind a text that waits.
-    fn put<P: Progress>(
+    pub(crate) fn put<P: Progress>(
         &mut self,
         alloc: Global,
         text: &mut Vec<u8>,
@@ -137,11 +135,7 @@ impl<'t, 's, 'k, 'p, T: Target, P: Progress> Finder<'t, 's, 'k, 'p, T, P> {
         ensures seen { self.new.seen.ghost_name ≡ self.old.seen.ghost_name }
         ensures seen_now { self.new.seen.now ≡ self.old.seen.now }
     {
-        self.rows = self.rows.saturating_add(1);
-        if self.rows >= STRIDE {
-            self.rows = 0;
-            self.progress.passed(row.moment);
-        }
+        pass(self.progress, &mut self.rows, row);
     }
 }
 

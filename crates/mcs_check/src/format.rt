@@ -2,19 +2,20 @@
 ghost use Rattle.std.specs.Prelude.{◌≡◌, ◌++◌, OnOk, OnErr};
 ghost use Rattle.mcs_fields.specs.Fields.{object_text};
 ghost use Rattle.mcs_check.specs.Fields.{hint_fields};
-ghost use Rattle.mcs_check.specs.Formats.{counts_line, found_line, head_text, hint_line, is_mixed, job_line};
+ghost use Rattle.mcs_check.specs.Formats.{counts_line, found_line, head_text, hint_line, is_mixed, job_line, row_line};
 ghost use Rattle.mcs_check.specs.stored.Rows.{shown_text};
 
 use crate::Counts;
 use crate::fields::{counts_fields, found_fields, job_fields};
 use crate::line::{put_counts, put_found, put_hint, put_job};
+use crate::row_fields::row_fields;
 use crate::shown::Shown;
 use mcs_check_words::{Format, Show};
 use mcs_fields::{Cell, put_names, put_object, put_row};
 use mcs_hints::Hint;
 use mcs_system::System;
-use mcs_text::{context_name, note_name};
-use mcs_ticks::NoMemory;
+use mcs_text::{context_name, note_name, put_row as put_row_text};
+use mcs_ticks::{NoMemory, Row};
 use mcs_verdict::{Found, Job};
 use std::alloc::Global;
 
@@ -119,6 +120,7 @@ pub(crate) fn put_shown(
     match shown {
         Shown::Found(found) => put_found_as(alloc, text, format, system, found),
         Shown::Job(job) => put_job_as(alloc, text, format, system, job),
+        Shown::Row(row) => put_row_as(alloc, text, format, system, row),
     }
 }
 
@@ -155,6 +157,24 @@ fn put_job_as(
         Format::Text => put_job(text, system, job),
         Format::Csv => put_row(text, job_fields(system, job).as_slice()),
         Format::Json => put_object(alloc, text, job_fields(system, job).as_slice()),
+    }
+}
+
+/// Appends the line of a row of the schedule. After a refusal the text is as it was.
+fn put_row_as(
+    alloc: Global,
+    text: &mut Vec<u8>,
+    format: Format,
+    system: &System,
+    row: &Row,
+) -> Result<(), NoMemory>
+    ensures ok { OnOk result (text.new.items ≡ text.old.items ++ row_line format system.now row.now) }
+    ensures err { OnErr result (text.new.items ≡ text.old.items) }
+{
+    match format {
+        Format::Text => put_row_text(text, system, row),
+        Format::Csv => put_row(text, row_fields(system, row).as_slice()),
+        Format::Json => put_object(alloc, text, row_fields(system, row).as_slice()),
     }
 }
 

@@ -2,6 +2,7 @@
 #![tactic(auto)]
 
 mod allowed;
+mod asked;
 mod counts;
 mod fault;
 mod fields;
@@ -10,13 +11,22 @@ mod finder;
 mod format;
 mod line;
 mod progress;
+mod ran;
 mod rest;
+mod row_fields;
 mod run;
+mod seeker;
 mod seen;
 mod shown;
+mod teller;
+mod why;
+mod why_fault;
 
+pub use allowed::{flags_of, refuse_unknown};
 pub use counts::Counts;
 pub use fault::CheckFault;
 pub use line::{put_counts, put_found, put_hint, put_job};
 pub use progress::{Progress, Quiet};
 pub use run::{check, check_with};
+pub use why::{explain, explain_with};
+pub use why_fault::{Rounds, WhyFault};

@@ -1,4 +1,7 @@
-use mcs_ticks::Tick;
+use mcs_ticks::{Row, Tick};
+
+/// How many rows pass before it is told again how far a run is.
+const STRIDE: u32 = 4_096;
 
 /// What is told how far a run is, now and then.
 pub trait Progress {
@@ -17,4 +20,14 @@ impl Progress for Quiet {
     fn passed(&mut self, _moment: Tick) {}
 
     fn wipe(&mut self) {}
+}
+
+/// One row more goes by, of so many since it was last told how far the run is.
+#[inline(always)]
+pub(crate) fn pass<P: Progress>(progress: &mut P, rows: &mut u32, row: &Row) {
+    *rows = rows.saturating_add(1);
+    if *rows >= STRIDE {
+        *rows = 0;
+        progress.passed(row.moment);
+    }
 }

@@ -215,7 +215,7 @@ fn head(alloc: Global, options: &Options) -> Result<Vec<u8>, NoMemory>
 }
 
 /// Why a line was refused.
-fn refusal(is_out_of_memory: bool) -> RunFault
+pub(crate) fn refusal(is_out_of_memory: bool) -> RunFault
     ensures { result ≡ refusal is_out_of_memory }
 {
     if is_out_of_memory {

@@ -7,7 +7,7 @@ ghost use Rattle.mcs_verdict.specs.Watch.{watch_of};
 ghost use Rattle.mcs_verdict.specs.Words.{merges};
 ghost use Rattle.mcs_table.specs.Table.{table_of};
 ghost use Rattle.mcs_check.specs.Counts.{told_of};
-ghost use Rattle.mcs_check.specs.stored.Rows.{counted_at, kept_table, shown_at};
+ghost use Rattle.mcs_check.specs.stored.Rows.{counted_at, kept_table, shown_at, shown_found};
 
 use crate::Counts;
 use crate::shown::Shown;
@@ -42,40 +42,19 @@ impl Seen {
             UpTo row.now.moment past → self.old.table ≡ kept_table show system horizon past →
             self.new.table ≡ kept_table show system horizon (row.now ∷ past) }
     {
+        // most rows leave at a `?`, and make no room for what is shown
         match show {
-            Show::Findings => {
-                // most rows leave here, and make no room for what is shown
-                let Some(finding) = self.find(allowed, row) else {
-                    return None;
-                };
-                Some(Shown::Found(Found {
-                    moment: row.moment,
-                    core: row.core,
-                    finding,
-                }))
-            }
+            Show::Findings => Some(shown_found(row, self.find(allowed, row)?)),
             Show::Jobs => {
                 let job = self.watch.job(row);
                 self.find(allowed, row);
-                let Some(job) = job else {
-                    return None;
-                };
-                Some(Shown::Job(job))
+                Some(Shown::Job(job?))
             }
             Show::Table => {
                 self.tabulate(allowed, row);
                 None
             }
-            Show::Both => {
-                let Some(finding) = self.tabulate(allowed, row) else {
-                    return None;
-                };
-                Some(Shown::Found(Found {
-                    moment: row.moment,
-                    core: row.core,
-                    finding,
-                }))
-            }
+            Show::Both => Some(shown_found(row, self.tabulate(allowed, row)?)),
         }
     }
 
@@ -120,6 +99,18 @@ impl Seen {
         keep(&mut self.table, job, &found, is_merged, row);
         self.counts.take(allowed, found)
     }
+}
+
+/// What a row tells, as it is shown.
+#[inline(always)]
+fn shown_found(row: &Row, finding: Finding) -> Shown
+    ensures { Some result ≡ shown_found row.now.moment row.now.core (Some finding) }
+{
+    Shown::Found(Found {
+        moment: row.moment,
+        core: row.core,
+        finding,
+    })
 }
 
 /// The row is kept for figures, where they are asked for.

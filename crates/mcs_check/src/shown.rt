@@ -1,3 +1,4 @@
+use mcs_ticks::Row;
 use mcs_verdict::{Found, Job};
 
 /// What a line is of.
@@ -7,4 +8,6 @@ pub(crate) enum Shown {
     Found(Found),
     /// A round that ended.
     Job(Job),
+    /// A row of the schedule.
+    Row(Row),
 }

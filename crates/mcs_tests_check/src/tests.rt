@@ -74,7 +74,10 @@ fn options(alloc: Global, horizon: u64, workers: usize, allowed: &[&str]) -> Res
         allowed: names,
         strict: false,
         show: Show::Findings,
+        show_given: false,
         format: Format::Text,
+        why: None,
+        forever: false,
     })
 }
 

@@ -20,7 +20,7 @@ use Rattle.mcs_check.specs.declared.shown.Shown.{Shown}
 use Rattle.mcs_check.specs.declared.shown.Shown.TheVariants as shown
 use Rattle.mcs_ticks.specs.Capped.{one_more}
 use Rattle.mcs_check.specs.Counts.{taken, told_of}
-use Rattle.mcs_check.specs.Formats.{found_line, head_text, hint_line, job_line}
+use Rattle.mcs_check.specs.Formats.{found_line, head_text, hint_line, job_line, row_line}
 use Rattle.mcs_check.specs.Figures.{table_lines}
 use Rattle.mcs_check.specs.Told.{found_lines}
 use Rattle.mcs_hints.specs.Hints.{hints_of}
@@ -35,10 +35,11 @@ abbrev pub shown_job : Option Job → Option Shown
 shown_job None = None
 shown_job (Some job) = Some (shown.Job job)
 
--- its line
+-- the line of what is shown
 abbrev pub shown_text : Format → System → Shown → List ℕ
 shown_text how system (shown.Found found) = found_line how system found
 shown_text how system (shown.Job job) = job_line how system job
+shown_text how system (shown.Row row) = row_line how system row
 
 -- if there is one
 abbrev pub told_line : Format → System → Option Shown → List ℕ

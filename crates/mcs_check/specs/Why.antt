@@ -1,0 +1,112 @@
+-- Why a round took so long: what is written of it.
+use Rattle.std.specs.Prelude.{ℕ, suc, ◌-◌, Bool, true, false, ◌==◌, ◌||◌, not, if◌then◌else◌, List, [], ◌∷◌, ◌++◌, codes, decimal, filter, flat_map, Option, Some, None, option_map, unwrap_or, vec_len}
+use Rattle.mcs_ticks.specs.declared.row.Row.{Row}
+use Rattle.mcs_fields.specs.Fields.{Text, Value, amount, empty, name}
+use Rattle.mcs_system.specs.declared.part.ThreadPart.{ThreadPart}
+use Rattle.mcs_system.specs.System.{System}
+use Rattle.mcs_core.specs.Clock.{schedule}
+use Rattle.mcs_text.specs.Text.{line, thread_name}
+use Rattle.mcs_verdict.specs.Findings.{past_of}
+use Rattle.mcs_why.specs.declared.span.Span.{Span}
+use Rattle.mcs_why.specs.declared.span.Sought.{Sought}
+use Rattle.mcs_why.specs.declared.span.Sought.TheVariants.{There, Missing}
+use Rattle.mcs_why.specs.Running.{idle_in, is_within, ran_in}
+use Rattle.mcs_why.specs.Spans.{sought}
+use Rattle.mcs_check_words.specs.declared.asked.Format.{Format}
+use Rattle.mcs_check_words.specs.declared.asked.Format.TheVariants as format
+use Rattle.mcs_check_words.specs.declared.asked.Options.{Options}
+use Rattle.mcs_check.specs.Asked.{round_number, thread_named}
+use Rattle.mcs_check.specs.Fields.{Fields}
+use Rattle.mcs_check.specs.Figures.{known, pair_words}
+use Rattle.mcs_check.specs.Formats.{row_line, written}
+
+-- how long the thread waited for the word that begins the round
+abbrev pub waited : Span → ℕ
+waited span = unwrap_or span.activated (unwrap_or span.begun span.to) - span.from
+
+-- when the round ended, if it did
+abbrev pub ended_of : Span → Value
+ended_of span = if span.ended then amount span.to else empty
+
+-- what is told of a round: from when to when its rows tell, and what happened meanwhile
+abbrev pub told_fields : Span → Fields
+told_fields span =
+    (codes "number", amount span.number) ∷ (codes "from", amount span.from) ∷ (codes "to", amount span.to) ∷ (codes "waited", amount (waited span))
+    ∷ (codes "activated", known span.activated) ∷ (codes "begun", known span.begun) ∷ (codes "ended", ended_of span) ∷ []
+
+abbrev pub span_fields : System → Span → Fields
+span_fields system span =
+    (codes "kind", name (codes "why")) ∷ (codes "thread", name (thread_name system span.thread)) ∷ told_fields span
+
+abbrev pub span_text : System → Span → Text
+span_text system span = line (codes "why") (thread_name system span.thread ∷ pair_words (told_fields span))
+
+abbrev pub span_line : Format → System → Span → Text
+span_line how system span = written how (span_text system span) (span_fields system span)
+
+-- how long a thread ran; nothing, where it did not
+abbrev pub ran_fields : System → ℕ → ℕ → Fields
+ran_fields system thread ticks =
+    (codes "kind", name (codes "ran")) ∷ (codes "thread", name (thread_name system thread)) ∷ (codes "ticks", amount ticks) ∷ []
+
+abbrev pub told_ran : Format → System → ℕ → ℕ → Text
+told_ran how system thread ticks =
+    written how (line (codes "ran") (thread_name system thread ∷ decimal ticks ∷ [])) (ran_fields system thread ticks)
+
+abbrev pub ran_line : Format → System → ℕ → ℕ → Text
+ran_line how system thread ticks = if ticks == 0 then [] else told_ran how system thread ticks
+
+-- the threads from this number on, in a span of a core
+abbrev pub ran_lines : Format → System → ℕ → List Row → ℕ → ℕ → ℕ → List ThreadPart → Text
+ran_lines how system core past from to n [] = []
+ran_lines how system core past from to n (part ∷ parts) =
+    ran_line how system n (ran_in core n past from to) ++ ran_lines how system core past from to (suc n) parts
+
+-- for how long the core was idle
+abbrev pub idle_fields : ℕ → Fields
+idle_fields ticks = (codes "kind", name (codes "idle")) ∷ (codes "ticks", amount ticks) ∷ []
+
+abbrev pub idle_line : Format → ℕ → Text
+idle_line how ticks = written how (line (codes "idle") (decimal ticks ∷ [])) (idle_fields ticks)
+
+-- what is told of the round, how long each thread ran meanwhile, and for how long the core was idle
+abbrev pub account_lines : Format → System → Span → List Row → Text
+account_lines how system span past =
+    span_line how system span ++ ran_lines how system span.core past span.from span.to 0 system.threads
+    ++ idle_line how (idle_in span.core past span.from span.to)
+
+-- the rows of its core from the span's beginning to its end
+abbrev pub rows_lines : Format → System → Span → List Row → Text
+rows_lines how system span rows = flat_map (row_line how system) (filter (is_within span.core span.from span.to) rows)
+
+-- these, and then those
+abbrev pub round_text : Format → System → Span → List Row → Text
+round_text how system span rows = rows_lines how system span rows ++ account_lines how system span (past_of [] rows)
+
+-- what there is in the schedule of the one clock of the round with this number of the thread with this name, if there is such a thread
+abbrev pub round_of : System → ℕ → Text × Text → Option Sought
+round_of system horizon question =
+    option_map (λ thread. sought system horizon (past_of [] (schedule system horizon)) thread (round_number question.1))
+    (thread_named system.threads question.0)
+
+abbrev pub is_there : Option Sought → Bool
+is_there None = false
+is_there (Some (There span)) = true
+is_there (Some (Missing rounds)) = false
+
+-- what is written of it; nothing, where it is not there
+abbrev pub answer_text : Format → System → ℕ → Option Sought → Text
+answer_text how system horizon None = []
+answer_text how system horizon (Some (There span)) = round_text how system span (schedule system horizon)
+answer_text how system horizon (Some (Missing rounds)) = []
+
+abbrev pub why_text : Format → System → ℕ → Text × Text → Text
+why_text how system horizon question = answer_text how system horizon (round_of system horizon question)
+
+abbrev pub is_csv : Format → Bool
+is_csv format.Csv = true
+is_csv _ = false
+
+-- what has nothing to do with a round is asked for too
+abbrev pub is_mixed : Options → Bool
+is_mixed options = options.show_given || options.strict || not (vec_len options.allowed == 0) || is_csv options.format

@@ -1,0 +1,76 @@
+//! The round that is asked about.
+ghost use Rattle.std.specs.Prelude.{◌≡◌, ◌<◌, length, IfOk, IfSome, option_map, string_bytes};
+ghost use Rattle.mcs_check.specs.Asked.{IsNoThread, nearest_thread, round_number, thread_named};
+
+use crate::WhyFault;
+use crate::allowed::nearer;
+use mcs_cli::RunFault;
+use mcs_system::SystemParts;
+use mcs_team::SimFault;
+use mcs_ticks::ThreadId;
+use std::alloc::{AllocError, Global};
+
+/// The thread of this name.
+pub(crate) fn thread_named(parts: &SystemParts, name: &str) -> Option<ThreadId>
+    ensures named { result ≡ thread_named parts.now.threads name.now }
+    ensures known { IfSome result (λ thread. thread < length parts.now.threads) }
+{
+    match place_of(parts, name) {
+        Some(place) => Some(ThreadId(place)),
+        None => None,
+    }
+}
+
+fn place_of(parts: &SystemParts, name: &str) -> Option<usize>
+    ensures { result ≡ thread_named parts.now.threads name.now }
+{
+    let threads = parts.threads.as_slice();
+    threads.iter().position(|part| part.name.as_str() == name)
+}
+
+/// The number that the text is, or 0, which no round has, where it is none.
+pub(crate) fn round_number(text: &str) -> u64
+    ensures { result ≡ round_number text.now }
+{
+    text.parse::<u64>().unwrap_or(0)
+}
+
+/// The fault of a name that no thread has, or that there was no memory for its text.
+pub(crate) fn no_thread(alloc: Global, parts: &SystemParts, name: &str) -> WhyFault
+    ensures { IsNoThread parts.now.threads name.now result }
+{
+    match told(alloc, parts, name) {
+        Ok((name, nearest)) => WhyFault::NoThread { name, nearest },
+        Err(_) => WhyFault::Run(RunFault::Sim(SimFault::NoMemory)),
+    }
+}
+
+/// The name, and the nearest one.
+fn told(
+    alloc: Global,
+    parts: &SystemParts,
+    name: &str,
+) -> Result<(String, Option<String>), AllocError>
+    ensures { IfOk result (λ t. (string_bytes t.0 ≡ name.now) × (option_map string_bytes t.1 ≡ nearest_thread parts.now.threads name.now)) }
+{
+    let nearest = match nearest(alloc, parts, name)? {
+        Some(near) => Some(String::from_str(alloc, near)?),
+        None => None,
+    };
+    Ok((String::from_str(alloc, name)?, nearest))
+}
+
+/// The name of the thread whose name is nearest, the first of those that are as near.
+fn nearest<'a>(
+    alloc: Global,
+    parts: &'a SystemParts,
+    name: &str,
+) -> Result<Option<&'a str>, AllocError>
+    ensures { IfOk result (λ near. option_map (λ n. n.now) near ≡ nearest_thread parts.now.threads name.now) }
+{
+    let mut near = None;
+    for part in parts.threads.as_slice() {
+        near = Some(nearer(alloc, name, near, part.name.as_str())?);
+    }
+    Ok(near)
+}

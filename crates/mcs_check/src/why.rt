@@ -1,0 +1,259 @@
+//! Why a round took so long, from the bytes read to the bytes written.
+ghost use Rattle.std.specs.Prelude.{◌≡◌, ◌<◌, ◌++◌, [], ℕ, Bool, List, Option, None, Err, true, false, length, IfOk, IfErr, IfSome, OnOk};
+ghost use Rattle.std.specs.Arc.{arc_value};
+ghost use Rattle.std.specs.Io.KnownBytes.{Appends};
+ghost use Rattle.mcs_core.specs.Clock.{schedule};
+ghost use Rattle.mcs_verdict.specs.Findings.{past_of};
+ghost use Rattle.mcs_cli.specs.Flow.{AppendsBefore, IsWriteFault};
+ghost use Rattle.mcs_cli.specs.declared.fault.RunFault.TheVariants as fault;
+ghost use Rattle.mcs_why.specs.Account.{account_of};
+ghost use Rattle.mcs_why.specs.Spans.{sought};
+ghost use Rattle.mcs_check_words.specs.CommandLine.{question_texts};
+ghost use Rattle.mcs_check.specs.Asked.{IsNoRound};
+ghost use Rattle.mcs_check.specs.Explained.{IsExplained, IsTold};
+ghost use Rattle.mcs_check.specs.Why.{is_mixed, rows_lines, round_text};
+ghost use Rattle.mcs_check.specs.declared.why_fault.WhyFault.TheVariants.{Run};
+ghost use Rattle.mcs_check.specs.stored.Rows.{refusal};
+
+use crate::asked::{no_thread, round_number, thread_named};
+use crate::finder::Lines;
+use crate::ran::put_account;
+use crate::run::refusal;
+use crate::seeker::Seeker;
+use crate::teller::{Teller, Told};
+use crate::{Progress, Rounds, WhyFault};
+use mcs_check_words::{Format, Options, Question};
+use mcs_cli::{FromRead, Open, RunFault, Source, Target, read_system, write_text};
+use mcs_system::System;
+use mcs_team::{FlowFault, SimFault, schedule_to};
+use mcs_ticks::{NoMemory, ThreadId};
+use mcs_verdict::Watch;
+use mcs_verdict_laws::schedules_are_in_order;
+use mcs_why::{Account, Search, Sought, Span};
+use std::alloc::Global;
+use std::fs::File;
+use std::rt::Files;
+use std::sync::{Arc, Wait};
+use std::thread::Threads;
+
+/// Tells it of a system in the file that the options name, or in the input where they name none. A file that is not opened has failed. No
+/// contract knows the bytes of a file: what is written is the answer of some text.
+pub fn explain_with<H: Files + Threads + Wait + Sync, S: Source, T: Target, P: Progress>(
+    rt: &H,
+    alloc: Global,
+    input: &mut S,
+    output: &mut T,
+    options: &Options,
+    question: &Question,
+    progress: &mut P,
+) -> Result<(), WhyFault>
+    requires reads { S.has_failed input.old ≡ false }
+    requires writes { T.has_failed output.old ≡ false }
+    ensures input { options.now.file ≡ None
+        → IsExplained (T.contents output.old) (T.contents output.new) (T.has_failed output.new) options.now (question_texts question.now)
+        (S.remaining input.old) (S.remaining input.new) (S.given input.old) (S.given input.new) (S.has_failed input.new) result }
+    ensures file { IfSome options.now.file
+        (λ _. (old new : Option (List ℕ)) × (given : ℕ) × (failed : Bool)
+        × IsExplained (T.contents output.old) (T.contents output.new) (T.has_failed output.new) options.now (question_texts question.now)
+        old new 0 given failed result) }
+    ensures source_blamed { S.has_failed input.new ≡ true → result ≡ Err (Run fault.Read) }
+    ensures target_blamed { T.has_failed output.new ≡ true → result ≡ Err (Run fault.Write) }
+    ensures kept { IfSome options.now.file (λ _. input.new ≡ input.old) }
+{
+    match &options.file {
+        Some(name) => match File::open(rt, name.as_str()) {
+            Ok(file) => {
+                let mut source = FromRead::new(file);
+                explain(rt, alloc, &mut source, output, options, question, progress)
+            }
+            Err(_) => Err(WhyFault::Run(RunFault::Read)),
+        },
+        None => explain(rt, alloc, input, output, options, question, progress),
+    }
+}
+
+/// Reads a file to its end, simulates the system that it describes twice, by as many workers as the options say, and writes why the round that
+/// is asked about took so long: the rows of its core from its activation on, or from where its thread began to wait for the word that began
+/// it, to its end, or to the horizon; what is told of the round; how long each thread ran meanwhile, and for how long the core was idle. For
+/// every number of workers the same bytes are written. Neither device may have failed before, and one is blamed only where it has failed
+/// since. After `Mixed`, `Read`, `Load`, `NoThread` and `NoRound` nothing was written, and after `Sim` and `Write` a first part of that.
+pub fn explain<H: Threads + Wait + Sync, S: Source, T: Target, P: Progress>(
+    rt: &H,
+    alloc: Global,
+    source: &mut S,
+    target: &mut T,
+    options: &Options,
+    question: &Question,
+    progress: &mut P,
+) -> Result<(), WhyFault>
+    requires reads { S.has_failed source.old ≡ false }
+    requires writes { T.has_failed target.old ≡ false }
+    ensures explained { IsExplained (T.contents target.old) (T.contents target.new) (T.has_failed target.new) options.now (question_texts question.now)
+        (S.remaining source.old) (S.remaining source.new) (S.given source.old) (S.given source.new) (S.has_failed source.new) result }
+    ensures source_blamed { S.has_failed source.new ≡ true → result ≡ Err (Run fault.Read) }
+    ensures target_blamed { T.has_failed target.new ≡ true → result ≡ Err (Run fault.Write) }
+{
+    if is_mixed(options) {
+        return Err(WhyFault::Mixed);
+    }
+    let system = read_system(alloc, source)?;
+    answer(rt, alloc, target, system, options, question, progress)
+}
+
+/// Tells it of a system.
+fn answer<H: Threads + Wait + Sync, T: Target, P: Progress>(
+    rt: &H,
+    alloc: Global,
+    target: &mut T,
+    system: System,
+    options: &Options,
+    question: &Question,
+    progress: &mut P,
+) -> Result<(), WhyFault>
+    requires { T.has_failed target.old ≡ false }
+    ensures told { IsTold (T.contents target.old) (T.contents target.new) (T.has_failed target.new) options.now (question_texts question.now)
+        system result }
+    ensures blamed { T.has_failed target.new ≡ true → result ≡ Err (Run fault.Write) }
+{
+    let Some(thread) = thread_named(system.parts(), question.thread.as_str()) else {
+        return Err(no_thread(alloc, system.parts(), question.thread.as_str()));
+    };
+    let Ok(system) = Arc::new(alloc, system) else {
+        return Err(WhyFault::Run(RunFault::Sim(SimFault::NoMemory)));
+    };
+    let number = round_number(question.round.as_str());
+    match find_round(rt, alloc, &system, thread, number, options, progress)? {
+        Sought::There(span) => {
+            write_span(rt, alloc, target, &system, &span, options, progress)?;
+            Ok(())
+        }
+        Sought::Missing(rounds) => Err(no_round(alloc, question, rounds)),
+    }
+}
+
+/// Whether something is asked for that has nothing to do with a round.
+fn is_mixed(options: &Options) -> bool
+    ensures { result ≡ is_mixed options.now }
+{
+    options.show_given
+        || options.strict
+        || !options.allowed.is_empty()
+        || matches!(options.format, Format::Csv)
+}
+
+/// The fault of a round that is not there, or that there was no memory for its text.
+fn no_round(alloc: Global, question: &Question, rounds: u64) -> WhyFault
+    ensures { IsNoRound (question_texts question.now) rounds result }
+{
+    let thread = String::from_str(alloc, question.thread.as_str());
+    let round = String::from_str(alloc, question.round.as_str());
+    match (thread, round) {
+        (Ok(thread), Ok(round)) => WhyFault::NoRound {
+            thread,
+            round,
+            rounds: Rounds(rounds),
+        },
+        _ => WhyFault::Run(RunFault::Sim(SimFault::NoMemory)),
+    }
+}
+
+/// What there is of the round of a thread.
+fn find_round<H: Threads + Wait + Sync, P: Progress>(
+    rt: &H,
+    alloc: Global,
+    system: &Arc<System>,
+    thread: ThreadId,
+    number: u64,
+    options: &Options,
+    progress: &mut P,
+) -> Result<Sought, RunFault>
+    requires { thread < length (arc_value system.now).threads }
+    ensures found { IfOk result (λ there. there ≡ sought (arc_value system.now) options.now.horizon
+        (past_of [] (schedule (arc_value system.now) options.now.horizon)) thread number) }
+    ensures fault { IfErr result (λ f. f ≡ RunFault.Sim SimFault.NoMemory) }
+{
+    schedules_are_in_order();
+    let _parts = system.parts();
+    let Ok(shared) = Arc::try_clone(system) else {
+        return Err(RunFault::Sim(SimFault::NoMemory));
+    };
+    let Ok(watch) = Watch::new(alloc, system) else {
+        return Err(RunFault::Sim(SimFault::NoMemory));
+    };
+    let search = Search::new(system, thread, number);
+    let mut seeker = Seeker::new(watch, search, progress);
+    let (horizon, workers) = (options.horizon, options.workers);
+    let result = schedule_to(rt, alloc, shared, horizon, workers, &Open, &mut seeker);
+    if result.is_err() {
+        return Err(RunFault::Sim(SimFault::NoMemory));
+    }
+    seeker.progress.wipe();
+    Ok(seeker.search.sought(&seeker.watch, horizon))
+}
+
+/// Writes the rows of a span, what is told of its round, and who ran meanwhile.
+fn write_span<H: Threads + Wait + Sync, T: Target, P: Progress>(
+    rt: &H,
+    alloc: Global,
+    target: &mut T,
+    system: &Arc<System>,
+    span: &Span,
+    options: &Options,
+    progress: &mut P,
+) -> Result<(), RunFault>
+    requires { T.has_failed target.old ≡ false }
+    ensures ok { OnOk result (Appends (T.contents target.old) (T.contents target.new)
+        (round_text options.now.format (arc_value system.now) span.now (schedule (arc_value system.now) options.now.horizon))) }
+    ensures working { OnOk result (T.has_failed target.new ≡ false) }
+    ensures fault { IfErr result (IsWriteFault (T.contents target.old) (T.contents target.new) (T.has_failed target.new)
+        (round_text options.now.format (arc_value system.now) span.now (schedule (arc_value system.now) options.now.horizon))) }
+{
+    let told = tell_rows(rt, alloc, target, system, span, options, progress);
+    progress.wipe();
+    let mut told = told?;
+    let (text, account) = (&mut told.text, &told.account);
+    if put_account(alloc, text, options.format, system, span, account).is_err() {
+        return Err(RunFault::Sim(SimFault::NoMemory));
+    }
+    write_text(target, told.text.as_slice())
+}
+
+/// Writes the lines of the rows of a span as they come, but for the last ones, and counts who ran.
+fn tell_rows<H: Threads + Wait + Sync, T: Target, P: Progress>(
+    rt: &H,
+    alloc: Global,
+    target: &mut T,
+    system: &Arc<System>,
+    span: &Span,
+    options: &Options,
+    progress: &mut P,
+) -> Result<Told, RunFault>
+    requires { T.has_failed target.old ≡ false }
+    ensures ok { IfOk result (λ told. AppendsBefore (T.contents target.old) (T.contents target.new)
+        (rows_lines options.now.format (arc_value system.now) span.now (schedule (arc_value system.now) options.now.horizon)) told.text.items) }
+    ensures account { IfOk result (λ told. told.account ≡ account_of (length (arc_value system.now).threads) span.now.core span.now.from span.now.to
+        (past_of [] (schedule (arc_value system.now) options.now.horizon))) }
+    ensures working { OnOk result (T.has_failed target.new ≡ false) }
+    ensures fault { IfErr result (IsWriteFault (T.contents target.old) (T.contents target.new) (T.has_failed target.new)
+        (rows_lines options.now.format (arc_value system.now) span.now (schedule (arc_value system.now) options.now.horizon))) }
+{
+    schedules_are_in_order();
+    let _parts = system.parts();
+    let Ok(shared) = Arc::try_clone(system) else {
+        return Err(RunFault::Sim(SimFault::NoMemory));
+    };
+    let Ok(account) = Account::new(alloc, system, span) else {
+        return Err(RunFault::Sim(SimFault::NoMemory));
+    };
+    let text = Vec::new(alloc);
+    let mut told = Told { account, text };
+    let lines = Lines::new(target);
+    let mut teller = Teller::new(lines, alloc, options.format, system, &mut told, progress);
+    let (horizon, workers) = (options.horizon, options.workers);
+    let result = schedule_to(rt, alloc, shared, horizon, workers, &Open, &mut teller);
+    match result {
+        Ok(()) => Ok(told),
+        Err(FlowFault::NoMemory) => Err(RunFault::Sim(SimFault::NoMemory)),
+        Err(FlowFault::Sink) => Err(refusal(teller.lines.is_out_of_memory)),
+    }
+}
