@@ -3,8 +3,9 @@
 
 mod meter;
 
-use mcs_check::check_with;
-use mcs_check_words::options;
+use mcs_check::{CheckFault, Counts, WhyFault, check_with, explain_with};
+use mcs_check_forever::{ForeverFault, Verdict, foretell_with};
+use mcs_check_words::{Options, options};
 use mcs_cli::{FromRead, IntoWrite, WordsFault};
 use meter::Meter;
 use std::io::ErrorKind;
@@ -20,30 +21,82 @@ const WRITE_FAILED: &str = "mcscheck: write failed\n";
 /// The status where something was found.
 const FOUND: u8 = 5;
 
+/// The status where nothing was found so far, and not for ever.
+const OPEN: u8 = 6;
+
 fn main(rt: HostRuntime) -> ExitCode {
     let words = match words_of(&rt) {
         Ok(words) => words,
         Err(fault) if fault.kind() == ErrorKind::OutOfMemory => return fail(&rt, NO_MEMORY, 4),
         Err(_) => return fail(&rt, NOT_UTF_8, 2),
     };
-    match options(rt.alloc(), words.as_slice()) {
-        Ok(options) => match check_with(
-            &rt,
-            rt.alloc(),
-            &mut FromRead::new(rt.stdin()),
-            &mut IntoWrite::new(rt.stdout()),
-            &options,
-            &mut Meter::new(&rt, options.horizon),
-        ) {
-            Ok(counts) if counts.is_clean(options.strict) => ExitCode::SUCCESS,
-            Ok(_) => ExitCode::from(FOUND),
-            Err(fault) => {
-                let status = fault.status();
-                let _ = rt.eprintln(fault);
-                ExitCode::from(status)
-            }
-        },
-        Err(fault) => tell(&rt, &fault),
+    let options = match options(rt.alloc(), words.as_slice()) {
+        Ok(options) => options,
+        Err(fault) => return tell(&rt, &fault),
+    };
+    let (alloc, mut meter) = (rt.alloc(), Meter::new(&rt, options.horizon));
+    let mut input = FromRead::new(rt.stdin());
+    let mut output = IntoWrite::new(rt.stdout());
+    if options.forever {
+        let verdict = foretell_with(&rt, alloc, &mut input, &mut output, &options, &mut meter);
+        return end_look(&rt, verdict);
+    }
+    match &options.why {
+        None => {
+            let found = check_with(&rt, alloc, &mut input, &mut output, &options, &mut meter);
+            end_check(&rt, &options, found)
+        }
+        Some(why) => {
+            let told = explain_with(
+                &rt,
+                alloc,
+                &mut input,
+                &mut output,
+                &options,
+                why,
+                &mut meter,
+            );
+            end_answer(&rt, told)
+        }
+    }
+}
+
+/// The status of what was found, or of the fault, which is told.
+fn end_check(rt: &HostRuntime, options: &Options, found: Result<Counts, CheckFault>) -> ExitCode {
+    match found {
+        Ok(counts) if counts.is_clean(options.strict) => ExitCode::SUCCESS,
+        Ok(_) => ExitCode::from(FOUND),
+        Err(fault) => {
+            let status = fault.status();
+            let _ = rt.eprintln(fault);
+            ExitCode::from(status)
+        }
+    }
+}
+
+/// The status of an answer about a round, or of the fault, which is told.
+fn end_answer(rt: &HostRuntime, told: Result<(), WhyFault>) -> ExitCode {
+    match told {
+        Ok(()) => ExitCode::SUCCESS,
+        Err(fault) => {
+            let status = fault.status();
+            let _ = rt.eprintln(fault);
+            ExitCode::from(status)
+        }
+    }
+}
+
+/// The status of what a look at all time came to, or of the fault, which is told.
+fn end_look(rt: &HostRuntime, verdict: Result<Verdict, ForeverFault>) -> ExitCode {
+    match verdict {
+        Ok(Verdict::Clean) => ExitCode::SUCCESS,
+        Ok(Verdict::Found) => ExitCode::from(FOUND),
+        Ok(Verdict::Open) => ExitCode::from(OPEN),
+        Err(fault) => {
+            let status = fault.status();
+            let _ = rt.eprintln(fault);
+            ExitCode::from(status)
+        }
     }
 }
 

@@ -1,0 +1,55 @@
+-- What a look at all time reads and writes.
+use Rattle.std.specs.Prelude.{Result, Ok, Err, Option, Some, None, ◌≡◌, ◌≢◌, ◌⊎◌, List, ℕ, Bool, true, false, ◌||◌, is_some, length, nat_lt, not, ◌==◌}
+use Rattle.std.specs.Io.KnownBytes.{Appends, Keeps}
+use Rattle.mcs_system.specs.System.{System}
+use Rattle.mcs_load.specs.Memory.{no_memory}
+use Rattle.mcs_cli.specs.Devices.{AppendsPrefix}
+use Rattle.mcs_cli.specs.Run.{IsFaultOfInput, IsRead, IsTooLong}
+use Rattle.mcs_cli.specs.declared.fault.RunFault.TheVariants as run
+use Rattle.mcs_check_words.specs.declared.asked.Format.{Format}
+use Rattle.mcs_check_words.specs.declared.asked.Format.TheVariants as format
+use Rattle.mcs_check_words.specs.declared.asked.Options.{Options}
+use Rattle.mcs_check.specs.Allowed.{IsUnknownFault, first_unknown}
+use Rattle.mcs_check.specs.Check.{names_of}
+use Rattle.mcs_check.specs.declared.fault.CheckFault.TheVariants.{Unknown, Run}
+use Rattle.mcs_check_forever.specs.declared.forever_fault.ForeverFault.{ForeverFault}
+use Rattle.mcs_check_forever.specs.declared.forever_fault.ForeverFault.TheVariants.{Check, Mixed}
+use Rattle.mcs_check_forever.specs.declared.verdict.Verdict.{Verdict}
+use Rattle.mcs_check_forever.specs.Verdict.{IsForetold}
+
+abbrev pub is_rows : Format → Bool
+is_rows format.Csv = true
+is_rows _ = false
+
+-- something is asked for that does not go with a look at all time
+abbrev pub is_mixed : Options → Bool
+is_mixed options = options.show_given || (options.strict || (is_some options.why || is_rows options.format))
+
+-- the bytes that a target knows before and after, whether it has failed, and what is asked for
+module _ (write_old write_new : Option (List ℕ)) (write_failed : Bool) (options : Options) where
+  -- What is told of a system: what is foretold of it and nothing else; where its text was not written to its end, a first part of that; where
+  -- a name is not known or there was no memory, nothing.
+  abbrev pub IsTold : System → Result Verdict ForeverFault → Type 0
+  IsTold system (Ok verdict) = (text : List ℕ) × IsForetold (names_of options) system options.horizon options.format verdict text
+      × Appends write_old write_new text
+  IsTold system (Err (Check (Run (run.Sim f)))) = Keeps write_old write_new
+  IsTold system (Err (Check (Run run.Write))) = (write_failed ≡ true)
+      × (verdict : Verdict) × (text : List ℕ) × IsForetold (names_of options) system options.horizon options.format verdict text
+      × AppendsPrefix write_old write_new text
+  IsTold system (Err (Check (Unknown name nearest))) = Keeps write_old write_new
+      × (asked : List ℕ) × (first_unknown system.notes (names_of options) ≡ Some asked)
+      × IsUnknownFault system.notes asked (Unknown name nearest)
+  IsTold system (Err _) = ⊥
+
+  -- the bytes that a source knows before and after, and how many it has given by then; whether it has failed
+  module _ (read_old read_new : Option (List ℕ)) (given_old given_new : ℕ) (read_failed : Bool) where
+    -- What does not go with it is refused first, then the file is to blame, and in both cases nothing is written; else it is told of the system
+    -- that was read.
+    abbrev pub IsForetelling : Result Verdict ForeverFault → Type 0
+    IsForetelling (Err Mixed) = Keeps write_old write_new × (is_mixed options ≡ true)
+    IsForetelling (Err (Check (Run run.Read))) =
+        Keeps write_old write_new × ((read_failed ≡ true) ⊎ IsTooLong read_old read_new given_old given_new)
+    IsForetelling (Err (Check (Run (run.Load f)))) =
+        Keeps write_old write_new × (f ≢ no_memory → IsFaultOfInput read_old read_new given_old given_new f)
+    IsForetelling result = (is_mixed options ≡ false)
+        × (system : System) × IsRead read_old read_new given_old given_new system × IsTold system result

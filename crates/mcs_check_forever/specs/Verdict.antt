@@ -1,0 +1,47 @@
+-- What is written of a system for all time.
+use Rattle.std.specs.Prelude.{◌≡◌, ℕ, not, ◌==◌, if◌then◌else◌, List, ◌++◌, length, flat_map, count_by, is_some}
+use Rattle.std.specs.List.{sum_by}
+use Rattle.mcs_ticks.specs.Capped.{capped}
+use Rattle.mcs_system.specs.System.{System}
+use Rattle.mcs_check.specs.Allowed.{flags_of}
+use Rattle.mcs_check_words.specs.declared.asked.Format.{Format}
+use Rattle.mcs_check_words.specs.declared.asked.Format.TheVariants as format
+use Rattle.mcs_forever_text.specs.declared.line.Line.TheVariants.{Sets}
+use Rattle.mcs_forever_text.specs.declared.line.LineFormat.{LineFormat}
+use Rattle.mcs_forever_text.specs.declared.line.LineFormat.TheVariants as lines
+use Rattle.mcs_forever_text.specs.Formats.{line_text, lines_text}
+use Rattle.mcs_outlook.specs.declared.told.Told.{Told}
+use Rattle.mcs_outlook.specs.Outlook.{AreTold}
+use Rattle.mcs_check_forever.specs.declared.verdict.Verdict.{Verdict}
+use Rattle.mcs_check_forever.specs.declared.verdict.Verdict.TheVariants.{Clean, Found, Open}
+
+-- lines as words or as objects; there are no rows of CSV
+abbrev pub line_format : Format → LineFormat
+line_format format.Json = lines.Json
+line_format _ = lines.Text
+
+-- how many of the sets repeat, and how many findings are told of all of them, as 64 bits hold the number
+abbrev pub repeating : List Told → ℕ
+repeating told = count_by (λ (t : Told). is_some t.period) told
+
+abbrev pub findings : List Told → ℕ
+findings told = capped (sum_by (λ (t : Told). t.findings) told)
+
+-- the lines of each set, and last how many there are
+abbrev pub told_text : Format → System → List Told → List ℕ
+told_text how system told =
+    flat_map (λ (t : Told). lines_text (line_format how) system t.lines.items) told
+    ++ line_text (line_format how) system (Sets (length told) (repeating told) (findings told))
+
+-- something is found; or nothing is, for ever; or nothing so far
+abbrev pub verdict_of : List Told → Verdict
+verdict_of told =
+    if not (findings told == 0) then Found
+    else if repeating told == length told then Clean else Open
+
+-- these bytes are what is told of the system for all time, where these notifications may lose signals, and this is the verdict
+pub record IsForetold (names : List (List ℕ)) (system : System) (horizon : ℕ) (how : Format) (verdict : Verdict) (text : List ℕ) : Type 0 where
+  pub told : List Told
+  pub so : AreTold system (flags_of names system.notes) horizon told
+  pub text_is : text ≡ told_text how system told
+  pub verdict_is : verdict ≡ verdict_of told

@@ -1,0 +1,165 @@
+//! From the bytes read to the bytes written.
+ghost use Rattle.std.specs.Prelude.{◌≡◌, ◌^◌, ◌≤◌, ℕ, List, Bool, Option, None, Err, true, false, IfOk, IfSome};
+ghost use Rattle.std.specs.Arc.{arc_value};
+ghost use Rattle.mcs_cli.specs.declared.fault.RunFault.TheVariants as fault;
+ghost use Rattle.mcs_team.specs.declared.fault.SimFault.TheVariants as memory;
+ghost use Rattle.mcs_check.specs.Check.{names_of};
+ghost use Rattle.mcs_check.specs.declared.fault.CheckFault.TheVariants as check;
+ghost use Rattle.mcs_outlook.specs.Outlook.{AreTold};
+ghost use Rattle.mcs_check_forever.specs.Foretold.{IsForetelling, IsTold, is_mixed};
+ghost use Rattle.mcs_check_forever.specs.Verdict.{IsForetold};
+ghost use Rattle.mcs_check_forever.specs.declared.forever_fault.ForeverFault.TheVariants.{Check};
+
+use crate::told::{text_of, verdict_of};
+use crate::{ForeverFault, Verdict};
+use mcs_check::{CheckFault, Progress, flags_of, refuse_unknown};
+use mcs_check_words::{Format, Options};
+use mcs_cli::{FromRead, RunFault, Source, Target, read_system, write_text};
+use mcs_outlook::{Outlook, Told};
+use mcs_system::System;
+use mcs_team::SimFault;
+use mcs_ticks::{NoMemory, Tick};
+use std::alloc::Global;
+use std::fs::File;
+use std::rt::Files;
+use std::sync::Arc;
+
+/// How many moments pass before it is told again how far the look is.
+const STRIDE: u32 = 4_096;
+
+/// Looks at the system of the file that the options name, or of the input where they name none. A file that is not opened has failed. No
+/// contract knows the bytes of a file: what is written is told of some text.
+pub fn foretell_with<H: Files, S: Source, T: Target, P: Progress>(
+    rt: &H,
+    alloc: Global,
+    input: &mut S,
+    output: &mut T,
+    options: &Options,
+    progress: &mut P,
+) -> Result<Verdict, ForeverFault>
+    requires reads { S.has_failed input.old ≡ false }
+    requires writes { T.has_failed output.old ≡ false }
+    ensures input { options.now.file ≡ None
+        → IsForetelling (T.contents output.old) (T.contents output.new) (T.has_failed output.new) options.now
+        (S.remaining input.old) (S.remaining input.new) (S.given input.old) (S.given input.new) (S.has_failed input.new) result }
+    ensures file { IfSome options.now.file
+        (λ _. (old new : Option (List ℕ)) × (given : ℕ) × (failed : Bool)
+        × IsForetelling (T.contents output.old) (T.contents output.new) (T.has_failed output.new) options.now
+        old new 0 given failed result) }
+    ensures source_blamed { S.has_failed input.new ≡ true → result ≡ Err (Check (check.Run fault.Read)) }
+    ensures target_blamed { T.has_failed output.new ≡ true → result ≡ Err (Check (check.Run fault.Write)) }
+    ensures kept { IfSome options.now.file (λ _. input.new ≡ input.old) }
+{
+    match &options.file {
+        Some(name) => match File::open(rt, name.as_str()) {
+            Ok(file) => {
+                let mut source = FromRead::new(file);
+                foretell(alloc, &mut source, output, options, progress)
+            }
+            Err(_) => Err(ForeverFault::Check(CheckFault::Run(RunFault::Read))),
+        },
+        None => foretell(alloc, input, output, options, progress),
+    }
+}
+
+/// Reads a file to its end, looks up to the horizon for a repetition of what the cores of the system do that it describes, and writes what is told
+/// of each set of cores that no core outside it signals: from which moment on it repeats, with which period, and what is found of it for ever, or,
+/// where no repetition is found, so far. What the options say of workers is not asked: one thread looks. Neither device may have failed before,
+/// and one is blamed only where it has failed since. After each fault but `Write` nothing was written, and after that a first part.
+pub fn foretell<S: Source, T: Target, P: Progress>(
+    alloc: Global,
+    source: &mut S,
+    target: &mut T,
+    options: &Options,
+    progress: &mut P,
+) -> Result<Verdict, ForeverFault>
+    requires reads { S.has_failed source.old ≡ false }
+    requires writes { T.has_failed target.old ≡ false }
+    ensures foretold { IsForetelling (T.contents target.old) (T.contents target.new) (T.has_failed target.new) options.now
+        (S.remaining source.old) (S.remaining source.new) (S.given source.old) (S.given source.new) (S.has_failed source.new) result }
+    ensures source_blamed { S.has_failed source.new ≡ true → result ≡ Err (Check (check.Run fault.Read)) }
+    ensures target_blamed { T.has_failed target.new ≡ true → result ≡ Err (Check (check.Run fault.Write)) }
+{
+    if is_mixed(options) {
+        return Err(ForeverFault::Mixed);
+    }
+    let system = read_system(alloc, source)?;
+    tell(alloc, target, system, options, progress)
+}
+
+/// Whether something is asked for that does not go with it.
+fn is_mixed(options: &Options) -> bool
+    ensures { result ≡ is_mixed options.now }
+{
+    options.show_given
+        || options.strict
+        || options.why.is_some()
+        || matches!(options.format, Format::Csv)
+}
+
+/// Tells it of a system.
+fn tell<T: Target, P: Progress>(
+    alloc: Global,
+    target: &mut T,
+    system: System,
+    options: &Options,
+    progress: &mut P,
+) -> Result<Verdict, ForeverFault>
+    requires { T.has_failed target.old ≡ false }
+    ensures told { IsTold (T.contents target.old) (T.contents target.new) (T.has_failed target.new) options.now system result }
+    ensures blamed { T.has_failed target.new ≡ true → result ≡ Err (Check (check.Run fault.Write)) }
+{
+    refuse_unknown(alloc, system.parts(), options.allowed.as_slice())?;
+    let Ok((verdict, text)) = foretold(alloc, system, options, progress) else {
+        return Err(no_memory());
+    };
+    write_text(target, text.as_slice())?;
+    Ok(verdict)
+}
+
+fn no_memory() -> ForeverFault
+    ensures { result ≡ Check (check.Run (fault.Sim memory.NoMemory)) }
+{
+    ForeverFault::Check(CheckFault::Run(RunFault::Sim(SimFault::NoMemory)))
+}
+
+/// What is told of the system, and what it comes to.
+fn foretold<P: Progress>(
+    alloc: Global,
+    system: System,
+    options: &Options,
+    progress: &mut P,
+) -> Result<(Verdict, Vec<u8>), NoMemory>
+    ensures { IfOk result (λ told. IsForetold (names_of options.now) system options.now.horizon options.now.format told.0 told.1.items) }
+{
+    let allowed = flags_of(alloc, system.parts(), options.allowed.as_slice())?;
+    let system = Arc::new(alloc, system)?;
+    let shared = Arc::try_clone(&system)?;
+    let told = look(alloc, shared, allowed.as_slice(), options.horizon, progress);
+    progress.wipe();
+    let told = told?;
+    let text = text_of(alloc, options.format, &system, told.as_slice())?;
+    Ok((verdict_of(told.as_slice()), text))
+}
+
+/// Looks for repetitions up to the horizon.
+fn look<P: Progress>(
+    alloc: Global,
+    system: Arc<System>,
+    allowed: &[bool],
+    horizon: Tick,
+    progress: &mut P,
+) -> Result<Vec<Told>, NoMemory>
+    requires { horizon ≤ 2 ^ 40 }
+    ensures { IfOk result (λ told. AreTold (arc_value system) allowed.now horizon told.items) }
+{
+    let mut outlook = Outlook::new(alloc, system, allowed, horizon)?;
+    let mut moments: u32 = 0;
+    'steps: while outlook.step(alloc)? {
+        moments = moments.wrapping_add(1);
+        if moments % STRIDE == 0 {
+            progress.passed(outlook.clock());
+        }
+    }
+    outlook.finish(alloc)
+}

@@ -1,0 +1,92 @@
+//! What is told of all sets of cores, as text, and what it comes to.
+ghost use Rattle.std.specs.Prelude.{◌≡◌, ◌++◌, flat_map, IfOk, OnOk};
+ghost use Rattle.mcs_forever_text.specs.Formats.{lines_text};
+ghost use Rattle.mcs_outlook.specs.declared.told.Told.{Told as ToldSet};
+ghost use Rattle.mcs_check_forever.specs.Verdict.{line_format, repeating, findings, told_text, verdict_of};
+
+use crate::Verdict;
+use mcs_check_words::Format;
+use mcs_forever_text::{Line, LineFormat, put_line, put_lines};
+use mcs_outlook::Told;
+use mcs_system::System;
+use mcs_ticks::NoMemory;
+use std::alloc::Global;
+
+/// How lines are written.
+fn line_format(format: Format) -> LineFormat
+    ensures { result ≡ line_format format }
+{
+    match format {
+        Format::Json => LineFormat::Json,
+        Format::Text | Format::Csv => LineFormat::Text,
+    }
+}
+
+/// How many of the sets repeat.
+fn repeating(told: &[Told]) -> usize
+    ensures { result ≡ repeating told.now }
+{
+    told.iter().filter(|set| set.period.is_some()).count()
+}
+
+/// How many findings are told of all of them.
+fn findings(told: &[Told]) -> u64
+    ensures { result ≡ findings told.now }
+{
+    let mut findings: u64 = 0;
+    for set in told {
+        findings = findings.saturating_add(set.findings as u64);
+    }
+    findings
+}
+
+/// The lines of each set behind the text.
+fn put_sets(
+    alloc: Global,
+    text: &mut Vec<u8>,
+    format: LineFormat,
+    system: &System,
+    told: &[Told],
+) -> Result<(), NoMemory>
+    ensures { OnOk result
+        (text.new.items ≡ text.old.items ++ flat_map (λ (t : ToldSet). lines_text format system.now t.lines.items) told.now) }
+{
+    for set in told {
+        put_lines(alloc, text, format, system, set.lines.as_slice())?;
+    }
+    Ok(())
+}
+
+/// All that is told of a system, as text.
+pub(crate) fn text_of(
+    alloc: Global,
+    format: Format,
+    system: &System,
+    told: &[Told],
+) -> Result<Vec<u8>, NoMemory>
+    ensures { IfOk result (λ text. text.items ≡ told_text format system.now told.now) }
+{
+    let format = line_format(format);
+    let mut text = Vec::new(alloc);
+    put_sets(alloc, &mut text, format, system, told)?;
+    let last = Line::Sets {
+        sets: told.len() as u64,
+        repeating: repeating(told) as u64,
+        findings: findings(told),
+    };
+    put_line(alloc, &mut text, format, system, &last)?;
+    Ok(text)
+}
+
+/// What it comes to.
+pub(crate) fn verdict_of(told: &[Told]) -> Verdict
+    ensures { result ≡ verdict_of told.now }
+{
+    if findings(told) != 0 {
+        Verdict::Found
+    } else if repeating(told) == told.len() {
+        Verdict::Clean
+    } else {
+        Verdict::Open
+    }
+}
