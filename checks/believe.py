@@ -77,6 +77,11 @@ ROOTS = (
         Clause('mcs_check/src/run.rt', 'check', 'source_blamed', ()),
         Clause('mcs_check/src/run.rt', 'check', 'target_blamed', ()),
     )),
+    Root('why', (
+        Clause('mcs_check/src/why.rt', 'explain', 'explained', ('IsExplained',)),
+        Clause('mcs_check/src/why.rt', 'explain', 'source_blamed', ()),
+        Clause('mcs_check/src/why.rt', 'explain', 'target_blamed', ()),
+    )),
 )
 
 

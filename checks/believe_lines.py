@@ -319,6 +319,42 @@ SAYS = {
         'job_line': 'the line of a round that ended',
         'hint_line': 'the line of a hint',
         'counts_line': 'the line of counts',
+        'row_line': 'the line of a row of the schedule',
+    },
+    'mcs_check_words/specs/CommandLine.antt': {
+        'question_texts': 'the texts of a question: of the thread and of the round',
+    },
+    'mcs_check/specs/RowFields.antt': {
+        'charged_of': 'what the context of a thread that stops is charged',
+        'until_of': 'and when it is released, if it enters the release queue',
+        'maker_of': 'the core that made a signal which arrives',
+        'response_of': 'the response of a round that ended',
+    },
+    'mcs_check/specs/Why.antt': {
+        'span_fields': 'that, with the thread',
+        'span_text': 'the same as words',
+        'span_line': 'the same as a text or an object',
+        'told_ran': 'the line of how long a thread ran',
+        'ran_line': 'that line; none, where it did not run',
+        'idle_line': 'the line of how long the core was idle',
+        'is_there': 'whether a round is there',
+        'why_text': 'what is written of the round that is asked about',
+        'is_csv': 'whether this is CSV',
+    },
+    'mcs_why/specs/Running.antt': {
+        'is_thread': 'whether it is this thread that runs',
+        'is_nobody': 'whether none does',
+        'idle_in': 'for how many ticks of [from, to) none ran on the core',
+    },
+    'mcs_why/specs/Waits.antt': {
+        'stopped': 'when the thread stopped last, by all rows',
+        'waited_of': 'the same of a thread of a system',
+    },
+    'mcs_why/specs/Spans.antt': {
+        'span_if': 'the span of a round that ended, where it is the one that is sought',
+        'or_later': 'the first that there is',
+        'ended': "the number of the thread's latest round that ended, by all rows; 0 where none did",
+        'sought_by': 'a round that ended, or else one that did not, or how many there are',
     },
     'mcs_table/specs/Figures.antt': {
         'figures_of': 'all that the table tells of a thread',
@@ -340,6 +376,11 @@ SAYS = {
 
 # by name, as the library writes it
 WORDS = {
+    'Text': 'bytes',
+    'digit_value': 'the value of a digit or a letter, from 0 for `0` to 35 for `z`; 36 for any other character',
+    'digits_value': 'the number that these digits write, in this base',
+    'without_leading_plus': 'the text without its first character, where that is `+`',
+    'vec_len': 'how many a `Vec` has',
     'neg_ℤ': 'the same below 0',
     'negative': 'a whole number below 0, by how far it is below',
     'signed_decimal': 'its digits, behind a minus where it is below 0',

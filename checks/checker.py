@@ -7,6 +7,7 @@ not; a pipe sees nothing of that."""
 from __future__ import annotations
 
 import contextlib
+import json
 import os
 import pathlib
 import pty
@@ -30,6 +31,7 @@ NAME = 'mcscheck'
 CLEAN = 'missed 0 overdue 0 lost 0 never 0 merged 0 allowed 0 hints %d\n'
 READ_FAILED, WRITE_FAILED = (exactly(f'{NAME}: {what} failed\n'.encode()) for what in ('read', 'write'))
 NO_MEMORY = exactly(f'{NAME}: no memory\n'.encode())
+MIXED_ROUND = f'{NAME}: --why: not with --show, --strict, --allow-lost or --format csv\n'
 UNKNOWN = f'{NAME}: --allow-lost: no notification is called "%s": %s\n'
 # a system without a thread, and one of two notifications of like names
 EMPTY = b'version = 1\ncores = 1\ndelay = 1\ncontext = [{ name = "a", core = 0, budget = 2, period = 5 }]\n'
@@ -57,7 +59,7 @@ SHORT, FAR = 2**21, 2**31
 
 
 class Example(NamedTuple):
-    """The system of docs/FORMAT.md, and of each run the words and what it writes: its findings, and its jobs."""
+    """The system of docs/FORMAT.md, and of each run the words and what it writes: its findings, its jobs, and its figures."""
 
     system: bytes
     runs: list[tuple[list[str], bytes]]
@@ -68,6 +70,13 @@ def example() -> Example:
     (_, system), *blocks = blocks_in(text)
     words = [words.split() for words in re.findall(r'`mcscheck late\.toml (.*?)`', text)]
     return Example(system.encode(), [(asked, written.encode()) for asked, (_, written) in zip(words, blocks, strict=True)])
+
+
+def answered() -> tuple[list[str], bytes]:
+    """Of the example of docs/FORMAT.md the words that ask why a round took so long, and what is written."""
+    text = (TOP / 'docs' / 'FORMAT.md').read_text().partition('\n### Its lines of a round\n')[2].partition('\n### ')[0]
+    words = re.search(r'`mcscheck late\.toml (.*?)`', text)[1].split()
+    return words, blocks_in(text)[-1][1].encode()
 
 
 def unknown(name: str, said: str) -> bytes:
@@ -84,17 +93,21 @@ def cases_of_findings() -> Iterator[Case]:
     for words, written in runs:
         yield Case(f'the example with {words}', words, system, exactly(written), NOTHING, 5)
         yield Case(f'two workers with {words}', [*words, '--workers', '2'], system, exactly(written), NOTHING, 5)
-    words, written = runs[0]
-    yield Case('findings', [*words, '--show', 'findings'], system, exactly(written), NOTHING, 5)
+    (words, written), _, (_, figures), *_ = runs
+    both = written[:written.rindex(b'missed ')] + figures
+    for asked in ([], ['--show', 'both'], ['--workers', '2']):
+        yield Case(f'findings and figures with {asked}', ['--horizon', '30', *asked], system, exactly(both), NOTHING, 5)
     allowed = b''.join(line for line in written.splitlines(keepends=True) if b' lost tick ' not in line)
     allowed = allowed.replace(b'lost 2', b'lost 0').replace(b'allowed 0', b'allowed 2')
     yield Case('allowed', [*words, '--allow-lost', 'tick', '--allow-lost', 'fire'], system, exactly(allowed), NOTHING, 5)
-    yield Case('hints', [], EMPTY, exactly(hinted(1)), NOTHING, 0)
-    yield Case('hints that count', ['--strict'], EMPTY, exactly(hinted(1)), NOTHING, 5)
+    findings = '--show=findings'
+    yield Case('hints', [findings], EMPTY, exactly(hinted(1)), NOTHING, 0)
+    yield Case('hints that count', [findings, '--strict'], EMPTY, exactly(hinted(1)), NOTHING, 5)
+    yield Case('hints and figures', ['--horizon=5'], EMPTY, exactly(hinted(1).replace(b'\n', b'\ncontext a unused 2\n', 1)), NOTHING, 0)
     yield Case('jobs of no thread', ['--show=jobs', '--strict'], EMPTY, exactly((CLEAN % 1).encode()), NOTHING, 5)
     yield Case('no row of CSV', ['--show=jobs', '--format=csv'], EMPTY, begins(b'moment,core,kind,thread,number,'), NOTHING, 0)
     hint = b'{"kind":"hint","hint":"unbound","context":"a"}\n{"kind":"counts",'
-    yield Case('hints as JSON', ['--format=json'], EMPTY, begins(hint, b'"hints":1}\n'), NOTHING, 0)
+    yield Case('hints as JSON', [findings, '--format=json'], EMPTY, begins(hint, b'"hints":1}\n'), NOTHING, 0)
     yield Case('nothing', ['--strict'], EMPTY.partition(b'context')[0], exactly(hinted(0)), NOTHING, 0)
 
 
@@ -117,7 +130,8 @@ def cases_of_words(folder: pathlib.Path) -> Iterator[Case]:
     for words in (['--workers', '65'], ['--horizon', '1099511627777'], ['--show', 'all'], ['--show'], ['--format', 'yaml'], ['--show', 'jobs', '--show', 'jobs'], ['--strict', '--strict'], ['--allow-lost'], ['a', 'b']):
         yield Case(f'{words}, and no such file', [folder / 'none.toml', *words], b'', NOTHING, begins(b'error: ', words[0].encode()), 2)
     mixed = b'mcscheck: --format csv: rows are of one kind: --show findings, jobs or table\n'
-    yield Case('rows of two kinds', ['--show', 'both', '--format', 'csv'], NOTES, NOTHING, exactly(mixed), 2)
+    for words in (['--show', 'both', '--format', 'csv'], ['--format', 'csv']):
+        yield Case(f'rows of two kinds by {words}', words, NOTES, NOTHING, exactly(mixed), 2)
     yield Case('a word that is not UTF-8', [b'\xff'], b'', NOTHING, exactly(not_text), 2)
     for name, near in (('tack', 'tick'), ('tocks', 'tock'), ('', 'tick'), ('TOCK', 'tick'), ('-n', 'tick')):
         yield Case(f'an unknown name {name!r}', [f'--allow-lost={name}'], NOTES, NOTHING, exactly(unknown(name, f'the nearest is {near}')), 2)
@@ -127,6 +141,34 @@ def cases_of_words(folder: pathlib.Path) -> Iterator[Case]:
     yield Case('a name where there is none', ['--allow-lost', 'tick'], EMPTY, NOTHING, exactly(unknown('tick', 'there is none')), 2)
     for word in ('--help', '-h'):
         yield Case(word, [word], b'', begins(b'', b'Usage: mcscheck [OPTIONS] [FILE]'), NOTHING, 0)
+
+
+def cases_of_rounds(folder: pathlib.Path) -> Iterator[Case]:
+    """Why a round took so long, and rounds that are not there; each fault comes before those behind it."""
+    system, (words, written) = example().system, answered()
+    for more in ([], ['--workers', '2'], ['--format', 'text']):
+        yield Case(f'a round with {more}', [*words, *more], system, exactly(written), NOTHING, 0)
+    yield Case('a round as JSON', [*words, '--format', 'json'], system, begins(b'{"moment":8,', b'{"kind":"idle","ticks":10}\n'), NOTHING, 0)
+    mixed = exactly(MIXED_ROUND.encode())
+    for more in (['--strict'], ['--show=findings'], ['--show', 'jobs'], ['--format', 'csv'], ['--allow-lost', 'tick']):
+        yield Case(f'a round and {more}', [*words, *more], system, NOTHING, mixed, 2)
+    yield Case('no such file before a thread', ['--why', 'None', '1', folder / 'none.toml'], b'', NOTHING, READ_FAILED, 3)
+    yield Case('a fault of the text before a thread', ['--why', 'None', '1'], DOUBLE_NAME, NOTHING, exactly(b'mcscheck: double name at context 2 name\n'), 1)
+    for name, said in (('Lop', 'the nearest is Loop'), ('a\nb', 'the nearest is Loop'), ('clock', 'the nearest is Clock')):
+        yield Case(f'a thread {name!r}', ['--why', name, 'none'], system, NOTHING, exactly(no_thread(name, said)), 2)
+    yield Case('a thread where there is none', ['--why', 'A', '1'], EMPTY, NOTHING, exactly(no_thread('A', 'there is none')), 2)
+    for number in ('0', '4', 'last', '18446744073709551617', ''):
+        for horizon, said in ((30, 'there are rounds 1 to 3'), (3, 'there is round 1'), (1, 'there is none')):
+            line = f'{NAME}: --why: no round "{number}" of Loop: {said}\n'.encode()
+            asked = ['--horizon', str(horizon), '--why', 'Loop', number]
+            yield Case(f'round {number!r} up to {horizon}', asked, system, NOTHING, exactly(line), 2)
+    for wrong in (['--why', 'Loop'], ['--why=Loop'], ['--why', 'Loop', '1', '--why', 'Loop', '2']):
+        yield Case(f'{wrong}', wrong, system, NOTHING, begins(b'error: ', b'--why'), 2)
+    yield Case('a round on a full device', words, system, NOTHING, WRITE_FAILED, 3, '/dev/full')
+
+
+def no_thread(name: str, said: str) -> bytes:
+    return f'{NAME}: --why: no thread is called {json.dumps(name)}: {said}\n'.encode()
 
 
 def cases_of_targets() -> Iterator[Case]:
@@ -172,7 +214,7 @@ def terminal() -> Iterator[tuple[int, bytearray]]:
 def on_terminal(program: pathlib.Path, file: pathlib.Path, horizon: int, target: BinaryIO) -> tuple[int, str]:
     """The status of a run, and what a terminal shows of its standard error."""
     with terminal() as (theirs, seen):
-        command = [program, file, '--horizon', str(horizon)]
+        command = [program, file, '--horizon', str(horizon), '--show', 'findings']
         status = subprocess.run(command, stdin=subprocess.DEVNULL, stdout=target, stderr=theirs).returncode
     return status, seen.decode()
 
@@ -223,7 +265,7 @@ def try_progress(program: pathlib.Path, folder: pathlib.Path, count: Count) -> N
     good = status == 3 and is_progress(text, horizon, 'mcscheck: write failed\r\n')
     count.expect(f'progress up to {horizon} of a run that cannot write: {text[-80:]!r}', good)
     try_progress_among_findings(program, folder, horizon, count)
-    count.expect('a pipe sees progress', common.run([program, file, '--horizon', str(2 * horizon)]) == Ran(0, wanted, b''))
+    count.expect('a pipe sees progress', common.run([program, file, '--horizon', str(2 * horizon), '--show', 'findings']) == Ran(0, wanted, b''))
 
 
 def main() -> None:
@@ -231,7 +273,7 @@ def main() -> None:
     program, count = common.beside(simulator, NAME), Count()
     with tempfile.TemporaryDirectory() as name:
         folder = pathlib.Path(name)
-        for case in (*cases_of_findings(), *cases_of_files(folder), *cases_of_words(folder), *cases_of_targets()):
+        for case in (*cases_of_findings(), *cases_of_files(folder), *cases_of_words(folder), *cases_of_rounds(folder), *cases_of_targets()):
             ended = ran(program, case)
             differs = case.differs(ended)
             count.expect(f'{case.name}: {differs} differ: {ended}', not differs)

@@ -1,5 +1,5 @@
 #!/usr/bin/env python3
-"""Tells what mcscheck takes beside mcsim: seconds of the processor and the greatest memory, on systems of performance.py and costs.py.
+"""Tells what mcscheck --show findings takes beside mcsim: seconds of the processor and the greatest memory, on systems of performance.py and costs.py.
 
 On one core it is to take at most 1.3 times what `mcsim --show reports` takes, and on several at most what `mcsim --show both` does, both with as many
 workers. Of each run the least of several tries counts, the programs by turns; some systems have deadlines that each round meets, or misses. Nothing
@@ -101,7 +101,7 @@ class Measuring:
 
     def __init__(self, simulator: pathlib.Path, tries: int, scale: int, counts: bool) -> None:
         checker = common.beside(simulator, 'mcscheck')
-        self.commands = [[checker], [simulator, '--show', 'reports'], [simulator, '--show', 'both']]
+        self.commands = [[checker, '--show', 'findings'], [simulator, '--show', 'reports'], [simulator, '--show', 'both']]
         self.tries, self.scale, self.counts = tries, scale, counts
 
     def costs(self, case: Case, file: pathlib.Path) -> list[Cost]:

@@ -45,6 +45,7 @@ CHECKS = (
     Check('schema'),
     Check('waves', tries_program=False),
     Check('verdicts'),
+    Check('forever'),
     Check('traces'),
     Check('views'),
     Check('bandwidth'),

@@ -24,13 +24,13 @@ COMPLETIONS = TOP / 'launcher' / 'completions'
 LAUNCHER = {'version', 'install', 'uninstall', 'prove'}
 RANGE = r'\b(\d+ to [\d^]+)'
 
-# the name of an option's value, its default and its range, each None where there is none
+# the names of an option's values, their default and their range, each None where there is none
 Option = tuple[Optional[str], Optional[str], Optional[str]]
 
 
-def option(value: str, default: re.Match[str] | None, text: str) -> Option:
+def option(values: str, default: re.Match[str] | None, text: str) -> Option:
     bounds = re.search(RANGE, text)
-    return value or None, default and default[1], bounds and bounds[1]
+    return values or None, default and default[1], bounds and bounds[1]
 
 
 class Page:
@@ -45,11 +45,11 @@ class Page:
         return self.text.split(f'.Sh {name}\n', 1)[1].split('\n.Sh ', 1)[0]
 
     def options(self) -> dict[str, Option]:
-        pattern = r'^\.It (?:Fl h , )?Fl -([\w-]+)(?: Ar (\w+))?\n(.*?)(?=^\.It |^\.El)'
+        pattern = r'^\.It (?:Fl h , )?Fl -([\w-]+)(?: Ar ([\w ]+))?\n(.*?)(?=^\.It |^\.El)'
         found = {}
-        for name, value, text in re.findall(pattern, self.section('DESCRIPTION'), re.M | re.S):
+        for name, values, text in re.findall(pattern, self.section('DESCRIPTION'), re.M | re.S):
             default = re.search(r'The default is (\w+)', text) or re.search(r'^\.Cm (\w+)\n\(the default\)', text, re.M)
-            found[name] = option(value, default, text)
+            found[name] = option(values, default, text)
         return found
 
     def choices(self) -> list[str]:
@@ -87,8 +87,8 @@ class Pages(NamedTuple):
 
 def options_of_help(text: str) -> dict[str, Option]:
     part = text.partition('Options:\n')[2].partition('\n\n')[0]
-    items = re.findall(r'--([\w-]+)(?: <(\w+)>)?\s+(.*(?:\n {20,}\S.*)*)', part)
-    return {name: option(value, re.search(r'\[default: (\w+)\]', rest), rest) for name, value, rest in items}
+    items = re.findall(r'--([\w-]+)((?: <\w+>)*)\s+(.*(?:\n {20,}\S.*)*)', part)
+    return {name: option(re.sub('[ <>]+', ' ', values).strip(), re.search(r'\[default: (\w+)\]', rest), rest) for name, values, rest in items}
 
 
 def choices_of_help(text: str) -> list[str]:
@@ -170,8 +170,8 @@ def main() -> None:
     trial = Trial({name: simulator if name == 'mcsim' else common.beside(simulator, name) for name in common.PROGRAMS})
     every = (
         Pages(Page('mcsim'), (0, 1), 'reports', ('--show', 'reports'), b''),
-        # the second command ends with tail, and the third with grep
-        Pages(Page('mcscheck'), (5, 0, 0, 2), 'found', (), b'system.toml\n'),
+        # the second and the fourth command end with tail, and the third with grep
+        Pages(Page('mcscheck'), (5, 0, 0, 0, 2), 'found', (), b'system.toml\n'),
     )
     for pages in every:
         trial.lists(pages.page)

@@ -29,8 +29,11 @@ WITHIN = {'bad item': CRATES / 'mcs_script' / 'src' / 'fault.rt', 'control': CRA
 # a fault that no file has: there is room enough, or there is not
 WITHOUT_FILE = 'no memory'
 OF_WORDS = 'Words that are not understood'
-# of mcscheck alone
-OF_NOTIFICATION = 'A notification that is not there'
+# of mcscheck alone, with how their lines begin
+OF_CHECKER = {
+    'A notification that is not there': 'mcscheck: --allow-lost: no notification is called "',
+    'A thread or a round that is not there': 'mcscheck: --why: ',
+}
 FILE = 'toml'
 
 
@@ -89,7 +92,7 @@ def explains(told: Ran, line: str) -> bool:
 
 def is_of(title: str, line: str) -> bool:
     """Whether a line tells the fault of a heading."""
-    begins = {OF_WORDS: 'error: ', OF_NOTIFICATION: 'mcscheck: --allow-lost: no notification is called "'}
+    begins = {OF_WORDS: 'error: ', **OF_CHECKER}
     return line.startswith(begins.get(title, f'mcsim: {title}'))
 
 
@@ -121,13 +124,13 @@ def main() -> None:
     try_first_lines(program, count)
     found = headings()
     for fault in sorted(faults() | set(found)):
-        is_known = fault in faults() or fault in (OF_WORDS, OF_NOTIFICATION)
+        is_known = fault in faults() or fault == OF_WORDS or fault in OF_CHECKER
         count.expect(f'{fault}: no fault of the sources', is_known)
         count.expect(f'{fault}: nothing on the page', bool(found.get(fault)) or fault == WITHOUT_FILE and fault in found)
     has_checker = common.checker_of(program) is not None
     with tempfile.TemporaryDirectory() as folder:
         for title, part in parts_of(found):
-            if title == OF_NOTIFICATION and not has_checker:
+            if title in OF_CHECKER and not has_checker:
                 count.skip(f'{title}: mcscheck is not there')
             else:
                 try_part(program, pathlib.Path(folder), title, part, count)

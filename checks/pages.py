@@ -41,6 +41,11 @@ DEBIAN_PYTHON = '/usr/bin/python3'
 SECONDS = 600
 # the status of a verdict that is not clean, and the lines by which it is told
 FOUND = 5
+# the status of one for all time that is not known to be clean, its last line, and the line of a set that is clean
+NOT_KNOWN = 6
+SETS = re.compile(r'sets (\d+) repeating (\d+) findings (\d+)')
+CLEAN = 'nothing is ever found'
+FOREVER = ' --forever'
 COUNTS = re.compile(r'missed (\d+) overdue (\d+) lost (\d+) never (\d+) .*hints (\d+)')
 # a block that ends with the status of any of its verdicts
 EXITS = 'exit $status'
@@ -48,7 +53,7 @@ NONE_WILL_DO = re.compile(r'.*: under none of .*')
 SOURCES = ('.toml', '.csv', '<<', '--random')
 # a block that writes files is run elsewhere
 WRITES = ' -o '
-GUIDES = [TOP / 'docs' / name for name in ('CI.md', 'KERNEL.md', 'LEFT_OUT.md', 'MODELLING.md', 'SWEEPS.md', 'WAYS_IN.md')]
+GUIDES = [TOP / 'docs' / name for name in ('CI.md', 'FOREVER.md', 'KERNEL.md', 'LEFT_OUT.md', 'MODELLING.md', 'SWEEPS.md', 'WAYS_IN.md')]
 # pages with blocks beside those that a command wrote
 SHOW_OTHERS = (pathlib.Path('README.md'), pathlib.Path('examples', 'README.md'), pathlib.Path('docs', 'CI.md'), pathlib.Path('docs', 'WAYS_IN.md'))
 
@@ -91,7 +96,17 @@ def status_of(block: str, written: Sequence[str]) -> int:
     """The status with which a block is to end: that of its verdict, where no other command ends it."""
     if EXITS in block:
         return FOUND if any(is_found(line, block) for line in written) else 0
+    if FOREVER in block.rpartition('|')[2] and written:
+        return status_for_ever(written)
     return FOUND if gives_a_verdict(block.rpartition('|')[2]) and written and is_found(written[-1], block) else 0
+
+
+def status_for_ever(written: Sequence[str]) -> int:
+    """That of a verdict for all time."""
+    told = SETS.fullmatch(written[-1])
+    if told is None or told[3] != '0':
+        return FOUND
+    return 0 if written.count(CLEAN) == int(told[1]) else NOT_KNOWN
 
 
 def is_found(line: str, block: str) -> bool:
@@ -215,6 +230,9 @@ def try_jobs(program: pathlib.Path, count: Count) -> None:
         lines = list(script_lines(yaml.safe_load(block)))
         count.expect(f'{JOBS.relative_to(TOP)}: a job without a verdict: {lines}', any('mcscheck system.toml' in line for line in lines))
         for line in (line for line in lines if not line.startswith(FETCHES)):
+            if needed := missing(line, True):
+                count.skip(f'{JOBS.relative_to(TOP)}: {needed} is not there: {line}')
+                continue
             ends = [ran_in_a_job(program, checker, line, system).status for system in (GOOD, BAD)]
             count.expect(f'{JOBS.relative_to(TOP)}: {line}: status {ends}', ends == ([0, FOUND] if 'mcscheck' in line else [0, 0]))
 

@@ -73,6 +73,9 @@ def kinds_of_checker() -> Iterator[Kind]:
         for workers in ('1', '2'):
             asked = [*words, '--workers', workers, '--allow-lost', 'fire']
             yield Kind('mcscheck', f'the example of FORMAT with {" ".join(words)}, {workers} workers', asked, system, 5, written, b'')
+    asked, written = checker.answered()
+    for workers in ('1', '2'):
+        yield Kind('mcscheck', f'a round of that example, {workers} workers', [*asked, '--workers', workers], system, 0, written, b'')
     near = checker.unknown('tik', 'the nearest is tick')
     yield Kind('mcscheck', 'an unknown name', ['--allow-lost', 'fire', '--allow-lost', 'tik'], system, 2, b'', near)
 

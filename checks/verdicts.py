@@ -3,10 +3,10 @@
 
 Each random system has deadlines, signals that are lost or merged, orders, and contexts without a thread; it is checked as it is, once more with some
 of the words --workers, --strict and --allow-lost, and with the rounds that ended or figures in place of findings, and some with a notification that
-it has not. A system that mcsim refuses is refused with the same fault. Two laws of schedules are tried meanwhile on what is written: a round's parts
-are the ticks of its response in its `round` row, and the ticks in which the rows say that a thread runs are those of the reports. Then come systems
-of this repository whose findings are known. A kind of finding, of a part or of a status that was seen nowhere is a failure: a test that sees nothing
-of it tells nothing."""
+it has not; and it is asked why a few of its rounds took so long. A system that mcsim refuses is refused with the same fault. Two laws of schedules are
+tried meanwhile on what is written: a round's parts are the ticks of its response in its `round` row, and the ticks in which the rows say that a
+thread runs are those of the reports. Then come systems of this repository whose findings are known. A kind of finding, of a part or of a status that
+was seen nowhere is a failure: a test that sees nothing of it tells nothing."""
 from __future__ import annotations
 
 import collections
@@ -20,6 +20,7 @@ from collections.abc import Iterator, Sequence
 from typing import Any, NamedTuple
 
 sys.dont_write_bytecode = True
+import answers
 import common
 import reading
 from common import DATA, TOP, Count, Ran
@@ -56,6 +57,7 @@ SEEN = (
     *(f'job {part}' for part in ('queued', 'preemptions', *reading.PARTS[:4])), 'jobs that are preempted twice',
     *(f'{show} as {form}' for show in ('findings', 'jobs', 'table') for form in ('csv', 'json')), 'table as text', 'both as text', 'both as json', 'both as csv',
     'margin above 0', 'margin 0', 'margin below 0', 'no margin', 'late', 'missed and not late', 'unused', 'unused is not known', 'a percentile below the greatest',
+    *(f'why {what}' for what in ('ended', 'waited', 'under way', 'not activated', 'word held', 'waits', 'no round', 'no thread', 'mixed', 'as json')),
 )
 
 
@@ -153,21 +155,23 @@ class Trial:
         self.count.expect(f'{system.kept(wrong)}: {wrong}', not wrong)
         plain = found.wanted()
         self.tell(plain, found)
-        self.wants(system, [], answer(plain))
+        self.wants(system, ['--show=findings'], answer(plain))
         self.with_words(system, found, rng)
         self.with_jobs(system, found, rng)
         self.with_format(system, found, rng)
         self.with_table(system, found, rng)
+        for _ in range(min(2, len(found.threads))):
+            self.with_why(system, found, rng)
         if rng.random() < 0.2:
             self.unknown(system, found.notes, rng)
 
     def with_words(self, system: System, found: Reading, rng: random.Random) -> None:
-        """The same with some of the words that matter to what is found, or must not."""
+        """Findings and figures, with some of the words that matter to what is found, or must not."""
         allowed = [note for note in found.notes if rng.random() < 0.6]
         is_strict = rng.random() < 0.5
         words = [*allowing(allowed), *['--strict'] * is_strict, *['--workers=2'] * (rng.random() < 0.7)]
         rng.shuffle(words)
-        wanted = found.wanted(allowed)
+        wanted = found.wanted(allowed, 'both')
         self.seen['allowed'] += wanted.counts['allowed']
         self.seen['found by hints alone'] += wanted.status() != wanted.status(is_strict)
         self.seen['lost only where it is allowed'] += wanted.status() != found.wanted().status()
@@ -198,7 +202,8 @@ class Trial:
         """Figures, alone or behind findings, with some of the words that matter to what is found; rows of both are refused."""
         show, form = rng.choice(['table', 'both']), rng.choice(['text', 'text', 'text', 'json', 'csv'])
         allowed = [note for note in found.notes if rng.random() < 0.3]
-        words = [f'--show={show}', f'--format={form}', *allowing(allowed), *['--workers=2'] * (rng.random() < 0.3)]
+        is_said = show == 'table' or rng.random() < 0.5
+        words = [*[f'--show={show}'] * is_said, f'--format={form}', *allowing(allowed), *['--workers=2'] * (rng.random() < 0.3)]
         rng.shuffle(words)
         self.seen[f'{show} as {form}'] += 1
         if (show, form) == ('both', 'csv'):
@@ -219,6 +224,39 @@ class Trial:
             self.seen['late'] += values['late'] > 0
             self.seen['missed and not late'] += values['missed'] > values['late']
             self.seen['a percentile below the greatest'] += greatest is not None and values['p50'] < greatest
+
+    def with_why(self, system: System, found: Reading, rng: random.Random) -> None:
+        """Why a round took so long: one that is there, mostly, or not; with some words that go with it, or do not."""
+        thread = rng.choice(list(found.threads))
+        spans = answers.Rounds(found, thread).all()
+        number = str(rng.choice(spans).number) if spans and rng.random() < 0.9 else rng.choice(['0', '1', '2', str(len(spans) + 1), 'last'])
+        form = rng.choice(['text', 'text', 'json'])
+        words = [*['--workers=2'] * (rng.random() < 0.3), *[f'--format={form}'] * (form != 'text' or rng.random() < 0.3)]
+        if rng.random() < 0.05:
+            mixing = rng.choice([['--strict'], ['--show=findings'], ['--show', 'jobs'], ['--format=csv'], ['--allow-lost=none']])
+            self.seen['why mixed'] += 1
+            self.wants(system, ['--why', thread, '1', *mixing], Ran(2, b'', answers.MIXED.encode()))
+            return
+        if rng.random() < 0.05:
+            thread += 'x'
+            self.seen['why no thread'] += thread not in found.threads
+        self.tell_why(next((span for span in spans if str(span.number) == number), None), form)
+        self.wants(system, [*words, '--why', thread, number], answers.wanted(found, thread, number, form))
+
+    def tell_why(self, span: answers.Span | None, form: str) -> None:
+        """Counts what was seen of a round that is asked about."""
+        if span is None:
+            self.seen['why no round'] += 1
+            return
+        if span.has_ended:
+            kind = 'ended'
+        elif span.begun is not None:
+            kind = 'under way' if span.activated is not None else 'not activated'
+        else:
+            kind = 'word held' if span.activated is not None else 'waits'
+        self.seen[f'why {kind}'] += 1
+        self.seen['why waited'] += span.has_ended and span.waited > 0
+        self.seen['why as json'] += form == 'json'
 
     def unknown(self, system: System, notes: Sequence[str], rng: random.Random) -> None:
         """A notification that the system has not, behind one that it has: a name of another system, or one that is changed in a place."""
@@ -256,7 +294,7 @@ class Trial:
         self.of_system(System('clock', CLOCK, 1000), set())
 
     def of_system(self, system: System, kinds: set[str]) -> None:
-        ran = self.check(system)
+        ran = self.check(system, ['--show=findings'])
         *lines, last = ran.stdout.decode().splitlines() or ['']
         words = last.split()
         found = {kind for kind, many in zip(words[::2], words[1::2]) if kind in reading.FOUND and many != '0'}

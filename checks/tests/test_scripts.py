@@ -69,8 +69,8 @@ class WrongPrograms(unittest.TestCase):
         self.assertGreater(self.tally('pages', 'exit 0').failed, 4)
 
     def test_a_program_that_complains_writes_no_page(self) -> None:
-        # two commands of the pages run a tool alone; three jobs have a form, and one of them draws what the program says, which is nothing
-        self.assertLessEqual(self.tally('pages', 'echo wrong >&2').passed, 6)
+        # two commands of the pages run a tool alone; four jobs have a form, and one of them draws what the program says, which is nothing
+        self.assertLessEqual(self.tally('pages', 'echo wrong >&2').passed, 7)
 
     def test_a_program_that_says_nothing_draws_no_picture(self) -> None:
         self.assertGreater(self.tally('pictures', 'exit 0').failed, 4)
@@ -154,6 +154,16 @@ class Rules(unittest.TestCase):
         ):
             self.assertEqual(pages.status_of(block, ['first', last]), status, (block, last))
         self.assertEqual(pages.status_of('./mcscheck one.toml || status=$?\nexit $status', [late, clean]), 5)
+
+    def test_a_block_ends_with_the_status_of_its_verdict_for_all_time(self) -> None:
+        clean, last = 'nothing is ever found', 'sets {} repeating {} findings {}'
+        for lines, status in (
+            ([clean, last.format(1, 1, 0)], 0), ([clean, last.format(2, 2, 0)], 6), ([last.format(1, 0, 0)], 6), ([clean, last.format(2, 1, 3)], 5),
+            ([clean], 5),
+        ):
+            self.assertEqual(pages.status_of('./mcscheck one.toml --forever', lines), status, lines)
+        for block in ('./mcscheck one.toml --forever | tail -n 1', './mcscheck one.toml --forever || test $? -eq 6'):
+            self.assertEqual(pages.status_of(block, [last.format(1, 0, 0)]), 0)
 
     def test_what_a_block_needs_is_named_where_it_is_not_there(self) -> None:
         frames = 'examples/python/responses.py one.toml'

@@ -11,6 +11,7 @@ from collections.abc import Callable
 from unittest import mock
 
 sys.path.insert(0, str(pathlib.Path(__file__).resolve().parent.parent))
+import answers
 import common
 import reading
 import verdicts
@@ -142,8 +143,11 @@ class WrongCheckers(unittest.TestCase):
             if command[0] == 'mcsim':
                 return Ran(0, (rows + reports).encode(), b'')
             allowed = [word.partition('=')[2] for word in command if word.startswith('--allow-lost')]
-            show = next((word.partition('=')[2] for word in command if word.startswith('--show')), 'findings')
+            show = next((word.partition('=')[2] for word in command if word.startswith('--show')), 'both')
             form = next((word.partition('=')[2] for word in command if word.startswith('--format')), 'text')
+            if '--why' in command:
+                thread, number = map(str, command[command.index('--why') + 1:][:2])
+                return wrong(answers.wanted(wanted, thread, number, form))
             if (show, form) == ('both', 'csv'):
                 return wrong(Ran(2, b'', reading.MIXED.encode()))
             return wrong(verdicts.answer(wanted.wanted(allowed, show, form), '--strict' in command))
@@ -158,14 +162,14 @@ class WrongCheckers(unittest.TestCase):
         self.assertEqual(self.failed(lambda ran: ran), 0)
 
     def test_another_status(self) -> None:
-        # of five runs: as it is, with words, with jobs, in another format, with figures
-        self.assertEqual(self.failed(lambda ran: ran._replace(status=0)), 5)
+        # of seven runs: as it is, with words, with jobs, in another format, with figures, and two rounds, of which one is there
+        self.assertEqual(self.failed(lambda ran: ran._replace(status=0)), 6)
 
     def test_a_line_that_is_not_there(self) -> None:
         self.assertEqual(self.failed(lambda ran: ran._replace(stdout=ran.stdout.replace(b'hint context n has no thread\n', b''))), 3)
 
     def test_words_on_standard_error(self) -> None:
-        self.assertEqual(self.failed(lambda ran: ran._replace(stderr=b'mcscheck: 1 of 9\n')), 5)
+        self.assertEqual(self.failed(lambda ran: ran._replace(stderr=b'mcscheck: 1 of 9\n')), 7)
 
     def test_a_job_that_is_not_there(self) -> None:
         self.assertEqual(self.failed(lambda ran: ran._replace(stdout=ran.stdout.replace(JOBS.encode(), b''))), 1)
@@ -196,6 +200,56 @@ class Systems(unittest.TestCase):
         self.assertEqual(verdicts.renamed('wait n3', random.Random(1)), f'wait {verdicts.NAMES[3]}')
         self.assertEqual(verdicts.renamed('compute 5', random.Random(1)), 'compute 5')
         self.assertIn(verdicts.renamed('signal n0 1024', random.Random(1)).split()[2], ('1', '2', '4'))
+
+# A took the lock at 3 from B, which it waits for from 1 on; up to 9 its second round waits
+LOCKED = '''version = 1
+cores = 1
+delay = 1
+context = [{ name = "a", core = 0, budget = 9, period = 9 }, { name = "b", core = 0, budget = 9, period = 9 }]
+note = [{ name = "x", core = 0 }]
+thread = [
+    { name = "A", context = "a", priority = 5, script = ["wait x", "compute 2"] },
+    { name = "B", context = "b", priority = 4, rounds = 1, script = ["compute 1", "signal x 1"] },
+]
+'''
+LOCKED_ROWS = '''0 0 release A
+0 0 run A
+0 0 release B
+1 0 stop A wait 1
+1 0 run B
+2 0 signal B x 1
+2 0 wake A x 1
+2 0 round B 1 2
+2 0 stop B done 1
+2 0 run A
+4 0 round A 1 2
+5 0 stop A wait 3
+'''
+
+
+class Answers(unittest.TestCase):
+    """Why a round took so long, worked by hand."""
+
+    found = reading.Reading(tomllib.loads(LOCKED), LOCKED_ROWS, 7)
+
+    def test_a_round_that_waited(self) -> None:
+        lines = answers.wanted(self.found, 'A', '1').stdout.decode().splitlines()
+        self.assertEqual(lines[:2], ['1 0 stop A wait 1', '1 0 run B'])
+        self.assertEqual(lines[-4:], ['why A number 1 from 1 to 4 waited 1 activated 2 begun 2 ended 4', 'ran A 2', 'ran B 1', 'idle 0'])
+
+    def test_a_round_that_waits(self) -> None:
+        lines = answers.wanted(self.found, 'A', '2').stdout.decode().splitlines()
+        self.assertEqual(lines, ['5 0 stop A wait 3', 'why A number 2 from 5 to 7 waited 2 activated - begun - ended -', 'idle 2'])
+
+    def test_rounds_that_are_not_there(self) -> None:
+        for thread, number, said in (('A', '3', 'there are rounds 1 to 2'), ('B', '0', 'there is round 1')):
+            self.assertEqual(answers.wanted(self.found, thread, number), Ran(2, b'', f'mcscheck: --why: no round "{number}" of {thread}: {said}\n'.encode()))
+        self.assertIn(b'the nearest is A', answers.wanted(self.found, 'C', '1').stderr)
+
+    def test_rows_as_objects(self) -> None:
+        text = answers.wanted(self.found, 'A', '1', 'json').stdout.decode().splitlines()
+        self.assertEqual(text[0], '{"moment":1,"core":0,"kind":"stop","thread":"A","why":"wait","charged":1}')
+        self.assertEqual(text[-1], '{"kind":"idle","ticks":0}')
 
 
 if __name__ == '__main__':

@@ -16,7 +16,7 @@ _mcscheck() {
             mapfile -t COMPREPLY < <(compgen -W 'text csv json' -- "$word")
             return
             ;;
-        --horizon | --workers | --allow-lost)
+        --horizon | --workers | --allow-lost | --why)
             COMPREPLY=()
             return
             ;;
@@ -27,7 +27,7 @@ _mcscheck() {
             ;;
     esac
     if [[ $word == -* ]]; then
-        mapfile -t COMPREPLY < <(compgen -W '--horizon --workers --allow-lost --strict --show --format --help --version --install --uninstall --prove' -- "$word")
+        mapfile -t COMPREPLY < <(compgen -W '--horizon --workers --allow-lost --strict --show --format --why --forever --help --version --install --uninstall --prove' -- "$word")
     else
         compopt -o filenames
         mapfile -t COMPREPLY < <(compgen -f -X '!*.toml' -- "$word"; compgen -d -- "$word")

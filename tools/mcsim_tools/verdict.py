@@ -82,7 +82,8 @@ class Programs:
     def check(self, text: bytes, horizon: int) -> tuple[int, list[str], str]:
         """The status of mcscheck, its lines, and what it says on standard error."""
         try:
-            ended = subprocess.run([self.checker, '--horizon', str(horizon)], input=text, capture_output=True, check=False)
+            asked = [self.checker, '--horizon', str(horizon), '--show', 'findings']
+            ended = subprocess.run(asked, input=text, capture_output=True, check=False)
         except OSError as error:
             raise why(self.checker, error) from None
         said = ended.stderr.decode(errors='replace')

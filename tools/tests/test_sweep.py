@@ -228,7 +228,7 @@ class Checker(unittest.TestCase):
 
     def test_system_and_horizon_are_handed_over(self) -> None:
         checker = self.program('mcscheck', f'echo "$*"; cat; echo {COUNTS}; exit 5')
-        self.assertEqual(Programs('mcsim', checker).check(b'version = 2\n', 7), (5, ['--horizon 7', 'version = 2', COUNTS], ''))
+        self.assertEqual(Programs('mcsim', checker).check(b'version = 2\n', 7), (5, ['--horizon 7 --show findings', 'version = 2', COUNTS], ''))
 
     def test_one_that_gives_no_verdict_stops_a_sweep(self) -> None:
         for text in ('exit 0', 'echo wrong; exit 5'):
