@@ -1,23 +1,19 @@
-ghost use Rattle.std.specs.Prelude.{◌≡◌, ◌<◌, ◌≤◌, ◌+◌, ◌^◌, [], length, drop, slice_get, OnOk, OnErr, IfErr, IsOk, insert};
-ghost use Rattle.std.specs.VecDeque.{deque_len, deque_capacity};
-ghost use Rattle.mcs_mail.specs.Box.{Content, is_before, put, put_all, due, without_due, first_arrival, IsOrdered};
-ghost use Rattle.mcs_mail.specs.stored.Late.{last_or, late_is_first, sooner_of, IsMerged};
+ghost use Rattle.std.specs.Prelude.{◌≡◌, ◌≤◌, ◌+◌, [], length, drop, slice_get, OnOk, OnErr, IfErr, IsOk};
+ghost use Rattle.mcs_mail.specs.Box.{put, due, without_due, first_arrival, IsOrdered};
 
 use crate::Mail;
-use crate::late::Late;
+use crate::merged::Merged;
 use mcs_ticks::{NoMemory, Tick};
 use std::alloc::Global;
-use std::collections::VecDeque;
 use std::marker::Model;
 
 /// The mail for one core, in the order of its delivery. Contracts see the list, and beside it `spare`, the puts for which there
 /// surely is room.
 #[derive(Debug, Drop)]
 pub struct Mailbox {
-    // in order of delivery, with room for the late mail too
-    ring: VecDeque<Mail>,
-    // mail that was put when the ring's last was delivered after it
-    late: Late,
+    mail: Merged,
+    // when the first mail arrives, so that a look costs nothing
+    next: Option<Tick>,
 }
 
 impl Model for Mailbox {
@@ -25,18 +21,11 @@ impl Model for Mailbox {
 
     ghost Value = { Content };
 
-    ghost use Rattle.std.specs.Prelude.{◌-◌, ◌+◌, length, min};
-    ghost use Rattle.std.specs.VecDeque.{deque_len, deque_capacity};
-    ghost use Rattle.mcs_mail.specs.Box.{put_all};
-    ghost use Rattle.mcs_mail.specs.stored.Late.{IsMerged};
+    ghost view = { λ a. a.mail };
 
-    ghost view = { λ a.
-        record {
-          mails = put_all a.late.mails a.ring.items;
-          spare = min (deque_capacity a.ring - (deque_len a.ring + length a.late.mails)) a.late.spare;
-        } };
+    ghost use Rattle.mcs_mail.specs.stored.Late.{IsNoted};
 
-    ghost invariant = { λ a. IsMerged a.late.mails a.ring.items (deque_capacity a.ring) };
+    ghost invariant = { λ a. IsNoted a.mail.mails a.next };
 }
 
 impl Mailbox {
@@ -45,8 +34,8 @@ impl Mailbox {
         ensures { result.mails ≡ [] }
     {
         Mailbox {
-            ring: VecDeque::new(alloc),
-            late: Late::new(alloc),
+            mail: Merged::new(alloc),
+            next: None,
         }
     }
 
@@ -60,14 +49,9 @@ impl Mailbox {
         ensures succeeds { 1 ≤ self.old.spare → IsOk result }
         ensures spare { OnOk result (self.old.spare ≤ self.new.spare + 1) }
     {
-        match prepare(&mut self.ring, &mut self.late) {
-            Err(refusal) => Err((mail, refusal)),
-            Ok(()) if is_late(&self.ring, &mail) => self.late.put(mail),
-            Ok(()) => {
-                self.ring.push_back_reserved(mail);
-                Ok(())
-            }
-        }
+        let put = self.mail.put(mail);
+        self.next = self.mail.next();
+        put
     }
 
     /// Makes room for `n` more puts, which succeeds where `spare` is `n` already. The mail is as it was.
@@ -77,19 +61,18 @@ impl Mailbox {
         ensures no_less { self.old.spare ≤ self.new.spare }
         ensures enough { n ≤ self.old.spare → IsOk result }
     {
-        make_room(&mut self.ring, self.late.len(), n)?;
-        self.late.reserve(n)
+        self.mail.reserve(n)
     }
 
     /// Takes the first mail if it arrives at `t` or before.
-    #[inline]
+    #[inline(always)]
     pub fn take_due(&mut self, t: Tick) -> Option<Mail>
         ensures taken { result ≡ due t self.old.mails }
         ensures left { self.new.mails ≡ without_due t self.old.mails }
         ensures spare { self.old.spare ≤ self.new.spare }
         ensures in_order { IsOrdered self.old.mails }
     {
-        if self.next()? <= t {
+        if self.next? <= t {
             self.take_first()
         } else {
             None
@@ -97,11 +80,12 @@ impl Mailbox {
     }
 
     /// When the first mail arrives, or None where there is none.
+    #[inline(always)]
     pub fn next(&self) -> Option<Tick>
         ensures first { result ≡ first_arrival self.now.mails }
         ensures in_order { IsOrdered self.now.mails }
     {
-        sooner(self.ring.front().copied(), self.late.first())
+        self.next
     }
 
     /// How many signals are under way.
@@ -109,7 +93,7 @@ impl Mailbox {
         ensures count { result ≡ length self.now.mails }
         ensures in_order { IsOrdered self.now.mails }
     {
-        self.ring.len() + self.late.len()
+        self.mail.len()
     }
 
     // Takes the first mail.
@@ -119,106 +103,8 @@ impl Mailbox {
         ensures left { self.new.mails ≡ drop 1 self.old.mails }
         ensures spare { self.old.spare ≤ self.new.spare }
     {
-        if late_is_first(&self.ring, &self.late) {
-            self.late.take_first()
-        } else {
-            self.ring.pop_front()
-        }
-    }
-}
-
-// Whether the first mail is late. Of equal mail that in the ring was put earlier.
-fn late_is_first(ring: &VecDeque<Mail>, late: &Late) -> bool
-    ensures { result ≡ late_is_first late.now.mails ring.now.items }
-{
-    match (late.first(), ring.front()) {
-        (Some(first), Some(front)) => first.is_before(front),
-        _ => false,
-    }
-}
-
-// When the sooner of the ring's first and the first late mail arrives. Without mail in the ring there is none that is late.
-fn sooner(front: Option<Mail>, late: Option<Mail>) -> Option<Tick>
-    ensures { result ≡ sooner_of front late }
-{
-    let front = front?.arrives;
-    match late {
-        Some(late) if late.arrives < front => Some(late.arrives),
-        _ => Some(front),
-    }
-}
-
-// Makes the two ready for a put: in the ring there is room for one more, and late mail can have a number.
-fn prepare(ring: &mut VecDeque<Mail>, late: &mut Late) -> Result<(), NoMemory>
-    requires { IsMerged late.old.mails ring.old.items (deque_capacity ring.old) }
-    ensures merged { IsMerged late.new.mails ring.new.items (deque_capacity ring.new) }
-    ensures mails { put_all late.new.mails ring.new.items ≡ put_all late.old.mails ring.old.items }
-    ensures count { deque_len ring.new + length late.new.mails ≡ deque_len ring.old + length late.old.mails }
-    ensures room { OnOk result (deque_len ring.new + length late.new.mails + 1 ≤ deque_capacity ring.new) }
-    ensures number { OnOk result (late.new.next + 1 < 2 ^ 64) }
-    ensures capacity { deque_capacity ring.old ≤ deque_capacity ring.new }
-    ensures spare { late.old.spare ≤ late.new.spare }
-    ensures enough { deque_len ring.old + length late.old.mails + 1 ≤ deque_capacity ring.old → IsOk result }
-{
-    make_room(ring, late.len(), 1)?;
-    if late.is_spent() {
-        settle(ring, late);
-    }
-    Ok(())
-}
-
-// Makes room in the ring for so much late mail and for `n` more. It grows by as much late mail again, so that many puts share the cost.
-fn make_room(ring: &mut VecDeque<Mail>, late: usize, n: usize) -> Result<(), NoMemory>
-    requires { deque_len ring.old + late ≤ deque_capacity ring.old }
-    ensures items { ring.new.items ≡ ring.old.items }
-    ensures room { OnOk result (deque_len ring.new + late + n ≤ deque_capacity ring.new) }
-    ensures capacity { deque_capacity ring.old ≤ deque_capacity ring.new }
-    ensures enough { deque_len ring.old + late + n ≤ deque_capacity ring.old → IsOk result }
-{
-    if ring.capacity() - ring.len() - late < n {
-        ring.reserve((2 * late).saturating_add(n))?;
-    }
-    Ok(())
-}
-
-// Whether the ring's last is delivered after the mail.
-fn is_late(ring: &VecDeque<Mail>, mail: &Mail) -> bool
-    ensures { result ≡ is_before mail.now (last_or mail.now ring.now.items) }
-{
-    match ring.back() {
-        Some(last) => mail.is_before(last),
-        None => false,
-    }
-}
-
-// Moves the late mail to its places in the ring, so that its numbers begin at 0 again: at most once in 2^64 - 1 puts of late mail.
-fn settle(ring: &mut VecDeque<Mail>, late: &mut Late)
-    requires order { IsOrdered ring.old.items }
-    requires room { deque_len ring.old + length late.old.mails ≤ deque_capacity ring.old }
-    ensures ring { ring.new.items ≡ put_all late.old.mails ring.old.items }
-    ensures late { late.new.mails ≡ [] }
-    ensures numbers { late.new.next ≡ 0 }
-    ensures capacity { deque_capacity ring.old ≤ deque_capacity ring.new }
-    ensures spare { late.old.spare ≤ late.new.spare }
-{
-    for _ in 0..late.len() {
-        if let Some(mail) = late.take_first() {
-            let place = place_of(ring, &mail);
-            let put = ring.insert(place, mail).is_ok();
-            prove!(put);
-        }
-    }
-    late.restart();
-}
-
-// Where to insert the mail: behind all that is not delivered after it.
-fn place_of(mails: &VecDeque<Mail>, mail: &Mail) -> usize
-    requires { IsOrdered mails.now.items }
-    ensures within { result ≤ length mails.now.items }
-    ensures place { insert mails.now.items result mail.now ≡ put mail.now mails.now.items }
-{
-    match mails.back() {
-        Some(last) if mail.is_before(last) => mails.partition_point(|other| !mail.is_before(other)),
-        _ => mails.len(),
+        let first = self.mail.take_first();
+        self.next = self.mail.next();
+        first
     }
 }

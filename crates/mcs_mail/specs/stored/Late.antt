@@ -1,7 +1,7 @@
 -- Mail in a ring in order of delivery, and late mail beside it, which was put when the ring's last was delivered after it.
 use Rattle.std.specs.Prelude.{◌≡◌, ℕ, ◌+◌, ◌≤◌, Bool, true, false, nat_lt, if◌then◌else◌, List, [], ◌∷◌, length, Option, Some, None}
 use Rattle.mcs_mail.specs.declared.mail.Mail.{Mail}
-use Rattle.mcs_mail.specs.Box.{is_before, IsIn, IsOrdered}
+use Rattle.mcs_mail.specs.Box.{first_arrival, is_before, IsIn, IsOrdered}
 
 -- the last of these, or this one where there is none
 abbrev pub last_or : Mail → List Mail → Mail
@@ -26,3 +26,8 @@ abbrev pub sooner_of : Option Mail → Option Mail → Option ℕ
 sooner_of None late = None
 sooner_of (Some front) None = Some front.arrives
 sooner_of (Some front) (Some late) = Some (if nat_lt late.arrives front.arrives then late.arrives else front.arrives)
+
+-- the mail is in order, and this is when its first arrives
+pub record IsNoted (mails : List Mail) (next : Option ℕ) : Type 0 where
+  pub first : next ≡ first_arrival mails
+  pub ordered : IsOrdered mails

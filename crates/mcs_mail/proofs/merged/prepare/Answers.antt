@@ -2,7 +2,7 @@ use Rattle.std.proofs.Common.{◌≡◌, ℕ, ◌+◌, ◌-◌, ◌^◌, ◌<◌
 use Rattle.std.specs.Prelude.{nat_le}
 use Rattle.std.proofs.lemmas.Bool.Decides.{nat_tests}
 use Rattle.mcs_mail.proofs.Merging.{IsMerged-ring, length-put_all, ordered-put_all}
-use Rattle.mcs_mail.proofs.mailbox.prepare.Goals as goal
+use Rattle.mcs_mail.proofs.merged.prepare.Goals as goal
 
 pub returns-then-is_spent-clause-merged : goal.returns-then-is_spent-clause-merged
 returns-then-is_spent-clause-merged c =

@@ -2,7 +2,7 @@ use Rattle.std.proofs.Common.{◌∙◌, ap, slice_get, subst}
 use Rattle.mcs_mail.specs.Box.{Content, first_arrival, IsOrdered}
 use Rattle.mcs_mail.specs.stored.Late.{sooner_of}
 use Rattle.mcs_mail.proofs.Merging.{copied-front, ordered-put_all, sooner-merged}
-use Rattle.mcs_mail.proofs.mailbox.Mailbox.next.Goals as goal
+use Rattle.mcs_mail.proofs.merged.Merged.next.Goals as goal
 
 pub returns-clause-first : goal.returns-clause-first
 returns-clause-first c =

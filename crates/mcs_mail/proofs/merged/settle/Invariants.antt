@@ -1,7 +1,7 @@
 use Rattle.std.proofs.Common.{◌≡◌, ◌≤◌, ◌+◌, length}
 use Rattle.std.specs.VecDeque.{deque_capacity, deque_len}
 use Rattle.mcs_mail.specs.Box.{put_all, IsOrdered}
-use Rattle.mcs_mail.proofs.mailbox.settle.Given as goal
+use Rattle.mcs_mail.proofs.merged.settle.Given as goal
 
 abbrev pub invariant-loop : goal.invariant-loop
 invariant-loop l = record {

@@ -1,7 +1,7 @@
 use Rattle.std.proofs.Common.{◌<◌, ◌∙◌, ap, arith, refl, sym}
 use Rattle.mcs_mail.specs.Box.{is_before}
 use Rattle.mcs_mail.proofs.Merging.{last_or-back}
-use Rattle.mcs_mail.proofs.mailbox.is_late.Goals as goal
+use Rattle.mcs_mail.proofs.merged.is_late.Goals as goal
 
 pub returns-in-Some : goal.returns-in-Some
 returns-in-Some c =

@@ -3,8 +3,8 @@ use Rattle.std.proofs.lemmas.Bool.{false≢true}
 use Rattle.std.proofs.lemmas.List.Sorted.{IsPartitionPoint-from_clause}
 use Rattle.mcs_mail.specs.Box.{is_before}
 use Rattle.mcs_mail.proofs.Boxes.{is_partitioned, put-partition, put-back, put-empty}
-use Rattle.mcs_mail.proofs.mailbox.place_of.Goals as goal
-use Rattle.mcs_mail.proofs.mailbox.place_of.Goals.{in_default-via-in-Some+else-is_before, in_default-via-in_default}
+use Rattle.mcs_mail.proofs.merged.place_of.Goals as goal
+use Rattle.mcs_mail.proofs.merged.place_of.Goals.{in_default-via-in-Some+else-is_before, in_default-via-in_default}
 
 pub returns-in-Some-clause-place : goal.returns-in-Some-clause-place
 returns-in-Some-clause-place c =

@@ -1,7 +1,7 @@
 use Rattle.std.proofs.Common.{ap, arith, length, subst}
 use Rattle.mcs_mail.specs.Box.{Content, IsOrdered}
 use Rattle.mcs_mail.proofs.Merging.{length-put_all, ordered-put_all}
-use Rattle.mcs_mail.proofs.mailbox.Mailbox.len.Goals as goal
+use Rattle.mcs_mail.proofs.merged.Merged.len.Goals as goal
 
 pub returns-clause-count : goal.returns-clause-count
 returns-clause-count c =

@@ -2,7 +2,7 @@ use Rattle.std.proofs.Common.{◌≡◌, ◌+◌, ◌≤◌, ◌∙◌, ap, arit
 use Rattle.std.proofs.lemmas.Result.{on_ok_weaker}
 use Rattle.mcs_mail.specs.Box.{Content, put, put_all}
 use Rattle.mcs_mail.proofs.Merging.{IsMerged-behind, IsMerged-put, length-put, mails-behind, on_ok-both, put_all-put}
-use Rattle.mcs_mail.proofs.mailbox.Mailbox.put.Goals as goal
+use Rattle.mcs_mail.proofs.merged.Merged.put.Goals as goal
 
 pub invariant_of-self-then-is_late : goal.invariant_of-self-then-is_late
 invariant_of-self-then-is_late c =

@@ -2,8 +2,8 @@ use Rattle.std.proofs.Common.{◌≡◌, ◌+◌, ◌∙◌, arith, sym}
 use Rattle.mcs_mail.specs.Box.{put}
 use Rattle.mcs_mail.proofs.Boxes.{ordered-put}
 use Rattle.mcs_mail.proofs.Merging.{moved, none-taken, when_ok}
-use Rattle.mcs_mail.proofs.mailbox.settle.Goals as goal
-use Rattle.mcs_mail.proofs.mailbox.settle.Goals.{in-Some+else-prove, in_default}
+use Rattle.mcs_mail.proofs.merged.settle.Goals as goal
+use Rattle.mcs_mail.proofs.merged.settle.Goals.{in-Some+else-prove, in_default}
 
 pub loop-preserved : goal.loop-preserved
 loop-preserved c =

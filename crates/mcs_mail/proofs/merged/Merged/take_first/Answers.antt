@@ -1,7 +1,7 @@
 use Rattle.std.proofs.Common.{◌∙◌, ap, drop, slice_get, sym}
 use Rattle.mcs_mail.specs.Box.{Content, put_all}
 use Rattle.mcs_mail.proofs.Merging.{mails-late_first, mails-ring_first, popped-front}
-use Rattle.mcs_mail.proofs.mailbox.Mailbox.take_first.Goals as goal
+use Rattle.mcs_mail.proofs.merged.Merged.take_first.Goals as goal
 
 pub invariant_of-self-else-late_is_first : goal.invariant_of-self-else-late_is_first
 invariant_of-self-else-late_is_first c =
