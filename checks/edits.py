@@ -13,6 +13,7 @@ The last line is 'N passed, M failed', and the status is 0 where M is 0."""
 from __future__ import annotations
 
 import argparse
+import functools
 import importlib.machinery
 import importlib.util
 import multiprocessing
@@ -66,7 +67,36 @@ def kit() -> types.ModuleType:
     rt.rtlib.Crate = rt.Crate
     rt.Crate.cuts_libraries = True
     rt.Crate.allowed = rt.handles_of(str(TOP))
+    # (a crate's sum asks for those of all below it, along each path of crates.txt)
+    rt.rtlib.Crate.stamp = functools.cache(rt.rtlib.Crate.stamp)
     return rt
+
+
+def keeps(rt: Any) -> bool:
+    """Whether the kit keeps what it proved between runs. One that does not has a plainer way to try an edit."""
+    return hasattr(rt, 'seeded')
+
+
+def seeded(rt: Any, crate: Any) -> str | None:
+    """A new folder with what a check of the crate as it stands proved, in seed/, or None where it is not proved."""
+    if keeps(rt):
+        kept = f'{crate.folder}/out/incremental'
+        return rt.seeded(crate, ['--jobs', '1'], kept if os.path.isdir(kept) else None)
+    room = tempfile.mkdtemp(prefix='edits-')
+    if rt.checked(crate, {}, ['--jobs', '1'], f'{room}/seed').returncode:
+        shutil.rmtree(room)
+        return None
+    return room
+
+
+def tried(rt: Any, crate: Any, edit: str, room: str, over: str) -> tuple[str, str]:
+    """What the kit says of an edit that it tries over a copy of the folder's seed, and of which kind that is."""
+    if keeps(rt):
+        rt.linked(f'{room}/seed', f'{over}/kept')
+        return rt.must_fail(crate, edit, ['--jobs', '1'], f'{over}/kept')
+    shutil.copytree(f'{room}/seed', f'{over}/kept')
+    is_refused, said = rt.must_fail(crate, edit, ['--jobs', '1'], f'{over}/kept')
+    return 'refused' if is_refused else 'missed' if ': NOT REFUSED' in said else 'bad', said
 
 
 def verdict_of(kind: str, said: str, output: str = '') -> tuple[str, str]:
@@ -119,28 +149,26 @@ def try_one(of: str, edit: str, room: str) -> Tried:
     name = f'{crate.name}/{pathlib.Path(edit).stem}'
     begun = used()
     with tempfile.TemporaryDirectory(prefix='edit-', dir=room) as over:
-        rt.linked(f'{room}/seed', f'{over}/kept')
-        kind, said = rt.must_fail(crate, edit, ['--jobs', '1'], f'{over}/kept')
+        kind, said = tried(rt, crate, edit, room, over)
     verdict, why = verdict_of(kind, said, '\n'.join(outputs))
     return Tried(name, verdict, used() - begun, why)
 
 
 def try_crate(rt: Any, crate: Any, edits: Sequence[pathlib.Path], jobs: int) -> Iterator[Tried]:
     """Tries a crate's edits, as many side by side as there are jobs, over a check of the crate as it stands."""
-    rt.adopt(crate, is_alone=False)
-    kept = f'{crate.folder}/out/incremental'
-    room = None
-    if not any(low.build_rlib(['--jobs', '1'], anew=False) for low in crate.below()):
-        room = rt.seeded(crate, ['--jobs', '1'], kept if os.path.isdir(kept) else None)
+    if keeps(rt):
+        rt.adopt(crate, is_alone=False)
+    has_libraries = not any(low.build_rlib(['--jobs', '1'], anew=False) for low in crate.below())
+    room = seeded(rt, crate) if has_libraries else None
     if not room:
         yield from (Tried(f'{crate.name}/{edit.stem}', UNKNOWN, 0.0, 'the crate as it stands is not proved') for edit in edits)
         return
     try:
         fork = multiprocessing.get_context('fork')
         with ProcessPoolExecutor(jobs, mp_context=fork) as pool:
-            tries = [pool.submit(try_one, crate.name, str(edit), room) for edit in edits]
-            for a_try in tries:
-                yield a_try.result()
+            running = [pool.submit(try_one, crate.name, str(edit), room) for edit in edits]
+            for each in running:
+                yield each.result()
     finally:
         shutil.rmtree(room, ignore_errors=True)
 
@@ -182,14 +210,15 @@ def main(words: Sequence[str]) -> int:
         raise SystemExit('edits.py: --jobs takes a number from 1')
     rt = kit()
     crates = rt.rtlib.crates_below(str(TOP))
-    rt.share_work(False)
+    if keeps(rt):
+        rt.share_work(False)
     SHARED.update({'rt': rt, 'checked': rt.checked, **{crate.name: crate for crate in crates}})
     counts = {True: 0, False: 0}
     for crate, edits in chosen(crates, asked):
-        for tried in look(rt, crate, edits) if asked.look else try_crate(rt, crate, edits, asked.jobs):
-            counts[tried.passed] += 1
-            if not (asked.look and tried.passed):
-                print(tried, flush=True)
+        for a_try in look(rt, crate, edits) if asked.look else try_crate(rt, crate, edits, asked.jobs):
+            counts[a_try.passed] += 1
+            if not (asked.look and a_try.passed):
+                print(a_try, flush=True)
     print(f'{counts[True]} passed, {counts[False]} failed')
     return 1 if counts[False] else 0
 

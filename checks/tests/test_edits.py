@@ -69,6 +69,31 @@ class Verdicts(unittest.TestCase):
         self.assertTrue(str(edits.Tried('low/a', edits.REFUSED, 1.25, 'x' * 999)).endswith('  1.2 s  ' + 'x' * edits.SHOWN))
 
 
+class PlainKit(unittest.TestCase):
+    """A kit that keeps nothing between runs answers whether an edit is refused, and with which words."""
+
+    def kind(self, is_refused: bool, said: str) -> str:
+        with tempfile.TemporaryDirectory() as room:
+            folder = pathlib.Path(room)
+            for name in ('seed', 'over'):
+                (folder / name).mkdir()
+            (folder / 'seed' / 'proved').write_text('of the crate as it stands')
+            given = []
+            kit = types.SimpleNamespace(must_fail=lambda *words: given.append(pathlib.Path(words[3], 'proved').read_text()) or (is_refused, said))
+            kind, told = edits.tried(kit, None, 'a.edit', room, f'{room}/over')
+        self.assertEqual((told, given), (said, ['of the crate as it stands']))
+        return kind
+
+    def test_a_refusal(self) -> None:
+        self.assertEqual(self.kind(True, 'must-fail low/a.edit: refused, as it must be: src/tick.rt:9:5'), 'refused')
+
+    def test_an_edit_that_is_still_proved(self) -> None:
+        self.assertEqual(self.kind(False, 'must-fail low/a.edit: NOT REFUSED: the crate is still proved with this edit'), 'missed')
+
+    def test_an_edit_that_cannot_be_read(self) -> None:
+        self.assertEqual(self.kind(False, 'must-fail low/a.edit: BAD EDIT: there is no file src/b.rt'), 'bad')
+
+
 class Places(unittest.TestCase):
     def test_the_gate_tries_the_likeliest_wrong_bodies(self) -> None:
         tried = {f'{edit.parent.parent.name}/{edit.stem}' for edit in edits.TOP.glob('crates/*/must-fail/*.edit')}
