@@ -1,9 +1,8 @@
 -- What horizons tell of a thread recurs.
-use Rattle.std.proofs.Common.{◌≡◌, ℕ, ◌+◌, ◌<◌, ◌⊎◌, inl, inr, Bool, true, length, get_or, Some, sym, ap, subst, ◌∙◌, arith}
+use Rattle.std.proofs.Common.{◌≡◌, ℕ, ◌<◌, ◌⊎◌, inl, inr, Bool, true, length, get_or, Some, sym, ap, subst, ◌∙◌, arith}
 use Rattle.mcs_system.specs.System.{System, no_thread, thread_part, note_part, core_of}
 use Rattle.mcs_system.specs.WellFormed.{IsWellFormed}
 use Rattle.mcs_verdict.specs.declared.account.Account.{Account}
-use Rattle.mcs_verdict.specs.declared.held.Held.{Held}
 use Rattle.mcs_verdict.specs.declared.standing.Standing.TheVariants.{Done}
 use Rattle.mcs_verdict.specs.Later.{IsLaterWord, IsDoneThread}
 use Rattle.mcs_verdict.specs.Rounds.{first_wait}
@@ -14,7 +13,7 @@ use Rattle.mcs_verdict_forever.specs.Recurs.{past_before, watch_before, WordIsLa
 use Rattle.mcs_verdict_forever.proofs.Findings.{waits-first}
 use Rattle.mcs_recurring.specs.Doings.{Doings}
 use Rattle.mcs_recurring.specs.Period.{AreKept}
-use Rattle.mcs_recurring.specs.stored.Tests.{IsEmpty, FirstIsEmpty, FirstRecurs, IsIdle, ThreadEnds, ThreadsEnd}
+use Rattle.mcs_recurring.specs.Tests.{IsEmpty, FirstIsEmpty, FirstRecurs, IsIdle, ThreadEnds}
 use Rattle.mcs_recurring.proofs.Quiet.{tells-none, holds-none}
 use Rattle.mcs_recurring.proofs.Kept.{told-none, held-none, thread-later, word-later}
 
@@ -73,8 +72,3 @@ module _ (system : System) (group : ℕ → Bool) (shifts : Shifts) (from : ℕ)
   end-recurs by x same kept known own =
       let P : ℕ → Type 0 = λ by. AreKept system by from before after doings → ThreadEnds by before after doings (thread_part system x) x → EndRecurs system by from x in
       subst P same (λ kept is. ends kept x known own is) kept
-
-  pub ends-recur : (by : ℕ) → shifts.by ≡ by → AreKept system by from before after doings →
-      ThreadsEnd system group by before after doings (length system.threads) → (x : ℕ) → x < length system.threads →
-      group (core_of system (thread_part system x)) ≡ true → EndRecurs system by from x
-  ends-recur by same kept all x known own = end-recurs by x same kept known own (all x known own)

@@ -1,10 +1,9 @@
 -- What was kept of two moments, as it stands in the run.
-use Rattle.std.proofs.Common.{◌≡◌, ℕ, ◌+◌, ◌<◌, ◌⊎◌, inl, inr, Bool, true, false, List, length, get_or, sym, ap, subst, ◌∙◌, arith}
+use Rattle.std.proofs.Common.{◌≡◌, ℕ, ◌+◌, ◌<◌, ◌⊎◌, inl, inr, Bool, true, false, List, length, get_or, sym, ap, subst, ◌∙◌}
 use Rattle.std.specs.List.{list_any}
 use Rattle.mcs_ticks.specs.declared.row.What.{What}
 use Rattle.mcs_system.specs.System.{System, thread_part, note_part, core_of}
 use Rattle.mcs_system.specs.WellFormed.{IsWellFormed}
-use Rattle.mcs_verdict.specs.declared.held.Held.{Held}
 use Rattle.mcs_verdict.specs.Account.{is_about}
 use Rattle.mcs_verdict.specs.Later.{later_account, without_total, IsLaterThread, IsSameWord, IsLaterWord}
 use Rattle.mcs_verdict.specs.Watch.{Watch}
@@ -13,7 +12,7 @@ use Rattle.mcs_forever.specs.laws.Repeats.{ends_round, EndsNoRound}
 use Rattle.mcs_verdict_forever.specs.Recurs.{takes_word, holds_word, TakesNoWord, ThreadIsLater, WordIsSame, WordIsLater, FindingsRecur}
 use Rattle.mcs_recurring.specs.Doings.{Doings}
 use Rattle.mcs_recurring.specs.Period.{whats, AreKept}
-use Rattle.mcs_recurring.specs.stored.Tests.{ThreadRecurs, ThreadsRecur, WordsRecur}
+use Rattle.mcs_recurring.specs.Tests.{ThreadRecurs, ThreadsRecur, WordsRecur}
 use Rattle.mcs_recurring.proofs.Flags.{flag-at}
 use Rattle.mcs_recurring.proofs.Quiet.{ends-none, takes-none}
 

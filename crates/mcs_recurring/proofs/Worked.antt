@@ -1,6 +1,5 @@
 -- What rows did that were read by hand, in the system of mcs_verdict_forever of which each signal but the first is lost: one thread, one notification.
-use Rattle.std.specs.Prelude.{◌≡◌, ℕ, true, false, List, [], ◌∷◌, Some, None, refl}
-use Rattle.mcs_ticks.specs.declared.row.What.{What}
+use Rattle.std.specs.Prelude.{◌≡◌, true, false, [], ◌∷◌, Some, refl}
 use Rattle.mcs_ticks.specs.declared.row.What.TheVariants as row
 use Rattle.mcs_ticks.specs.declared.row.Why.TheVariants as why
 use Rattle.mcs_verdict_forever.proofs.Worked.{signals}

@@ -1,3 +1,4 @@
 pub mod Doings
 pub mod Period
+pub mod Tests
 pub mod stored

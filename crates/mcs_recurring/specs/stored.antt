@@ -1,3 +1,2 @@
 pub mod Flags
-pub mod Tests
 pub mod Waits

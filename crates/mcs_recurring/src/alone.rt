@@ -1,11 +1,8 @@
 ghost use Rattle.std.specs.Prelude.{◌≡◌, ◌<◌, length, IsTrue, ◌↔◌, MatchBool};
 ghost use Rattle.mcs_script.specs.declared.item.Item.TheVariants.{Wait};
 ghost use Rattle.mcs_verdict_laws.specs.laws.Horizons.{WaitsAlone};
-ghost use Rattle.mcs_forever.specs.Closed.{has};
-ghost use Rattle.mcs_recurring.specs.stored.Waits.{HasWait, HasOther, HasNone, WaitAlone};
+ghost use Rattle.mcs_recurring.specs.stored.Waits.{HasWait, HasOther, HasNone};
 
-use crate::group::has_thread;
-use mcs_forever::CoreSet;
 use mcs_script::Item;
 use mcs_system::{System, ThreadPart};
 use mcs_ticks::{NoteId, ThreadId};
@@ -55,23 +52,4 @@ pub fn waits_alone(system: &System, thread: ThreadId) -> bool
         Some(note) => !has_other(system, thread, note),
         None => true,
     }
-}
-
-/// Whether that holds of each thread with a deadline on a core of the group.
-pub fn wait_alone(system: &System, group: &CoreSet) -> bool
-    ensures { IsTrue result → WaitAlone system.now (has group.now) (length system.now.threads) }
-{
-    let parts = system.parts();
-    for thread in 0..parts.threads.len() {
-        if !has_thread(system, group, ThreadId(thread)) {
-            continue;
-        }
-        if parts.thread(ThreadId(thread)).deadline == 0 {
-            continue;
-        }
-        if !waits_alone(system, ThreadId(thread)) {
-            return false;
-        }
-    }
-    true
 }

@@ -1,9 +1,9 @@
-ghost use Rattle.std.specs.Prelude.{◌≡◌, ℕ, length, IsTrue};
+ghost use Rattle.std.specs.Prelude.{◌≡◌, ℕ, length, IsTrue, ◌↔◌};
 ghost use Rattle.mcs_forever.specs.Closed.{has};
 ghost use Rattle.mcs_forever.specs.Recurs.{Shifts, Recurs};
 ghost use Rattle.mcs_verdict_forever.specs.Recurs.{FindingsRecur};
 ghost use Rattle.mcs_recurring.specs.Period.{AreKept};
-ghost use Rattle.mcs_recurring.specs.stored.Tests.{ThreadRecurs, WordRecurs, ThreadsRecur, WordsRecur};
+ghost use Rattle.mcs_recurring.specs.Tests.{ThreadRecurs, WordRecurs, ThreadsRecur, WordsRecur, AllRecur};
 
 use crate::Doings;
 use crate::group::{has_note, has_thread};
@@ -14,14 +14,14 @@ use mcs_verdict::Watch;
 
 // Whether the thread is later, or no round of it ended.
 fn thread_recurs(by: u64, before: &Watch, after: &Watch, doings: &Doings, thread: ThreadId) -> bool
-    ensures { IsTrue result → ThreadRecurs by before.now after.now doings.now thread }
+    ensures { IsTrue result ↔ ThreadRecurs by before.now after.now doings.now thread }
 {
     after.thread_is_later(before, thread, by) || !doings.ends_round(thread)
 }
 
 // Whether the word is the same, and was set later or is not taken.
 fn word_recurs(by: u64, before: &Watch, after: &Watch, doings: &Doings, note: NoteId) -> bool
-    ensures { IsTrue result → WordRecurs by before.now after.now doings.now note }
+    ensures { IsTrue result ↔ WordRecurs by before.now after.now doings.now note }
 {
     after.word_is_same(before, note)
         && (after.word_is_later(before, note, by) || !doings.takes_word(note))
@@ -36,7 +36,7 @@ fn threads_recur(
     after: &Watch,
     doings: &Doings,
 ) -> bool
-    ensures { IsTrue result →
+    ensures { IsTrue result ↔
         ThreadsRecur system.now (has group.now) by before.now after.now doings.now (length system.now.threads) }
 {
     for thread in 0..system.parts().threads.len() {
@@ -59,7 +59,7 @@ fn words_recur(
     after: &Watch,
     doings: &Doings,
 ) -> bool
-    ensures { IsTrue result →
+    ensures { IsTrue result ↔
         WordsRecur system.now (has group.now) by before.now after.now doings.now (length system.now.notes) }
 {
     for note in 0..system.parts().notes.len() {
@@ -74,7 +74,8 @@ fn words_recur(
 }
 
 /// Whether what is found in a group's rows recurs, where the group itself does, `by` ticks later: by what was kept before the one moment and before
-/// the other, and by what the rows between did. Then each missed deadline and each lost signal comes again, and no other comes. False says nothing.
+/// the other, and by what the rows between did. That is so where each of its threads is later, or ended no round, and each of its words is the
+/// same, and was set later, or is not taken. Then each missed deadline and each lost signal comes again, and no other comes.
 pub fn findings_recur(
     system: &System,
     group: &CoreSet,
@@ -83,7 +84,8 @@ pub fn findings_recur(
     after: &Watch,
     doings: &Doings,
 ) -> bool
-    ensures { IsTrue result → (shifts : Shifts) (from : ℕ) → shifts.by ≡ by → Recurs system.now (has group.now) shifts from →
+    ensures tells { IsTrue result ↔ AllRecur system.now (has group.now) by before.now after.now doings.now }
+    ensures recurs { IsTrue result → (shifts : Shifts) (from : ℕ) → shifts.by ≡ by → Recurs system.now (has group.now) shifts from →
         AreKept system.now by from before.now after.now doings.now → FindingsRecur system.now (has group.now) shifts from }
 {
     let _parts = system.parts();

@@ -7,7 +7,7 @@ mod ends;
 mod findings;
 mod group;
 
-pub use alone::{wait_alone, waits_alone};
+pub use alone::waits_alone;
 pub use doings::Doings;
-pub use ends::{end_recurs, ends_recur};
+pub use ends::end_recurs;
 pub use findings::findings_recur;

@@ -1,10 +1,9 @@
 -- Whose scripts wait for a notification.
-use Rattle.std.specs.Prelude.{◌≡◌, ◌≢◌, ℕ, ◌<◌, Bool, true, Some}
+use Rattle.std.specs.Prelude.{◌≡◌, ◌≢◌, ℕ, ◌<◌, Some}
 use Rattle.std.specs.List.{slice_get}
 use Rattle.mcs_script.specs.declared.item.Item.TheVariants.{Wait}
 use Rattle.mcs_system.specs.declared.part.ThreadPart.{ThreadPart}
-use Rattle.mcs_system.specs.System.{System, thread_part, core_of}
-use Rattle.mcs_verdict_laws.specs.laws.Horizons.{WaitsAlone}
+use Rattle.mcs_system.specs.System.{System, thread_part}
 
 -- the script has a wait for it
 pub record HasWait (part : ThreadPart) (note : ℕ) : Type 0 where
@@ -20,9 +19,3 @@ pub record HasOther (system : System) (thread note : ℕ) : Type 0 where
 -- among the first n threads no other one has it
 abbrev pub HasNone : System → ℕ → ℕ → ℕ → Type 0
 HasNone system thread note n = (other : ℕ) → other < n → other ≢ thread → ¬ HasWait (thread_part system other) note
-
--- of the first n threads those with a deadline, on cores of the group, wait alone
-abbrev pub WaitAlone : System → (ℕ → Bool) → ℕ → Type 0
-WaitAlone system group n =
-    (thread : ℕ) → thread < n → group (core_of system (thread_part system thread)) ≡ true →
-    (thread_part system thread).deadline ≢ 0 → WaitsAlone system thread

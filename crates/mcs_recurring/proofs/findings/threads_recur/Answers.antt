@@ -2,7 +2,7 @@ use Rattle.std.proofs.Common.{◌≡◌, ℕ, true, rules}
 use borrow.Author.Count.{below_more}
 use Rattle.mcs_system.specs.System.{thread_part, core_of}
 use Rattle.mcs_forever.specs.Closed.{has}
-use Rattle.mcs_recurring.specs.stored.Tests.{ThreadRecurs}
+use Rattle.mcs_recurring.specs.Tests.{ThreadRecurs}
 use Rattle.mcs_recurring.proofs.Kept.{skip}
 use Rattle.mcs_recurring.proofs.findings.threads_recur.Goals as goal
 
@@ -16,4 +16,4 @@ pub loop-thread-preserved : goal.loop-thread-preserved
 loop-thread-preserved c =
     let s = c.args.system.now in
     let P : ℕ → Type 0 = λ x. has c.args.group.now (core_of s (thread_part s x)) ≡ true → ThreadRecurs c.args.by c.args.before.now c.args.after.now c.args.doings.now x in
-    below_more P c.loop-thread.thread c.loop-thread.invariant (λ own. c.thread_recurs.ensures (search rules))
+    below_more P c.loop-thread.thread c.loop-thread.invariant (λ own. c.thread_recurs.ensures.0 (search rules))

@@ -1,5 +1,5 @@
 use Rattle.mcs_forever.specs.Closed.{has}
-use Rattle.mcs_recurring.specs.stored.Tests.{ThreadsRecur}
+use Rattle.mcs_recurring.specs.Tests.{ThreadsRecur}
 use Rattle.mcs_recurring.proofs.findings.threads_recur.Given as goal
 
 abbrev pub invariant-loop-thread : goal.invariant-loop-thread

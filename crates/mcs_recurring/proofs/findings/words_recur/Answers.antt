@@ -2,7 +2,7 @@ use Rattle.std.proofs.Common.{◌≡◌, ℕ, true, rules}
 use borrow.Author.Count.{below_more}
 use Rattle.mcs_system.specs.System.{note_part}
 use Rattle.mcs_forever.specs.Closed.{has}
-use Rattle.mcs_recurring.specs.stored.Tests.{WordRecurs}
+use Rattle.mcs_recurring.specs.Tests.{WordRecurs}
 use Rattle.mcs_recurring.proofs.Kept.{skip}
 use Rattle.mcs_recurring.proofs.findings.words_recur.Goals as goal
 
@@ -14,4 +14,4 @@ loop-note-preserved-then-not-has_note c =
 pub loop-note-preserved : goal.loop-note-preserved
 loop-note-preserved c =
     let P : ℕ → Type 0 = λ n. has c.args.group.now (note_part c.args.system.now n).core ≡ true → WordRecurs c.args.by c.args.before.now c.args.after.now c.args.doings.now n in
-    below_more P c.loop-note.note c.loop-note.invariant (λ own. c.word_recurs.ensures (search rules))
+    below_more P c.loop-note.note c.loop-note.invariant (λ own. c.word_recurs.ensures.0 (search rules))

@@ -1,5 +1,5 @@
 use Rattle.mcs_forever.specs.Closed.{has}
-use Rattle.mcs_recurring.specs.stored.Tests.{WordsRecur}
+use Rattle.mcs_recurring.specs.Tests.{WordsRecur}
 use Rattle.mcs_recurring.proofs.findings.words_recur.Given as goal
 
 abbrev pub invariant-loop-note : goal.invariant-loop-note

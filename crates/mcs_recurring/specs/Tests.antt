@@ -57,7 +57,7 @@ module _ (system : System) (group : ℕ → Bool) (by : ℕ) (before after : Wat
   abbrev pub WordsRecur : ℕ → Type 0
   WordsRecur n = (note : ℕ) → note < n → group (note_part system note).core ≡ true → WordRecurs by before after doings note
 
-  abbrev pub ThreadsEnd : ℕ → Type 0
-  ThreadsEnd n =
-      (thread : ℕ) → thread < n → group (core_of system (thread_part system thread)) ≡ true →
-      ThreadEnds by before after doings (thread_part system thread) thread
+  -- of all of them
+  pub record AllRecur : Type 0 where
+    pub threads : ThreadsRecur (length system.threads)
+    pub words : WordsRecur (length system.notes)

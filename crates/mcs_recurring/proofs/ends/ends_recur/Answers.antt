@@ -1,8 +1,0 @@
-use Rattle.mcs_forever.specs.Closed.{has}
-use Rattle.mcs_recurring.proofs.Ending.{ends-recur}
-use Rattle.mcs_recurring.proofs.ends.ends_recur.Goals as goal
-
-pub returns : goal.returns
-returns c = λ yes shifts from same recurs kept x known own.
-    ends-recur c.args.system.now (has c.args.group.now) shifts from c.parts-parts.ensures.well_formed recurs c.args.before.now c.args.after.now
-    c.args.doings.now c.args.by same kept (c.threads_end.ensures yes) x known own
