@@ -142,7 +142,7 @@ class Trial:
             self.seen[f'{kind}{so_far}'] += 1
         elif kind in ('miss', 'lost'):
             self.seen[f'{kind}{so_far or (" in each period" if values["each_period"] else " before alone")}'] += 1
-        elif kind == 'thread' and not so_far:
+        elif kind == 'thread':
             self.seen['greatest' if values['greatest'] is not None else 'no greatest'] += 1
             self.seen['throttled never' if 'throttled' in values else 'throttled'] += 1
             self.seen['ends no round' if 'ends_no_round_from' in values else 'ends rounds'] += 1

@@ -231,7 +231,7 @@ class Told:
         responses = [row.moment - self.whole.ended[row.place].activated for row in rounds]
         greatest = max(responses, default=None)
         if self.claim.start is None:
-            return {'kind': 'thread', 'thread': thread, 'greatest_so_far': greatest}
+            return {'kind': 'thread_so_far', 'thread': thread, 'greatest': greatest}
         is_spent = any(row.kind == 'stop' and row.what[2] == 'spent' for row in self.whole.whole.of_thread(thread))
         ends_again = any(self.claim.start <= row.moment for row in rounds)
         never = {} if is_spent else {'throttled': 'never'}
@@ -281,7 +281,7 @@ def line_of(values: Values) -> str:
             return f'overdue {thread} at {moment}'
         case {'kind': 'never', 'thread': thread, 'moment': moment}:
             return f'never {thread} up to {moment}'
-        case {'kind': 'thread', 'thread': thread, 'greatest_so_far': greatest}:
+        case {'kind': 'thread_so_far', 'thread': thread, 'greatest': greatest}:
             return f'thread {thread}: greatest response {dashed(greatest)} so far'
         case {'kind': 'thread', 'thread': thread, 'greatest': greatest}:
             never = ', throttled: never' if 'throttled' in values else ''

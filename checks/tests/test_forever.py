@@ -83,7 +83,7 @@ TOO_LATE_AS_JSON = '''{"kind":"repeats","cores":"0 1","from":14,"period":10}
 {"kind":"overdue","thread":"Loop","moment":23}
 {"kind":"thread","thread":"Loop","greatest":2,"throttled":"never"}
 {"kind":"open","cores":"1","horizon":95}
-{"kind":"thread","thread":"Clock","greatest_so_far":1}
+{"kind":"thread_so_far","thread":"Clock","greatest":1}
 {"kind":"sets","sets":2,"repeating":1,"findings":2}
 '''
 # nobody takes what T signals each 10, so that all but the first are lost; U waits for what nobody signals, and V ends once
@@ -154,9 +154,10 @@ def as_json(text: str) -> str:
             case ['overdue' | 'never' as kind, name, *_, moment]:
                 found.append({'kind': kind, 'thread': name, 'moment': int(moment)})
             case ['thread', name, 'greatest', 'response', greatest, *rest]:
-                number = {} if greatest == '-' else {'greatest_so_far' if rest == ['so', 'far'] else 'greatest': int(greatest)}
+                number = {} if greatest == '-' else {'greatest': int(greatest)}
+                kind = 'thread_so_far' if rest == ['so', 'far'] else 'thread'
                 never = {'throttled': 'never'} if 'throttled' in rest else {}
-                found.append({'kind': 'thread', 'thread': name, **number, **never, **({'ends_no_round_from': int(rest[-2])} if 'ends' in rest else {})})
+                found.append({'kind': kind, 'thread': name, **number, **never, **({'ends_no_round_from': int(rest[-2])} if 'ends' in rest else {})})
             case ['sets', sets, 'repeating', repeating, 'findings', findings]:
                 found.append({'kind': 'sets', 'sets': int(sets), 'repeating': int(repeating), 'findings': int(findings)})
             case ['nothing', *_]:
@@ -290,7 +291,7 @@ class WrongPrograms(Programs):
         self.assertEqual(self.failed(LOOP, IN_TIME, 0, wrong=lambda ran: ran._replace(stderr=b'mcscheck: 1 of 9\n')), 2)
 
     def test_json_of_something_else(self) -> None:
-        for old, new in (('"from":13', '"from":3'), ('"greatest":2', '"greatest_so_far":2'), (',"throttled":"never"', ''), ('{"kind":"clean","cores":"1"}\n', '')):
+        for old, new in (('"from":13', '"from":3'), ('"kind":"thread"', '"kind":"thread_so_far"'), (',"throttled":"never"', ''), ('{"kind":"clean","cores":"1"}\n', '')):
             self.assertIn(old, IN_TIME_AS_JSON)
             self.assertEqual(self.failed(LOOP, IN_TIME, 0, written_as_json=IN_TIME_AS_JSON.replace(old, new)), 1, new)
 

@@ -130,7 +130,7 @@ thread_so_far : line_text format.Text system (ThreadSoFar 0 (Some 9)) ≡ codes 
 unfolding system digits
 thread_so_far = refl
 
-thread_so_far_object : line_text format.Json system (ThreadSoFar 0 (Some 9)) ≡ codes "{\"kind\":\"thread\",\"thread\":\"T\",\"greatest_so_far\":9}\n"
+thread_so_far_object : line_text format.Json system (ThreadSoFar 0 (Some 9)) ≡ codes "{\"kind\":\"thread_so_far\",\"thread\":\"T\",\"greatest\":9}\n"
 unfolding system digits serde_json_on_literals
 thread_so_far_object = refl
 
@@ -138,7 +138,7 @@ none_so_far : line_text format.Text system (ThreadSoFar 0 None) ≡ codes "threa
 unfolding system digits
 none_so_far = refl
 
-none_so_far_object : line_text format.Json system (ThreadSoFar 0 None) ≡ codes "{\"kind\":\"thread\",\"thread\":\"T\"}\n"
+none_so_far_object : line_text format.Json system (ThreadSoFar 0 None) ≡ codes "{\"kind\":\"thread_so_far\",\"thread\":\"T\"}\n"
 unfolding system digits serde_json_on_literals
 none_so_far_object = refl
 

@@ -53,7 +53,7 @@ module _ (system : System) where
       (codes "kind", name (codes "thread")) ∷ thread_field thread ∷ (codes "greatest", known greatest)
       ∷ (codes "throttled", throttled_value never_throttled) ∷ (codes "ends_no_round_from", known silent_from) ∷ []
   line_fields (line.ThreadSoFar thread greatest) =
-      (codes "kind", name (codes "thread")) ∷ thread_field thread ∷ (codes "greatest_so_far", known greatest) ∷ []
+      (codes "kind", name (codes "thread_so_far")) ∷ thread_field thread ∷ (codes "greatest", known greatest) ∷ []
   line_fields (line.Clean cores) = (codes "kind", name (codes "clean")) ∷ cores_field cores ∷ []
   line_fields (line.Sets sets repeating findings) =
       (codes "kind", name (codes "sets")) ∷ (codes "sets", amount sets) ∷ (codes "repeating", amount repeating)

@@ -72,9 +72,9 @@ pub(crate) fn put_so_far(
     ensures err { OnErr result (text.new.items ≡ text.old.items) }
 {
     let fields = [
-        ("kind", Cell::Name("thread")),
+        ("kind", Cell::Name("thread_so_far")),
         ("thread", Cell::Name(thread_name(system, thread))),
-        ("greatest_so_far", known(greatest)),
+        ("greatest", known(greatest)),
     ];
     put_object(alloc, text, &fields)
 }

@@ -37,7 +37,7 @@ const AS_OBJECTS: &str = r#"{"kind":"repeats","cores":"0 2","from":13,"period":1
 {"kind":"overdue","thread":"T","moment":25}
 {"kind":"never","thread":"T","moment":25}
 {"kind":"thread","thread":"T","greatest":4,"throttled":"never","ends_no_round_from":13}
-{"kind":"thread","thread":"T","greatest_so_far":9}
+{"kind":"thread_so_far","thread":"T","greatest":9}
 {"kind":"clean","cores":"0 2"}
 {"kind":"sets","sets":3,"repeating":2,"findings":0}
 "#;
