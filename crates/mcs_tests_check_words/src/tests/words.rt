@@ -1,39 +1,42 @@
-use mcs_check_words::{Format, Show, WordsFault, options};
+use mcs_check_words::{Format, Options, Show, WordsFault, options};
 use std::alloc::{AllocError, Global};
 use std::test::Fail;
 
-/// What words are answered: the file, the horizon, the workers, the names that are allowed, whether hints count, what is shown, whether the words
-/// say so, in which format, and the thread and the round that are asked about; or the status and the text of their fault.
+/// What words are answered: what they ask for; or the status and the text of their fault.
 fn answer(alloc: Global, words: &[String]) -> Result<String, AllocError> {
     match options(alloc, words) {
-        Ok(options) => {
-            let file = options.file.as_ref().map_or("", |name| name.as_str());
-            let horizon = options.horizon.get();
-            let workers = options.workers;
-            let allowed = &options.allowed;
-            let strict = options.strict;
-            let show = match &options.show {
-                Show::Findings => "findings",
-                Show::Jobs => "jobs",
-                Show::Table => "table",
-                Show::Both => "both",
-            };
-            let format = match &options.format {
-                Format::Text => "text",
-                Format::Csv => "csv",
-                Format::Json => "json",
-            };
-            let given = options.show_given;
-            let (thread, round) = match &options.why {
-                Some(question) => (question.thread.as_str(), question.round.as_str()),
-                None => ("-", "-"),
-            };
-            format!(in alloc;
-                "{file} {horizon} {workers} {allowed:?} {strict} {show} {given} {format} {thread} {round}"
-            )
-        }
+        Ok(options) => asked_for(alloc, &options),
         Err(fault) => refusal(alloc, &fault),
     }
+}
+
+/// The file, the horizon, the workers, the names that are allowed, whether hints count, what is shown, whether the words say so, in which format, and
+/// the thread and the round that are asked about.
+fn asked_for(alloc: Global, options: &Options) -> Result<String, AllocError> {
+    let file = options.file.as_ref().map_or("", |name| name.as_str());
+    let horizon = options.horizon.get();
+    let workers = options.workers;
+    let allowed = &options.allowed;
+    let strict = options.strict;
+    let show = match &options.show {
+        Show::Findings => "findings",
+        Show::Jobs => "jobs",
+        Show::Table => "table",
+        Show::Both => "both",
+    };
+    let format = match &options.format {
+        Format::Text => "text",
+        Format::Csv => "csv",
+        Format::Json => "json",
+    };
+    let given = options.show_given;
+    let (thread, round) = match &options.why {
+        Some(question) => (question.thread.as_str(), question.round.as_str()),
+        None => ("-", "-"),
+    };
+    format!(in alloc;
+        "{file} {horizon} {workers} {allowed:?} {strict} {show} {given} {format} {thread} {round}"
+    )
 }
 
 fn refusal(alloc: Global, fault: &WordsFault) -> Result<String, AllocError> {
