@@ -7,5 +7,5 @@ pub returns : goal.returns
 returns c = λ yes set own recurred.
     let s = c.args.look.now.system.now in
     let well = c.parts-parts.ensures.well_formed in
-    c.end_recurs.ensures yes (has set) recurred.shifts c.args.look.now.search.now.kept own recurred.by_is recurred.recurs.recurs
+    c.end_recurs.ensures.recurs yes (has set) recurred.shifts c.args.look.now.search.now.kept own recurred.by_is recurred.recurs.recurs
     (are-kept s c.args.look.now.search.now c.requires.look well (c.rows_tell_turns.ensures s well) c.args.by recurred.period _ _ _ c.kept_watch.ensures c.watch.ensures c.doings.ensures)
