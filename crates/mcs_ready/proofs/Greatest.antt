@@ -1,8 +1,9 @@
 -- The greatest priority of a set, where one enters the set or leaves it.
-use Rattle.std.proofs.Common.{◌≡◌, ℕ, ◌==◌, if◌then◌else◌, true, false, List, Option, Some, None, refl, ap, ◌∙◌, inl, inr, arith}
-use Rattle.std.specs.Prelude.{max, ◌⊎◌}
-use Rattle.std.proofs.lemmas.Bool.{cases_eq, cases_lt, eq-eqb, ne_eqb}
-use Rattle.mcs_ready.specs.stored.Priorities.{has, greater, IsGreatest}
+use Rattle.std.proofs.Common.{◌≡◌, ℕ, ◌+◌, ◌*◌, ◌/◌, ◌^◌, ◌<◌, ◌≤◌, ◌==◌, if◌then◌else◌, true, false, List, Option, Some, None, get_or, refl, ◌∙◌, inl, inr, arith}
+use Rattle.std.specs.Prelude.{max}
+use Rattle.std.proofs.lemmas.Bool.{cases_lt, eq-eqb, ne_eqb}
+use Rattle.mcs_ready.specs.stored.Priorities.{has, greater, IsGreatest, IsGreatestBelow}
+use Rattle.mcs_ready.proofs.Marks.{has-highest, has_above, has-zero}
 
 module _ (words words' : List ℕ) (p : ℕ) where
   -- one enters
@@ -23,18 +24,40 @@ module _ (words words' : List ℕ) (p : ℕ) where
     λ q above. is q ∙ rw (ne_eqb q p (omega arith)) (found.1 q (omega arith)),
   )
 
-  -- one leaves that isn't the greatest
-  pub greatest-cleared : (g : Option ℕ) → IsGreatest words g → ((q : ℕ) → has words' q ≡ (if q == p then false else has words q)) → (g ≡ Some p → ⊥) → IsGreatest words' g
-  greatest-cleared None none is other = λ q. is q ∙ by q (cases_eq q p)
-    where
-      by : (q : ℕ) → (q ≡ p) ⊎ (q ≡ p → ⊥) → (if q == p then false else has words q) ≡ false
-      by q (inl e) = rw (eq-eqb q p e) refl
-      by q (inr ne) = rw (ne_eqb q p ne) (none q)
-  greatest-cleared (Some g) found is other = (
-    is g ∙ rw (ne_eqb g p (λ e. other (ap (λ (n : ℕ). Some n) e))) found.0,
-    λ q above. is q ∙ by q (cases_eq q p) (found.1 q above),
-  )
-    where
-      by : (q : ℕ) → (q ≡ p) ⊎ (q ≡ p → ⊥) → has words q ≡ false → (if q == p then false else has words q) ≡ false
-      by q (inl e) h = rw (eq-eqb q p e) refl
-      by q (inr ne) h = rw (ne_eqb q p ne) h
+  -- the greatest one leaves: none above it is in the set
+  none_above : IsGreatest words (Some p) → ((q : ℕ) → has words' q ≡ (if q == p then false else has words q)) → (q : ℕ) → p < q → has words' q ≡ false
+  none_above found is q above = is q ∙ rw (ne_eqb q p (omega arith)) (found.1 q above)
+
+  module _ (found : IsGreatest words (Some p)) (is : (q : ℕ) → has words' q ≡ (if q == p then false else has words q)) where
+    -- its word has none now: the greatest one below is that of the set
+    pub greatest-below : (g : Option ℕ) → get_or words' (p / 64) 0 ≡ 0 → IsGreatestBelow (p / 64 * 64) words' g → IsGreatest words' g
+    greatest-below None zero none = λ q. elim (cases_lt q (p / 64 * 64)) [
+      | inl below ↦ none q below
+      | inr from ↦ rest q from
+    ]
+      where
+        rest : (q : ℕ) → p / 64 * 64 ≤ q → has words' q ≡ false
+        rest q from = elim (cases_lt q (p / 64 * 64 + 64)) [
+          | inl within ↦ has-zero words' (p / 64) q zero from within
+          | inr past ↦ none_above found is q (omega arith)
+        ]
+    greatest-below (Some g) zero some = (
+      some.0,
+      λ q above. elim (cases_lt q (p / 64 * 64)) [
+        | inl below ↦ some.1 q above below
+        | inr from ↦ elim (cases_lt q (p / 64 * 64 + 64)) [
+          | inl within ↦ has-zero words' (p / 64) q zero from within
+          | inr past ↦ none_above found is q (omega arith)
+        ]
+      ],
+    )
+
+    -- its word still has one: the highest of that word is the greatest
+    pub greatest-in_word : (k : ℕ) → k < 64 → 2 ^ k ≤ get_or words' (p / 64) 0 → get_or words' (p / 64) 0 < 2 * 2 ^ k → IsGreatest words' (Some (p / 64 * 64 + k))
+    greatest-in_word k below low high = (
+      has-highest words' (p / 64) k below low high,
+      λ q above. elim (cases_lt q (p / 64 * 64 + 64)) [
+        | inl within ↦ has_above words' (p / 64) k q high above within
+        | inr past ↦ none_above found is q (omega arith)
+      ],
+    )

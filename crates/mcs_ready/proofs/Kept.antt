@@ -1,33 +1,51 @@
 -- What the places keep, through each call.
-use Rattle.std.proofs.Common.{◌≡◌, ℕ, zero, suc, ◌+◌, ◌-◌, ◌<◌, ◌≤◌, ◌==◌, if◌then◌else◌, Bool, true, false, List, [], ◌∷◌, ◌++◌, length, map, get_or, set, refl, sym, ap, subst, ◌∙◌, inl, inr, arith, get_or-set_same, get_or-set_other, length-set, replicate}
-use Rattle.std.specs.Prelude.{nat_lt, Option, None, Some, MatchOption}
-use Rattle.std.proofs.lemmas.Bool.Decides.{nat_tests}
-use Rattle.std.proofs.lemmas.Bool.{cases_eq, cases_lt, eq-eqb, ne_eqb, ltb-true, false≢true}
-use Rattle.std.proofs.lemmas.List.{length-map, get_or-map, get_or_past, map-set, length-replicate}
+use Rattle.std.proofs.Common.{◌≡◌, ◌≢◌, ℕ, zero, suc, ◌+◌, ◌<◌, ◌≤◌, ◌==◌, if◌then◌else◌, Bool, true, false, List, [], ◌∷◌, ◌++◌, length, map, get_or, set, refl, sym, ap, subst, ◌∙◌, inl, inr, arith, get_or-set_same, get_or-set_other, length-set, replicate}
+use Rattle.std.specs.Prelude.{nat_lt, not, Option, None, Some, MatchOption}
+use Rattle.std.proofs.Math.ListN.{get_or-map as get_or-map_at}
+use Rattle.std.proofs.lemmas.Bool.{cases_eq, cases_lt, eq-eqb, ne_eqb, false≢true}
+use Rattle.std.proofs.lemmas.List.{length-map, get_or-map, get_or_past, length-replicate, set-get_or}
 use Rattle.mcs_ticks.specs.declared.queue.Queued.{Queued}
 use Rattle.mcs_ticks.specs.Queue.{entered_back, entered_front, first_of}
-use Rattle.mcs_ready.specs.declared.ready.Line.{Line}
-use Rattle.mcs_ready.specs.stored.Lines.{IsKept, line_from, threads_of, all_threads, queue_from, with_back, with_front, without_first, before_back, no_line, is_some_in, last_or, times, times_in, one_if}
+use Rattle.mcs_ready.specs.stored.Lines.{IsKept, IsLine, no_thread, line_to, threads_of, all_threads, queue_from, is_some_in, times, times_in, names_one, one_if}
 use Rattle.mcs_ready.specs.stored.Priorities.{has}
-use Rattle.mcs_ready.specs.Ready.{AreBelow, AreDistinct, ReadyQueue, queued, is_held, priority_of}
-use Rattle.mcs_ready.proofs.Lines.{length-line_from, lines-set, line-front, line-back}
+use Rattle.mcs_ready.specs.Ready.{AreBelow, AreDistinct, ReadyQueue, queued, is_held, priority_of, thread_of}
+use Rattle.mcs_ready.proofs.Lines.{last-stands, lines-changed, threads-back, threads-front, threads-other, threads-rest}
 use Rattle.mcs_ready.proofs.Queues.{queue-back, queue-front, queue-first, queue-none}
-use Rattle.mcs_ready.proofs.Times.{times-append, times-cons_same, times-cons_other, times-last, times-le-times_in, times_in-set, is_held-queue_from, length-le-room, get_or-set_false, times-queue_from, times-get_or, distinct_from_once}
+use Rattle.mcs_ready.proofs.Times.{times-append, times-cons_same, times-cons_other, times-elsewhere, times-le-times_in, times_in-set, is_held-queue_from, length-le-room, length-lt-room, times-queue_from, times-get_or, distinct_from_once}
 
-module _ (words words' : List ℕ) (lines : List Line) (next next' : List ℕ) (held held' : List Bool) (p : ℕ) (line : Line) (threads : List ℕ) where
+-- what a thread names, once a place is written
+names-same : (next : List ℕ) (y v : ℕ) → y < length next → v ≢ no_thread → names_one (set next y v) y ≡ true
+names-same next y v below some = rw (get_or-set_same next y v no_thread below, ne_eqb v no_thread some) refl
+
+names-none : (next : List ℕ) (y : ℕ) → y < length next → names_one (set next y no_thread) y ≡ false
+names-none next y below = rw (get_or-set_same next y no_thread no_thread below) refl
+
+names-other : (next : List ℕ) (y v x : ℕ) → x ≢ y → names_one (set next y v) x ≡ names_one next x
+names-other next y v x ne = rw (get_or-set_other next y x v no_thread ne) refl
+
+-- a thread that names one has a number that there is room for
+names-below : (next : List ℕ) (x : ℕ) → names_one next x ≡ true → x < length next
+names-below next x names = elim (cases_lt x (length next)) [
+  | inl below ↦ below
+  | inr past ↦
+      let none : names_one next x ≡ false = ap (λ (n : ℕ). not (n == no_thread)) (get_or_past next x no_thread past) in
+      absurd (false≢true (sym none ∙ names))
+]
+
+one_if-le-one : (b : Bool) → one_if b ≤ 1
+one_if-le-one true = omega arith
+one_if-le-one false = omega arith
+
+module _ (words words' lasts next next' : List ℕ) (p last : ℕ) (threads : List ℕ) where
   -- one line is changed, its threads are these now, and its priority is marked by whether there is one
-  IsKept-changed : IsKept words lines next held → p < 256 → length next' ≡ length held' → length held' ≡ length held →
-      all_threads next' (set lines p line) ≡ set (all_threads next lines) p threads → last_or line.last threads ≡ line.last →
+  IsKept-changed : IsKept words lasts next → p < 256 → length next' ≡ length next →
+      all_threads next' (set lasts p last) ≡ set (all_threads next lasts) p threads →
       ((q : ℕ) → has words' q ≡ (if q == p then is_some_in threads else has words q)) →
-      ((x : ℕ) → times x threads + one_if (get_or held x false) ≡ times x (get_or (all_threads next lines) p []) + one_if (get_or held' x false)) →
-      IsKept words' (set lines p line) next' held'
-  IsKept-changed kept below room same_room now ends marks moved = record {
-    count = length-set lines p line ∙ kept.count;
-    room = room;
-    ends = λ q. rw now (elim (cases_eq q p) [
-      | inl e ↦ rw (e, get_or-set_same lines p line no_line within, get_or-set_same olds p threads [] among) ends
-      | inr ne ↦ rw (get_or-set_other lines p q line no_line ne, get_or-set_other olds p q threads [] ne) (kept.ends q)
-    ]);
+      ((x : ℕ) → times x threads + one_if (names_one next x) ≡ times x (get_or (all_threads next lasts) p []) + one_if (names_one next' x)) →
+      IsKept words' (set lasts p last) next'
+  IsKept-changed kept below room now marks moved = record {
+    count = length-set lasts p last ∙ kept.count;
+    few = rw room kept.few;
     marked = λ q. rw (now, marks q) (elim (cases_eq q p) [
       | inl e ↦ rw (e, eq-eqb p p refl, get_or-set_same olds p threads [] among) refl
       | inr ne ↦ rw (ne_eqb q p ne, get_or-set_other olds p q threads [] ne) (kept.marked q)
@@ -36,279 +54,364 @@ module _ (words words' : List ℕ) (lines : List Line) (next next' : List ℕ) (
   }
     where
       olds : List (List ℕ)
-      olds = all_threads next lines
-
-      within : p < length lines
-      within = omega (arith, kept.count)
+      olds = all_threads next lasts
 
       among : p < length olds
-      among = omega (arith, kept.count, length-map lines (threads_of next))
-
--- a thread that is held has a number that there is room for
-held-below : (held : List Bool) (x : ℕ) → get_or held x false ≡ true → x < length held
-held-below held x is_held = elim (cases_lt x (length held)) [
-  | inl below ↦ below
-  | inr past ↦ absurd (false≢true (sym (get_or_past held x false past) ∙ is_held))
-]
-
-not_zero : (n : ℕ) → (suc n == 0) ≡ false
-not_zero n = ne_eqb (suc n) 0 (λ e. absurd (omega arith))
-
--- a line with one thread more at its back
-threads-with_back : (next : List ℕ) (first last len x : ℕ) → x < length next → (0 < len → last < length next) →
-    last_or last (line_from next first len) ≡ last → times last (line_from next first len) ≤ 1 →
-    let line : Line = record { first = first; last = last; len = len } in
-    threads_of (set next (before_back x line) x) (with_back x line) ≡ line_from next first len ++ x ∷ []
-threads-with_back next first last zero x h last_below e once = refl
-threads-with_back next first last (suc len) x h last_below e once =
-    let more : suc len + 1 ≡ suc (suc len) = omega arith in
-    rw (not_zero len) (ap (λ (n : ℕ). line_from (set next last x) first n) more ∙ line-back next first len last x (last_below (omega arith)) (sym e) once)
-
--- and at its front
-threads-with_front : (next : List ℕ) (first last len x : ℕ) → x < length next → times x (line_from next first len) ≡ 0 →
-    let line : Line = record { first = first; last = last; len = len } in
-    threads_of (set next x first) (with_front x line) ≡ x ∷ line_from next first len
-threads-with_front next first last len x h none =
-    let more : len + 1 ≡ suc len = omega arith in
-    ap (λ (n : ℕ). line_from (set next x first) x n) more ∙ line-front next first len x h none
-
-ends-with_front : (next : List ℕ) (first last len x : ℕ) → last_or last (line_from next first len) ≡ last →
-    let line : Line = record { first = first; last = last; len = len } in
-    last_or x (line_from next first len) ≡ (with_front x line).last
-ends-with_front next first last zero x e = refl
-ends-with_front next first last (suc len) x e = rw (not_zero len) e
-
-ends-push : (d x : ℕ) (xs : List ℕ) → last_or d (xs ++ x ∷ []) ≡ x
-ends-push d x [] = refl
-ends-push d x (y ∷ xs) = ends-push y x xs
+      among = omega (arith, kept.count, length-map lasts (threads_of next))
 
 some_in-push : (x : ℕ) (xs : List ℕ) → is_some_in (xs ++ x ∷ []) ≡ true
 some_in-push x [] = refl
 some_in-push x (y ∷ xs) = refl
 
--- the last thread of a line that has one stands in it
-last-stands : (next : List ℕ) (first last len : ℕ) → 0 < len → last_or last (line_from next first len) ≡ last → 1 ≤ times last (line_from next first len)
-last-stands next first last zero some e = absurd (omega arith)
-last-stands next first last (suc len) some e =
-    let tail = line_from next (get_or next first 0) len in
-    let Stands : ℕ → Type 0 = λ y. 1 ≤ times y (first ∷ tail) in
-    subst Stands e (times-last first tail)
-
--- what is behind the first thread of a line
-line_from-rest : (next : List ℕ) (first len : ℕ) → 0 < len → line_from next first len ≡ first ∷ line_from next (get_or next first 0) (len - 1)
-line_from-rest next first zero some = absurd (omega arith)
-line_from-rest next first (suc len) some =
-    let e : len ≡ suc len - 1 = omega arith in
-    ap (λ (n : ℕ). first ∷ line_from next (get_or next first 0) n) e
-
-some_in-line_from : (next : List ℕ) (first len : ℕ) → is_some_in (line_from next first len) ≡ nat_lt 0 len
-some_in-line_from next first zero = refl
-some_in-line_from next first (suc len) = grind (arith, nat_tests)
-
-ends-rest : (last x : ℕ) (xs : List ℕ) → last_or x xs ≡ last → last_or last xs ≡ last
-ends-rest last x [] e = refl
-ends-rest last x (y ∷ xs) e = e
-
 nil_from_none : (xs : List ℕ) → is_some_in xs ≡ false → xs ≡ []
 nil_from_none [] e = refl
 nil_from_none (x ∷ xs) e = cc
 
-one_if-le-one : (b : Bool) → one_if b ≤ 1
-one_if-le-one true = omega arith
-one_if-le-one false = omega arith
+module _ (words lasts next : List ℕ) (kept : IsKept words lasts next) where
+  line : ℕ → List ℕ
+  line q = threads_of next (get_or lasts q no_thread)
 
-module _ (words : List ℕ) (lines : List Line) (next : List ℕ) (held : List Bool) (kept : IsKept words lines next held) (p : ℕ) (below : p < 256) where
-  pub within : p < length lines
-  within = omega (arith, kept.count)
-
-  among : p < length (all_threads next lines)
-  among = omega (arith, kept.count, length-map lines (threads_of next))
-
-  pub threads_at : get_or (all_threads next lines) p [] ≡ threads_of next (get_or lines p no_line)
-  threads_at = get_or-map (threads_of next) lines p no_line [] within
+  line-at : (q : ℕ) → get_or (all_threads next lasts) q [] ≡ line q
+  unfolding line
+  line-at q = get_or-map_at (threads_of next) lasts q no_thread
 
   -- each stands there at most once
-  once-at : (x : ℕ) → times x (threads_of next (get_or lines p no_line)) ≤ one_if (get_or held x false)
-  once-at x =
-      let Once : List ℕ → Type 0 = λ xs. times x xs ≤ one_if (get_or held x false) in
-      subst Once threads_at (omega (arith, kept.once x, times-le-times_in x p (all_threads next lines)))
+  once-at : (q x : ℕ) → times x (line q) ≤ one_if (names_one next x)
+  once-at q x = omega (arith, kept.once x, times-le-times_in x q (all_threads next lasts), ap (times x) (line-at q))
 
-  ends-at : last_or (get_or lines p no_line).last (threads_of next (get_or lines p no_line)) ≡ (get_or lines p no_line).last
-  ends-at = ap (last_or (get_or lines p no_line).last) (sym threads_at) ∙ kept.ends p
+  few-at : (q : ℕ) → length (line q) ≤ length next
+  few-at q = length-le-room (line q) next (once-at q)
 
-  -- a line has no more threads than there is room for
-  pub len_at : (get_or lines p no_line).len ≤ length held
-  len_at = omega (
-    arith,
-    length-line_from next (get_or lines p no_line).first (get_or lines p no_line).len,
-    length-le-room (threads_of next (get_or lines p no_line)) held once-at,
-  )
-
-  -- a thread that stands there is held
-  stands-held : (x : ℕ) → 1 ≤ times x (threads_of next (get_or lines p no_line)) → get_or held x false ≡ true
-  stands-held x stands = by (get_or held x false) (once-at x)
+  -- a thread that stands there names one, and has a number that there is room for
+  stands-names : (q x : ℕ) → 1 ≤ times x (line q) → names_one next x ≡ true
+  stands-names q x stands = by (names_one next x) (once-at q x)
     where
-      by : (b : Bool) → times x (threads_of next (get_or lines p no_line)) ≤ one_if b → b ≡ true
+      by : (b : Bool) → times x (line q) ≤ one_if b → b ≡ true
       by true h = refl
       by false h = absurd (omega arith)
 
-  stands-below : (x : ℕ) → 1 ≤ times x (threads_of next (get_or lines p no_line)) → x < length held
-  stands-below x stands = held-below held x (stands-held x stands)
+  stands-below : (q x : ℕ) → 1 ≤ times x (line q) → x < length next
+  stands-below q x stands = names-below next x (stands-names q x stands)
 
-  last-at : 0 < (get_or lines p no_line).len → 1 ≤ times (get_or lines p no_line).last (threads_of next (get_or lines p no_line))
-  last-at some = last-stands next (get_or lines p no_line).first (get_or lines p no_line).last (get_or lines p no_line).len some ends-at
+  below-some : (x : ℕ) → x < length next → x ≢ no_thread
+  below-some x below e = absurd (omega (arith, kept.few))
 
-  last-below : 0 < (get_or lines p no_line).len → (get_or lines p no_line).last < length next
-  last-below some = rw kept.room (stands-below (get_or lines p no_line).last (last-at some))
+  -- it stands in no other line
+  other-line : (q x j : ℕ) → 1 ≤ times x (line q) → j ≢ q → times x (line j) ≡ 0
+  other-line q x j stands ne =
+      omega (
+        arith,
+        times-elsewhere x q j (all_threads next lasts) (λ e. ne (sym e)),
+        kept.once x,
+        one_if-le-one (names_one next x),
+        ap (times x) (line-at q),
+        ap (times x) (line-at j),
+      )
 
-  -- a thread that stands there stands in no other line
-  only-at : (x : ℕ) → 1 ≤ times x (threads_of next (get_or lines p no_line)) → times_in x (all_threads next lines) ≡ times x (get_or (all_threads next lines) p [])
-  only-at x stands = rw threads_at (omega (arith, one_if-le-one (get_or held x false), kept.once x, once-at x))
+  -- a thread that names none stands in none
+  free-line : (x j : ℕ) → names_one next x ≡ false → times x (line j) ≡ 0
+  free-line x j free = omega (arith, once-at j x, ap one_if free)
 
-  module _ (x : ℕ) (x_below : x < length held) (free : get_or held x false ≡ false) where
-    none : times_in x (all_threads next lines) ≡ 0
-    none = kept.once x ∙ ap one_if free
+  -- a line in which a thread does not stand, where that one names another one
+  other-set : (y z j : ℕ) → times y (line j) ≡ 0 → threads_of (set next y z) (get_or lasts j no_thread) ≡ threads_of next (get_or lasts j no_thread)
+  unfolding line
+  other-set y z j none = threads-other next (get_or lasts j no_thread) y z (few-at j) none
 
-    none_at : times x (threads_of next (get_or lines p no_line)) ≡ 0
-    none_at = let once : times x (threads_of next (get_or lines p no_line)) ≤ one_if false = rw free at (once-at x) in omega arith
+  other-sets : (y z w v j : ℕ) → times y (line j) ≡ 0 → times w (line j) ≡ 0 →
+      threads_of (set (set next y z) w v) (get_or lasts j no_thread) ≡ threads_of next (get_or lasts j no_thread)
+  unfolding line
+  other-sets y z w v j none none' =
+      let same = other-set y z j none in
+      threads-other (set next y z) (get_or lasts j no_thread) w v (rw (same, length-set next y z) (few-at j)) (rw same none') ∙ same
 
-    only-before_back : (len : ℕ) → len ≡ (get_or lines p no_line).len →
-        let before = if len == 0 then x else (get_or lines p no_line).last in
-        (before < length next) × (times_in before (all_threads next lines) ≡ times before (get_or (all_threads next lines) p []))
-    only-before_back zero e = (omega (arith, kept.room), none ∙ sym (ap (times x) threads_at ∙ none_at))
-    only-before_back (suc len) e = rw (not_zero len) (last-below (omega arith), only-at _ (last-at (omega arith)))
+  -- a line that is marked has a last thread, which stands in it
+  pub marked-some : (p : ℕ) → has words p ≡ true → get_or lasts p no_thread ≢ no_thread
+  unfolding line
+  marked-some p marked e =
+      let none : line p ≡ [] = rw e refl in
+      absurd (false≢true (ap is_some_in (sym (line-at p ∙ none)) ∙ sym (kept.marked p) ∙ marked))
 
-    -- the thread before which x is put is one that there is room for
-    pub before_back-below : before_back x (get_or lines p no_line) < length next
-    before_back-below = (only-before_back (get_or lines p no_line).len refl).0
+  last-stands_at : (p : ℕ) → get_or lasts p no_thread ≢ no_thread → 1 ≤ times (get_or lasts p no_thread) (line p)
+  unfolding line
+  last-stands_at p some = last-stands next (get_or lasts p no_thread) some (few-at p)
 
-    back-now : all_threads (set next (before_back x (get_or lines p no_line)) x) (set lines p (with_back x (get_or lines p no_line)))
-        ≡ set (all_threads next lines) p (threads_of next (get_or lines p no_line) ++ x ∷ [])
-    back-now =
-        lines-set next _ x lines p _ within (only-before_back (get_or lines p no_line).len refl).1
-        ∙ ap (set (all_threads next lines) p) (
-        threads-with_back next (get_or lines p no_line).first (get_or lines p no_line).last (get_or lines p no_line).len x (omega (arith, kept.room))
-        last-below ends-at (omega (arith, once-at (get_or lines p no_line).last, one_if-le-one (get_or held (get_or lines p no_line).last false)))
-        )
+  pub last-below : (p : ℕ) → get_or lasts p no_thread ≢ no_thread → get_or lasts p no_thread < length next
+  last-below p some = stands-below p (get_or lasts p no_thread) (last-stands_at p some)
 
-    -- the queue has x behind the threads of its priority
-    pub queue-with_back : queue_from 0 (all_threads (set next (before_back x (get_or lines p no_line)) x) (set lines p (with_back x (get_or lines p no_line))))
-        ≡ entered_back (queued x p) (queue_from 0 (all_threads next lines))
-    queue-with_back =
-        ap (queue_from 0) (back-now ∙ ap (λ (xs : List ℕ). set (all_threads next lines) p (xs ++ x ∷ [])) (sym threads_at))
-        ∙ queue-back (all_threads next lines) 0 p x among
-        ∙ ap (λ (n : ℕ). entered_back (queued x n) (queue_from 0 (all_threads next lines))) (omega arith)
+  -- and so does the first
+  first-stands : (p : ℕ) → get_or lasts p no_thread ≢ no_thread → 1 ≤ times (get_or next (get_or lasts p no_thread) 0) (line p)
+  unfolding line
+  first-stands p some =
+      let first = get_or next (get_or lasts p no_thread) 0 in
+      rw (ne_eqb (get_or lasts p no_thread) no_thread some) (rw (eq-eqb first first refl) (omega arith))
 
-    front-now : all_threads (set next x (get_or lines p no_line).first) (set lines p (with_front x (get_or lines p no_line)))
-        ≡ set (all_threads next lines) p (x ∷ threads_of next (get_or lines p no_line))
-    front-now =
-        lines-set next x _ lines p _ within (none ∙ sym (ap (times x) threads_at ∙ none_at))
-        ∙ ap (set (all_threads next lines) p) (
-        threads-with_front next (get_or lines p no_line).first (get_or lines p no_line).last (get_or lines p no_line).len x (omega (arith, kept.room)) none_at
-        )
+  pub first-below : (p : ℕ) → get_or lasts p no_thread ≢ no_thread → get_or next (get_or lasts p no_thread) 0 < length next
+  first-below p some = stands-below p (get_or next (get_or lasts p no_thread) 0) (first-stands p some)
 
-    -- the queue has x before the threads of its priority
-    pub queue-with_front : queue_from 0 (all_threads (set next x (get_or lines p no_line).first) (set lines p (with_front x (get_or lines p no_line))))
-        ≡ entered_front (queued x p) (queue_from 0 (all_threads next lines))
-    queue-with_front =
-        ap (queue_from 0) (front-now ∙ ap (λ (xs : List ℕ). set (all_threads next lines) p (x ∷ xs)) (sym threads_at))
-        ∙ queue-front (all_threads next lines) 0 p x among
-        ∙ ap (λ (n : ℕ). entered_front (queued x n) (queue_from 0 (all_threads next lines))) (omega arith)
+  pub IsLine-kept : (p : ℕ) → IsLine next (get_or lasts p no_thread)
+  unfolding line
+  IsLine-kept p = record { known = last-below p; few = few-at p; within = stands-below p }
 
-    -- a line that has x besides
-    moved : (xs : List ℕ) → ((y : ℕ) → times y xs ≡ times y (x ∷ threads_of next (get_or lines p no_line))) → (y : ℕ) →
-        times y xs + one_if (get_or held y false) ≡ times y (get_or (all_threads next lines) p []) + one_if (get_or (set held x true) y false)
-    moved xs more y = rw (threads_at, more y) (elim (cases_eq y x) [
-      | inl e ↦
-          let Moved : ℕ → Type 0 = λ y. times y (x ∷ threads) + one_if (get_or held y false) ≡ times y threads + one_if (get_or (set held x true) y false) in
-          subst Moved (sym e) (omega (arith, times-cons_same x threads, ap one_if free, ap one_if (get_or-set_same held x true false x_below)))
-      | inr ne ↦ rw (get_or-set_other held x y true false ne, times-cons_other y x threads (λ e. ne (sym e))) refl
-    ])
-      where
-        threads : List ℕ
-        threads = threads_of next (get_or lines p no_line)
+  module _ (p : ℕ) (below : p < 256) where
+    pub within : p < length lasts
+    within = omega (arith, kept.count)
 
-    module _ (words' : List ℕ) (marks : (q : ℕ) → has words' q ≡ (if q == p then true else has words q)) where
-      pub IsKept-with_back : IsKept words' (set lines p (with_back x (get_or lines p no_line))) (set next (before_back x (get_or lines p no_line)) x) (set held x true)
-      IsKept-with_back =
-          let xs = threads_of next (get_or lines p no_line) ++ x ∷ [] in
-          IsKept-changed words words' lines next _ held (set held x true) p _ xs kept below
-          (length-set next _ x ∙ kept.room ∙ sym (length-set held x true)) (length-set held x true) back-now
-          (ends-push x x (threads_of next (get_or lines p no_line)))
-          (λ q. marks q ∙ ap (λ (b : Bool). if q == p then b else has words q) (sym (some_in-push x (threads_of next (get_or lines p no_line)))))
-          (moved xs (λ y. times-append y (threads_of next (get_or lines p no_line)) (x ∷ []) ∙ omega arith))
+    among : p < length (all_threads next lasts)
+    among = omega (arith, kept.count, length-map lasts (threads_of next))
 
-      pub IsKept-with_front : IsKept words' (set lines p (with_front x (get_or lines p no_line))) (set next x (get_or lines p no_line).first) (set held x true)
-      IsKept-with_front =
-          let xs = x ∷ threads_of next (get_or lines p no_line) in
-          IsKept-changed words words' lines next _ held (set held x true) p _ xs kept below
-          (length-set next x _ ∙ kept.room ∙ sym (length-set held x true)) (length-set held x true) front-now
-          (ends-with_front next (get_or lines p no_line).first (get_or lines p no_line).last (get_or lines p no_line).len x ends-at)
-          marks (moved xs (λ y. refl))
-
-  module _ (some : 0 < (get_or lines p no_line).len) where
-    first : ℕ
-    first = (get_or lines p no_line).first
-
-    rest : List ℕ
-    rest = threads_of next (without_first (get_or next (get_or lines p no_line).first 0) (get_or lines p no_line))
-
-    split : threads_of next (get_or lines p no_line) ≡ first ∷ rest
-    unfolding first rest
-    split = line_from-rest next (get_or lines p no_line).first (get_or lines p no_line).len some
-
-    first-stands : 1 ≤ times first (threads_of next (get_or lines p no_line))
-    first-stands = rw split (omega (arith, times-cons_same first rest))
-
-    pub first-below : (get_or lines p no_line).first < length held
-    unfolding first
-    first-below = stands-below first first-stands
-
-    pub first-below-next : (get_or lines p no_line).first < length next
-    first-below-next = rw kept.room first-below
-
-    rest-now : all_threads next (set lines p (without_first (get_or next (get_or lines p no_line).first 0) (get_or lines p no_line)))
-        ≡ set (all_threads next lines) p rest
-    unfolding rest
-    rest-now = map-set (threads_of next) lines p _
-
-    -- where no line above has a thread, the queue begins with the first of this one
-    pub queue-without_first : ((q : ℕ) → p < q → has words q ≡ false) →
-        queue_from 0 (all_threads next lines) ≡ queued (get_or lines p no_line).first p
-        ∷ queue_from 0 (all_threads next (set lines p (without_first (get_or next (get_or lines p no_line).first 0) (get_or lines p no_line))))
-    unfolding first
-    queue-without_first none =
-        queue-first (all_threads next lines) 0 p first rest (threads_at ∙ split) (λ q above. nil_from_none _ (sym (kept.marked q) ∙ none q above))
-        ∙ ap (λ (n : ℕ). queued first n ∷ queue_from 0 (set (all_threads next lines) p rest)) (omega arith)
-        ∙ ap (λ (xss : List (List ℕ)). queued first p ∷ queue_from 0 xss) (sym rest-now)
-
-    module _ (words' : List ℕ) (marks : (q : ℕ) → has words' q ≡ (if q == p then nat_lt 1 (get_or lines p no_line).len else has words q)) where
-      some_in-rest : is_some_in rest ≡ nat_lt 1 (get_or lines p no_line).len
-      unfolding rest
-      some_in-rest = some_in-line_from next _ ((get_or lines p no_line).len - 1) ∙ grind (arith, nat_tests)
-
-      moved_out : (y : ℕ) → times y rest + one_if (get_or held y false) ≡ times y (get_or (all_threads next lines) p []) + one_if (get_or (set held first false) y false)
-      moved_out y = rw (threads_at, split) (elim (cases_eq y first) [
+    -- a thread enters the line
+    module _ (x : ℕ) (x_below : x < length next) (free : names_one next x ≡ false) where
+      -- each thread names one that did, and x
+      moved : (next' threads : List ℕ) → ((y : ℕ) → times y threads ≡ times y (line p) + times y (x ∷ [])) →
+          names_one next' x ≡ true → ((y : ℕ) → y ≢ x → names_one next' y ≡ names_one next y) →
+          (y : ℕ) → times y threads + one_if (names_one next y) ≡ times y (get_or (all_threads next lasts) p []) + one_if (names_one next' y)
+      moved next' threads entered mine others y = rw (line-at p) (elim (cases_eq y x) [
         | inl e ↦
-            let Moved : ℕ → Type 0 = λ y. times y rest + one_if (get_or held y false) ≡ times y (first ∷ rest) + one_if (get_or (set held first false) y false) in
-            subst Moved (sym e) (omega (arith, times-cons_same first rest, ap one_if (stands-held first first-stands), ap one_if (get_or-set_false held first)))
-        | inr ne ↦ rw (get_or-set_other held first y false false ne, times-cons_other y first rest (λ e. ne (sym e))) refl
+            let Moved : ℕ → Type 0 = λ (y : ℕ). times y threads + one_if (names_one next y) ≡ times y (line p) + one_if (names_one next' y) in
+            subst Moved (sym e) (omega (arith, entered x, times-cons_same x [], ap one_if free, ap one_if mine))
+        | inr ne ↦ rw (others y ne) (omega (arith, entered y, times-cons_other y x [] (λ e. ne (sym e))))
       ])
 
-      pub IsKept-without_first : IsKept words' (set lines p (without_first (get_or next (get_or lines p no_line).first 0) (get_or lines p no_line))) next
-          (set held (get_or lines p no_line).first false)
-      unfolding first
-      IsKept-without_first =
-          IsKept-changed words words' lines next next held (set held first false) p _ rest kept below
-          (kept.room ∙ sym (length-set held first false)) (length-set held first false) rest-now
-          (ends-rest (get_or lines p no_line).last first rest (ap (last_or (get_or lines p no_line).last) (sym split) ∙ ends-at))
-          (λ q. marks q ∙ ap (λ (b : Bool). if q == p then b else has words q) (sym some_in-rest))
-          moved_out
+      -- it has none
+      module _ (empty : get_or lasts p no_thread ≡ no_thread) where
+        alone : threads_of (set next x x) x ≡ x ∷ []
+        alone =
+            rw (ne_eqb x no_thread (below-some x x_below), length-set next x x, get_or-set_same next x x 0 x_below)
+            (rw (eq-eqb x x refl) refl)
 
-module _ (words : List ℕ) (lines : List Line) (next : List ℕ) (held : List Bool) (kept : IsKept words lines next held) where
-  -- a thread stands in the queue where it is held
-  pub is_held-kept : (x : ℕ) → is_held x (queue_from 0 (all_threads next lines)) ≡ get_or held x false
-  is_held-kept x = is_held-queue_from x 0 (all_threads next lines) ∙ ap (nat_lt 0) (kept.once x) ∙ by (get_or held x false)
+        none : get_or (all_threads next lasts) p [] ≡ []
+        unfolding line
+        none = line-at p ∙ rw empty refl
+
+        alone-now : all_threads (set next x x) (set lasts p x) ≡ set (all_threads next lasts) p (x ∷ [])
+        alone-now = lines-changed next (set next x x) lasts p x (x ∷ []) alone (λ j ne. other-set x x j (free-line x j free))
+
+        pub IsKept-alone : (words' : List ℕ) → ((q : ℕ) → has words' q ≡ (if q == p then true else has words q)) → IsKept words' (set lasts p x) (set next x x)
+        IsKept-alone words' marks =
+            IsKept-changed words words' lasts next (set next x x) p x (x ∷ []) kept below (length-set next x x) alone-now marks
+            (moved (set next x x) (x ∷ []) (λ y. omega (arith, ap (times y) (sym (line-at p) ∙ none)))
+            (names-same next x x x_below (below-some x x_below)) (λ y ne. names-other next x x y ne))
+
+        pub queue-alone_back : queue_from 0 (all_threads (set next x x) (set lasts p x)) ≡ entered_back (queued x p) (queue_from 0 (all_threads next lasts))
+        queue-alone_back =
+            ap (queue_from 0) (alone-now ∙ ap (λ (xs : List ℕ). set (all_threads next lasts) p (xs ++ x ∷ [])) (sym none))
+            ∙ queue-back (all_threads next lasts) 0 p x among
+            ∙ ap (λ (n : ℕ). entered_back (queued x n) (queue_from 0 (all_threads next lasts))) (omega arith)
+
+        pub queue-alone_front : queue_from 0 (all_threads (set next x x) (set lasts p x)) ≡ entered_front (queued x p) (queue_from 0 (all_threads next lasts))
+        queue-alone_front =
+            ap (queue_from 0) (alone-now ∙ ap (λ (xs : List ℕ). set (all_threads next lasts) p (x ∷ xs)) (sym none))
+            ∙ queue-front (all_threads next lasts) 0 p x among
+            ∙ ap (λ (n : ℕ). entered_front (queued x n) (queue_from 0 (all_threads next lasts))) (omega arith)
+
+      -- it has one
+      module _ (some : get_or lasts p no_thread ≢ no_thread) where
+        abbrev last : ℕ
+        last = get_or lasts p no_thread
+
+        abbrev first : ℕ
+        first = get_or next last 0
+
+        abbrev after : List ℕ
+        after = set (set next x first) last x
+
+        length-after : length after ≡ length next
+        length-after = length-set (set next x first) last x ∙ length-set next x first
+
+        other : x ≢ last
+        other e =
+            let named : names_one next x ≡ true = rw e (stands-names p last (last-stands_at p some)) in
+            absurd (false≢true (sym free ∙ named))
+
+        others-now : (j : ℕ) → j ≢ p → threads_of after (get_or lasts j no_thread) ≡ threads_of next (get_or lasts j no_thread)
+        others-now j ne = other-sets x first last x j (free-line x j free) (other-line p last j (last-stands_at p some) ne)
+
+        names-x : names_one after x ≡ true
+        names-x = names-other (set next x first) last x x other ∙ names-same next x first x_below (below-some first (first-below p some))
+
+        names-others : (y : ℕ) → y ≢ x → names_one after y ≡ names_one next y
+        names-others y ne = elim (cases_eq y last) [
+          | inl e ↦
+              rw e (
+              names-same (set next x first) last x (rw (length-set next x first) (last-below p some)) (below-some x x_below)
+              ∙ sym (stands-names p last (last-stands_at p some))
+              )
+          | inr ne' ↦ names-other (set next x first) last x y ne' ∙ names-other next x first y ne
+        ]
+
+        marks : (threads : List ℕ) → is_some_in threads ≡ true → (q : ℕ) → has words q ≡ (if q == p then is_some_in threads else has words q)
+        unfolding line
+        marks threads e q = elim (cases_eq q p) [
+          | inl same ↦ rw (eq-eqb q p same, e, same) (kept.marked p ∙ ap is_some_in (line-at p) ∙ is_some)
+          | inr ne ↦ rw (ne_eqb q p ne) refl
+        ]
+          where
+            is_some : is_some_in (line p) ≡ true
+            is_some = rw (ne_eqb last no_thread some) refl
+
+        front-now : all_threads after lasts ≡ set (all_threads next lasts) p (x ∷ line p)
+        unfolding line
+        front-now =
+            ap (all_threads after) (sym (set-get_or lasts p no_thread))
+            ∙ lines-changed next after lasts p last (x ∷ line p)
+            (threads-front next last x some (last-below p some) x_below other (free-line x p free) (few-at p)) others-now
+
+        back-now : all_threads after (set lasts p x) ≡ set (all_threads next lasts) p (line p ++ x ∷ [])
+        unfolding line
+        back-now =
+            lines-changed next after lasts p x (line p ++ x ∷ [])
+            (threads-back next last x some (last-below p some) x_below other (free-line x p free) (few-at p)
+            (below-some x x_below) (length-lt-room (line p) next (once-at p) x x_below free)) others-now
+
+        pub IsKept-front : IsKept words lasts after
+        IsKept-front =
+            let Kept : List ℕ → Type 0 = λ (l : List ℕ). IsKept words l after in
+            subst Kept (set-get_or lasts p no_thread) (
+            IsKept-changed words words lasts next after p last (x ∷ line p) kept below length-after
+            (ap (all_threads after) (set-get_or lasts p no_thread) ∙ front-now) (marks (x ∷ line p) refl)
+            (moved after (x ∷ line p) (λ y. omega arith) names-x names-others)
+            )
+
+        pub IsKept-back : IsKept words (set lasts p x) after
+        IsKept-back =
+            IsKept-changed words words lasts next after p x (line p ++ x ∷ []) kept below length-after back-now
+            (marks (line p ++ x ∷ []) (some_in-push x (line p)))
+            (moved after (line p ++ x ∷ []) (λ y. times-append y (line p) (x ∷ [])) names-x names-others)
+
+        pub queue-front_in : queue_from 0 (all_threads after lasts) ≡ entered_front (queued x p) (queue_from 0 (all_threads next lasts))
+        queue-front_in =
+            ap (queue_from 0) (front-now ∙ ap (λ (xs : List ℕ). set (all_threads next lasts) p (x ∷ xs)) (sym (line-at p)))
+            ∙ queue-front (all_threads next lasts) 0 p x among
+            ∙ ap (λ (n : ℕ). entered_front (queued x n) (queue_from 0 (all_threads next lasts))) (omega arith)
+
+        pub queue-back_in : queue_from 0 (all_threads after (set lasts p x)) ≡ entered_back (queued x p) (queue_from 0 (all_threads next lasts))
+        queue-back_in =
+            ap (queue_from 0) (back-now ∙ ap (λ (xs : List ℕ). set (all_threads next lasts) p (xs ++ x ∷ [])) (sym (line-at p)))
+            ∙ queue-back (all_threads next lasts) 0 p x among
+            ∙ ap (λ (n : ℕ). entered_back (queued x n) (queue_from 0 (all_threads next lasts))) (omega arith)
+
+    -- the first thread leaves the line
+    module _ (some : get_or lasts p no_thread ≢ no_thread) where
+      abbrev end : ℕ
+      end = get_or lasts p no_thread
+
+      abbrev head : ℕ
+      head = get_or next end 0
+
+      head-none : (j : ℕ) → j ≢ p → times head (line j) ≡ 0
+      head-none j ne = other-line p head j (first-stands p some) ne
+
+      left : (next' rest : List ℕ) → line p ≡ head ∷ rest → names_one next' head ≡ false → ((y : ℕ) → y ≢ head → names_one next' y ≡ names_one next y) →
+          (y : ℕ) → times y rest + one_if (names_one next y) ≡ times y (get_or (all_threads next lasts) p []) + one_if (names_one next' y)
+      left next' rest split mine others y = rw (line-at p, split) (elim (cases_eq y head) [
+        | inl e ↦
+            let Left : ℕ → Type 0 = λ (y : ℕ). times y rest + one_if (names_one next y) ≡ times y (head ∷ rest) + one_if (names_one next' y) in
+            subst Left (sym e) (omega (arith, times-cons_same head rest, ap one_if (stands-names p head (first-stands p some)), ap one_if mine))
+        | inr ne ↦ rw (others y ne, times-cons_other y head rest (λ e. ne (sym e))) refl
+      ])
+
+      -- the queue begins with it, where no line above has a thread
+      queue-rest : (rest : List ℕ) → line p ≡ head ∷ rest → ((q : ℕ) → p < q → has words q ≡ false) →
+          queue_from 0 (all_threads next lasts) ≡ queued head p ∷ queue_from 0 (set (all_threads next lasts) p rest)
+      queue-rest rest split none =
+          queue-first (all_threads next lasts) 0 p head rest (line-at p ∙ split) (λ q above. nil_from_none _ (sym (kept.marked q) ∙ none q above))
+          ∙ ap (λ (n : ℕ). queued head n ∷ queue_from 0 (set (all_threads next lasts) p rest)) (omega arith)
+
+      -- it is the only one
+      module _ (only : head ≡ end) where
+        single : line p ≡ head ∷ []
+        unfolding line
+        single = rw (ne_eqb end no_thread some, eq-eqb head end only) refl
+
+        emptied-now : all_threads (set next head no_thread) (set lasts p no_thread) ≡ set (all_threads next lasts) p []
+        emptied-now = lines-changed next (set next head no_thread) lasts p no_thread [] refl (λ j ne. other-set head no_thread j (head-none j ne))
+
+        pub IsKept-emptied : (words' : List ℕ) → ((q : ℕ) → has words' q ≡ (if q == p then false else has words q)) →
+            IsKept words' (set lasts p no_thread) (set next head no_thread)
+        IsKept-emptied words' marks =
+            IsKept-changed words words' lasts next (set next head no_thread) p no_thread [] kept below (length-set next head no_thread) emptied-now marks
+            (left (set next head no_thread) [] single (names-none next head (first-below p some)) (λ y ne. names-other next head no_thread y ne))
+
+        pub queue-emptied : ((q : ℕ) → p < q → has words q ≡ false) →
+            queue_from 0 (all_threads next lasts) ≡ queued head p ∷ queue_from 0 (all_threads (set next head no_thread) (set lasts p no_thread))
+        queue-emptied none = queue-rest [] single none ∙ ap (λ (xss : List (List ℕ)). queued head p ∷ queue_from 0 xss) (sym emptied-now)
+
+      -- it is not
+      module _ (more : head ≢ end) where
+        abbrev closed : List ℕ
+        closed = set (set next end (get_or next head 0)) head no_thread
+
+        behind : List ℕ
+        behind = threads_of closed end
+
+        split : line p ≡ head ∷ behind
+        unfolding line behind
+        split =
+            let one : times head (line p) ≤ 1 = omega (arith, once-at p head, one_if-le-one (names_one next head)) in
+            threads-rest next end some (last-below p some) more one (few-at p)
+
+        second-stands : 1 ≤ times (get_or next head 0) (line p)
+        unfolding line
+        second-stands =
+            let second = get_or next head 0 in
+            rw (ne_eqb end no_thread some, ne_eqb head end more) (by (length next) refl)
+          where
+            by : (n : ℕ) → n ≡ length next → 1 ≤ times (get_or next head 0) (head ∷ line_to next end n (get_or next head 0))
+            by zero e = absurd (omega (arith, first-below p some))
+            by (suc n) e = rw (eq-eqb (get_or next head 0) (get_or next head 0) refl) (omega arith)
+
+        rest-now : all_threads closed lasts ≡ set (all_threads next lasts) p behind
+        unfolding behind
+        rest-now =
+            ap (all_threads closed) (sym (set-get_or lasts p no_thread))
+            ∙ lines-changed next closed lasts p end behind refl
+            (λ j ne. other-sets end (get_or next head 0) head no_thread j (other-line p end j (last-stands_at p some) ne) (head-none j ne))
+
+        some_behind : is_some_in behind ≡ true
+        unfolding behind
+        some_behind = rw (ne_eqb end no_thread some) refl
+
+        marks_behind : (q : ℕ) → has words q ≡ (if q == p then is_some_in behind else has words q)
+        marks_behind q = elim (cases_eq q p) [
+          | inl same ↦ rw (eq-eqb q p same, some_behind, same) (kept.marked p ∙ ap is_some_in (line-at p ∙ split))
+          | inr ne ↦ rw (ne_eqb q p ne) refl
+        ]
+
+        names-rest : (y : ℕ) → y ≢ head → names_one closed y ≡ names_one next y
+        names-rest y ne = names-other (set next end (get_or next head 0)) head no_thread y ne ∙ elim (cases_eq y end) [
+          | inl e ↦
+              rw e (
+              names-same next end (get_or next head 0) (last-below p some) (below-some (get_or next head 0) (stands-below p (get_or next head 0) second-stands))
+              ∙ sym (stands-names p end (last-stands_at p some))
+              )
+          | inr ne' ↦ names-other next end (get_or next head 0) y ne'
+        ]
+
+        pub IsKept-rest : IsKept words lasts closed
+        IsKept-rest =
+            let Kept : List ℕ → Type 0 = λ (l : List ℕ). IsKept words l closed in
+            let room : head < length (set next end (get_or next head 0)) = rw (length-set next end (get_or next head 0)) (first-below p some) in
+            subst Kept (set-get_or lasts p no_thread) (
+            IsKept-changed words words lasts next closed p end behind kept below
+            (length-set (set next end (get_or next head 0)) head no_thread ∙ length-set next end (get_or next head 0))
+            (ap (all_threads closed) (set-get_or lasts p no_thread) ∙ rest-now) marks_behind
+            (left closed behind split (names-none (set next end (get_or next head 0)) head room) names-rest)
+            )
+
+        pub queue-rest_in : ((q : ℕ) → p < q → has words q ≡ false) →
+            queue_from 0 (all_threads next lasts) ≡ queued head p ∷ queue_from 0 (all_threads closed lasts)
+        queue-rest_in none = queue-rest behind split none ∙ ap (λ (xss : List (List ℕ)). queued head p ∷ queue_from 0 xss) (sym rest-now)
+
+      -- it is the first of the queue
+      pub first-taken : ((q : ℕ) → p < q → has words q ≡ false) → thread_of (first_of (queue_from 0 (all_threads next lasts))) ≡ Some head
+      first-taken none = elim (cases_eq head end) [
+        | inl only ↦ rw (queue-emptied only none) refl
+        | inr more ↦ rw (queue-rest_in more none) refl
+      ]
+
+  -- a thread stands in the queue where it names one
+  pub is_held-kept : (x : ℕ) → is_held x (queue_from 0 (all_threads next lasts)) ≡ names_one next x
+  is_held-kept x = is_held-queue_from x 0 (all_threads next lasts) ∙ ap (nat_lt 0) (kept.once x) ∙ by (names_one next x)
     where
       by : (b : Bool) → nat_lt 0 (one_if b) ≡ b
       by true = refl
@@ -318,66 +421,60 @@ module _ (words : List ℕ) (lines : List Line) (next : List ℕ) (held : List B
   marked-below p marked = elim (cases_lt p 256) [
     | inl below ↦ below
     | inr past ↦
-        let none : get_or (all_threads next lines) p [] ≡ [] = get_or_past (all_threads next lines) p [] (omega (arith, kept.count, length-map lines (threads_of next))) in
+        let none : get_or (all_threads next lasts) p [] ≡ [] = get_or_past (all_threads next lasts) p [] (omega (arith, kept.count, length-map lasts (threads_of next))) in
         absurd (false≢true (ap is_some_in (sym none) ∙ sym (kept.marked p) ∙ marked))
   ]
 
-  -- a priority that is marked has a thread
-  pub some-marked : (p : ℕ) → has words p ≡ true → 0 < (get_or lines p no_line).len
-  some-marked p marked =
-      ltb-true 0 (get_or lines p no_line).len (
-      sym (some_in-line_from next (get_or lines p no_line).first (get_or lines p no_line).len)
-      ∙ ap is_some_in (sym (threads_at words lines next held kept p (marked-below p marked))) ∙ sym (kept.marked p) ∙ marked
-      )
-
-  pub queue_unmarked : ((q : ℕ) → has words q ≡ false) → queue_from 0 (all_threads next lines) ≡ []
-  queue_unmarked none = queue-none (all_threads next lines) 0 (λ q. nil_from_none _ (sym (kept.marked q) ∙ none q))
+  pub queue_unmarked : ((q : ℕ) → has words q ≡ false) → queue_from 0 (all_threads next lasts) ≡ []
+  queue_unmarked none = queue-none (all_threads next lasts) 0 (λ q. nil_from_none _ (sym (kept.marked q) ∙ none q))
 
   -- the greatest priority that is marked is that of the first thread
   pub first-greatest : (greatest : Option ℕ) →
       MatchOption greatest ((q : ℕ) → has words q ≡ false) (λ p. (has words p ≡ true) × ((q : ℕ) → p < q → has words q ≡ false)) →
-      greatest ≡ priority_of (first_of (queue_from 0 (all_threads next lines)))
+      greatest ≡ priority_of (first_of (queue_from 0 (all_threads next lasts)))
   first-greatest None none = rw (queue_unmarked none) refl
-  first-greatest (Some p) greatest =
-      rw (queue-without_first words lines next held kept p (marked-below p greatest.0) (some-marked p greatest.0) greatest.1) refl
+  first-greatest (Some p) greatest = elim (cases_eq (get_or next (get_or lasts p no_thread) 0) (get_or lasts p no_thread)) [
+    | inl only ↦ rw (queue-emptied p (marked-below p greatest.0) (marked-some p greatest.0) only greatest.1) refl
+    | inr more ↦ rw (queue-rest_in p (marked-below p greatest.0) (marked-some p greatest.0) more greatest.1) refl
+  ]
 
 -- with no thread, everything is kept
-no_threads_at : (next : List ℕ) (n p : ℕ) → get_or (all_threads next (replicate n no_line)) p [] ≡ []
+no_threads_at : (next : List ℕ) (n p : ℕ) → get_or (all_threads next (replicate n no_thread)) p [] ≡ []
 no_threads_at next zero p = refl
 no_threads_at next (suc n) zero = refl
 no_threads_at next (suc n) (suc p) = no_threads_at next n p
 
-no_times_in : (next : List ℕ) (n x : ℕ) → times_in x (all_threads next (replicate n no_line)) ≡ 0
+no_times_in : (next : List ℕ) (n x : ℕ) → times_in x (all_threads next (replicate n no_thread)) ≡ 0
 no_times_in next zero x = refl
 no_times_in next (suc n) x = omega (arith, no_times_in next n x)
 
-none_held : (n x : ℕ) → get_or (replicate n false) x false ≡ false
-none_held zero x = refl
-none_held (suc n) zero = refl
-none_held (suc n) (suc x) = none_held n x
+none_named : (n x : ℕ) → names_one (replicate n no_thread) x ≡ false
+none_named zero x = refl
+none_named (suc n) zero = refl
+none_named (suc n) (suc x) = none_named n x
 
-pub IsKept-new : (words : List ℕ) (n room : ℕ) → n ≡ 256 → ((q : ℕ) → has words q ≡ false) → IsKept words (replicate n no_line) (replicate room 0) (replicate room false)
-IsKept-new words n room e none = record {
-  count = length-replicate n no_line ∙ e;
-  room = length-replicate room 0 ∙ sym (length-replicate room false);
-  ends = λ p. ap (last_or (get_or (replicate n no_line) p no_line).last) (no_threads_at (replicate room 0) n p);
-  marked = λ p. none p ∙ ap is_some_in (sym (no_threads_at (replicate room 0) n p));
-  once = λ x. no_times_in (replicate room 0) n x ∙ ap one_if (sym (none_held room x));
+pub IsKept-new : (words : List ℕ) (n room : ℕ) → n ≡ 256 → room ≤ no_thread → ((q : ℕ) → has words q ≡ false) →
+    IsKept words (replicate n no_thread) (replicate room no_thread)
+IsKept-new words n room e few none = record {
+  count = length-replicate n no_thread ∙ e;
+  few = rw (length-replicate room no_thread) few;
+  marked = λ p. none p ∙ ap is_some_in (sym (no_threads_at (replicate room no_thread) n p));
+  once = λ x. no_times_in (replicate room no_thread) n x ∙ ap one_if (sym (none_named room x));
 }
 
-pub queue-new : (n room : ℕ) → queue_from 0 (all_threads (replicate room 0) (replicate n no_line)) ≡ []
-queue-new n room = queue-none _ 0 (no_threads_at (replicate room 0) n)
+pub queue-new : (n room : ℕ) → queue_from 0 (all_threads (replicate room no_thread) (replicate n no_thread)) ≡ []
+queue-new n room = queue-none _ 0 (no_threads_at (replicate room no_thread) n)
 
 -- the value that callers see, from the places
-module _ (words : List ℕ) (lines : List Line) (next : List ℕ) (held : List Bool) (kept : IsKept words lines next held) (value : ReadyQueue)
-    (view_is : record { queue = queue_from 0 (all_threads next lines); room = length held } ≡ value) (x : ℕ) where
-  pub within-room : x < value.room → x < length held
+module _ (words lasts next : List ℕ) (kept : IsKept words lasts next) (value : ReadyQueue)
+    (view_is : record { queue = queue_from 0 (all_threads next lasts); room = length next } ≡ value) (x : ℕ) where
+  pub within-room : x < value.room → x < length next
   within-room below = rw (ap (λ (v : ReadyQueue). v.room) view_is) below
 
-  pub holds-view : is_held x value.queue ≡ get_or held x false
-  holds-view = ap (λ (v : ReadyQueue). is_held x v.queue) (sym view_is) ∙ is_held-kept words lines next held kept x
+  pub holds-view : is_held x value.queue ≡ names_one next x
+  holds-view = ap (λ (v : ReadyQueue). is_held x v.queue) (sym view_is) ∙ is_held-kept words lasts next kept x
 
-  pub free-view : is_held x value.queue ≡ false → get_or held x false ≡ false
+  pub free-view : is_held x value.queue ≡ false → names_one next x ≡ false
   free-view free = sym holds-view ∙ free
 
 pub same_value : (queue queue' : List Queued) (room room' : ℕ) → queue ≡ queue' → room ≡ room' →
@@ -387,27 +484,27 @@ pub same_value : (queue queue' : List Queued) (room room' : ℕ) → queue ≡ q
 same_value queue queue' room room' e f = cc
 
 -- the queue holds no thread twice, and none above what there is room for
-module _ (words : List ℕ) (lines : List Line) (next : List ℕ) (held : List Bool) (kept : IsKept words lines next held) where
-  times-queue : (x : ℕ) → times x (map (λ (q : Queued). q.thread) (queue_from 0 (all_threads next lines))) ≡ one_if (get_or held x false)
-  times-queue x = times-queue_from x 0 (all_threads next lines) ∙ kept.once x
+module _ (words lasts next : List ℕ) (kept : IsKept words lasts next) where
+  times-queue : (x : ℕ) → times x (map (λ (q : Queued). q.thread) (queue_from 0 (all_threads next lasts))) ≡ one_if (names_one next x)
+  times-queue x = times-queue_from x 0 (all_threads next lasts) ∙ kept.once x
 
-  pub AreDistinct-kept : AreDistinct (queue_from 0 (all_threads next lines))
+  pub AreDistinct-kept : AreDistinct (queue_from 0 (all_threads next lasts))
   AreDistinct-kept i j d before below same =
-      let queue = queue_from 0 (all_threads next lines) in
+      let queue = queue_from 0 (all_threads next lasts) in
       let threads = map (λ (q : Queued). q.thread) queue in
       let e = get_or-map (λ (q : Queued). q.thread) queue i d 0 (omega arith) in
       let f = get_or-map (λ (q : Queued). q.thread) queue j d 0 below in
-      distinct_from_once threads (λ x. omega (arith, times-queue x, one_if-le-one (get_or held x false))) i j before
+      distinct_from_once threads (λ x. omega (arith, times-queue x, one_if-le-one (names_one next x))) i j before
       (omega (arith, length-map queue (λ (q : Queued). q.thread))) (e ∙ same ∙ sym f)
 
-  pub AreBelow-kept : AreBelow (length held) (queue_from 0 (all_threads next lines))
+  pub AreBelow-kept : AreBelow (length next) (queue_from 0 (all_threads next lasts))
   AreBelow-kept k d below =
-      let queue = queue_from 0 (all_threads next lines) in
+      let queue = queue_from 0 (all_threads next lasts) in
       let threads = map (λ (q : Queued). q.thread) queue in
       let e = get_or-map (λ (q : Queued). q.thread) queue k d 0 below in
       let among : k < length threads = omega (arith, length-map queue (λ (q : Queued). q.thread)) in
-      let IsBelow : ℕ → Type 0 = λ x. x < length held in
-      subst IsBelow e (held-below held (get_or threads k 0) (by (get_or held (get_or threads k 0) false) (times-queue (get_or threads k 0)) (times-get_or threads k among)))
+      let IsBelow : ℕ → Type 0 = λ x. x < length next in
+      subst IsBelow e (names-below next (get_or threads k 0) (by (names_one next (get_or threads k 0)) (times-queue (get_or threads k 0)) (times-get_or threads k among)))
     where
       by : {n : ℕ} (b : Bool) → n ≡ one_if b → 1 ≤ n → b ≡ true
       by true e h = refl

@@ -1,63 +1,198 @@
--- The threads of a line, each named by the one before it.
-use Rattle.std.proofs.Common.{◌≡◌, ◌≢◌, ℕ, zero, suc, ◌<◌, ◌≤◌, List, [], ◌∷◌, ◌++◌, length, get_or, set, refl, sym, ap, subst, ◌∙◌, arith, get_or-set_same, get_or-set_other}
-use Rattle.mcs_ready.specs.declared.ready.Line.{Line}
-use Rattle.mcs_ready.specs.stored.Lines.{line_from, threads_of, all_threads, last_or, times, times_in}
-use Rattle.mcs_ready.proofs.Times.{times-cons_same, times-last, times-le-times_in}
+-- The threads of a line, each named by the one before it, the first by the last.
+use Rattle.std.proofs.Common.{◌≡◌, ◌≢◌, ℕ, zero, suc, ◌<◌, ◌≤◌, ◌==◌, Bool, true, false, cond, List, [], ◌∷◌, ◌++◌, length, get_or, set, refl, sym, ap, subst, ◌∙◌, inl, inr, arith, get_or-set_same, get_or-set_other, length-set}
+use Rattle.std.proofs.lemmas.Bool.{cases_eq, eq-eqb, ne_eqb}
+use Rattle.mcs_ready.specs.stored.Lines.{no_thread, line_to, threads_of, all_threads, times}
+use Rattle.mcs_ready.proofs.Times.{times-cons_same}
 
-pub length-line_from : (next : List ℕ) (first len : ℕ) → length (line_from next first len) ≡ len
-length-line_from next first zero = refl
-length-line_from next first (suc len) = ap suc (length-line_from next (get_or next first 0) len)
+-- where there are fewer than there may be, one more may be: the last is reached
+pub line-more : (next : List ℕ) (last n x : ℕ) → length (line_to next last n x) < n → line_to next last (suc n) x ≡ line_to next last n x
+line-more next last zero x few = absurd (omega arith)
+line-more next last (suc n) x few = by (x == last) few (line-more next last n (get_or next x 0))
+  where
+    by : (b : Bool) → length (x ∷ cond b [] (line_to next last n (get_or next x 0))) < suc n →
+        (length (line_to next last n (get_or next x 0)) < n → line_to next last (suc n) (get_or next x 0) ≡ line_to next last n (get_or next x 0)) →
+        x ∷ cond b [] (line_to next last (suc n) (get_or next x 0)) ≡ x ∷ cond b [] (line_to next last n (get_or next x 0))
+    by true few e = refl
+    by false few e = ap (λ (xs : List ℕ). x ∷ xs) (e (omega arith))
 
--- a thread that does not stand in the line names another one
-line_from-other : (next : List ℕ) (first len y z : ℕ) → times y (line_from next first len) ≡ 0 → line_from (set next y z) first len ≡ line_from next first len
-line_from-other next first zero y z none = refl
-line_from-other next first (suc len) y z none =
-    let second = get_or next first 0 in
-    let ne : first ≢ y = λ e. absurd (omega (arith, times-cons_same y (line_from next second len), ap (λ (x : ℕ). times y (x ∷ line_from next second len)) e)) in
-    let same : get_or (set next y z) first 0 ≡ second = get_or-set_other next y first z 0 ne in
-    ap (λ (x : ℕ). first ∷ line_from (set next y z) x len) same
-    ∙ ap (λ (xs : List ℕ). first ∷ xs) (line_from-other next second len y z (omega arith))
+-- and one fewer
+pub line-less : (next : List ℕ) (last n x : ℕ) → length (line_to next last (suc n) x) ≤ n → line_to next last (suc n) x ≡ line_to next last n x
+line-less next last zero x few = absurd (omega arith)
+line-less next last (suc n) x few = by (x == last) few (line-less next last n (get_or next x 0))
+  where
+    by : (b : Bool) → length (x ∷ cond b [] (line_to next last (suc n) (get_or next x 0))) ≤ suc n →
+        (length (line_to next last (suc n) (get_or next x 0)) ≤ n → line_to next last (suc n) (get_or next x 0) ≡ line_to next last n (get_or next x 0)) →
+        x ∷ cond b [] (line_to next last (suc n) (get_or next x 0)) ≡ x ∷ cond b [] (line_to next last n (get_or next x 0))
+    by true few e = refl
+    by false few e = ap (λ (xs : List ℕ). x ∷ xs) (e (omega arith))
 
-lines-other : (next : List ℕ) (y z : ℕ) (lines : List Line) → times_in y (all_threads next lines) ≡ 0 → all_threads (set next y z) lines ≡ all_threads next lines
-lines-other next y z [] none = refl
-lines-other next y z (line ∷ lines) none =
-    let here = line_from-other next line.first line.len y z (omega arith) in
-    let rest = lines-other next y z lines (omega arith) in
+-- so the last one stands there
+pub line-stands : (next : List ℕ) (last n x : ℕ) → length (line_to next last n x) < n → 1 ≤ times last (line_to next last n x)
+line-stands next last zero x few = absurd (omega arith)
+line-stands next last (suc n) x few = elim (cases_eq x last) [
+  | inl e ↦ rw (eq-eqb x last e) (omega arith)
+  | inr ne ↦
+      let fewer : length (x ∷ line_to next last n (get_or next x 0)) < suc n = rw (ne_eqb x last ne) at few in
+      rw (ne_eqb x last ne) (omega (arith, line-stands next last n (get_or next x 0) (omega arith)))
+]
+
+-- a thread that does not stand there names another one
+pub line-other : (next : List ℕ) (last n x y z : ℕ) → times y (line_to next last n x) ≡ 0 → line_to (set next y z) last n x ≡ line_to next last n x
+line-other next last zero x y z none = refl
+line-other next last (suc n) x y z none =
+    let Stands : ℕ → Type 0 = λ (w : ℕ). 1 ≤ times y (w ∷ cond (x == last) [] (line_to next last n (get_or next x 0))) in
+    let ne : x ≢ y = λ e. absurd (omega (arith, subst Stands (sym e) (omega (arith, times-cons_same y (cond (x == last) [] (line_to next last n (get_or next x 0))))))) in
+    rw (get_or-set_other next y x z 0 ne) (by (x == last) none (line-other next last n (get_or next x 0) y z))
+  where
+    by : (b : Bool) → times y (x ∷ cond b [] (line_to next last n (get_or next x 0))) ≡ 0 →
+        (times y (line_to next last n (get_or next x 0)) ≡ 0 → line_to (set next y z) last n (get_or next x 0) ≡ line_to next last n (get_or next x 0)) →
+        x ∷ cond b [] (line_to (set next y z) last n (get_or next x 0)) ≡ x ∷ cond b [] (line_to next last n (get_or next x 0))
+    by true none e = refl
+    by false none e = ap (λ (xs : List ℕ). x ∷ xs) (e (omega arith))
+
+-- the last one names another one
+pub line-last : (next : List ℕ) (last n x z : ℕ) → line_to (set next last z) last n x ≡ line_to next last n x
+line-last next last zero x z = refl
+line-last next last (suc n) x z = elim (cases_eq x last) [
+  | inl e ↦ rw (eq-eqb x last e) refl
+  | inr ne ↦
+      rw (ne_eqb x last ne, get_or-set_other next last x z 0 ne) (ap (λ (xs : List ℕ). x ∷ xs) (line-last next last n (get_or next x 0) z))
+]
+
+-- the last one names x, which is the last now
+pub line-back : (next : List ℕ) (last n first x : ℕ) → last < length next → length (line_to next last n first) < n →
+    times x (line_to next last n first) ≡ 0 → line_to (set next last x) x (suc n) first ≡ line_to next last n first ++ x ∷ []
+line-back next last zero first x below few none = absurd (omega arith)
+line-back next last (suc n) first x below few none =
+    let Stands : ℕ → Type 0 = λ (w : ℕ). 1 ≤ times x (w ∷ cond (first == last) [] (line_to next last n (get_or next first 0))) in
+    let other : first ≢ x = λ e. absurd (omega (arith, subst Stands (sym e) (omega (arith, times-cons_same x (cond (first == last) [] (line_to next last n (get_or next first 0))))))) in
+    rw (ne_eqb first x other) (elim (cases_eq first last) [
+      | inl e ↦
+          let second : get_or (set next last x) first 0 ≡ x = ap (λ (y : ℕ). get_or (set next last x) y 0) e ∙ get_or-set_same next last x 0 below in
+          rw (eq-eqb first last e, second, eq-eqb x x refl) refl
+      | inr ne ↦
+          let fewer : length (first ∷ line_to next last n (get_or next first 0)) < suc n = rw (ne_eqb first last ne) at few in
+          let none_behind : times x (first ∷ line_to next last n (get_or next first 0)) ≡ 0 = rw (ne_eqb first last ne) at none in
+          rw (ne_eqb first last ne, get_or-set_other next last first x 0 ne) (
+          ap (λ (xs : List ℕ). first ∷ xs) (line-back next last n (get_or next first 0) x below (omega arith) (omega arith))
+          )
+    ])
+
+-- the last one of a line that has no more threads than there is room for stands in it
+pub last-stands : (next : List ℕ) (last : ℕ) → last ≢ no_thread → length (threads_of next last) ≤ length next → 1 ≤ times last (threads_of next last)
+last-stands next last some few =
+    let line : length (line_to next last (suc (length next)) (get_or next last 0)) ≤ length next = rw (ne_eqb last no_thread some) at few in
+    rw (ne_eqb last no_thread some) (line-stands next last (suc (length next)) (get_or next last 0) (omega arith))
+
+-- a thread of no such line names another one
+pub threads-other : (next : List ℕ) (last y z : ℕ) → length (threads_of next last) ≤ length next → times y (threads_of next last) ≡ 0 →
+    threads_of (set next y z) last ≡ threads_of next last
+threads-other next last y z few none = elim (cases_eq last no_thread) [
+  | inl e ↦ rw (eq-eqb last no_thread e) refl
+  | inr some ↦
+      let ne : last ≢ y = λ e. absurd (omega (arith, last-stands next last some few, ap (λ (w : ℕ). times w (threads_of next last)) e)) in
+      let none_there : times y (line_to next last (suc (length next)) (get_or next last 0)) ≡ 0 = rw (ne_eqb last no_thread some) at none in
+      rw (ne_eqb last no_thread some, length-set next y z, get_or-set_other next y last z 0 ne)
+      (line-other next last (suc (length next)) (get_or next last 0) y z none_there)
+]
+
+-- one line is changed
+pub lines-changed : (next next' lasts : List ℕ) (i last : ℕ) (line : List ℕ) → threads_of next' last ≡ line →
+    ((j : ℕ) → j ≢ i → threads_of next' (get_or lasts j no_thread) ≡ threads_of next (get_or lasts j no_thread)) →
+    all_threads next' (set lasts i last) ≡ set (all_threads next lasts) i line
+lines-changed next next' [] i last line now same = refl
+lines-changed next next' (l ∷ lasts) zero last line now same =
+    let rest = all-same lasts (λ j. same (suc j) (λ e. cc)) in
     cc
-
--- a thread that stands at most in the line of this priority names another one, and that line is changed
-pub lines-set : (next : List ℕ) (y z : ℕ) (lines : List Line) (i : ℕ) (changed : Line) → i < length lines →
-    times_in y (all_threads next lines) ≡ times y (get_or (all_threads next lines) i []) →
-    all_threads (set next y z) (set lines i changed) ≡ set (all_threads next lines) i (threads_of (set next y z) changed)
-lines-set next y z [] i changed h only = absurd (omega arith)
-lines-set next y z (line ∷ lines) zero changed h only =
-    ap (λ (us : List (List ℕ)). threads_of (set next y z) changed ∷ us) (lines-other next y z lines (omega arith))
-lines-set next y z (line ∷ lines) (suc i) changed h only =
-    let within = times-le-times_in y i (all_threads next lines) in
-    let below : i < length lines = omega arith in
-    let here = line_from-other next line.first line.len y z (omega arith) in
-    let rest = lines-set next y z lines i changed below (omega arith) in
+  where
+    all-same : (lasts : List ℕ) → ((j : ℕ) → threads_of next' (get_or lasts j no_thread) ≡ threads_of next (get_or lasts j no_thread)) →
+        all_threads next' lasts ≡ all_threads next lasts
+    all-same [] same = refl
+    all-same (l ∷ lasts) same =
+        let here = same zero in
+        let rest = all-same lasts (λ j. same (suc j)) in
+        cc
+lines-changed next next' (l ∷ lasts) (suc i) last line now same =
+    let here = same zero (λ e. cc) in
+    let rest = lines-changed next next' lasts i last line now (λ j ne. same (suc j) (λ e. ne (suc-injective e))) in
     cc
+  where
+    suc-injective : {j : ℕ} → suc j ≡ suc i → j ≡ i
+    suc-injective e = omega arith
 
--- a thread before the first
-pub line-front : (next : List ℕ) (first len x : ℕ) → x < length next → times x (line_from next first len) ≡ 0 →
-    line_from (set next x first) x (suc len) ≡ x ∷ line_from next first len
-line-front next first len x h none =
-    ap (λ (y : ℕ). x ∷ line_from (set next x first) y len) (get_or-set_same next x first 0 h)
-    ∙ ap (λ (xs : List ℕ). x ∷ xs) (line_from-other next first len x first none)
+-- a thread enters between the last one and the first
+module _ (next : List ℕ) (last x : ℕ) (some : last ≢ no_thread) (last_below : last < length next) (x_below : x < length next) (ne : x ≢ last)
+    (none : times x (threads_of next last) ≡ 0) (few : length (threads_of next last) ≤ length next) where
+  abbrev first : ℕ
+  first = get_or next last 0
 
--- a thread behind the last
-pub line-back : (next : List ℕ) (first len last x : ℕ) → last < length next → last ≡ last_or first (line_from next (get_or next first 0) len) →
-    times last (line_from next first (suc len)) ≤ 1 → line_from (set next last x) first (suc (suc len)) ≡ line_from next first (suc len) ++ x ∷ []
-line-back next first zero last x h e once =
-    let second : get_or (set next last x) first 0 ≡ x = ap (λ (y : ℕ). get_or (set next last x) y 0) (sym e) ∙ get_or-set_same next last x 0 h in
-    ap (λ (y : ℕ). first ∷ y ∷ []) second
-line-back next first (suc len) last x h e once =
+  abbrev opened : List ℕ
+  opened = set next x first
+
+  abbrev entered : List ℕ
+  entered = set opened last x
+
+  length-entered : length entered ≡ length next
+  length-entered = length-set (set next x first) last x ∙ length-set next x first
+
+  behind_last : get_or entered last 0 ≡ x
+  behind_last = get_or-set_same opened last x 0 (rw (length-set next x first) last_below)
+
+  behind_x : get_or entered x 0 ≡ first
+  behind_x = get_or-set_other opened last x x 0 ne ∙ get_or-set_same next x first 0 x_below
+
+  there : threads_of next last ≡ line_to next last (suc (length next)) first
+  there = rw (ne_eqb last no_thread some) refl
+
+  less : line_to next last (suc (length next)) first ≡ line_to next last (length next) first
+  less = line-less next last (length next) first (rw there at few)
+
+  same : line_to opened last (length next) first ≡ line_to next last (length next) first
+  same = line-other next last (length next) first x first (ap (times x) (sym (there ∙ less)) ∙ none)
+
+  -- it is the first now
+  entered-front : threads_of entered last ≡ x ∷ threads_of next last
+  entered-front =
+      rw there (
+      rw (ne_eqb last no_thread some, length-entered, behind_last, ne_eqb x last ne, behind_x)
+      (ap (λ (xs : List ℕ). x ∷ xs) (line-last opened last (length next) first x ∙ same ∙ sym less))
+      )
+
+  -- or the last
+  entered-back : x ≢ no_thread → length (threads_of next last) < length next → threads_of entered x ≡ threads_of next last ++ x ∷ []
+  entered-back x_some fewer =
+      let within : last < length opened = rw (length-set next x first) last_below in
+      let all = there ∙ less ∙ sym same in
+      rw all (
+      rw (ne_eqb x no_thread x_some, length-entered, behind_x)
+      (line-back opened last (length next) first x within (rw all at fewer) (ap (times x) (sym all) ∙ none))
+      )
+
+pub threads-front : (next : List ℕ) (last x : ℕ) → last ≢ no_thread → last < length next → x < length next → x ≢ last → times x (threads_of next last) ≡ 0 →
+    length (threads_of next last) ≤ length next → threads_of (set (set next x (get_or next last 0)) last x) last ≡ x ∷ threads_of next last
+threads-front = entered-front
+
+pub threads-back : (next : List ℕ) (last x : ℕ) → last ≢ no_thread → last < length next → x < length next → x ≢ last → times x (threads_of next last) ≡ 0 →
+    length (threads_of next last) ≤ length next → x ≢ no_thread → length (threads_of next last) < length next →
+    threads_of (set (set next x (get_or next last 0)) last x) x ≡ threads_of next last ++ x ∷ []
+threads-back = entered-back
+
+-- the first one leaves, and is not the last
+pub threads-rest : (next : List ℕ) (last : ℕ) → last ≢ no_thread → last < length next → get_or next last 0 ≢ last →
+    times (get_or next last 0) (threads_of next last) ≤ 1 → length (threads_of next last) ≤ length next →
+    threads_of next last ≡ get_or next last 0 ∷ threads_of (set (set next last (get_or next (get_or next last 0) 0)) (get_or next last 0) no_thread) last
+threads-rest next last some below ne once few =
+    let first = get_or next last 0 in
     let second = get_or next first 0 in
-    let third = get_or next second 0 in
-    let Stands : ℕ → Type 0 = λ y. 1 ≤ times y (line_from next second (suc len)) in
-    let stands : Stands last = subst Stands (sym e) (times-last second (line_from next third len)) in
-    let ne : first ≢ last = λ same. absurd (omega (arith, times-cons_same last (line_from next second (suc len)), ap (λ (y : ℕ). times last (y ∷ line_from next second (suc len))) same)) in
-    let same : get_or (set next last x) first 0 ≡ second = get_or-set_other next last first x 0 ne in
-    ap (λ (y : ℕ). first ∷ line_from (set next last x) y (suc (suc len))) same
-    ∙ ap (λ (xs : List ℕ). first ∷ xs) (line-back next second len last x h e (omega arith))
+    let closed = set next last second in
+    let rest = line_to next last (length next) second in
+    let there : threads_of next last ≡ first ∷ rest = rw (ne_eqb last no_thread some, ne_eqb first last ne) refl in
+    let fewer : length (first ∷ rest) ≤ length next = rw there at few in
+    let one : times first (first ∷ rest) ≤ 1 = rw there at once in
+    let len : length (set closed first no_thread) ≡ length next = length-set closed first no_thread ∙ length-set next last second in
+    let behind : get_or (set closed first no_thread) last 0 ≡ second = get_or-set_other closed first last no_thread 0 (λ e. ne (sym e)) ∙ get_or-set_same next last second 0 below in
+    let same : line_to closed last (suc (length next)) second ≡ rest = line-last next last (suc (length next)) second second ∙ line-more next last (length next) second (omega arith) in
+    let none : times first (line_to closed last (suc (length next)) second) ≡ 0 = ap (times first) same ∙ omega (arith, times-cons_same first rest) in
+    rw there (
+    rw (ne_eqb last no_thread some, len, behind) (ap (λ (xs : List ℕ). first ∷ xs) (sym (line-other closed last (suc (length next)) second first no_thread none ∙ same)))
+    )

@@ -1,7 +1,7 @@
 -- Bits of a set of priorities, set, cleared and found.
 use Rattle.std.proofs.Common.{◌≡◌, ◌≢◌, ℕ, suc, ◌+◌, ◌-◌, ◌*◌, ◌/◌, ◌%◌, ◌^◌, ◌<◌, ◌≤◌, ◌==◌, if◌then◌else◌, Bool, true, false, List, length, get_or, set, bit_and, bit_or, sym, ap, ◌∙◌, inl, inr, arith, get_or-set_same, get_or-set_other}
 use Rattle.std.specs.Int.{w64, bit_at, bit_not}
-use Rattle.std.proofs.lemmas.Bool.{cases_eq, cases_lt, eq-eqb, ne_eqb}
+use Rattle.std.proofs.lemmas.Bool.{cases_eq, eq-eqb, ne_eqb}
 use Rattle.std.proofs.lemmas.Nat.Bits.{bit_at_set_same, bit_at_set_other, bit_at_clear_same, bit_at_clear_other, bit_at_above, bit_at-zero}
 use Rattle.std.proofs.Math.Nat.{pow-suc}
 use Rattle.std.proofs.lemmas.Nat.{shr_high}
@@ -62,13 +62,15 @@ has-highest words word k below low high =
     let f : (word * 64 + k) % 64 ≡ k = omega arith in
     rw (e, f) (ap (λ (bit : ℕ). bit == 1) (bit_at-highest (get_or words word 0) k low high))
 
--- .. and none above it is
-pub has_above : (words : List ℕ) (word k q : ℕ) → k < 64 → get_or words word 0 < 2 * 2 ^ k → ((i : ℕ) → word + 1 ≤ i → get_or words i 0 ≡ 0) →
-    word * 64 + k < q → has words q ≡ false
-has_above words word k q below high none above = elim (cases_lt word (q / 64)) [
-  | inl higher ↦ ap (λ (n : ℕ). bit_at n (q % 64) == 1) (none (q / 64) (omega arith)) ∙ ap (λ (bit : ℕ). bit == 1) (bit_at-zero (q % 64))
-  | inr lower ↦
-      let e : q / 64 ≡ word = omega arith in
-      let f : get_or words (q / 64) 0 < 2 ^ suc k = rw (e, pow-suc 2 k) (omega arith) in
-      ap (λ (bit : ℕ). bit == 1) (bit_at_above (get_or words (q / 64) 0) (suc k) (q % 64) f (omega arith))
-]
+-- .. and none above it in that word is
+pub has_above : (words : List ℕ) (word k q : ℕ) → get_or words word 0 < 2 * 2 ^ k → word * 64 + k < q → q < word * 64 + 64 → has words q ≡ false
+has_above words word k q high above within =
+    let e : q / 64 ≡ word = omega arith in
+    let f : get_or words (q / 64) 0 < 2 ^ suc k = rw (e, pow-suc 2 k) (omega arith) in
+    ap (λ (bit : ℕ). bit == 1) (bit_at_above (get_or words (q / 64) 0) (suc k) (q % 64) f (omega arith))
+
+-- none of a word that is 0 is in the set
+pub has-zero : (words : List ℕ) (word q : ℕ) → get_or words word 0 ≡ 0 → word * 64 ≤ q → q < word * 64 + 64 → has words q ≡ false
+has-zero words word q zero from within =
+    let e : q / 64 ≡ word = omega arith in
+    rw (e, zero) (ap (λ (bit : ℕ). bit == 1) (bit_at-zero (q % 64)))

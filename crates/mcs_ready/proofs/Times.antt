@@ -1,11 +1,12 @@
 -- How often a thread stands in lines.
 use Rattle.std.proofs.Common.{◌≡◌, ℕ, zero, suc, ◌+◌, ◌<◌, ◌≤◌, ◌==◌, Bool, true, false, cond, List, [], ◌∷◌, ◌++◌, length, map, get_or, set, refl, sym, ap, ◌∙◌, inl, inr, arith, get_or-set_other}
-use Rattle.std.specs.Prelude.{nat_lt, ◌||◌}
+use Rattle.std.specs.Prelude.{nat_lt, not, ◌||◌}
+use Rattle.std.proofs.Math.ListN.{get_or-map}
 use Rattle.std.proofs.lemmas.Bool.{cases_eq, eq-eqb, ne_eqb}
 use Rattle.std.proofs.lemmas.Bool.Decides.{nat_tests}
-use Rattle.std.proofs.lemmas.List.{map-append}
+use Rattle.std.proofs.lemmas.List.{length-map, map-append}
 use Rattle.mcs_ticks.specs.declared.queue.Queued.{Queued}
-use Rattle.mcs_ready.specs.stored.Lines.{queued_at, queue_from, times, times_in, one_if, last_or}
+use Rattle.mcs_ready.specs.stored.Lines.{no_thread, names_one, queued_at, queue_from, times, times_in, one_if}
 use Rattle.mcs_ready.specs.Ready.{is_held}
 
 pub times-append : (x : ℕ) (ys zs : List ℕ) → times x (ys ++ zs) ≡ times x ys + times x zs
@@ -33,10 +34,13 @@ times-cons_same x ys = rw (eq-eqb x x refl) refl
 pub times-cons_other : (x y : ℕ) (ys : List ℕ) → (y ≡ x → ⊥) → times x (y ∷ ys) ≡ times x ys
 times-cons_other x y ys ne = rw (ne_eqb y x ne) (omega arith)
 
--- the last thread of a line stands in it
-pub times-last : (y : ℕ) (ys : List ℕ) → 1 ≤ times (last_or y ys) (y ∷ ys)
-times-last y [] = omega (arith, times-cons_same y [])
-times-last y (z ∷ ys) = omega (arith, times-last z ys)
+-- a thread that stands in one line stands in no other, where it stands in one place
+pub times-elsewhere : (x i j : ℕ) (lines : List (List ℕ)) → (i ≡ j → ⊥) → times x (get_or lines i []) + times x (get_or lines j []) ≤ times_in x lines
+times-elsewhere x i j [] ne = omega arith
+times-elsewhere x zero zero (line ∷ lines) ne = absurd (ne refl)
+times-elsewhere x zero (suc j) (line ∷ lines) ne = omega (arith, times-le-times_in x j lines)
+times-elsewhere x (suc i) zero (line ∷ lines) ne = omega (arith, times-le-times_in x i lines)
+times-elsewhere x (suc i) (suc j) (line ∷ lines) ne = omega (arith, times-elsewhere x i j lines (λ e. ne (ap suc e)))
 
 -- the thread stands in the queue where it stands in a line
 is_held-append : (x : ℕ) (us vs : List Queued) → is_held x (us ++ vs) ≡ (is_held x us || is_held x vs)
@@ -106,9 +110,38 @@ length-le-trues (y ∷ ys) held once = by (get_or held y false) refl (once y) (�
     by true e h fewer = omega (arith, trues-set held y e, fewer e)
     by false e h fewer = absurd (omega (arith, times-cons_same y ys))
 
--- threads of which each is held, and each stands once, are no more than there is room for
-pub length-le-room : (xs : List ℕ) (held : List Bool) → ((x : ℕ) → times x xs ≤ one_if (get_or held x false)) → length xs ≤ length held
-length-le-room xs held once = omega (arith, length-le-trues xs held once, trues-le-length held)
+trues-lt-length : (held : List Bool) (y : ℕ) → y < length held → get_or held y false ≡ false → trues held < length held
+unfolding trues
+trues-lt-length [] y below e = absurd (omega arith)
+trues-lt-length (b ∷ held) zero below e = rw e (omega (arith, trues-le-length held))
+trues-lt-length (true ∷ held) (suc y) below e = omega (arith, trues-lt-length held y (omega arith) e)
+trues-lt-length (false ∷ held) (suc y) below e = omega (arith, trues-lt-length held y (omega arith) e)
+
+-- the places whose thread names one
+named : List ℕ → List Bool
+named next = map (λ (n : ℕ). not (n == no_thread)) next
+
+get_or-named : (next : List ℕ) (x : ℕ) → get_or (named next) x false ≡ names_one next x
+unfolding named
+get_or-named next x = get_or-map (λ (n : ℕ). not (n == no_thread)) next x no_thread
+
+length-named : (next : List ℕ) → length (named next) ≡ length next
+unfolding named
+length-named next = length-map next (λ (n : ℕ). not (n == no_thread))
+
+-- threads of which each names one, and each stands once, are no more than there is room for
+module _ (xs next : List ℕ) (once : (x : ℕ) → times x xs ≤ one_if (names_one next x)) where
+  few : length xs ≤ trues (named next)
+  few = length-le-trues xs (named next) (λ x. rw (get_or-named next x) (once x))
+
+  pub length-le-room : length xs ≤ length next
+  length-le-room = omega (arith, few, trues-le-length (named next), length-named next)
+
+  -- and fewer, where one that there is room for names none
+  pub length-lt-room : (x : ℕ) → x < length next → names_one next x ≡ false → length xs < length next
+  length-lt-room x below free =
+      let within : x < length (named next) = omega (arith, length-named next) in
+      omega (arith, few, trues-lt-length (named next) x within (get_or-named next x ∙ free), length-named next)
 
 -- the queue holds a thread as often as the lines do
 times-queued_at : (x p : ℕ) (ys : List ℕ) → times x (map (λ (q : Queued). q.thread) (queued_at p ys)) ≡ times x ys

@@ -1,5 +1,5 @@
-ghost use Rattle.std.specs.Prelude.{◌≡◌, ℕ, ◌==◌, if◌then◌else◌, false};
-ghost use Rattle.mcs_ready.specs.stored.Priorities.{has, greater, IsGreatest};
+ghost use Rattle.std.specs.Prelude.{◌≡◌, ℕ, ◌*◌, ◌≤◌, ◌==◌, if◌then◌else◌, true, false, Some};
+ghost use Rattle.mcs_ready.specs.stored.Priorities.{has, greater, IsGreatest, IsGreatestBelow};
 
 use std::marker::Model;
 
@@ -33,20 +33,26 @@ impl Priorities {
         }
     }
 
-    /// The set with `priority` in it or not.
-    pub(crate) fn set(&mut self, priority: u8, is_in: bool)
-        ensures { (q : ℕ) → has self.new q ≡ (if q == priority then is_in else has self.old q) }
+    /// The set with `priority` in it.
+    pub(crate) fn insert(&mut self, priority: u8)
+        ensures { (q : ℕ) → has self.new q ≡ (if q == priority then true else has self.old q) }
     {
-        let at = priority as usize / 64;
-        let bit = 1 << (priority % 64);
-        if is_in {
-            self.words[at] |= bit;
-            self.greatest = Some(greater(self.greatest, priority));
+        self.words[priority as usize / 64] |= 1 << (priority % 64);
+        self.greatest = Some(greater(self.greatest, priority));
+    }
+
+    /// The set without `priority`, which is its greatest.
+    pub(crate) fn remove(&mut self, priority: u8)
+        requires { IsGreatest self.old (Some priority) }
+        ensures { (q : ℕ) → has self.new q ≡ (if q == priority then false else has self.old q) }
+    {
+        let word = priority / 64;
+        let bits = self.words[word as usize] & !(1 << (priority % 64));
+        self.words[word as usize] = bits;
+        if bits == 0 {
+            self.greatest = highest_below(&self.words, word);
         } else {
-            self.words[at] &= !bit;
-            if self.greatest == Some(priority) {
-                self.greatest = highest(&self.words);
-            }
+            self.greatest = Some(word * 64 + bits.ilog2() as u8);
         }
     }
 
@@ -68,11 +74,12 @@ fn greater(greatest: Option<u8>, priority: u8) -> u8
     }
 }
 
-/// The greatest priority in a set.
-fn highest(words: &[u64; 4]) -> Option<u8>
-    ensures { IsGreatest words.now result }
+/// The greatest priority of the first `end` words.
+fn highest_below(words: &[u64; 4], end: u8) -> Option<u8>
+    requires { end ≤ 4 }
+    ensures { IsGreatestBelow (end * 64) words.now result }
 {
-    for word in (0..4u8).rev() {
+    for word in (0..end).rev() {
         let bits = words[word as usize];
         if bits != 0 {
             return Some(word * 64 + bits.ilog2() as u8);

@@ -1,72 +1,15 @@
-ghost use Rattle.std.specs.Prelude.{◌≡◌, ℕ, ◌+◌, ◌<◌, ◌^◌, ◌++◌, false, [], length, IfOk, Some};
+ghost use Rattle.std.specs.Prelude.{◌≡◌, ℕ, ◌<◌, ◌++◌, false, [], length, slice_index_or, IfOk, Some};
 ghost use Rattle.mcs_ticks.specs.Queue.{by_priority};
 ghost use Rattle.mcs_ready.specs.Ready.{queued, is_held, thread_of, priority_of, AreDistinct, AreBelow};
-ghost use Rattle.mcs_ready.specs.stored.Lines.{threads_of, all_threads, queued_at, queue_from, with_back, with_front, without_first, before_back, times, times_in};
+ghost use Rattle.mcs_ready.specs.stored.Lines.{no_thread, threads_of, all_threads, queued_at, queue_from, IsLine};
 
 use crate::priorities::Priorities;
 use mcs_ticks::{NoMemory, Queued, ThreadId};
 use std::alloc::Global;
 use std::marker::Model;
 
-/// The threads of one priority in their order: the first and the last of them, and how many there are. With no thread the other
-/// two mean nothing.
-#[derive(Clone, Copy, Debug)]
-struct Line {
-    first: ThreadId,
-    last: ThreadId,
-    len: usize,
-}
-
-impl Line {
-    const EMPTY: Line = Line {
-        first: ThreadId(0),
-        last: ThreadId(0),
-        len: 0,
-    };
-
-    /// The line with `x` behind its last thread.
-    fn with_back(&self, x: ThreadId) -> Line
-        requires { self.now.len + 1 < 2 ^ 64 }
-        ensures { result ≡ with_back x self.now }
-    {
-        Line {
-            first: if self.len == 0 { x } else { self.first },
-            last: x,
-            len: self.len + 1,
-        }
-    }
-
-    /// The line with `x` before its first thread.
-    fn with_front(&self, x: ThreadId) -> Line
-        requires { self.now.len + 1 < 2 ^ 64 }
-        ensures { result ≡ with_front x self.now }
-    {
-        Line {
-            first: x,
-            last: if self.len == 0 { x } else { self.last },
-            len: self.len + 1,
-        }
-    }
-
-    /// The line without its first thread, behind which `second` stands.
-    fn without_first(&self, second: ThreadId) -> Line
-        requires { 0 < self.now.len }
-        ensures { result ≡ without_first second self.now }
-    {
-        Line {
-            first: second,
-            last: self.last,
-            len: self.len - 1,
-        }
-    }
-
-    /// The thread behind which `x` enters: the last one, or `x` itself where there is none.
-    fn before_back(&self, x: ThreadId) -> ThreadId
-        ensures { result ≡ before_back x self.now }
-    {
-        if self.len == 0 { x } else { self.last }
-    }
-}
+/// No thread. It stands as the last of a line with no thread, and behind a thread that is not held.
+const NONE: ThreadId = ThreadId(usize::MAX);
 
 /// The ready threads of one core, each with its priority. Contracts see the queue by priority, the greatest first and first in
 /// first out within one, and `room`, the number of threads that there is room for.
@@ -74,12 +17,10 @@ impl Line {
 pub struct Ready {
     // the priorities with a thread
     priorities: Priorities,
-    // a line for each priority
-    lines: Vec<Line>,
-    // for each thread the one behind it in its line
+    // for each priority the last thread of its line
+    lasts: Vec<ThreadId>,
+    // for each thread the one behind it in its line; behind the last stands the first
     next: Vec<ThreadId>,
-    // whether each thread is held
-    held: Vec<bool>,
 }
 
 impl Model for Ready {
@@ -91,9 +32,9 @@ impl Model for Ready {
     ghost use Rattle.mcs_ready.specs.stored.Lines.{queue_from, all_threads, IsKept};
 
     ghost view = { λ a.
-        record { queue = queue_from 0 (all_threads a.next.items a.lines.items); room = length a.held.items } };
+        record { queue = queue_from 0 (all_threads a.next.items a.lasts.items); room = length a.next.items } };
 
-    ghost invariant = { λ a. IsKept a.priorities a.lines.items a.next.items a.held.items };
+    ghost invariant = { λ a. IsKept a.priorities a.lasts.items a.next.items };
 }
 
 impl Ready {
@@ -104,9 +45,8 @@ impl Ready {
     {
         Ok(Ready {
             priorities: Priorities::new(),
-            lines: vec![in alloc; Line::EMPTY; 256]?,
-            next: vec![in alloc; ThreadId(0); threads]?,
-            held: vec![in alloc; false; threads]?,
+            lasts: vec![in alloc; NONE; 256]?,
+            next: vec![in alloc; NONE; threads]?,
         })
     }
 
@@ -116,12 +56,15 @@ impl Ready {
         requires free { is_held x self.old.queue ≡ false }
         ensures { self.new ≡ record self.old { queue = by_priority.back (queued x priority) self.old.queue } }
     {
-        let line = self.lines[priority as usize];
-        let before = line.before_back(x);
-        self.next[before.0] = x;
-        self.lines[priority as usize] = line.with_back(x);
-        self.held[x.0] = true;
-        self.priorities.set(priority, true);
+        let ahead = self.lasts[priority as usize];
+        self.lasts[priority as usize] = x;
+        if ahead == NONE {
+            self.next[x.0] = x;
+            self.priorities.insert(priority);
+        } else {
+            self.next[x.0] = self.next[ahead.0];
+            self.next[ahead.0] = x;
+        }
     }
 
     /// Enters `x` before the threads of its priority. The thread is below the number that there is room for, and is not held.
@@ -130,11 +73,15 @@ impl Ready {
         requires free { is_held x self.old.queue ≡ false }
         ensures { self.new ≡ record self.old { queue = by_priority.front (queued x priority) self.old.queue } }
     {
-        let line = self.lines[priority as usize];
-        self.next[x.0] = line.first;
-        self.lines[priority as usize] = line.with_front(x);
-        self.held[x.0] = true;
-        self.priorities.set(priority, true);
+        let last = self.lasts[priority as usize];
+        if last == NONE {
+            self.lasts[priority as usize] = x;
+            self.next[x.0] = x;
+            self.priorities.insert(priority);
+        } else {
+            self.next[x.0] = self.next[last.0];
+            self.next[last.0] = x;
+        }
     }
 
     /// The greatest priority of the threads that are held, or None where none is.
@@ -150,11 +97,16 @@ impl Ready {
         ensures rest { self.new ≡ record self.old { queue = by_priority.rest self.old.queue } }
     {
         let priority = self.priorities.greatest()?;
-        let line = self.lines[priority as usize];
-        let x = line.first;
-        self.lines[priority as usize] = line.without_first(self.next[x.0]);
-        self.priorities.set(priority, line.len > 1);
-        self.held[x.0] = false;
+        let last = self.lasts[priority as usize];
+        let x = self.next[last.0];
+        if x == last {
+            self.lasts[priority as usize] = NONE;
+            self.next[x.0] = NONE;
+            self.priorities.remove(priority);
+        } else {
+            self.next[last.0] = self.next[x.0];
+            self.next[x.0] = NONE;
+        }
         Some(x)
     }
 
@@ -162,7 +114,7 @@ impl Ready {
     pub fn holds(&self, x: ThreadId) -> bool
         ensures { result ≡ is_held x self.now.queue }
     {
-        x.0 < self.held.len() && self.held[x.0]
+        x.0 < self.next.len() && self.next[x.0] != NONE
     }
 
     /// The threads that are held, each with its priority, the greatest first and first in first out within one. NoMemory where
@@ -170,7 +122,7 @@ impl Ready {
     pub fn list(&self, alloc: Global) -> Result<Vec<Queued>, NoMemory>
         ensures { IfOk result (λ list. list.items ≡ self.now.queue) }
     {
-        threads_by_priority(alloc, &self.next, &self.lines)
+        threads_by_priority(alloc, &self.next, &self.lasts)
     }
 }
 
@@ -178,15 +130,15 @@ impl Ready {
 fn threads_by_priority(
     alloc: Global,
     next: &[ThreadId],
-    lines: &[Line],
+    lasts: &[ThreadId],
 ) -> Result<Vec<Queued>, NoMemory>
-    requires count { length lines.now ≡ 256 }
-    requires within { (x : ℕ) → 0 < times_in x (all_threads next.now lines.now) → x < length next.now }
-    ensures { IfOk result (λ list. list.items ≡ queue_from 0 (all_threads next.now lines.now)) }
+    requires count { length lasts.now ≡ 256 }
+    requires lines { (p : ℕ) → IsLine next.now (slice_index_or lasts.now p no_thread) }
+    ensures { IfOk result (λ list. list.items ≡ queue_from 0 (all_threads next.now lasts.now)) }
 {
     let mut list = Vec::new(alloc);
     for priority in (0..256usize).rev() {
-        push_line(&mut list, next, &lines[priority], priority as u8)?;
+        push_line(&mut list, next, lasts[priority], priority as u8)?;
     }
     Ok(list)
 }
@@ -195,15 +147,21 @@ fn threads_by_priority(
 fn push_line(
     list: &mut Vec<Queued>,
     next: &[ThreadId],
-    line: &Line,
+    last: ThreadId,
     priority: u8,
 ) -> Result<(), NoMemory>
-    requires within { (x : ℕ) → 0 < times x (threads_of next.now line.now) → x < length next.now }
-    ensures { IfOk result (λ _. list.new.items ≡ list.old.items ++ queued_at priority (threads_of next.now line.now)) }
+    requires { IsLine next.now last }
+    ensures { IfOk result (λ _. list.new.items ≡ list.old.items ++ queued_at priority (threads_of next.now last)) }
 {
-    let mut thread = line.first;
-    for _ in 0..line.len {
+    if last == NONE {
+        return Ok(());
+    }
+    let mut thread = next[last.0];
+    for _ in 0..next.len() {
         list.push(Queued { thread, priority })?;
+        if thread == last {
+            return Ok(());
+        }
         thread = next[thread.0];
     }
     Ok(())
@@ -214,5 +172,5 @@ pub fn held_once(ready: &Ready)
     ensures distinct { AreDistinct ready.now.queue }
     ensures below { AreBelow ready.now.room ready.now.queue }
 {
-    let _ = &ready.held;
+    let _ = &ready.next;
 }

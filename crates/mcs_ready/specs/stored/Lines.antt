@@ -1,22 +1,25 @@
--- Where the ready threads stand: a line for each priority, in which each thread names the one behind it.
-use Rattle.std.specs.Prelude.{◌≡◌, ℕ, zero, suc, ◌+◌, ◌-◌, ◌==◌, if◌then◌else◌, Bool, true, false, List, [], ◌∷◌, ◌++◌, length, map, slice_index, slice_index_or}
+-- Where the ready threads stand: a line for each priority, in which each thread names the one behind it and the last names the first.
+use Rattle.std.specs.Prelude.{◌≡◌, ◌≢◌, ℕ, zero, suc, ◌+◌, ◌-◌, ◌^◌, ◌<◌, ◌≤◌, ◌==◌, not, if◌then◌else◌, Bool, true, false, List, [], ◌∷◌, ◌++◌, length, map, slice_index, slice_index_or}
 use Rattle.mcs_ticks.specs.declared.queue.Queued.{Queued}
-use Rattle.mcs_ready.specs.declared.ready.Line.{Line}
 use Rattle.mcs_ready.specs.stored.Priorities.{has}
 use Rattle.mcs_ready.specs.Ready.{queued}
 
--- so many threads from the first on, each named by the one before it
-abbrev pub line_from : List ℕ → ℕ → ℕ → List ℕ
-line_from next first zero = []
-line_from next first (suc len) = first ∷ line_from next (slice_index next first) len
+-- no thread
+abbrev pub no_thread : ℕ
+no_thread = 2 ^ 64 - 1
 
--- the threads of a line
-abbrev pub threads_of : List ℕ → Line → List ℕ
-threads_of next line = line_from next line.first line.len
+-- the threads from this one to the last, each named by the one before it; so many of them at most
+abbrev pub line_to : List ℕ → ℕ → ℕ → ℕ → List ℕ
+line_to next last zero x = []
+line_to next last (suc most) x = x ∷ (if x == last then [] else line_to next last most (slice_index next x))
+
+-- the threads of the line with this last one; there are no more than there is room for, so the last one is reached
+abbrev pub threads_of : List ℕ → ℕ → List ℕ
+threads_of next last = if last == no_thread then [] else line_to next last (suc (length next)) (slice_index next last)
 
 -- the threads of each line
-abbrev pub all_threads : List ℕ → List Line → List (List ℕ)
-all_threads next lines = map (threads_of next) lines
+abbrev pub all_threads : List ℕ → List ℕ → List (List ℕ)
+all_threads next lasts = map (threads_of next) lasts
 
 -- the threads of a line, as they stand in a queue
 abbrev pub queued_at : ℕ → List ℕ → List Queued
@@ -27,34 +30,10 @@ abbrev pub queue_from : ℕ → List (List ℕ) → List Queued
 queue_from priority [] = []
 queue_from priority (line ∷ lines) = queue_from (suc priority) lines ++ queued_at priority line
 
--- a line with the thread at its back, and at its front
-abbrev pub with_back : ℕ → Line → Line
-with_back x line = record { first = if line.len == 0 then x else line.first; last = x; len = line.len + 1 }
-
-abbrev pub with_front : ℕ → Line → Line
-with_front x line = record { first = x; last = if line.len == 0 then x else line.last; len = line.len + 1 }
-
--- a line without its first thread, where `second` is the one behind it
-abbrev pub without_first : ℕ → Line → Line
-without_first second line = record { first = second; last = line.last; len = line.len - 1 }
-
--- the thread that is to name x where x enters a line at its back: itself in a line with no thread
-abbrev pub before_back : ℕ → Line → ℕ
-before_back x line = if line.len == 0 then x else line.last
-
--- a line with no thread
-abbrev pub no_line : Line
-no_line = record { first = 0; last = 0; len = 0 }
-
 -- whether there is a thread
 abbrev pub is_some_in : List ℕ → Bool
 is_some_in [] = false
 is_some_in (x ∷ xs) = true
-
--- the last thread, or this one where there is none
-abbrev pub last_or : ℕ → List ℕ → ℕ
-last_or d [] = d
-last_or d (x ∷ xs) = last_or x xs
 
 -- how often the thread stands in a line, and in all lines
 abbrev pub times : ℕ → List ℕ → ℕ
@@ -65,16 +44,24 @@ abbrev pub times_in : ℕ → List (List ℕ) → ℕ
 times_in x [] = 0
 times_in x (line ∷ lines) = times x line + times_in x lines
 
+-- a line with its last thread in a place, with no more threads than there are places, and each of them in one
+pub record IsLine (next : List ℕ) (last : ℕ) : Type 0 where
+  pub known : last ≢ no_thread → last < length next
+  pub few : length (threads_of next last) ≤ length next
+  pub within : (x : ℕ) → 0 < times x (threads_of next last) → x < length next
+
+-- whether the thread names one behind it, as each does that is held
+abbrev pub names_one : List ℕ → ℕ → Bool
+names_one next x = not (slice_index_or next x no_thread == no_thread)
+
 -- how often a thread stands there which is held or not
 abbrev pub one_if : Bool → ℕ
 one_if held = if held then 1 else 0
 
--- what the places keep: a line for each priority, each with its last thread, the set of the priorities whose line has a thread, and
--- each thread that is held in one place
-pub record IsKept (words : List ℕ) (lines : List Line) (next : List ℕ) (held : List Bool) : Type 0 where
-  pub count : length lines ≡ 256
-  pub room : length next ≡ length held
-  pub ends : (p : ℕ) → last_or (slice_index_or lines p no_line).last (slice_index_or (all_threads next lines) p [])
-      ≡ (slice_index_or lines p no_line).last
-  pub marked : (p : ℕ) → has words p ≡ is_some_in (slice_index_or (all_threads next lines) p [])
-  pub once : (x : ℕ) → times_in x (all_threads next lines) ≡ one_if (slice_index_or held x false)
+-- what the places keep: a line for each priority, the set of the priorities whose line has a thread, and each thread that names one
+-- in one line; no thread has the number that stands for none
+pub record IsKept (words lasts next : List ℕ) : Type 0 where
+  pub count : length lasts ≡ 256
+  pub few : length next ≤ no_thread
+  pub marked : (p : ℕ) → has words p ≡ is_some_in (slice_index_or (all_threads next lasts) p [])
+  pub once : (x : ℕ) → times_in x (all_threads next lasts) ≡ one_if (names_one next x)

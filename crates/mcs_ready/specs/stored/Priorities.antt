@@ -11,6 +11,11 @@ abbrev pub IsGreatest : List ℕ → Option ℕ → Type 0
 IsGreatest words found =
     MatchOption found ((q : ℕ) → has words q ≡ false) (λ p. (has words p ≡ true) × ((q : ℕ) → p < q → has words q ≡ false))
 
+-- the greatest one below this priority, or none where there is none
+abbrev pub IsGreatestBelow : ℕ → List ℕ → Option ℕ → Type 0
+IsGreatestBelow end words found =
+    MatchOption found ((q : ℕ) → q < end → has words q ≡ false) (λ p. (has words p ≡ true) × ((q : ℕ) → p < q → q < end → has words q ≡ false))
+
 abbrev pub greater : Option ℕ → ℕ → ℕ
 greater None priority = priority
 greater (Some greatest) priority = max greatest priority
