@@ -2,8 +2,8 @@
 use Rattle.std.proofs.Common.{◌≡◌, ℕ, ◌+◌, ◌*◌, ◌/◌, ◌^◌, ◌<◌, ◌≤◌, ◌==◌, if◌then◌else◌, true, false, List, Option, Some, None, get_or, refl, ◌∙◌, inl, inr, arith}
 use Rattle.std.specs.Prelude.{max}
 use Rattle.std.proofs.lemmas.Bool.{cases_lt, eq-eqb, ne_eqb}
-use Rattle.mcs_ready.specs.stored.Priorities.{has, greater, IsGreatest, IsGreatestBelow}
-use Rattle.mcs_ready.proofs.Marks.{has-highest, has_above, has-zero}
+use Rattle.mcs_ready.specs.stored.Priorities.{has, greater, IsGreatest}
+use Rattle.mcs_ready.proofs.Marks.{has-highest, has_above}
 
 module _ (words words' : List ℕ) (p : ℕ) where
   -- one enters
@@ -24,40 +24,13 @@ module _ (words words' : List ℕ) (p : ℕ) where
     λ q above. is q ∙ rw (ne_eqb q p (omega arith)) (found.1 q (omega arith)),
   )
 
-  -- the greatest one leaves: none above it is in the set
-  none_above : IsGreatest words (Some p) → ((q : ℕ) → has words' q ≡ (if q == p then false else has words q)) → (q : ℕ) → p < q → has words' q ≡ false
-  none_above found is q above = is q ∙ rw (ne_eqb q p (omega arith)) (found.1 q above)
-
-  module _ (found : IsGreatest words (Some p)) (is : (q : ℕ) → has words' q ≡ (if q == p then false else has words q)) where
-    -- its word has none now: the greatest one below is that of the set
-    pub greatest-below : (g : Option ℕ) → get_or words' (p / 64) 0 ≡ 0 → IsGreatestBelow (p / 64 * 64) words' g → IsGreatest words' g
-    greatest-below None zero none = λ q. elim (cases_lt q (p / 64 * 64)) [
-      | inl below ↦ none q below
-      | inr from ↦ rest q from
-    ]
-      where
-        rest : (q : ℕ) → p / 64 * 64 ≤ q → has words' q ≡ false
-        rest q from = elim (cases_lt q (p / 64 * 64 + 64)) [
-          | inl within ↦ has-zero words' (p / 64) q zero from within
-          | inr past ↦ none_above found is q (omega arith)
-        ]
-    greatest-below (Some g) zero some = (
-      some.0,
-      λ q above. elim (cases_lt q (p / 64 * 64)) [
-        | inl below ↦ some.1 q above below
-        | inr from ↦ elim (cases_lt q (p / 64 * 64 + 64)) [
-          | inl within ↦ has-zero words' (p / 64) q zero from within
-          | inr past ↦ none_above found is q (omega arith)
-        ]
-      ],
-    )
-
-    -- its word still has one: the highest of that word is the greatest
-    pub greatest-in_word : (k : ℕ) → k < 64 → 2 ^ k ≤ get_or words' (p / 64) 0 → get_or words' (p / 64) 0 < 2 * 2 ^ k → IsGreatest words' (Some (p / 64 * 64 + k))
-    greatest-in_word k below low high = (
-      has-highest words' (p / 64) k below low high,
-      λ q above. elim (cases_lt q (p / 64 * 64 + 64)) [
-        | inl within ↦ has_above words' (p / 64) k q high above within
-        | inr past ↦ none_above found is q (omega arith)
-      ],
-    )
+  -- the greatest one leaves, and its word still has one: the highest of that word is the greatest
+  pub greatest-in_word : (k : ℕ) → IsGreatest words (Some p) → ((q : ℕ) → has words' q ≡ (if q == p then false else has words q)) →
+      k < 64 → 2 ^ k ≤ get_or words' (p / 64) 0 → get_or words' (p / 64) 0 < 2 * 2 ^ k → IsGreatest words' (Some (p / 64 * 64 + k))
+  greatest-in_word k found is below low high = (
+    has-highest words' (p / 64) k below low high,
+    λ q above. elim (cases_lt q (p / 64 * 64 + 64)) [
+      | inl within ↦ has_above words' (p / 64) k q high above within
+      | inr past ↦ is q ∙ rw (ne_eqb q p (omega arith)) (found.1 q (omega arith))
+    ],
+  )

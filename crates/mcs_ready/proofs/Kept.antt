@@ -3,7 +3,7 @@ use Rattle.std.proofs.Common.{◌≡◌, ◌≢◌, ℕ, zero, suc, ◌+◌, ◌
 use Rattle.std.specs.Prelude.{nat_lt, not, Option, None, Some, MatchOption}
 use Rattle.std.proofs.Math.ListN.{get_or-map as get_or-map_at}
 use Rattle.std.proofs.lemmas.Bool.{cases_eq, cases_lt, eq-eqb, ne_eqb, false≢true}
-use Rattle.std.proofs.lemmas.List.{length-map, get_or-map, get_or_past, length-replicate, set-get_or}
+use Rattle.std.proofs.lemmas.List.{length-map, get_or-map, get_or_past, get_or_read, length-replicate, set-get_or}
 use Rattle.mcs_ticks.specs.declared.queue.Queued.{Queued}
 use Rattle.mcs_ticks.specs.Queue.{entered_back, entered_front, first_of}
 use Rattle.mcs_ready.specs.stored.Lines.{IsKept, IsLine, no_thread, line_to, threads_of, all_threads, queue_from, is_some_in, times, times_in, names_one, one_if}
@@ -68,11 +68,10 @@ nil_from_none [] e = refl
 nil_from_none (x ∷ xs) e = cc
 
 module _ (words lasts next : List ℕ) (kept : IsKept words lasts next) where
-  line : ℕ → List ℕ
+  abbrev line : ℕ → List ℕ
   line q = threads_of next (get_or lasts q no_thread)
 
   line-at : (q : ℕ) → get_or (all_threads next lasts) q [] ≡ line q
-  unfolding line
   line-at q = get_or-map_at (threads_of next) lasts q no_thread
 
   -- each stands there at most once
@@ -114,48 +113,59 @@ module _ (words lasts next : List ℕ) (kept : IsKept words lasts next) where
 
   -- a line in which a thread does not stand, where that one names another one
   other-set : (y z j : ℕ) → times y (line j) ≡ 0 → threads_of (set next y z) (get_or lasts j no_thread) ≡ threads_of next (get_or lasts j no_thread)
-  unfolding line
   other-set y z j none = threads-other next (get_or lasts j no_thread) y z (few-at j) none
 
   other-sets : (y z w v j : ℕ) → times y (line j) ≡ 0 → times w (line j) ≡ 0 →
       threads_of (set (set next y z) w v) (get_or lasts j no_thread) ≡ threads_of next (get_or lasts j no_thread)
-  unfolding line
   other-sets y z w v j none none' =
       let same = other-set y z j none in
       threads-other (set next y z) (get_or lasts j no_thread) w v (rw (same, length-set next y z) (few-at j)) (rw same none') ∙ same
 
-  -- a line that is marked has a last thread, which stands in it
+  -- a line that is marked is one of the 256, and has a last thread, which stands in it
+  pub marked-below : (p : ℕ) → has words p ≡ true → p < 256
+  marked-below p marked = elim (cases_lt p 256) [
+    | inl below ↦ below
+    | inr past ↦
+        let none : get_or (all_threads next lasts) p [] ≡ [] = get_or_past (all_threads next lasts) p [] (omega (arith, kept.count, length-map lasts (threads_of next))) in
+        absurd (false≢true (ap is_some_in (sym none) ∙ sym (kept.marked p) ∙ marked))
+  ]
+
   pub marked-some : (p : ℕ) → has words p ≡ true → get_or lasts p no_thread ≢ no_thread
-  unfolding line
   marked-some p marked e =
       let none : line p ≡ [] = rw e refl in
       absurd (false≢true (ap is_some_in (sym (line-at p ∙ none)) ∙ sym (kept.marked p) ∙ marked))
 
   last-stands_at : (p : ℕ) → get_or lasts p no_thread ≢ no_thread → 1 ≤ times (get_or lasts p no_thread) (line p)
-  unfolding line
   last-stands_at p some = last-stands next (get_or lasts p no_thread) some (few-at p)
 
-  pub last-below : (p : ℕ) → get_or lasts p no_thread ≢ no_thread → get_or lasts p no_thread < length next
+  last-below : (p : ℕ) → get_or lasts p no_thread ≢ no_thread → get_or lasts p no_thread < length next
   last-below p some = stands-below p (get_or lasts p no_thread) (last-stands_at p some)
 
   -- and so does the first
   first-stands : (p : ℕ) → get_or lasts p no_thread ≢ no_thread → 1 ≤ times (get_or next (get_or lasts p no_thread) 0) (line p)
-  unfolding line
   first-stands p some =
       let first = get_or next (get_or lasts p no_thread) 0 in
       rw (ne_eqb (get_or lasts p no_thread) no_thread some) (rw (eq-eqb first first refl) (omega arith))
 
-  pub first-below : (p : ℕ) → get_or lasts p no_thread ≢ no_thread → get_or next (get_or lasts p no_thread) 0 < length next
+  first-below : (p : ℕ) → get_or lasts p no_thread ≢ no_thread → get_or next (get_or lasts p no_thread) 0 < length next
   first-below p some = stands-below p (get_or next (get_or lasts p no_thread) 0) (first-stands p some)
 
+  -- the last thread of a line as a call reads it
+  pub last-read : (p : ℕ) → p < 256 → (last : ℕ) → last ≡ get_or lasts p last → last ≡ get_or lasts p no_thread
+  last-read p below last read = get_or_read lasts p last (omega (arith, kept.count)) read no_thread
+
+  -- the place in which it names the first, and the first
+  module _ (p last place : ℕ) (some : last ≢ no_thread) (is_last : last ≡ get_or lasts p no_thread) (at : place ≡ last) where
+    pub place-below : place < length next
+    place-below = rw (at, is_last) (last-below p (λ e. some (is_last ∙ e)))
+
+    pub first-read : (first : ℕ) → first ≡ get_or next place first → first ≡ get_or next (get_or lasts p no_thread) 0
+    first-read first read = get_or_read next place first place-below read 0 ∙ ap (λ (n : ℕ). get_or next n 0) (at ∙ is_last)
+
   pub IsLine-kept : (p : ℕ) → IsLine next (get_or lasts p no_thread)
-  unfolding line
   IsLine-kept p = record { known = last-below p; few = few-at p; within = stands-below p }
 
   module _ (p : ℕ) (below : p < 256) where
-    pub within : p < length lasts
-    within = omega (arith, kept.count)
-
     among : p < length (all_threads next lasts)
     among = omega (arith, kept.count, length-map lasts (threads_of next))
 
@@ -180,7 +190,6 @@ module _ (words lasts next : List ℕ) (kept : IsKept words lasts next) where
             (rw (eq-eqb x x refl) refl)
 
         none : get_or (all_threads next lasts) p [] ≡ []
-        unfolding line
         none = line-at p ∙ rw empty refl
 
         alone-now : all_threads (set next x x) (set lasts p x) ≡ set (all_threads next lasts) p (x ∷ [])
@@ -240,7 +249,6 @@ module _ (words lasts next : List ℕ) (kept : IsKept words lasts next) where
         ]
 
         marks : (threads : List ℕ) → is_some_in threads ≡ true → (q : ℕ) → has words q ≡ (if q == p then is_some_in threads else has words q)
-        unfolding line
         marks threads e q = elim (cases_eq q p) [
           | inl same ↦ rw (eq-eqb q p same, e, same) (kept.marked p ∙ ap is_some_in (line-at p) ∙ is_some)
           | inr ne ↦ rw (ne_eqb q p ne) refl
@@ -250,14 +258,12 @@ module _ (words lasts next : List ℕ) (kept : IsKept words lasts next) where
             is_some = rw (ne_eqb last no_thread some) refl
 
         front-now : all_threads after lasts ≡ set (all_threads next lasts) p (x ∷ line p)
-        unfolding line
         front-now =
             ap (all_threads after) (sym (set-get_or lasts p no_thread))
             ∙ lines-changed next after lasts p last (x ∷ line p)
             (threads-front next last x some (last-below p some) x_below other (free-line x p free) (few-at p)) others-now
 
         back-now : all_threads after (set lasts p x) ≡ set (all_threads next lasts) p (line p ++ x ∷ [])
-        unfolding line
         back-now =
             lines-changed next after lasts p x (line p ++ x ∷ [])
             (threads-back next last x some (last-below p some) x_below other (free-line x p free) (few-at p)
@@ -290,124 +296,150 @@ module _ (words lasts next : List ℕ) (kept : IsKept words lasts next) where
             ∙ queue-back (all_threads next lasts) 0 p x among
             ∙ ap (λ (n : ℕ). entered_back (queued x n) (queue_from 0 (all_threads next lasts))) (omega arith)
 
-    -- the first thread leaves the line
-    module _ (some : get_or lasts p no_thread ≢ no_thread) where
-      abbrev end : ℕ
-      end = get_or lasts p no_thread
+  -- the first thread leaves the line
+  module _ (p : ℕ) (marked : has words p ≡ true) where
+    below : p < 256
+    below = marked-below p marked
 
-      abbrev head : ℕ
-      head = get_or next end 0
+    some : get_or lasts p no_thread ≢ no_thread
+    some = marked-some p marked
 
-      head-none : (j : ℕ) → j ≢ p → times head (line j) ≡ 0
-      head-none j ne = other-line p head j (first-stands p some) ne
+    abbrev end : ℕ
+    end = get_or lasts p no_thread
 
-      left : (next' rest : List ℕ) → line p ≡ head ∷ rest → names_one next' head ≡ false → ((y : ℕ) → y ≢ head → names_one next' y ≡ names_one next y) →
-          (y : ℕ) → times y rest + one_if (names_one next y) ≡ times y (get_or (all_threads next lasts) p []) + one_if (names_one next' y)
-      left next' rest split mine others y = rw (line-at p, split) (elim (cases_eq y head) [
-        | inl e ↦
-            let Left : ℕ → Type 0 = λ (y : ℕ). times y rest + one_if (names_one next y) ≡ times y (head ∷ rest) + one_if (names_one next' y) in
-            subst Left (sym e) (omega (arith, times-cons_same head rest, ap one_if (stands-names p head (first-stands p some)), ap one_if mine))
-        | inr ne ↦ rw (others y ne, times-cons_other y head rest (λ e. ne (sym e))) refl
-      ])
+    abbrev head : ℕ
+    head = get_or next end 0
 
-      -- the queue begins with it, where no line above has a thread
-      queue-rest : (rest : List ℕ) → line p ≡ head ∷ rest → ((q : ℕ) → p < q → has words q ≡ false) →
-          queue_from 0 (all_threads next lasts) ≡ queued head p ∷ queue_from 0 (set (all_threads next lasts) p rest)
-      queue-rest rest split none =
-          queue-first (all_threads next lasts) 0 p head rest (line-at p ∙ split) (λ q above. nil_from_none _ (sym (kept.marked q) ∙ none q above))
-          ∙ ap (λ (n : ℕ). queued head n ∷ queue_from 0 (set (all_threads next lasts) p rest)) (omega arith)
+    head-none : (j : ℕ) → j ≢ p → times head (line j) ≡ 0
+    head-none j ne = other-line p head j (first-stands p some) ne
 
-      -- it is the only one
-      module _ (only : head ≡ end) where
-        single : line p ≡ head ∷ []
-        unfolding line
-        single = rw (ne_eqb end no_thread some, eq-eqb head end only) refl
+    left : (next' rest : List ℕ) → line p ≡ head ∷ rest → names_one next' head ≡ false → ((y : ℕ) → y ≢ head → names_one next' y ≡ names_one next y) →
+        (y : ℕ) → times y rest + one_if (names_one next y) ≡ times y (get_or (all_threads next lasts) p []) + one_if (names_one next' y)
+    left next' rest split mine others y = rw (line-at p, split) (elim (cases_eq y head) [
+      | inl e ↦
+          let Left : ℕ → Type 0 = λ (y : ℕ). times y rest + one_if (names_one next y) ≡ times y (head ∷ rest) + one_if (names_one next' y) in
+          subst Left (sym e) (omega (arith, times-cons_same head rest, ap one_if (stands-names p head (first-stands p some)), ap one_if mine))
+      | inr ne ↦ rw (others y ne, times-cons_other y head rest (λ e. ne (sym e))) refl
+    ])
 
-        emptied-now : all_threads (set next head no_thread) (set lasts p no_thread) ≡ set (all_threads next lasts) p []
-        emptied-now = lines-changed next (set next head no_thread) lasts p no_thread [] refl (λ j ne. other-set head no_thread j (head-none j ne))
+    -- as a call reads its last thread, the place of that, and the first
+    module _ (last : ℕ) (read : last ≡ get_or lasts p last) (place : ℕ) (at : place ≡ last) where
+      pub end-read : last ≡ end
+      end-read = last-read p below last read
 
-        pub IsKept-emptied : (words' : List ℕ) → ((q : ℕ) → has words' q ≡ (if q == p then false else has words q)) →
-            IsKept words' (set lasts p no_thread) (set next head no_thread)
-        IsKept-emptied words' marks =
-            IsKept-changed words words' lasts next (set next head no_thread) p no_thread [] kept below (length-set next head no_thread) emptied-now marks
-            (left (set next head no_thread) [] single (names-none next head (first-below p some)) (λ y ne. names-other next head no_thread y ne))
+      pub end-below : place < length next
+      end-below = rw (at, end-read) (last-below p some)
 
-        pub queue-emptied : ((q : ℕ) → p < q → has words q ≡ false) →
-            queue_from 0 (all_threads next lasts) ≡ queued head p ∷ queue_from 0 (all_threads (set next head no_thread) (set lasts p no_thread))
-        queue-emptied none = queue-rest [] single none ∙ ap (λ (xss : List (List ℕ)). queued head p ∷ queue_from 0 xss) (sym emptied-now)
+      module _ (first : ℕ) (read' : first ≡ get_or next place first) where
+        pub head-read : first ≡ head
+        head-read = get_or_read next place first end-below read' 0 ∙ ap (λ (n : ℕ). get_or next n 0) (at ∙ end-read)
 
-      -- it is not
-      module _ (more : head ≢ end) where
-        abbrev closed : List ℕ
-        closed = set (set next end (get_or next head 0)) head no_thread
+        pub head-below : first < length next
+        head-below = rw head-read (first-below p some)
 
-        behind : List ℕ
-        behind = threads_of closed end
+        pub behind-read : (place : ℕ) → place ≡ first → (second : ℕ) → second ≡ get_or next place second → second ≡ get_or next head 0
+        behind-read place at second read =
+            get_or_read next place second (rw at head-below) read 0 ∙ ap (λ (n : ℕ). get_or next n 0) (at ∙ head-read)
 
-        split : line p ≡ head ∷ behind
-        unfolding line behind
-        split =
-            let one : times head (line p) ≤ 1 = omega (arith, once-at p head, one_if-le-one (names_one next head)) in
-            threads-rest next end some (last-below p some) more one (few-at p)
+        pub head-single : first ≡ last → head ≡ end
+        head-single e = sym head-read ∙ e ∙ end-read
 
-        second-stands : 1 ≤ times (get_or next head 0) (line p)
-        unfolding line
-        second-stands =
-            let second = get_or next head 0 in
-            rw (ne_eqb end no_thread some, ne_eqb head end more) (by (length next) refl)
-          where
-            by : (n : ℕ) → n ≡ length next → 1 ≤ times (get_or next head 0) (head ∷ line_to next end n (get_or next head 0))
-            by zero e = absurd (omega (arith, first-below p some))
-            by (suc n) e = rw (eq-eqb (get_or next head 0) (get_or next head 0) refl) (omega arith)
+        pub head-several : first ≢ last → head ≢ end
+        head-several ne e = ne (head-read ∙ e ∙ sym end-read)
 
-        rest-now : all_threads closed lasts ≡ set (all_threads next lasts) p behind
-        unfolding behind
-        rest-now =
-            ap (all_threads closed) (sym (set-get_or lasts p no_thread))
-            ∙ lines-changed next closed lasts p end behind refl
-            (λ j ne. other-sets end (get_or next head 0) head no_thread j (other-line p end j (last-stands_at p some) ne) (head-none j ne))
+    -- the queue begins with it, where no line above has a thread
+    queue-rest : (rest : List ℕ) → line p ≡ head ∷ rest → ((q : ℕ) → p < q → has words q ≡ false) →
+        queue_from 0 (all_threads next lasts) ≡ queued head p ∷ queue_from 0 (set (all_threads next lasts) p rest)
+    queue-rest rest split none =
+        queue-first (all_threads next lasts) 0 p head rest (line-at p ∙ split) (λ q above. nil_from_none _ (sym (kept.marked q) ∙ none q above))
+        ∙ ap (λ (n : ℕ). queued head n ∷ queue_from 0 (set (all_threads next lasts) p rest)) (omega arith)
 
-        some_behind : is_some_in behind ≡ true
-        unfolding behind
-        some_behind = rw (ne_eqb end no_thread some) refl
+    -- it is the only one
+    module _ (only : head ≡ end) where
+      single : line p ≡ head ∷ []
+      single = rw (ne_eqb end no_thread some, eq-eqb head end only) refl
 
-        marks_behind : (q : ℕ) → has words q ≡ (if q == p then is_some_in behind else has words q)
-        marks_behind q = elim (cases_eq q p) [
-          | inl same ↦ rw (eq-eqb q p same, some_behind, same) (kept.marked p ∙ ap is_some_in (line-at p ∙ split))
-          | inr ne ↦ rw (ne_eqb q p ne) refl
-        ]
+      emptied-now : all_threads (set next head no_thread) (set lasts p no_thread) ≡ set (all_threads next lasts) p []
+      emptied-now = lines-changed next (set next head no_thread) lasts p no_thread [] refl (λ j ne. other-set head no_thread j (head-none j ne))
 
-        names-rest : (y : ℕ) → y ≢ head → names_one closed y ≡ names_one next y
-        names-rest y ne = names-other (set next end (get_or next head 0)) head no_thread y ne ∙ elim (cases_eq y end) [
-          | inl e ↦
-              rw e (
-              names-same next end (get_or next head 0) (last-below p some) (below-some (get_or next head 0) (stands-below p (get_or next head 0) second-stands))
-              ∙ sym (stands-names p end (last-stands_at p some))
-              )
-          | inr ne' ↦ names-other next end (get_or next head 0) y ne'
-        ]
+      pub IsKept-emptied : (words' : List ℕ) → ((q : ℕ) → has words' q ≡ (if q == p then false else has words q)) →
+          IsKept words' (set lasts p no_thread) (set next head no_thread)
+      IsKept-emptied words' marks =
+          IsKept-changed words words' lasts next (set next head no_thread) p no_thread [] kept below (length-set next head no_thread) emptied-now marks
+          (left (set next head no_thread) [] single (names-none next head (first-below p some)) (λ y ne. names-other next head no_thread y ne))
 
-        pub IsKept-rest : IsKept words lasts closed
-        IsKept-rest =
-            let Kept : List ℕ → Type 0 = λ (l : List ℕ). IsKept words l closed in
-            let room : head < length (set next end (get_or next head 0)) = rw (length-set next end (get_or next head 0)) (first-below p some) in
-            subst Kept (set-get_or lasts p no_thread) (
-            IsKept-changed words words lasts next closed p end behind kept below
-            (length-set (set next end (get_or next head 0)) head no_thread ∙ length-set next end (get_or next head 0))
-            (ap (all_threads closed) (set-get_or lasts p no_thread) ∙ rest-now) marks_behind
-            (left closed behind split (names-none (set next end (get_or next head 0)) head room) names-rest)
-            )
+      pub queue-emptied : ((q : ℕ) → p < q → has words q ≡ false) →
+          queue_from 0 (all_threads next lasts) ≡ queued head p ∷ queue_from 0 (all_threads (set next head no_thread) (set lasts p no_thread))
+      queue-emptied none = queue-rest [] single none ∙ ap (λ (xss : List (List ℕ)). queued head p ∷ queue_from 0 xss) (sym emptied-now)
 
-        pub queue-rest_in : ((q : ℕ) → p < q → has words q ≡ false) →
-            queue_from 0 (all_threads next lasts) ≡ queued head p ∷ queue_from 0 (all_threads closed lasts)
-        queue-rest_in none = queue-rest behind split none ∙ ap (λ (xss : List (List ℕ)). queued head p ∷ queue_from 0 xss) (sym rest-now)
+    -- it is not
+    module _ (more : head ≢ end) where
+      abbrev closed : List ℕ
+      closed = set (set next end (get_or next head 0)) head no_thread
 
-      -- it is the first of the queue
-      pub first-taken : ((q : ℕ) → p < q → has words q ≡ false) → thread_of (first_of (queue_from 0 (all_threads next lasts))) ≡ Some head
-      first-taken none = elim (cases_eq head end) [
-        | inl only ↦ rw (queue-emptied only none) refl
-        | inr more ↦ rw (queue-rest_in more none) refl
+      abbrev behind : List ℕ
+      behind = threads_of closed end
+
+      split : line p ≡ head ∷ behind
+      split =
+          let one : times head (line p) ≤ 1 = omega (arith, once-at p head, one_if-le-one (names_one next head)) in
+          threads-rest next end some (last-below p some) more one (few-at p)
+
+      second-stands : 1 ≤ times (get_or next head 0) (line p)
+      second-stands =
+          let second = get_or next head 0 in
+          rw (ne_eqb end no_thread some, ne_eqb head end more) (by (length next) refl)
+        where
+          by : (n : ℕ) → n ≡ length next → 1 ≤ times (get_or next head 0) (head ∷ line_to next end n (get_or next head 0))
+          by zero e = absurd (omega (arith, first-below p some))
+          by (suc n) e = rw (eq-eqb (get_or next head 0) (get_or next head 0) refl) (omega arith)
+
+      rest-now : all_threads closed lasts ≡ set (all_threads next lasts) p behind
+      rest-now =
+          ap (all_threads closed) (sym (set-get_or lasts p no_thread))
+          ∙ lines-changed next closed lasts p end behind refl
+          (λ j ne. other-sets end (get_or next head 0) head no_thread j (other-line p end j (last-stands_at p some) ne) (head-none j ne))
+
+      some_behind : is_some_in behind ≡ true
+      some_behind = rw (ne_eqb end no_thread some) refl
+
+      marks_behind : (q : ℕ) → has words q ≡ (if q == p then is_some_in behind else has words q)
+      marks_behind q = elim (cases_eq q p) [
+        | inl same ↦ rw (eq-eqb q p same, some_behind, same) (kept.marked p ∙ ap is_some_in (line-at p ∙ split))
+        | inr ne ↦ rw (ne_eqb q p ne) refl
       ]
+
+      names-rest : (y : ℕ) → y ≢ head → names_one closed y ≡ names_one next y
+      names-rest y ne = names-other (set next end (get_or next head 0)) head no_thread y ne ∙ elim (cases_eq y end) [
+        | inl e ↦
+            rw e (
+            names-same next end (get_or next head 0) (last-below p some) (below-some (get_or next head 0) (stands-below p (get_or next head 0) second-stands))
+            ∙ sym (stands-names p end (last-stands_at p some))
+            )
+        | inr ne' ↦ names-other next end (get_or next head 0) y ne'
+      ]
+
+      pub IsKept-rest : IsKept words lasts closed
+      IsKept-rest =
+          let Kept : List ℕ → Type 0 = λ (l : List ℕ). IsKept words l closed in
+          let room : head < length (set next end (get_or next head 0)) = rw (length-set next end (get_or next head 0)) (first-below p some) in
+          subst Kept (set-get_or lasts p no_thread) (
+          IsKept-changed words words lasts next closed p end behind kept below
+          (length-set (set next end (get_or next head 0)) head no_thread ∙ length-set next end (get_or next head 0))
+          (ap (all_threads closed) (set-get_or lasts p no_thread) ∙ rest-now) marks_behind
+          (left closed behind split (names-none (set next end (get_or next head 0)) head room) names-rest)
+          )
+
+      pub queue-rest_in : ((q : ℕ) → p < q → has words q ≡ false) →
+          queue_from 0 (all_threads next lasts) ≡ queued head p ∷ queue_from 0 (all_threads closed lasts)
+      queue-rest_in none = queue-rest behind split none ∙ ap (λ (xss : List (List ℕ)). queued head p ∷ queue_from 0 xss) (sym rest-now)
+
+    -- it is the first of the queue
+    pub first-taken : ((q : ℕ) → p < q → has words q ≡ false) → thread_of (first_of (queue_from 0 (all_threads next lasts))) ≡ Some head
+    first-taken none = elim (cases_eq head end) [
+      | inl only ↦ rw (queue-emptied only none) refl
+      | inr more ↦ rw (queue-rest_in more none) refl
+    ]
 
   -- a thread stands in the queue where it names one
   pub is_held-kept : (x : ℕ) → is_held x (queue_from 0 (all_threads next lasts)) ≡ names_one next x
@@ -416,14 +448,6 @@ module _ (words lasts next : List ℕ) (kept : IsKept words lasts next) where
       by : (b : Bool) → nat_lt 0 (one_if b) ≡ b
       by true = refl
       by false = refl
-
-  pub marked-below : (p : ℕ) → has words p ≡ true → p < 256
-  marked-below p marked = elim (cases_lt p 256) [
-    | inl below ↦ below
-    | inr past ↦
-        let none : get_or (all_threads next lasts) p [] ≡ [] = get_or_past (all_threads next lasts) p [] (omega (arith, kept.count, length-map lasts (threads_of next))) in
-        absurd (false≢true (ap is_some_in (sym none) ∙ sym (kept.marked p) ∙ marked))
-  ]
 
   pub queue_unmarked : ((q : ℕ) → has words q ≡ false) → queue_from 0 (all_threads next lasts) ≡ []
   queue_unmarked none = queue-none (all_threads next lasts) 0 (λ q. nil_from_none _ (sym (kept.marked q) ∙ none q))
@@ -434,8 +458,8 @@ module _ (words lasts next : List ℕ) (kept : IsKept words lasts next) where
       greatest ≡ priority_of (first_of (queue_from 0 (all_threads next lasts)))
   first-greatest None none = rw (queue_unmarked none) refl
   first-greatest (Some p) greatest = elim (cases_eq (get_or next (get_or lasts p no_thread) 0) (get_or lasts p no_thread)) [
-    | inl only ↦ rw (queue-emptied p (marked-below p greatest.0) (marked-some p greatest.0) only greatest.1) refl
-    | inr more ↦ rw (queue-rest_in p (marked-below p greatest.0) (marked-some p greatest.0) more greatest.1) refl
+    | inl only ↦ rw (queue-emptied p greatest.0 only greatest.1) refl
+    | inr more ↦ rw (queue-rest_in p greatest.0 more greatest.1) refl
   ]
 
 -- with no thread, everything is kept

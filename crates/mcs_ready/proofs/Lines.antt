@@ -151,31 +151,22 @@ module _ (next : List ℕ) (last x : ℕ) (some : last ≢ no_thread) (last_belo
   same = line-other next last (length next) first x first (ap (times x) (sym (there ∙ less)) ∙ none)
 
   -- it is the first now
-  entered-front : threads_of entered last ≡ x ∷ threads_of next last
-  entered-front =
+  pub threads-front : threads_of entered last ≡ x ∷ threads_of next last
+  threads-front =
       rw there (
       rw (ne_eqb last no_thread some, length-entered, behind_last, ne_eqb x last ne, behind_x)
       (ap (λ (xs : List ℕ). x ∷ xs) (line-last opened last (length next) first x ∙ same ∙ sym less))
       )
 
   -- or the last
-  entered-back : x ≢ no_thread → length (threads_of next last) < length next → threads_of entered x ≡ threads_of next last ++ x ∷ []
-  entered-back x_some fewer =
+  pub threads-back : x ≢ no_thread → length (threads_of next last) < length next → threads_of entered x ≡ threads_of next last ++ x ∷ []
+  threads-back x_some fewer =
       let within : last < length opened = rw (length-set next x first) last_below in
       let all = there ∙ less ∙ sym same in
       rw all (
       rw (ne_eqb x no_thread x_some, length-entered, behind_x)
       (line-back opened last (length next) first x within (rw all at fewer) (ap (times x) (sym all) ∙ none))
       )
-
-pub threads-front : (next : List ℕ) (last x : ℕ) → last ≢ no_thread → last < length next → x < length next → x ≢ last → times x (threads_of next last) ≡ 0 →
-    length (threads_of next last) ≤ length next → threads_of (set (set next x (get_or next last 0)) last x) last ≡ x ∷ threads_of next last
-threads-front = entered-front
-
-pub threads-back : (next : List ℕ) (last x : ℕ) → last ≢ no_thread → last < length next → x < length next → x ≢ last → times x (threads_of next last) ≡ 0 →
-    length (threads_of next last) ≤ length next → x ≢ no_thread → length (threads_of next last) < length next →
-    threads_of (set (set next x (get_or next last 0)) last x) x ≡ threads_of next last ++ x ∷ []
-threads-back = entered-back
 
 -- the first one leaves, and is not the last
 pub threads-rest : (next : List ℕ) (last : ℕ) → last ≢ no_thread → last < length next → get_or next last 0 ≢ last →

@@ -2,7 +2,7 @@
 use Rattle.std.proofs.Common.{◌≡◌, ◌≢◌, ℕ, suc, ◌+◌, ◌-◌, ◌*◌, ◌/◌, ◌%◌, ◌^◌, ◌<◌, ◌≤◌, ◌==◌, if◌then◌else◌, Bool, true, false, List, length, get_or, set, bit_and, bit_or, sym, ap, ◌∙◌, inl, inr, arith, get_or-set_same, get_or-set_other}
 use Rattle.std.specs.Int.{w64, bit_at, bit_not}
 use Rattle.std.proofs.lemmas.Bool.{cases_eq, eq-eqb, ne_eqb}
-use Rattle.std.proofs.lemmas.Nat.Bits.{bit_at_set_same, bit_at_set_other, bit_at_clear_same, bit_at_clear_other, bit_at_above, bit_at-zero}
+use Rattle.std.proofs.lemmas.Nat.Bits.{bit_at_set_same, bit_at_set_other, bit_at_clear_same, bit_at_clear_other, bit_at_above}
 use Rattle.std.proofs.Math.Nat.{pow-suc}
 use Rattle.std.proofs.lemmas.Nat.{shr_high}
 use Rattle.mcs_ready.specs.stored.Priorities.{has}
@@ -68,9 +68,3 @@ has_above words word k q high above within =
     let e : q / 64 ≡ word = omega arith in
     let f : get_or words (q / 64) 0 < 2 ^ suc k = rw (e, pow-suc 2 k) (omega arith) in
     ap (λ (bit : ℕ). bit == 1) (bit_at_above (get_or words (q / 64) 0) (suc k) (q % 64) f (omega arith))
-
--- none of a word that is 0 is in the set
-pub has-zero : (words : List ℕ) (word q : ℕ) → get_or words word 0 ≡ 0 → word * 64 ≤ q → q < word * 64 + 64 → has words q ≡ false
-has-zero words word q zero from within =
-    let e : q / 64 ≡ word = omega arith in
-    rw (e, zero) (ap (λ (bit : ℕ). bit == 1) (bit_at-zero (q % 64)))

@@ -11,7 +11,7 @@ invariant_of-self-else-bits-eq0 c =
     let top : IsGreatest words (Some p) = rw c.self.view_is c.requires in
     let within : p / 64 < length words = search arith in
     let read = get_or-set_same words (p / 64) (bit_and (get_or words (p / 64) 0) (18446744073709551615 - 1 * 2 ^ (p % 64) % 18446744073709551616)) 0 within in
-    greatest-in_word words _ p top (λ q. has-cleared words p q within) c.ilog2.result c.ilog2.ensures.bound
+    greatest-in_word words _ p c.ilog2.result top (λ q. has-cleared words p q within) c.ilog2.ensures.bound
     (rw read c.ilog2.ensures.power_le) (rw read c.ilog2.ensures.next_power_gt)
 
 pub returns-then-bits-eq0 : goal.returns-then-bits-eq0

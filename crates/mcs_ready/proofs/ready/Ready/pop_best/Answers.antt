@@ -1,10 +1,8 @@
-use Rattle.std.proofs.Common.{◌≡◌, ◌≢◌, ℕ, ◌<◌, ◌∙◌, List, [], ap, arith, get_or, length, length-set, refl, rules, set, sym}
-use Rattle.std.proofs.lemmas.List.{get_or_read}
+use Rattle.std.proofs.Common.{◌≡◌, ◌≢◌, ◌∙◌, List, [], ap, arith, length-set, refl, rules, set, sym}
 use Rattle.mcs_ticks.specs.declared.queue.Queued.{Queued}
 use Rattle.mcs_ticks.specs.Queue.{first_of, rest_of}
-use Rattle.mcs_ready.specs.stored.Lines.{no_thread}
 use Rattle.mcs_ready.specs.Ready.{ReadyQueue, thread_of}
-use Rattle.mcs_ready.proofs.Kept.{IsKept-emptied, IsKept-rest, first-below, first-taken, last-below, marked-below, marked-some, queue-emptied, queue-rest_in, queue_unmarked, same_value, within}
+use Rattle.mcs_ready.proofs.Kept.{IsKept-emptied, IsKept-rest, end-below, end-read, behind-read, first-taken, head-below, head-read, head-several, head-single, queue-emptied, queue-rest_in, queue_unmarked, same_value}
 use Rattle.mcs_ready.proofs.ready.Ready.pop_best.Goals as goal
 use Rattle.mcs_ready.proofs.ready.Ready.pop_best.Goals.{then-eq, else-eq}
 
@@ -19,152 +17,61 @@ returns-in_err-priority-clause-rest c =
     same_value _ _ _ _ (empty ∙ sym (ap rest_of empty)) refl
 
 pub index-requires-2 : goal.index-requires-2
-index-requires-2 c =
-    let p = c.in_ok-priority.priority in
-    let below : p < 256 = marked-below _ _ _ c.self.invariant p c.in_ok-priority.ensures.0 in
-    let some : get_or c.self.inside.lasts.items p no_thread ≢ no_thread = marked-some _ _ _ c.self.invariant p c.in_ok-priority.ensures.0 in
-    let last : c.last.inside.0 ≡ get_or c.self.inside.lasts.items p no_thread =
-    c.last.view_is ∙ get_or_read _ _ _ (within _ _ _ c.self.invariant p below) c.index.ensures no_thread
-    in
-    rw last (omega (arith, last-below _ _ _ c.self.invariant p some))
+index-requires-2 c = omega (arith, end-below _ _ _ c.self.invariant c.in_ok-priority.priority c.in_ok-priority.ensures.0 _ c.index.ensures _ c.last.view_is)
 
 pub index_mut-requires-then-eq : goal.index_mut-requires-then-eq
-index_mut-requires-then-eq c =
-    let p = c.in_ok-priority.priority in
-    let below : p < 256 = marked-below _ _ _ c.self.invariant p c.in_ok-priority.ensures.0 in
-    let some : get_or c.self.inside.lasts.items p no_thread ≢ no_thread = marked-some _ _ _ c.self.invariant p c.in_ok-priority.ensures.0 in
-    let last : c.last.inside.0 ≡ get_or c.self.inside.lasts.items p no_thread =
-    c.last.view_is ∙ get_or_read _ _ _ (within _ _ _ c.self.invariant p below) c.index.ensures no_thread
-    in
-    let last_below : c.last.inside.0 < length c.self.inside.next.items = rw last (last-below _ _ _ c.self.invariant p some) in
-    let first : c.index-2.result.now ≡ get_or c.self.inside.next.items (get_or c.self.inside.lasts.items p no_thread) 0 =
-    get_or_read _ _ _ last_below c.index-2.ensures 0 ∙ ap (λ (n : ℕ). get_or c.self.inside.next.items n 0) last
-    in
-    rw (c.x.view_is, first) (omega (arith, first-below _ _ _ c.self.invariant p some))
+index_mut-requires-then-eq c = rw c.x.view_is (omega (arith, head-below _ _ _ c.self.invariant c.in_ok-priority.priority c.in_ok-priority.ensures.0 _ c.index.ensures _ c.last.view_is _ c.index-2.ensures))
 
 pub invariant_of-self : goal.invariant_of-self
 invariant_of-self c =
-    let p = c.in_ok-priority.priority in
-    let below : p < 256 = marked-below _ _ _ c.self.invariant p c.in_ok-priority.ensures.0 in
-    let some : get_or c.self.inside.lasts.items p no_thread ≢ no_thread = marked-some _ _ _ c.self.invariant p c.in_ok-priority.ensures.0 in
-    let last : c.last.inside.0 ≡ get_or c.self.inside.lasts.items p no_thread =
-    c.last.view_is ∙ get_or_read _ _ _ (within _ _ _ c.self.invariant p below) c.index.ensures no_thread
-    in
-    let last_below : c.last.inside.0 < length c.self.inside.next.items = rw last (last-below _ _ _ c.self.invariant p some) in
-    let first : c.index-2.result.now ≡ get_or c.self.inside.next.items (get_or c.self.inside.lasts.items p no_thread) 0 =
-    get_or_read _ _ _ last_below c.index-2.ensures 0 ∙ ap (λ (n : ℕ). get_or c.self.inside.next.items n 0) last
-    in
-    let only : get_or c.self.inside.next.items (get_or c.self.inside.lasts.items p no_thread) 0 ≡ get_or c.self.inside.lasts.items p no_thread =
-    rw (← first, ← last, c.last.view_is) (search rules)
-    in
-    rw (c.x.view_is, first) (IsKept-emptied _ _ _ c.self.invariant p below some only _ c.remove.ensures)
+    let first = head-read _ _ _ c.self.invariant c.in_ok-priority.priority c.in_ok-priority.ensures.0 _ c.index.ensures _ c.last.view_is _ c.index-2.ensures in
+    let one : c.index-2.result.now ≡ c.index.result.now = search rules in
+    rw (c.x.view_is, first) (IsKept-emptied _ _ _ c.self.invariant c.in_ok-priority.priority c.in_ok-priority.ensures.0 (head-single _ _ _ c.self.invariant c.in_ok-priority.priority c.in_ok-priority.ensures.0 _ c.index.ensures _ c.last.view_is _ c.index-2.ensures one) _ c.remove.ensures)
 
 pub index-requires-else-eq : goal.index-requires-else-eq
-index-requires-else-eq c =
-    let p = c.in_ok-priority.priority in
-    let below : p < 256 = marked-below _ _ _ c.self.invariant p c.in_ok-priority.ensures.0 in
-    let some : get_or c.self.inside.lasts.items p no_thread ≢ no_thread = marked-some _ _ _ c.self.invariant p c.in_ok-priority.ensures.0 in
-    let last : c.last.inside.0 ≡ get_or c.self.inside.lasts.items p no_thread =
-    c.last.view_is ∙ get_or_read _ _ _ (within _ _ _ c.self.invariant p below) c.index.ensures no_thread
-    in
-    let last_below : c.last.inside.0 < length c.self.inside.next.items = rw last (last-below _ _ _ c.self.invariant p some) in
-    let first : c.index-2.result.now ≡ get_or c.self.inside.next.items (get_or c.self.inside.lasts.items p no_thread) 0 =
-    get_or_read _ _ _ last_below c.index-2.ensures 0 ∙ ap (λ (n : ℕ). get_or c.self.inside.next.items n 0) last
-    in
-    rw (c.x.view_is, first) (omega (arith, first-below _ _ _ c.self.invariant p some))
+index-requires-else-eq c = rw c.x.view_is (omega (arith, head-below _ _ _ c.self.invariant c.in_ok-priority.priority c.in_ok-priority.ensures.0 _ c.index.ensures _ c.last.view_is _ c.index-2.ensures))
 
 pub index_mut-requires-else-eq : goal.index_mut-requires-else-eq
-index_mut-requires-else-eq c =
-    let p = c.in_ok-priority.priority in
-    let below : p < 256 = marked-below _ _ _ c.self.invariant p c.in_ok-priority.ensures.0 in
-    let some : get_or c.self.inside.lasts.items p no_thread ≢ no_thread = marked-some _ _ _ c.self.invariant p c.in_ok-priority.ensures.0 in
-    let last : c.last.inside.0 ≡ get_or c.self.inside.lasts.items p no_thread =
-    c.last.view_is ∙ get_or_read _ _ _ (within _ _ _ c.self.invariant p below) c.index.ensures no_thread
-    in
-    rw last (omega (arith, last-below _ _ _ c.self.invariant p some))
+index_mut-requires-else-eq c = omega (arith, end-below _ _ _ c.self.invariant c.in_ok-priority.priority c.in_ok-priority.ensures.0 _ c.index.ensures _ c.last.view_is)
 
 pub index_mut-requires-else-eq-2 : goal.index_mut-requires-else-eq-2
-index_mut-requires-else-eq-2 c =
-    let p = c.in_ok-priority.priority in
-    let below : p < 256 = marked-below _ _ _ c.self.invariant p c.in_ok-priority.ensures.0 in
-    let some : get_or c.self.inside.lasts.items p no_thread ≢ no_thread = marked-some _ _ _ c.self.invariant p c.in_ok-priority.ensures.0 in
-    let last : c.last.inside.0 ≡ get_or c.self.inside.lasts.items p no_thread =
-    c.last.view_is ∙ get_or_read _ _ _ (within _ _ _ c.self.invariant p below) c.index.ensures no_thread
-    in
-    let last_below : c.last.inside.0 < length c.self.inside.next.items = rw last (last-below _ _ _ c.self.invariant p some) in
-    let first : c.index-2.result.now ≡ get_or c.self.inside.next.items (get_or c.self.inside.lasts.items p no_thread) 0 =
-    get_or_read _ _ _ last_below c.index-2.ensures 0 ∙ ap (λ (n : ℕ). get_or c.self.inside.next.items n 0) last
-    in
-    rw (c.x.view_is, first) (omega (arith, first-below _ _ _ c.self.invariant p some))
+index_mut-requires-else-eq-2 c = rw c.x.view_is (omega (arith, head-below _ _ _ c.self.invariant c.in_ok-priority.priority c.in_ok-priority.ensures.0 _ c.index.ensures _ c.last.view_is _ c.index-2.ensures))
 
 pub invariant_of-self-else-eq : goal.invariant_of-self-else-eq
 invariant_of-self-else-eq c =
-    let p = c.in_ok-priority.priority in
-    let below : p < 256 = marked-below _ _ _ c.self.invariant p c.in_ok-priority.ensures.0 in
-    let some : get_or c.self.inside.lasts.items p no_thread ≢ no_thread = marked-some _ _ _ c.self.invariant p c.in_ok-priority.ensures.0 in
-    let last : c.last.inside.0 ≡ get_or c.self.inside.lasts.items p no_thread =
-    c.last.view_is ∙ get_or_read _ _ _ (within _ _ _ c.self.invariant p below) c.index.ensures no_thread
-    in
-    let last_below : c.last.inside.0 < length c.self.inside.next.items = rw last (last-below _ _ _ c.self.invariant p some) in
-    let first : c.index-2.result.now ≡ get_or c.self.inside.next.items (get_or c.self.inside.lasts.items p no_thread) 0 =
-    get_or_read _ _ _ last_below c.index-2.ensures 0 ∙ ap (λ (n : ℕ). get_or c.self.inside.next.items n 0) last
-    in
-    let more : get_or c.self.inside.next.items (get_or c.self.inside.lasts.items p no_thread) 0 ≢ get_or c.self.inside.lasts.items p no_thread =
-    rw (← first, ← last, c.last.view_is) (search rules)
-    in
-    let x_below : c.x.inside.0 < length c.self.inside.next.items = rw (c.x.view_is, first) (first-below _ _ _ c.self.invariant p some) in
-    let second : c.index-else-eq.result.now ≡ get_or c.self.inside.next.items c.x.inside.0 0 = get_or_read _ _ _ x_below c.index-else-eq.ensures 0 in
-    rw (second, c.x.view_is, first, last) (IsKept-rest _ _ _ c.self.invariant p below some more)
+    let last = end-read _ _ _ c.self.invariant c.in_ok-priority.priority c.in_ok-priority.ensures.0 _ c.index.ensures _ c.last.view_is in
+    let first = head-read _ _ _ c.self.invariant c.in_ok-priority.priority c.in_ok-priority.ensures.0 _ c.index.ensures _ c.last.view_is _ c.index-2.ensures in
+    let second = behind-read _ _ _ c.self.invariant c.in_ok-priority.priority c.in_ok-priority.ensures.0 _ c.index.ensures _ c.last.view_is _ c.index-2.ensures _ c.x.view_is _ c.index-else-eq.ensures in
+    let other : c.index-2.result.now ≢ c.index.result.now = search rules in
+    rw (second, c.x.view_is, first, c.last.view_is, last) (IsKept-rest _ _ _ c.self.invariant c.in_ok-priority.priority c.in_ok-priority.ensures.0 (head-several _ _ _ c.self.invariant c.in_ok-priority.priority c.in_ok-priority.ensures.0 _ c.index.ensures _ c.last.view_is _ c.index-2.ensures other))
 
 pub returns-clause-first : goal.returns-clause-first
 returns-clause-first c =
-    let p = c.in_ok-priority.priority in
-    let below : p < 256 = marked-below _ _ _ c.self.invariant p c.in_ok-priority.ensures.0 in
-    let some : get_or c.self.inside.lasts.items p no_thread ≢ no_thread = marked-some _ _ _ c.self.invariant p c.in_ok-priority.ensures.0 in
-    let last : c.last.inside.0 ≡ get_or c.self.inside.lasts.items p no_thread =
-    c.last.view_is ∙ get_or_read _ _ _ (within _ _ _ c.self.invariant p below) c.index.ensures no_thread
-    in
-    let last_below : c.last.inside.0 < length c.self.inside.next.items = rw last (last-below _ _ _ c.self.invariant p some) in
-    let first : c.index-2.result.now ≡ get_or c.self.inside.next.items (get_or c.self.inside.lasts.items p no_thread) 0 =
-    get_or_read _ _ _ last_below c.index-2.ensures 0 ∙ ap (λ (n : ℕ). get_or c.self.inside.next.items n 0) last
-    in
+    let first = head-read _ _ _ c.self.invariant c.in_ok-priority.priority c.in_ok-priority.ensures.0 _ c.index.ensures _ c.last.view_is _ c.index-2.ensures in
     rw first (
-    sym (first-taken _ _ _ c.self.invariant p below some c.in_ok-priority.ensures.1)
+    sym (first-taken _ _ _ c.self.invariant c.in_ok-priority.priority c.in_ok-priority.ensures.0 c.in_ok-priority.ensures.1)
     ∙ ap (λ (v : ReadyQueue). thread_of (first_of v.queue)) c.self.view_is
     )
 
 pub returns-clause-rest : goal.returns-clause-rest
 returns-clause-rest c =
-    let p = c.in_ok-priority.priority in
-    let below : p < 256 = marked-below _ _ _ c.self.invariant p c.in_ok-priority.ensures.0 in
-    let some : get_or c.self.inside.lasts.items p no_thread ≢ no_thread = marked-some _ _ _ c.self.invariant p c.in_ok-priority.ensures.0 in
-    let last : c.last.inside.0 ≡ get_or c.self.inside.lasts.items p no_thread =
-    c.last.view_is ∙ get_or_read _ _ _ (within _ _ _ c.self.invariant p below) c.index.ensures no_thread
-    in
-    let last_below : c.last.inside.0 < length c.self.inside.next.items = rw last (last-below _ _ _ c.self.invariant p some) in
-    let first : c.index-2.result.now ≡ get_or c.self.inside.next.items (get_or c.self.inside.lasts.items p no_thread) 0 =
-    get_or_read _ _ _ last_below c.index-2.ensures 0 ∙ ap (λ (n : ℕ). get_or c.self.inside.next.items n 0) last
-    in
+    let last = end-read _ _ _ c.self.invariant c.in_ok-priority.priority c.in_ok-priority.ensures.0 _ c.index.ensures _ c.last.view_is in
+    let first = head-read _ _ _ c.self.invariant c.in_ok-priority.priority c.in_ok-priority.ensures.0 _ c.index.ensures _ c.last.view_is _ c.index-2.ensures in
     elim c.if-eq.branch [
       | then-eq w ↦
-          let only : get_or c.self.inside.next.items (get_or c.self.inside.lasts.items p no_thread) 0 ≡ get_or c.self.inside.lasts.items p no_thread =
-          rw (← first, ← last, c.last.view_is) (search rules)
-          in
+          let one : c.index-2.result.now ≡ c.index.result.now = search rules in
           w.self-is ∙ rw (c.x.view_is, first) (
           same_value _ _ _ _ (
-          sym (ap rest_of (queue-emptied _ _ _ c.self.invariant p below some only c.in_ok-priority.ensures.1))
+          sym (ap rest_of (queue-emptied _ _ _ c.self.invariant c.in_ok-priority.priority c.in_ok-priority.ensures.0 (head-single _ _ _ c.self.invariant c.in_ok-priority.priority c.in_ok-priority.ensures.0 _ c.index.ensures _ c.last.view_is _ c.index-2.ensures one) c.in_ok-priority.ensures.1))
           ∙ ap (λ (v : ReadyQueue). rest_of v.queue) c.self.view_is
           ) (length-set c.self.inside.next.items _ _ ∙ ap (λ (v : ReadyQueue). v.room) c.self.view_is)
           )
       | else-eq w ↦
-          let more : get_or c.self.inside.next.items (get_or c.self.inside.lasts.items p no_thread) 0 ≢ get_or c.self.inside.lasts.items p no_thread =
-          rw (← first, ← last, c.last.view_is) (search rules)
-          in
-          let x_below : c.x.inside.0 < length c.self.inside.next.items = rw (c.x.view_is, first) (first-below _ _ _ c.self.invariant p some) in
-          let second : w.index-else-eq.result.now ≡ get_or c.self.inside.next.items c.x.inside.0 0 = get_or_read _ _ _ x_below w.index-else-eq.ensures 0 in
-          w.self-is ∙ rw (second, c.x.view_is, first, last) (
+          let second = behind-read _ _ _ c.self.invariant c.in_ok-priority.priority c.in_ok-priority.ensures.0 _ c.index.ensures _ c.last.view_is _ c.index-2.ensures _ c.x.view_is _ w.index-else-eq.ensures in
+          let other : c.index-2.result.now ≢ c.index.result.now = search rules in
+          w.self-is ∙ rw (second, c.x.view_is, first, c.last.view_is, last) (
           same_value _ _ _ _ (
-          sym (ap rest_of (queue-rest_in _ _ _ c.self.invariant p below some more c.in_ok-priority.ensures.1))
+          sym (ap rest_of (queue-rest_in _ _ _ c.self.invariant c.in_ok-priority.priority c.in_ok-priority.ensures.0 (head-several _ _ _ c.self.invariant c.in_ok-priority.priority c.in_ok-priority.ensures.0 _ c.index.ensures _ c.last.view_is _ c.index-2.ensures other) c.in_ok-priority.ensures.1))
           ∙ ap (λ (v : ReadyQueue). rest_of v.queue) c.self.view_is
           ) (length-set (set c.self.inside.next.items _ _) _ _ ∙ length-set c.self.inside.next.items _ _ ∙ ap (λ (v : ReadyQueue). v.room) c.self.view_is)
           )
