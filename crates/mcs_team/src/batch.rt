@@ -94,3 +94,23 @@ pub(crate) fn gather(desk: &mut Desk, batches: &mut [Batch])
         take(desk, core, &mut batches[number]);
     }
 }
+
+// The rows to come of a core have the room of this list, where the desk has the core.
+fn put_room(desk: &mut Desk, core: CoreId, list: Vec<Row>)
+    ensures { desk.new ≡ desk.old }
+{
+    if core.0 < desk.cores() {
+        desk.put_room(core, list);
+    }
+}
+
+/// The rows to come of each core have the room of those in its batch, which then has none.
+pub(crate) fn return_rooms(batches: &mut [Batch], desk: &mut Desk)
+    ensures desk { desk.new ≡ desk.old }
+    ensures pasts { pasts_of batches.new ≡ pasts_of batches.old }
+{
+    for number in 0..batches.len() {
+        let rows = batches[number].take_rows();
+        put_room(desk, CoreId(number), rows);
+    }
+}

@@ -4,10 +4,10 @@ ghost use Rattle.mcs_report.specs.Tally.{finished};
 ghost use Rattle.mcs_team.specs.Counts.{counted_all, AreCounted};
 ghost use Rattle.mcs_team.specs.Flow.{pasts_of};
 
-use crate::batch::{Batch, empty_batches, least_past};
+use crate::batch::{Batch, empty_batches, least_past, return_rooms};
 use mcs_report::{Reports, Tally, cores_are_counted};
 use mcs_system::System;
-use mcs_ticks::{CoreId, NoMemory, Tick};
+use mcs_ticks::{NoMemory, Tick};
 use mcs_window::Desk;
 use std::alloc::Global;
 
@@ -57,20 +57,11 @@ impl Counts {
 
     /// The rows to come on a desk have the room of those that were taken.
     pub(crate) fn return_rooms(&mut self, desk: &mut Desk)
-        requires { length self.old.batches.items ≡ desk.old.system.cores }
         ensures desk { desk.new ≡ desk.old }
         ensures pasts { pasts_of self.new.batches.items ≡ pasts_of self.old.batches.items }
         ensures rest { self.new ≡ record self.old { batches = self.new.batches } }
     {
         return_rooms(self.batches.as_mut_slice(), desk);
-    }
-
-    /// Drops the rows that were taken.
-    pub(crate) fn drop_rows(&mut self)
-        ensures pasts { pasts_of self.new.batches.items ≡ pasts_of self.old.batches.items }
-        ensures rest { self.new ≡ record self.old { batches = self.new.batches } }
-    {
-        drop_rows(self.batches.as_mut_slice());
     }
 
     /// The reports of all rows that were counted.
@@ -87,26 +78,5 @@ fn count_all(tally: &mut Tally, batches: &[Batch])
 {
     for batch in batches {
         tally.add_all(batch.rows.as_slice());
-    }
-}
-
-// The rows to come of each core have the room of its rows that were taken last.
-fn return_rooms(batches: &mut [Batch], desk: &mut Desk)
-    requires { length batches.old ≡ desk.old.system.cores }
-    ensures desk { desk.new ≡ desk.old }
-    ensures pasts { pasts_of batches.new ≡ pasts_of batches.old }
-{
-    for number in 0..batches.len() {
-        let rows = batches[number].take_rows();
-        desk.put_room(CoreId(number), rows);
-    }
-}
-
-// Drops the rows of all cores.
-fn drop_rows(batches: &mut [Batch])
-    ensures { pasts_of batches.new ≡ pasts_of batches.old }
-{
-    for number in 0..batches.len() {
-        let _rows = batches[number].take_rows();
     }
 }

@@ -82,6 +82,15 @@ impl Flow {
         Ok(())
     }
 
+    /// The batches have the room of the rows that were given, and no rows.
+    pub(crate) fn take_rooms(&mut self)
+        requires { length self.old.batches.items ≤ length self.old.merger.clocks }
+        ensures pasts { pasts_of self.new.batches.items ≡ pasts_of self.old.batches.items }
+        ensures rest { self.new ≡ record self.old { batches = self.new.batches } }
+    {
+        take_rooms(&mut self.merger, self.batches.as_mut_slice());
+    }
+
     /// The rows to come on a desk have the room of those that were given.
     pub(crate) fn return_rooms(&mut self, desk: &mut Desk)
         requires { desk.old.system.cores ≤ length self.old.merger.clocks }
@@ -151,6 +160,17 @@ fn return_rooms(merger: &mut Merger, desk: &mut Desk)
         let core = CoreId(number);
         let room = merger.take_room(core);
         desk.put_room(core, room);
+    }
+}
+
+// The batch of each core has the room of its rows that were taken from the merger, and no rows.
+fn take_rooms(merger: &mut Merger, batches: &mut [Batch])
+    requires { length batches.old ≤ length merger.old.clocks }
+    ensures merger { merger.new ≡ merger.old }
+    ensures pasts { pasts_of batches.new ≡ pasts_of batches.old }
+{
+    for number in 0..batches.len() {
+        batches[number].rows = merger.take_room(CoreId(number));
     }
 }
 

@@ -27,7 +27,7 @@ const ROWS: usize = 2048;
 /// The reports of the whole simulation up to the horizon, at most 2^40, of which nobody wants the rows: those of the schedule, for every
 /// number of workers. The rows of each core are counted by themselves, some thousand at a time, and none is merged or kept. Threads work at
 /// one desk, as many as the lesser of `workers` and the number of cores, beside this one, which counts the rows; where that number is less
-/// than two this one takes all turns, and where pieces of work stay short it takes those that are left after a while, as `simulate_to` says.
+/// than two this one takes all turns, and where pieces of work have few rows it takes those that are left after a while, as `simulate_to` says.
 /// The reports are those that `simulate_to` gives. `NoMemory` is answered only where a growth was refused. The gate is told of each piece of
 /// work that is lent; where this thread takes turns none is.
 pub fn report<R: Threads + Wait + Sync, G: Gate + Sync>(
@@ -149,7 +149,6 @@ fn count_taken<B: Run, R: Wait, G: Gate>(
         }
         more(rt, room, gate, counts.batches.as_mut_slice(), Tick::ZERO)?;
         counts.count();
-        counts.drop_rows();
     }
     Err(Stop::Odd(Tick::ZERO))
 }

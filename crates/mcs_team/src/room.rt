@@ -121,8 +121,8 @@ fn wait<B: Run, R: Wait, G: Gate>(rt: &R, room: &Room<B>, gate: &G) {
     }
 }
 
-/// Waits until some clock has moved, and takes the rows of all cores. Where the team has ended since its pieces were short
-/// it takes turns itself.
+/// Waits until some clock has moved, and takes the rows of all cores, after those that were taken last have given back their room. Where the
+/// team has ended since its pieces were not worth it, it takes turns itself.
 pub(crate) fn more<B: Run, R: Wait, G: Gate>(
     rt: &R,
     room: &Room<B>,
@@ -133,6 +133,7 @@ pub(crate) fn more<B: Run, R: Wait, G: Gate>(
     ensures taken { OnOk result (AreBatches B.system B.horizon (pasts_of batches.old) batches.new) }
     ensures stop { IfErr result (λ stop. (stop ≡ Stop.Fault FlowFault.NoMemory) ⊎ (stop ≡ Stop.Odd reached)) }
 {
+    room.seat.lock(rt).return_rooms(batches);
     for _ in rt.forever() {
         wait(rt, room, gate);
         let mut guard = room.seat.lock(rt);

@@ -3,7 +3,7 @@ ghost use Rattle.std.specs.Prelude.{◌≡◌, ◌⊎◌, IfErr, IfOk, IfSome, O
 ghost use Rattle.mcs_team.specs.Flow.{pasts_of, AreBatches};
 ghost use Rattle.mcs_window.specs.Desk.{settled_at, with_lost};
 
-use crate::batch::{Batch, are_taken_to, gather};
+use crate::batch::{Batch, are_taken_to, gather, return_rooms};
 use crate::run::Run;
 use mcs_ticks::{CoreId, NoMemory, Tick};
 use mcs_window::{Desk, Done, Lost, Piece};
@@ -15,18 +15,22 @@ const ENOUGH: usize = 4096;
 // With so many rows on the desk no piece is lent until they were taken.
 const FULL: usize = 65_536;
 
-// A piece of fewer moments may cost less than to lend it.
-const LONG: u64 = 32;
+// After so many pieces it is asked whether they were worth it.
+const PIECES: usize = 1024;
 
-// After so many short pieces, one after the other, the team ends, and the caller's thread takes the turns that are left.
-const SHORT_PIECES: usize = 1024;
+// With fewer rows from so many pieces, 128 of each, it may cost less to run them than to lend them. Then the team ends, and the caller's thread
+// takes the turns that are left.
+const ROWS: usize = 128 * PIECES;
 
 /// A desk for the system and the horizon of the run.
 #[derive(Drop)]
 pub(crate) struct Seat<B: Run> {
     desk: Desk,
-    // how many pieces were short since the last long one
-    short: usize,
+    // how many pieces were lent since that was asked last, and how many rows came back
+    pieces: usize,
+    rows: usize,
+    // whether the team has ended
+    ended: bool,
     of: PhantomData<B>,
     ghost ours: { (desk.system ≡ B.system) × (desk.horizon ≡ B.horizon) },
 }
@@ -38,7 +42,9 @@ impl<B: Run> Seat<B> {
     {
         Seat {
             desk,
-            short: 0,
+            pieces: 0,
+            rows: 0,
+            ended: false,
             of: PhantomData,
         }
     }
@@ -47,36 +53,39 @@ impl<B: Run> Seat<B> {
     pub(crate) fn lend(&mut self) -> Option<Piece>
         ensures { IfSome result (λ piece. piece.system ≡ B.system) }
     {
-        if self.is_full() || self.has_ended() {
+        if self.is_full() || self.ended {
             return None;
         }
         let piece = self.desk.lend()?;
-        self.short = if is_long(&piece) {
-            0
-        } else {
-            self.short.saturating_add(1)
-        };
+        self.count_piece();
         Some(piece)
     }
 
     /// Whether a further piece is to be had now.
     pub(crate) fn can_lend(&self) -> bool {
-        !self.is_full() && !self.has_ended() && self.desk.can_lend()
+        !self.is_full() && !self.ended && self.desk.can_lend()
     }
 
-    // Whether the team has ended, since to lend its pieces costs more than to run them.
-    fn has_ended(&self) -> bool {
-        self.short >= SHORT_PIECES
+    // One piece more was lent: the team ends with it where the pieces were not worth it.
+    fn count_piece(&mut self)
+        ensures { self.new.desk ≡ self.old.desk }
+    {
+        self.pieces = self.pieces.saturating_add(1);
+        if self.pieces >= PIECES {
+            self.ended = self.rows < ROWS;
+            self.pieces = 0;
+            self.rows = 0;
+        }
     }
 
     /// Whether the turns are left to the caller's thread: the team has ended, and all cores are back.
     pub(crate) fn is_left(&self) -> bool {
-        self.has_ended() && self.desk.all_are_here()
+        self.ended && self.desk.all_are_here()
     }
 
     /// Takes some turns, where they are left to the caller's thread.
     pub(crate) fn take_turns(&mut self) -> Result<(), NoMemory> {
-        if self.has_ended() && !self.desk.lost() && self.desk.all_are_here() {
+        if self.ended && !self.desk.lost() && self.desk.all_are_here() {
             self.desk.go(ENOUGH)?;
         }
         Ok(())
@@ -91,6 +100,7 @@ impl<B: Run> Seat<B> {
     {
         match ran {
             Ok(done) => {
+                self.rows = self.rows.saturating_add(done.rows.len());
                 if let Err((_, done)) = self.desk.take_back(done) {
                     self.desk.forfeit(Lost {
                         core: done.core,
@@ -114,7 +124,7 @@ impl<B: Run> Seat<B> {
 
     /// Whether no piece is to be had any more.
     pub(crate) fn is_over(&self) -> bool {
-        self.has_ended() || self.desk.finished() || self.desk.lost()
+        self.ended || self.desk.finished() || self.desk.lost()
     }
 
     /// Whether a piece was lost.
@@ -139,6 +149,13 @@ impl<B: Run> Seat<B> {
             && self.desk.clock(CoreId(core)) != batch.past)
     }
 
+    /// The rows to come have the room of those that were taken.
+    pub(crate) fn return_rooms(&mut self, batches: &mut [Batch])
+        ensures { pasts_of batches.new ≡ pasts_of batches.old }
+    {
+        return_rooms(batches, &mut self.desk);
+    }
+
     /// Takes the rows of each core since its batch ended, in place of those of that batch. Else the desk is another one.
     pub(crate) fn gather(&mut self, batches: &mut [Batch]) -> Result<(), Odd>
         ensures taken { OnOk result (AreBatches B.system B.horizon (pasts_of batches.old) batches.new) }
@@ -149,11 +166,6 @@ impl<B: Run> Seat<B> {
         gather(&mut self.desk, batches);
         Ok(())
     }
-}
-
-// Whether a piece is worth a thread of its own.
-fn is_long(piece: &Piece) -> bool {
-    piece.past.get().saturating_sub(piece.first.get()) >= LONG
 }
 
 /// The desk is not as this run left it.

@@ -40,6 +40,7 @@ fn flow_all<B: Run, R: Wait, G: Gate, S: Sink>(
         if let Err(fault) = flow.give::<B, S>(sink) {
             return Err(Stop::Fault(fault));
         }
+        flow.take_rooms();
     }
     Err(Stop::Odd(flow.reached))
 }

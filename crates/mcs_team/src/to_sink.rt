@@ -26,8 +26,8 @@ use std::thread::Threads;
 /// thousand at a time, once the clocks of all cores have passed them, and at the latest about a millisecond later while
 /// threads work. It gives the reports of the schedule: each row that the sink takes is counted. Threads work at one
 /// desk, as many as the lesser of `workers` and the number of cores, beside this one, which gives the rows; where that
-/// number is less than two this one takes all turns, and after 1,024 pieces of work in a row that were each shorter
-/// than 32 ticks they end, and it takes those that are left. `Sink` is answered where the sink has refused a row, after
+/// number is less than two this one takes all turns, and after 1,024 pieces of work that made fewer than 128 rows each,
+/// on average, they end, and it takes those that are left. `Sink` is answered where the sink has refused a row, after
 /// which it's given no other; and after `NoMemory` it has taken some first rows of the schedule. The gate is told of
 /// each piece of work that is lent; where this thread takes turns none is.
 pub fn simulate_to<R: Threads + Wait + Sync, G: Gate + Sync, S: Sink>(

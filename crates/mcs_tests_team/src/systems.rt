@@ -124,14 +124,14 @@ thread = [
 pub const LONG_DELAY: &str = r#"
 version = 1
 cores = 2
-delay = 40
+delay = 60
 context = [
-    { name = "a", core = 0, budget = 5, period = 20 },
-    { name = "b", core = 1, budget = 5, period = 20 },
+    { name = "a", core = 0, budget = 2, period = 3 },
+    { name = "b", core = 1, budget = 2, period = 3 },
 ]
 note = [{ name = "n", core = 1 }, { name = "m", core = 0 }]
 thread = [
-    { name = "A", context = "a", priority = 5, script = ["compute 4", "signal n 1"] },
-    { name = "B", context = "b", priority = 5, script = ["compute 4", "signal m 1"] },
+    { name = "A", context = "a", priority = 5, script = ["compute 1", "signal n 1"] },
+    { name = "B", context = "b", priority = 5, script = ["compute 1", "signal m 1"] },
 ]
 "#;

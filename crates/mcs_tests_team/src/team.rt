@@ -126,7 +126,7 @@ fn two_workers_run_pieces_and_one_runs_none(rt: HostRuntime) -> Result<(), Fail>
     Ok(())
 }
 
-// Each piece is of a moment or two. After 1,024 of them the team ends, and the caller's thread takes the turns that are left.
+// Each piece has a few rows. After 1,024 of them the team ends, and the caller's thread takes the turns that are left.
 #[test]
 fn a_team_with_short_pieces_ends(rt: HostRuntime) -> Result<(), Fail> {
     let alloc = rt.alloc();
@@ -142,11 +142,11 @@ fn a_team_with_short_pieces_ends(rt: HostRuntime) -> Result<(), Fail> {
     Ok(())
 }
 
-// Each piece that is lent while no other one is away is of 40 moments or more, so there are few short ones in a row.
+// Each piece is of 60 moments or more, and a core has 7 rows each 3 moments: those of its turns, an arrival and a held word. So each has 140 rows.
 #[test]
 fn a_team_with_long_pieces_goes_on(rt: HostRuntime) -> Result<(), Fail> {
     let alloc = rt.alloc();
-    let horizon = moment(100_000)?;
+    let horizon = moment(70_000)?;
     let alone = simulate_alone(alloc, system(alloc, LONG_DELAY)?, horizon)?;
     let gate = zero_counts();
     let system = system(alloc, LONG_DELAY)?;

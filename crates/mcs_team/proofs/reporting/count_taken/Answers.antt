@@ -25,8 +25,8 @@ loop-preserved g c =
       tt,
       tt,
       counts-next g.B.Run.system g.B.Run.horizon well c.cores_are_counted.ensures (pasts_of batches.items) counts.tally _ are c.loop.invariant.2
-          (pasts_of c.drop_rows.new.self.batches.items) c.drop_rows.new.self.tally
-          (c.drop_rows.ensures.pasts ∙ ap (λ (x : Counts). pasts_of x.batches.items) c.count.ensures.rest)
-          (ap (λ (x : Counts). x.tally) c.drop_rows.ensures.rest ∙ c.count.ensures.tally),
-      ap (λ (x : Counts). x.end) c.drop_rows.ensures.rest ∙ ap (λ (x : Counts). x.end) c.count.ensures.rest ∙ c.loop.invariant.3,
+          (pasts_of c.count.new.self.batches.items) c.count.new.self.tally
+          (ap (λ (x : Counts). pasts_of x.batches.items) c.count.ensures.rest)
+          c.count.ensures.tally,
+      ap (λ (x : Counts). x.end) c.count.ensures.rest ∙ c.loop.invariant.3,
     )

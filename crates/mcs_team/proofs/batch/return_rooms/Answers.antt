@@ -1,6 +1,6 @@
 use Rattle.std.proofs.Common.{◌∙◌}
 use Rattle.std.proofs.Math.Seq.{map-set_same}
-use Rattle.mcs_team.proofs.counts.return_rooms.Goals as goal
+use Rattle.mcs_team.proofs.batch.return_rooms.Goals as goal
 
 pub loop-number-preserved : goal.loop-number-preserved
 loop-number-preserved c = (
