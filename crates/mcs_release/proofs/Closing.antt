@@ -2,30 +2,28 @@
 use Rattle.std.proofs.Common.{◌≡◌, ℕ, zero, suc, ◌+◌, ◌<◌, ◌≤◌, List, [], ◌∷◌, length, get_or, set, take, Option, Some, None, refl, sym, ap, ◌∙◌, inl, inr, arith, get_or-set_same, get_or-set_other}
 use Rattle.std.specs.Prelude.{min, sum_by, IsPermutation}
 use Rattle.std.specs.declared.cmp.Reverse.{Reverse}
-use Rattle.std.specs.BinaryHeap.{IsHeap, KeepsHeap}
 use Rattle.std.proofs.lemmas.Bool.{cases_eq, cases_lt}
 use Rattle.std.proofs.lemmas.List.{get_or_past, set-get_or}
 use Rattle.std.proofs.lemmas.List.Sorted.{sum_by-IsPermutation}
 use Rattle.std.proofs.lemmas.List.Sums.{sum_by-cons}
 use Rattle.mcs_release.specs.declared.dated.Dated.{Dated}
-use Rattle.mcs_release.specs.declared.releases.Due.{Due}
-use Rattle.mcs_release.specs.stored.Heap.{entered, due_at, dues_from, due_cmp, IsPlaced}
-use Rattle.mcs_release.proofs.Dues.{dues-before, dues-emptied, dues-moved, dues-count, count-is-length}
+use Rattle.mcs_release.specs.declared.dues.Due.{Due}
+use Rattle.mcs_release.specs.stored.Heap.{entered, due_at, dues_from, IsPlaced}
+use Rattle.mcs_release.proofs.Counts.{dues-before, dues-emptied, dues-moved, dues-count, count-is-length}
 use Rattle.mcs_release.proofs.Entered.{entered-before, entered-moved}
 
 pub none_from : (place : Option Dated) → ((x : Dated) → place ≡ Some x → ⊥) → place ≡ None
 none_from None never = refl
 none_from (Some x) never = absurd (never x refl)
 
--- after i of the places before `past`, behind which there are none: their entries are in front, and are what the heap holds
-pub record IsClosing (start places : List (Option Dated)) (end i : ℕ) (heap : List (Reverse Due)) (room capacity past : ℕ) : Type 0 where
+-- after i of the places before `past`, behind which there are none: their entries are in front, and are what the others hold
+pub record IsClosing (start places : List (Option Dated)) (end i : ℕ) (items : List (Reverse Due)) (room capacity past : ℕ) : Type 0 where
   pub kept : entered places ≡ entered start
   pub before : end ≤ i
   pub gap : (j : ℕ) → end ≤ j → j < i → get_or places j None ≡ None
   pub behind : (j : ℕ) → past ≤ j → get_or places j None ≡ None
-  pub same : (f : Reverse Due → ℕ) → sum_by f heap ≡ sum_by f (dues_from 0 (take i places))
-  pub order : IsHeap due_cmp heap
-  pub filled : length heap ≡ end
+  pub same : (f : Reverse Due → ℕ) → sum_by f items ≡ sum_by f (dues_from 0 (take i places))
+  pub filled : length items ≡ end
   pub space : room ≤ capacity
 
 -- no more entries stand in front than in all places
@@ -43,13 +41,13 @@ taken-lt (Some y ∷ places) zero x e = omega arith
 taken-lt (None ∷ places) (suc i) x e = taken-lt places i x e
 taken-lt (Some y ∷ places) (suc i) x e = omega (arith, taken-lt places i x e)
 
-module _ (start places : List (Option Dated)) (end i : ℕ) (heap : List (Reverse Due)) (room capacity past : ℕ) (closing : IsClosing start places end i heap room capacity past) where
+module _ (start places : List (Option Dated)) (end i : ℕ) (items : List (Reverse Due)) (room capacity past : ℕ) (closing : IsClosing start places end i items room capacity past) where
   pub end-counts : end ≡ length (entered (take i places))
   end-counts =
-      sym closing.filled ∙ sym (count-is-length heap) ∙ closing.same (λ (x : Reverse Due). 1) ∙ dues-count (take i places) 0
+      sym closing.filled ∙ sym (count-is-length items) ∙ closing.same (λ (x : Reverse Due). 1) ∙ dues-count (take i places) 0
 
   -- the next place is empty
-  pub IsClosing-skip : i < length places → get_or places i None ≡ None → IsClosing start places end (i + 1) heap room capacity past
+  pub IsClosing-skip : i < length places → get_or places i None ≡ None → IsClosing start places end (i + 1) items room capacity past
   IsClosing-skip below none = record {
     kept = closing.kept;
     before = omega (arith, closing.before);
@@ -60,7 +58,6 @@ module _ (start places : List (Option Dated)) (end i : ℕ) (heap : List (Revers
     behind = closing.behind;
     same = λ f. closing.same f ∙ sym (dues-emptied f places 0 i) ∙ ap (λ (ps : List (Option Dated)). sum_by f (dues_from 0 (take (suc i) ps))) unchanged
         ∙ ap (λ (n : ℕ). sum_by f (dues_from 0 (take n places))) next;
-    order = closing.order;
     filled = closing.filled;
     space = closing.space;
   }
@@ -72,10 +69,10 @@ module _ (start places : List (Option Dated)) (end i : ℕ) (heap : List (Revers
       unchanged = ap (set places i) (sym none) ∙ set-get_or places i None
 
   -- the entry of the next place moves
-  pub IsClosing-move : (x : Dated) (heap' : List (Reverse Due)) (capacity' : ℕ) → i < length places → i < past → get_or places i None ≡ Some x →
-      IsPermutation (due_at end x ∷ heap) heap' → KeepsHeap due_cmp heap heap' → capacity ≤ capacity' → length heap' ≡ suc (length heap) →
-      IsClosing start (set (set places i None) end (Some x)) (end + 1) (i + 1) heap' room capacity' past
-  IsClosing-move x heap' capacity' below within e moved keeps more longer = record {
+  pub IsClosing-move : (x : Dated) (items' : List (Reverse Due)) (capacity' : ℕ) → i < length places → i < past → get_or places i None ≡ Some x →
+      IsPermutation (due_at end x ∷ items) items' → capacity ≤ capacity' → length items' ≡ suc (length items) →
+      IsClosing start (set (set places i None) end (Some x)) (end + 1) (i + 1) items' room capacity' past
+  IsClosing-move x items' capacity' below within e moved more longer = record {
     kept = entered-moved places i end x e closing.before closing.gap ∙ closing.kept;
     before = omega (arith, closing.before);
     gap = λ j from under. get_or-set_other (set places i None) end j (Some x) None (omega arith) ∙ elim (cases_eq j i) [
@@ -87,14 +84,13 @@ module _ (start places : List (Option Dated)) (end i : ℕ) (heap : List (Revers
         ∙ get_or-set_other places i j None None (omega arith) ∙ closing.behind j from;
     same = λ f. omega (
       arith,
-      sum_by-IsPermutation f (due_at end x ∷ heap) heap' moved,
-      sum_by-cons f (due_at end x) heap,
+      sum_by-IsPermutation f (due_at end x ∷ items) items' moved,
+      sum_by-cons f (due_at end x) items,
       closing.same f,
       dues-moved f places 0 i end x below closing.before closing.gap,
       ap (λ (n : ℕ). f (due_at n x)) zero_end,
       ap (λ (n : ℕ). sum_by f (dues_from 0 (take n (set (set places i None) end (Some x))))) next,
     );
-    order = keeps closing.order;
     filled = omega (arith, longer, closing.filled);
     space = omega (arith, closing.space);
   }
@@ -106,23 +102,22 @@ module _ (start places : List (Option Dated)) (end i : ℕ) (heap : List (Revers
       zero_end = omega arith
 
   -- there is room for it
-  pub end-fits : (x : Dated) → get_or places i None ≡ Some x → length (entered start) ≤ room → length heap < capacity
-  end-fits x e fits = omega (arith, taken-lt places i x e, ap length closing.kept, closing.space, closing.filled, end-counts)
+  pub one-fits : (x : Dated) → get_or places i None ≡ Some x → length (entered start) ≤ room → length items < capacity
+  one-fits x e fits = omega (arith, taken-lt places i x e, ap length closing.kept, closing.space, closing.filled, end-counts)
 
-module _ (start places : List (Option Dated)) (end past : ℕ) (heap : List (Reverse Due)) (room capacity : ℕ) (closing : IsClosing start places end past heap room capacity past) where
+module _ (start places : List (Option Dated)) (end past : ℕ) (items : List (Reverse Due)) (room capacity : ℕ) (closing : IsClosing start places end past items room capacity past) where
   pub count-closed : end ≡ length (entered start)
   count-closed =
-      end-counts start places end past heap room capacity past closing
+      end-counts start places end past items room capacity past closing
       ∙ ap length (entered-before places past closing.behind) ∙ ap length closing.kept
 
-  pub IsPlaced-closed : IsPlaced places end heap
+  pub IsPlaced-closed : IsPlaced places end items
   IsPlaced-closed = record {
     behind = λ i from. elim (cases_lt i past) [
       | inl below ↦ closing.gap i from below
       | inr above ↦ closing.behind i above
     ];
     same = λ f. closing.same f ∙ dues-before f places 0 past closing.behind;
-    order = closing.order;
   }
 
 -- the places from one on that are empty
@@ -134,15 +129,14 @@ behind_both places end past behind is j from = elim (cases_lt j (length places))
 ]
 
 -- at the start
-pub IsClosing-none : (start : List (Option Dated)) (heap : List (Reverse Due)) (room capacity past : ℕ) → heap ≡ [] → IsHeap due_cmp heap → room ≤ capacity →
-    ((j : ℕ) → past ≤ j → get_or start j None ≡ None) → IsClosing start start 0 0 heap room capacity past
-IsClosing-none start heap room capacity past empty order space behind = record {
+pub IsClosing-none : (start : List (Option Dated)) (items : List (Reverse Due)) (room capacity past : ℕ) → items ≡ [] → room ≤ capacity →
+    ((j : ℕ) → past ≤ j → get_or start j None ≡ None) → IsClosing start start 0 0 items room capacity past
+IsClosing-none start items room capacity past empty space behind = record {
   kept = refl;
   before = omega arith;
   gap = λ j from under. absurd (omega arith);
   behind = behind;
   same = λ f. ap (sum_by f) empty;
-  order = order;
   filled = ap length empty;
   space = space;
 }

@@ -1,17 +1,17 @@
--- The entry on top of the heap is the earliest.
-use Rattle.std.proofs.Common.{◌≡◌, ℕ, zero, suc, ◌+◌, ◌<◌, ◌≤◌, ◌==◌, Bool, true, false, cond, ◌&&◌, List, [], ◌∷◌, length, get_or, Option, Some, None, refl, ap, subst, arith}
-use Rattle.std.specs.Prelude.{nat_lt, sum_by, filter, IfSome}
+-- The first by date and place is the earliest.
+use Rattle.std.proofs.Common.{◌≡◌, ℕ, zero, suc, ◌+◌, ◌<◌, ◌≤◌, ◌==◌, Bool, true, false, cond, ◌&&◌, List, [], ◌∷◌, get_or, Option, Some, None, refl, sym, ap, subst, ◌∙◌, arith}
+use Rattle.std.specs.Prelude.{nat_lt, nat_le, sum_by, filter, IfSome}
 use Rattle.std.specs.List.{AllByRecursion}
 use Rattle.std.specs.Ordering.{nat_cmp, is_lt, ordering_then}
 use Rattle.std.specs.declared.cmp.Reverse.{Reverse}
 use Rattle.std.specs.BinaryHeap.{lt_by_cmp}
-use Rattle.std.proofs.lemmas.Bool.{and_parts, eq-eqb, eqb-true, lt-ltb, le-ltb}
+use Rattle.std.proofs.lemmas.Bool.{and_parts, eqb-true, lt-leb, lt-ltb, le-ltb}
 use Rattle.std.proofs.lemmas.Bool.Decides.{nat_tests}
-use Rattle.std.proofs.lemmas.List.Sums.{sum_by-cons, get_or-le-sum_by}
+use Rattle.std.proofs.lemmas.List.Sums.{sum_by-cons}
 use Rattle.mcs_release.specs.declared.dated.Dated.{Dated}
-use Rattle.mcs_release.specs.declared.releases.Due.{Due}
-use Rattle.mcs_release.specs.stored.Heap.{entered, due_at, dues_from, due_cmp, one_if}
-use Rattle.mcs_release.specs.Release.{earlier, earliest}
+use Rattle.mcs_release.specs.declared.dues.Due.{Due}
+use Rattle.mcs_release.specs.stored.Heap.{entered, due_at, dues_from, due_cmp, one_if, same_due, AllLater, HoldsSame, IsFirst}
+use Rattle.mcs_release.specs.Release.{earlier, earliest, is_due}
 
 -- how many stand before this one in the heap's order
 abbrev pub before : Reverse Due → Reverse Due → ℕ
@@ -73,31 +73,6 @@ module _ (m : Reverse Due) (p : Dated → Bool) where
       by false xs k h = k
       by true xs k h = rw (k, lt-ltb x.date y.date h) refl
 
-  -- with a date on top that does not pass, none does
-  pub none-top : ((x : Dated) → m.0.date ≤ x.date → p x ≡ false) → (places : List (Option Dated)) (n : ℕ) → sum_by (before m) (dues_from n places) ≡ 0 →
-      filter p (entered places) ≡ []
-  none-top fails [] n none = refl
-  none-top fails (None ∷ places) n none = none-top fails places (suc n) none
-  none-top fails (Some x ∷ places) n none =
-      let both = sum_by-cons (before m) (due_at n x) (dues_from (suc n) places) in
-      rw (fails x (not_before m n x (omega arith)).0) (none-top fails places (suc n) (omega arith))
-
--- whether it is this one
-abbrev same_due : Reverse Due → Reverse Due → Bool
-same_due m y = (y.0.place == m.0.place) && (y.0.date == m.0.date)
-
-same_due-itself : (m : Reverse Due) → same_due m m ≡ true
-same_due-itself m = rw (eq-eqb m.0.place m.0.place refl, eq-eqb m.0.date m.0.date refl) refl
-
-counted-top : (m : Reverse Due) (heap : List (Reverse Due)) → 0 < length heap → m ≡ get_or heap 0 m → 1 ≤ sum_by (λ y. one_if (same_due m y)) heap
-counted-top m heap some top =
-    omega (
-      arith,
-      get_or-le-sum_by (λ y. one_if (same_due m y)) heap 0 m some,
-      ap (λ (y : Reverse Due). one_if (same_due m y)) top,
-      ap one_if (same_due-itself m),
-    )
-
 -- a thread of this date stands in this place
 abbrev pub Stands : List (Option Dated) → ℕ → ℕ → Type 0
 Stands places place date = (x : Dated) × (get_or places place None ≡ Some x) × (x.date ≡ date)
@@ -124,9 +99,33 @@ counted-place m (Some x ∷ places) n h =
         (suc found.0, omega (arith, found.1), found.2)
 
 -- of the one on top a thread stands in its place
-pub place-top : (m : Reverse Due) (heap : List (Reverse Due)) (places : List (Option Dated)) → 0 < length heap → m ≡ get_or heap 0 m →
-    ((f : Reverse Due → ℕ) → sum_by f heap ≡ sum_by f (dues_from 0 places)) → Stands places m.0.place m.0.date
-place-top m heap places some top same =
-    let found = counted-place m places 0 (omega (arith, counted-top m heap some top, same (λ y. one_if (same_due m y)))) in
+pub place-top : (m : Reverse Due) (items : List (Reverse Due)) (places : List (Option Dated)) → IsFirst m items → HoldsSame items places →
+    Stands places m.0.place m.0.date
+place-top m items places first same =
+    let found = counted-place m places 0 (omega (arith, first.found, same (λ y. one_if (same_due m y)))) in
     let at : found.0 ≡ m.0.place = omega (arith, found.1) in
     subst (λ (k : ℕ). Stands places k m.0.date) at found.2
+
+-- where the date of none has come, none is due
+later-none : (t : ℕ) (xs : List (Reverse Due)) → AllLater t xs → sum_by (λ y. one_if (nat_le y.0.date t)) xs ≡ 0
+later-none t [] all = refl
+later-none t (x ∷ xs) all =
+    omega (arith, sum_by-cons (λ (y : Reverse Due). one_if (nat_le y.0.date t)) x xs, ap one_if (lt-leb x.0.date t all.0), later-none t xs all.1)
+
+none-due : (t : ℕ) (places : List (Option Dated)) (n : ℕ) → sum_by (λ y. one_if (nat_le y.0.date t)) (dues_from n places) ≡ 0 →
+    filter (is_due t) (entered places) ≡ []
+none-due t [] n none = refl
+none-due t (None ∷ places) n none = none-due t places (suc n) none
+none-due t (Some x ∷ places) n none =
+    by (nat_le x.date t) (none-due t places (suc n)) (rw (sum_by-cons (λ (y : Reverse Due). one_if (nat_le y.0.date t)) (due_at n x) (dues_from (suc n) places)) at none)
+  where
+    by : (b : Bool) → (sum_by (λ y. one_if (nat_le y.0.date t)) (dues_from (suc n) places) ≡ 0 → filter (is_due t) (entered places) ≡ []) →
+        one_if b + sum_by (λ y. one_if (nat_le y.0.date t)) (dues_from (suc n) places) ≡ 0 →
+        cond b (x ∷ filter (is_due t) (entered places)) (filter (is_due t) (entered places)) ≡ []
+    by true ih e = absurd (omega arith)
+    by false ih e = ih (omega arith)
+
+pub none-later : (t : ℕ) (items : List (Reverse Due)) (places : List (Option Dated)) → AllLater t items → HoldsSame items places →
+    filter (is_due t) (entered places) ≡ []
+none-later t items places later same =
+    none-due t places 0 (sym (same (λ y. one_if (nat_le y.0.date t))) ∙ later-none t items later)

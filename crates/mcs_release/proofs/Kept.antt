@@ -1,42 +1,38 @@
 -- What the places keep, through each call.
 use Rattle.std.proofs.Common.{◌≡◌, ℕ, zero, suc, ◌+◌, ◌<◌, ◌≤◌, Bool, true, false, List, [], ◌∷◌, ◌++◌, length, get_or, set, Option, Some, None, refl, sym, ap, subst, ◌∙◌, inl, inr, arith, replicate, get_or-set_same, get_or-set_other, length-set}
-use Rattle.std.specs.Prelude.{nat_lt, nat_le, sum_by, filter, option_map, IsPermutation, IfSome, is_some}
-use Rattle.std.specs.Ordering.{is_gt, nat_cmp}
-use Rattle.std.specs.List.{AllByRecursion}
+use Rattle.std.specs.Prelude.{nat_lt, nat_le, sum_by, filter, option_map, IsPermutation}
 use Rattle.std.specs.declared.cmp.Reverse.{Reverse}
-use Rattle.std.specs.BinaryHeap.{IsHeap, KeepsHeap, PopsGreatest, lt_by_cmp}
-use Rattle.std.proofs.lemmas.Bool.{cases_eq, cases_lt, le-leb, lt-leb, ltb-true, lt-ltb, false≢true}
-use Rattle.std.proofs.lemmas.Bool.Decides.{nat_tests}
+use Rattle.std.specs.BinaryHeap.{lt_by_cmp}
+use Rattle.std.proofs.lemmas.Bool.{cases_eq, cases_lt, le-leb, ltb-true, lt-ltb, false≢true}
 use Rattle.std.proofs.lemmas.List.{get_or_default, get_or_past, length-replicate}
 use Rattle.std.proofs.lemmas.List.Sorted.{sum_by-IsPermutation}
 use Rattle.std.proofs.lemmas.List.Sums.{sum_by-cons}
 use Rattle.mcs_release.specs.declared.dated.Dated.{Dated}
-use Rattle.mcs_release.specs.declared.releases.Due.{Due}
-use Rattle.mcs_release.specs.stored.Heap.{entered, due_at, dues_from, due_cmp, times, one_if, IsPlaced, IsKept}
+use Rattle.mcs_release.specs.declared.dues.Due.{Due}
+use Rattle.mcs_release.specs.stored.Heap.{entered, due_at, dues_from, due_cmp, times, one_if, AllLater, IsFirst, IsPlaced, IsKept}
 use Rattle.mcs_release.specs.Release.{ReleaseQueue, dated, is_held, earliest, next_date, first_due, without_first_due, when_left, AreBelow, AreDistinct}
-use Rattle.mcs_release.proofs.Dues.{dues-put, dues-left, dues-count, count-is-length}
-use Rattle.mcs_release.proofs.Earliest.{before-top, earliest-top, none-top, place-top, Stands}
+use Rattle.mcs_release.proofs.Counts.{dues-put, dues-left, dues-count, count-is-length}
+use Rattle.mcs_release.proofs.Earliest.{before-top, earliest-top, none-later, place-top, Stands}
 use Rattle.mcs_release.proofs.Entered.{empty_from, entered-none, entered-push, entered-left, times-left}
 use Rattle.mcs_release.proofs.Times.{times-append, times-cons_same, times-cons_other, times-free, one_if-le-one, length-le-room}
 
--- the heap holds as many as have entered
-module _ (places : List (Option Dated)) (end : ℕ) (heap : List (Reverse Due)) (placed : IsPlaced places end heap) where
-  pub heap-counts : length heap ≡ length (entered places)
-  heap-counts = sym (count-is-length heap) ∙ placed.same (λ (x : Reverse Due). 1) ∙ dues-count places 0
+-- there are as many as have entered
+module _ (places : List (Option Dated)) (end : ℕ) (items : List (Reverse Due)) (placed : IsPlaced places end items) where
+  pub items-counts : length items ≡ length (entered places)
+  items-counts = sym (count-is-length items) ∙ placed.same (λ (x : Reverse Due). 1) ∙ dues-count places 0
 
-  pub entered-empty : length heap ≡ 0 → entered places ≡ []
-  entered-empty none = nil (entered places) (sym heap-counts ∙ none)
+  pub entered-empty : length items ≡ 0 → entered places ≡ []
+  entered-empty none = nil (entered places) (sym items-counts ∙ none)
     where
       nil : (xs : List Dated) → length xs ≡ 0 → xs ≡ []
       nil [] e = refl
       nil (x ∷ xs) e = absurd (omega arith)
 
 -- with no entry the first place is behind all
-pub IsPlaced-empty : (places : List (Option Dated)) (end : ℕ) (heap : List (Reverse Due)) → IsPlaced places end heap → length heap ≡ 0 → IsPlaced places 0 heap
-IsPlaced-empty places end heap placed none = record {
-  behind = λ i from. empty_from places i (entered-empty places end heap placed none);
+pub IsPlaced-empty : (places : List (Option Dated)) (end : ℕ) (items : List (Reverse Due)) → IsPlaced places end items → length items ≡ 0 → IsPlaced places 0 items
+IsPlaced-empty places end items placed none = record {
+  behind = λ i from. empty_from places i (entered-empty places end items placed none);
   same = placed.same;
-  order = placed.order;
 }
 
 pub none-held : (n : ℕ) → (0 < n → false ≡ true) → n ≡ 0
@@ -44,7 +40,7 @@ none-held zero empty = refl
 none-held (suc n) empty = absurd (false≢true (empty (omega arith)))
 
 -- one enters
-module _ (places : List (Option Dated)) (end room capacity : ℕ) (heap : List (Reverse Due)) (kept : IsKept places end heap room capacity) (x : Dated)
+module _ (places : List (Option Dated)) (end room capacity : ℕ) (items : List (Reverse Due)) (kept : IsKept places end items room capacity) (x : Dated)
     (x_below : x.thread < room) (free : is_held x.thread (entered places) ≡ false) where
   once-more : (thread : ℕ) → times thread (x ∷ entered places) ≤ one_if (nat_lt thread room)
   once-more thread = elim (cases_eq thread x.thread) [
@@ -61,29 +57,28 @@ module _ (places : List (Option Dated)) (end room capacity : ℕ) (heap : List (
   pub fewer-than-places : length (entered places) < length places
   fewer-than-places = omega (arith, fewer-than-room, kept.wide)
 
-  module _ (places' : List (Option Dated)) (place capacity' : ℕ) (heap' : List (Reverse Due)) (same : entered places' ≡ entered places)
-      (wide : length places' ≡ length places) (placed : IsPlaced places' place heap') (within : place < length places') (more : capacity ≤ capacity')
+  module _ (places' : List (Option Dated)) (place capacity' : ℕ) (items' : List (Reverse Due)) (same : entered places' ≡ entered places)
+      (wide : length places' ≡ length places) (placed : IsPlaced places' place items') (within : place < length places') (more : capacity ≤ capacity')
     where
-      pub heap-fits : length heap' < capacity'
-      heap-fits = omega (arith, heap-counts places' place heap' placed, ap length same, fewer-than-room, kept.space)
+      pub items-fit : length items' < capacity'
+      items-fit = omega (arith, items-counts places' place items' placed, ap length same, fewer-than-room, kept.space)
 
       pub entered-more : entered (set places' place (Some x)) ≡ entered places ++ x ∷ []
       entered-more = entered-push places' place x within placed.behind ∙ ap (λ (xs : List Dated). xs ++ x ∷ []) same
 
-      pub IsKept-entered : (heap'' : List (Reverse Due)) (capacity'' : ℕ) → IsPermutation (due_at place x ∷ heap') heap'' → KeepsHeap due_cmp heap' heap'' → capacity' ≤ capacity'' →
-          IsKept (set places' place (Some x)) (place + 1) heap'' room capacity''
-      IsKept-entered heap'' capacity'' moved keeps yet_more = record {
+      pub IsKept-entered : (items'' : List (Reverse Due)) (capacity'' : ℕ) → IsPermutation (due_at place x ∷ items') items'' → capacity' ≤ capacity'' →
+          IsKept (set places' place (Some x)) (place + 1) items'' room capacity''
+      IsKept-entered items'' capacity'' moved yet_more = record {
         placed = record {
           behind = λ i from. get_or-set_other places' place i (Some x) None (omega arith) ∙ placed.behind i (omega arith);
           same = λ f. omega (
             arith,
-            sum_by-IsPermutation f (due_at place x ∷ heap') heap'' moved,
-            sum_by-cons f (due_at place x) heap',
+            sum_by-IsPermutation f (due_at place x ∷ items') items'' moved,
+            sum_by-cons f (due_at place x) items',
             placed.same f,
             dues-put f places' 0 place x within (placed.behind place (omega arith)),
             ap (λ (n : ℕ). f (due_at n x)) zero_place,
           );
-          order = keeps placed.order;
         };
         once = λ thread. omega (
           arith,
@@ -98,15 +93,15 @@ module _ (places : List (Option Dated)) (end room capacity : ℕ) (heap : List (
           zero_place : 0 + place ≡ place
           zero_place = omega arith
 
--- the one on top of the heap
-module _ (places : List (Option Dated)) (end room capacity : ℕ) (heap : List (Reverse Due)) (kept : IsKept places end heap room capacity) (m : Reverse Due)
-    (some : 0 < length heap) (top : m ≡ get_or heap 0 m) (greatest : AllByRecursion (λ y. lt_by_cmp due_cmp m y ≡ false) heap) where
+-- the first of all
+module _ (places : List (Option Dated)) (end room capacity : ℕ) (items : List (Reverse Due)) (kept : IsKept places end items room capacity) (m : Reverse Due)
+    (first : IsFirst m items) where
   -- the thread that stands in its place, and its date
   pub stands : Stands places m.0.place m.0.date
-  stands = place-top m heap places some top kept.placed.same
+  stands = place-top m items places first kept.placed.same
 
   none-before : sum_by (λ y. one_if (lt_by_cmp due_cmp m y)) (dues_from 0 places) ≡ 0
-  none-before = sym (kept.placed.same (λ y. one_if (lt_by_cmp due_cmp m y))) ∙ before-top m heap greatest
+  none-before = sym (kept.placed.same (λ y. one_if (lt_by_cmp due_cmp m y))) ∙ before-top m items first.greatest
 
   pub place-within : m.0.place < length places
   place-within = elim (cases_lt m.0.place (length places)) [
@@ -130,10 +125,6 @@ module _ (places : List (Option Dated)) (end room capacity : ℕ) (heap : List (
       all_pass [] = refl
       all_pass (x ∷ xs) = ap (λ (ys : List Dated). x ∷ ys) (all_pass xs)
 
-  -- with a date after t nothing leaves
-  pub first-later : (t : ℕ) → t < m.0.date → first_due t (entered places) ≡ None
-  first-later t later = ap earliest (none-top m (λ x. nat_le x.date t) (λ x h. lt-leb x.date t (omega arith)) places 0 none-before)
-
   -- what is read at its place
   pub entry-top : (entry : Option Dated) → entry ≡ get_or places m.0.place entry → entry ≡ Some stands.0
   entry-top entry read = read ∙ get_or_default places m.0.place entry None place-within ∙ stands.1
@@ -149,9 +140,9 @@ module _ (places : List (Option Dated)) (end room capacity : ℕ) (heap : List (
         ap (λ (r : Option Dated). when_left r (entered places)) first-top
         ∙ entered-left places m.0.place stands.0 stands.1 (omega (arith, kept.once stands.0.thread, one_if-le-one (nat_lt stands.0.thread room)))
 
-  module _ (heap' : List (Reverse Due)) (capacity' : ℕ) where
-    pub IsKept-left : IsPermutation heap (m ∷ heap') → IsHeap due_cmp heap' → capacity' ≡ capacity → IsKept (set places m.0.place None) end heap' room capacity'
-    IsKept-left moved order capacities = record {
+  module _ (items' : List (Reverse Due)) (capacity' : ℕ) where
+    pub IsKept-left : IsPermutation items (m ∷ items') → capacity' ≡ capacity → IsKept (set places m.0.place None) end items' room capacity'
+    IsKept-left moved capacities = record {
       placed = record {
         behind = λ i from. elim (cases_eq i m.0.place) [
           | inl e ↦ ap (λ (k : ℕ). get_or (set places m.0.place None) k None) e ∙ get_or-set_same places m.0.place None None place-within
@@ -159,14 +150,13 @@ module _ (places : List (Option Dated)) (end room capacity : ℕ) (heap : List (
         ];
         same = λ f. omega (
           arith,
-          sum_by-IsPermutation f heap (m ∷ heap') moved,
-          sum_by-cons f m heap',
+          sum_by-IsPermutation f items (m ∷ items') moved,
+          sum_by-cons f m items',
           kept.placed.same f,
           dues-left f places 0 m.0.place stands.0 stands.1,
           ap (λ (n : ℕ). f (due_at n stands.0)) (sym zero_place),
           ap f is_top,
         );
-        order = order;
       };
       once = λ thread. omega (arith, kept.once thread, times-left places m.0.place thread);
       wide = omega (arith, kept.wide, length-set places m.0.place None);
@@ -176,24 +166,9 @@ module _ (places : List (Option Dated)) (end room capacity : ℕ) (heap : List (
         is_top : due_at m.0.place stands.0 ≡ m
         is_top = ap (λ (date : ℕ). due_at m.0.place (dated stands.0.thread date)) stands.2
 
--- what `pop` of the heap says, where this is the one on top
-pub popped : (heap heap' : List (Reverse Due)) (m : Reverse Due) (r : Option (Reverse Due)) → 0 < length heap → m ≡ get_or heap 0 m → is_some r ≡ true →
-    IfSome r (λ x. x ≡ get_or heap 0 x) → IfSome r (λ x. IsPermutation heap (x ∷ heap')) → IsPermutation heap (m ∷ heap')
-popped heap heap' m None some top is top_is moved = absurd (false≢true is)
-popped heap heap' m (Some x) some top is top_is moved =
-    let same : x ≡ m = top_is ∙ get_or_default heap 0 x m some ∙ sym top in
-    let Moved : Reverse Due → Type 0 = λ y. IsPermutation heap (y ∷ heap') in
-    subst Moved same moved
-
-pub kept_in_order : (heap heap' : List (Reverse Due)) (r : Option (Reverse Due)) → is_some r ≡ true → IfSome r (λ x. PopsGreatest due_cmp heap x heap') → IsHeap due_cmp heap → IsHeap due_cmp heap'
-kept_in_order heap heap' None is keeps order = absurd (false≢true is)
-kept_in_order heap heap' (Some x) is keeps order = (keeps order).0
-
-pub later-than : (a b : ℕ) → true ≡ is_gt (nat_cmp a b) → b < a
-later-than a b e = grind (arith, nat_tests)
-
-pub no_later-than : (a b : ℕ) → false ≡ is_gt (nat_cmp a b) → a ≤ b
-no_later-than a b e = grind (arith, nat_tests)
+-- where the date of none has come, nothing leaves
+pub first-later : (places : List (Option Dated)) (end t : ℕ) (items : List (Reverse Due)) → IsPlaced places end items → AllLater t items → first_due t (entered places) ≡ None
+first-later places end t items placed later = ap earliest (none-later t items places later placed.same)
 
 -- with no thread, everything is kept
 empty_places : (n i : ℕ) → get_or (replicate {A = Option Dated} n None) i None ≡ None
@@ -208,13 +183,12 @@ no_dues (suc n) place = no_dues n (suc place)
 pub entered-new : (n : ℕ) → entered (replicate n None) ≡ []
 entered-new n = entered-none (replicate n None) (empty_places n)
 
-pub IsKept-new : (n room capacity : ℕ) (heap : List (Reverse Due)) → room ≤ n → room ≤ capacity → heap ≡ [] → IsHeap due_cmp heap →
-    IsKept (replicate n None) 0 heap room capacity
-IsKept-new n room capacity heap wide space none order = record {
+pub IsKept-new : (n room capacity : ℕ) (items : List (Reverse Due)) → room ≤ n → room ≤ capacity → items ≡ [] →
+    IsKept (replicate n None) 0 items room capacity
+IsKept-new n room capacity items wide space none = record {
   placed = record {
     behind = λ i from. empty_places n i;
     same = λ f. ap (sum_by f) none ∙ ap (sum_by f) (sym (no_dues n 0));
-    order = order;
   };
   once = λ thread. omega (arith, ap (times thread) (entered-new n));
   wide = omega (arith, length-replicate {A = Option Dated} n None);

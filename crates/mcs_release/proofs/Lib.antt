@@ -1,8 +1,9 @@
 pub mod Closing
-pub mod Dues
+pub mod Counts
 pub mod Earliest
 pub mod Entered
 pub mod Order
 pub mod Times
 pub mod Kept
 mod Worked
+pub mod First

@@ -3,6 +3,7 @@
 #![tactic(auto)]
 
 mod dated;
+mod dues;
 mod laws;
 mod releases;
 

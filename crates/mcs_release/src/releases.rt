@@ -1,66 +1,19 @@
-ghost use Rattle.std.specs.Prelude.{◌≡◌, ℕ, ◌+◌, ◌*◌, ◌^◌, ◌<◌, ◌≤◌, ◌++◌, ◌∷◌, false, [], None, length, slice_index_or, slice_set, IfOk, IsPermutation};
-ghost use Rattle.std.proofs.Common.{rules};
-ghost use Rattle.std.specs.Cmp.{partial_order_from_own_ties};
-ghost use Rattle.std.specs.Cmp.Rules.{comparing};
-ghost use Rattle.std.specs.Ordering.{nat_cmp, on, then_cmp, as_partial_cmp};
-ghost use Rattle.std.specs.BinaryHeap.{heap_items, heap_len, heap_capacity, KeepsHeap};
-ghost use Rattle.mcs_release.specs.stored.Heap.{due_at, due_cmp, entered, IsPlaced};
+ghost use Rattle.std.specs.Prelude.{◌≡◌, ℕ, ◌<◌, ◌≤◌, ◌++◌, ◌∷◌, false, [], None, length, slice_index_or, slice_set, IfOk, IsPermutation};
+ghost use Rattle.mcs_release.specs.stored.Heap.{due_at, entered, IsPlaced};
 ghost use Rattle.mcs_release.specs.Release.{dated, is_held, next_date, first_due, without_first_due, thread_of, AreDistinct, AreBelow};
 
 use crate::Dated;
+use crate::dues::{Due, Dues};
 use mcs_ticks::{NoMemory, ThreadId, Tick};
 use std::alloc::Global;
-use std::cmp::{Ordering, Reverse};
-use std::collections::BinaryHeap;
+use std::cmp::Reverse;
 use std::marker::Model;
 
 // Four times so many places may be empty, beside three times as many as there are entries.
-const SPARE: usize = 8;
+const SPARE: usize = 16;
 
 // So many places there are beyond five for each four threads.
-const MORE: usize = 128;
-
-/// A thread that is held, by its date and then by its place, which is later the later it entered. The thread itself stands in the
-/// place.
-#[derive(Clone, Copy, Debug, PartialEq, Eq)]
-struct Due {
-    date: Tick,
-    place: usize,
-}
-
-impl Due {
-    // one number that is in the order of dates and then of places, so that a single comparison decides
-    fn key(&self) -> u128
-        ensures value { result ≡ self.now.date * 2 ^ 64 + self.now.place }
-        ensures small { self.now.place < 2 ^ 64 }
-    {
-        u128::from(self.date.get()) * (1 << 64) + self.place as u128
-    }
-}
-
-impl Ord for Due {
-    ghost cmp = { then_cmp (on (λ d. d.date) nat_cmp) (on (λ d. d.place) nat_cmp) };
-
-    ghost total = { Prim.search (comparing, rules) };
-
-    ghost matches_partial_cmp = { Prim.search (comparing, rules) };
-
-    ghost matches_eq = { Prim.search (comparing, rules) };
-
-    fn cmp(&self, other: &Due) -> Ordering {
-        self.key().cmp(&other.key())
-    }
-}
-
-impl PartialOrd for Due {
-    ghost partial_cmp = { as_partial_cmp (then_cmp (on (λ d. d.date) nat_cmp) (on (λ d. d.place) nat_cmp)) };
-
-    ghost laws = { partial_order_from_own_ties (Prim.search (comparing, rules)) (Prim.search (comparing, rules)) };
-
-    fn partial_cmp(&self, other: &Due) -> Option<Ordering> {
-        Some(self.cmp(other))
-    }
-}
+const MORE: usize = 512;
 
 /// The threads of one core that wait for a date, each with its date. Contracts see them in the order in which they entered, and
 /// `room`, the number of threads that there is room for.
@@ -70,8 +23,8 @@ pub struct Releases {
     places: Vec<Option<Dated>>,
     // the place of the next thread that enters, behind all that are held
     end: usize,
-    // the threads that are held, the least date on top
-    heap: BinaryHeap<Reverse<Due>>,
+    // the dates and places of the threads that are held
+    dues: Dues,
     room: usize,
 }
 
@@ -80,12 +33,11 @@ impl Model for Releases {
 
     ghost Value = { ReleaseQueue };
 
-    ghost use Rattle.std.specs.BinaryHeap.{heap_items, heap_capacity};
     ghost use Rattle.mcs_release.specs.stored.Heap.{entered, IsKept};
 
     ghost view = { λ a. record { queue = entered a.places.items; room = a.room } };
 
-    ghost invariant = { λ a. IsKept a.places.items a.end (heap_items a.heap) a.room (heap_capacity a.heap) };
+    ghost invariant = { λ a. IsKept a.places.items a.end a.dues.items a.room a.dues.capacity };
 }
 
 impl Releases {
@@ -94,11 +46,11 @@ impl Releases {
     pub fn new(alloc: Global, threads: usize) -> Result<Self, NoMemory>
         ensures { IfOk result (λ releases. releases ≡ record { queue = []; room = threads }) }
     {
-        let heap = BinaryHeap::with_capacity(alloc, threads)?;
+        let dues = Dues::new(alloc, threads)?;
         Ok(Releases {
             places: vec![in alloc; None; threads + threads / 4 + MORE]?,
             end: 0,
-            heap,
+            dues,
             room: threads,
         })
     }
@@ -107,7 +59,7 @@ impl Releases {
     pub fn next(&self) -> Option<Tick>
         ensures { result ≡ next_date self.now.queue }
     {
-        let first = self.heap.peek()?.0;
+        let first = self.dues.first()?.0;
         Some(first.date)
     }
 
@@ -123,12 +75,8 @@ impl Releases {
         ensures first { result ≡ thread_of (first_due t self.old.queue) }
         ensures rest { self.new ≡ record self.old { queue = without_first_due t self.old.queue } }
     {
-        let first = self.heap.peek()?.0;
-        if first.date > t {
-            return None;
-        }
+        let first = self.dues.pop_due(t)?.0;
         let entry = self.places[first.place];
-        self.heap.pop();
         self.places[first.place] = None;
         entry.map(|x| x.thread)
     }
@@ -140,10 +88,10 @@ impl Releases {
         requires free { is_held x self.old.queue ≡ false }
         ensures { self.new ≡ record self.old { queue = self.old.queue ++ dated x at ∷ [] } }
     {
-        let place = place_behind(&mut self.places, &mut self.heap, self.end);
+        let place = place_behind(&mut self.places, &mut self.dues, self.end);
         put(
             &mut self.places,
-            &mut self.heap,
+            &mut self.dues,
             place,
             Dated {
                 thread: x,
@@ -167,46 +115,45 @@ fn entries(alloc: Global, places: &[Option<Dated>]) -> Result<Vec<Dated>, NoMemo
     Ok(list)
 }
 
-/// Puts the entry into a place and onto the heap.
+/// Puts the entry into a place, and its date and place among the others.
+#[inline(always)]
 fn put(
     places: &mut [Option<Dated>],
-    heap: &mut BinaryHeap<Reverse<Due>>,
+    dues: &mut Dues,
     place: usize,
     entry: Dated,
 )
     requires within { place < length places.old }
-    requires room { heap_len heap.old < heap_capacity heap.old }
+    requires room { length dues.old.items < dues.old.capacity }
     ensures places { places.new ≡ slice_set places.old place (Some entry) }
-    ensures heap { IsPermutation (due_at place entry ∷ heap_items heap.old) (heap_items heap.new) }
-    ensures order { KeepsHeap due_cmp (heap_items heap.old) (heap_items heap.new) }
-    ensures capacity { heap_capacity heap.old ≤ heap_capacity heap.new }
+    ensures dues { IsPermutation (due_at place entry ∷ dues.old.items) dues.new.items }
+    ensures capacity { dues.old.capacity ≤ dues.new.capacity }
 {
     let due = Due {
         date: entry.date,
         place,
     };
     places[place] = Some(entry);
-    let pushed = heap.push(Reverse(due)).is_ok();
-    prove!(pushed);
+    dues.push(Reverse(due));
 }
 
 /// Moves all entries, which stand before the place `past`, to the front in their order, and answers how many there are.
 #[inline(never)]
-fn close_up(places: &mut [Option<Dated>], heap: &mut BinaryHeap<Reverse<Due>>, past: usize) -> usize
-    requires room { length (entered places.old) ≤ heap_capacity heap.old }
+fn close_up(places: &mut [Option<Dated>], dues: &mut Dues, past: usize) -> usize
+    requires room { length (entered places.old) ≤ dues.old.capacity }
     requires within { past ≤ length places.old }
     requires behind { (i : ℕ) → past ≤ i → slice_index_or places.old i None ≡ None }
     ensures entered { entered places.new ≡ entered places.old }
     ensures count { result ≡ length (entered places.old) }
-    ensures placed { IsPlaced places.new result (heap_items heap.new) }
-    ensures capacity { heap_capacity heap.old ≤ heap_capacity heap.new }
+    ensures placed { IsPlaced places.new result dues.new.items }
+    ensures capacity { dues.old.capacity ≤ dues.new.capacity }
 {
-    heap.clear();
+    dues.clear();
     let mut front = 0;
     for i in 0..past {
         if let Some(entry) = places[i] {
             places[i] = None;
-            put(places, heap, front, entry);
+            put(places, dues, front, entry);
             front += 1;
         }
     }
@@ -218,24 +165,24 @@ fn close_up(places: &mut [Option<Dated>], heap: &mut BinaryHeap<Reverse<Due>>, p
 /// threads of at least a fifth of the places to look through have left.
 fn place_behind(
     places: &mut [Option<Dated>],
-    heap: &mut BinaryHeap<Reverse<Due>>,
+    dues: &mut Dues,
     end: usize,
 ) -> usize
-    requires placed { IsPlaced places.old end (heap_items heap.old) }
-    requires room { length (entered places.old) ≤ heap_capacity heap.old }
+    requires placed { IsPlaced places.old end dues.old.items }
+    requires room { length (entered places.old) ≤ dues.old.capacity }
     requires some { length (entered places.old) < length places.old }
     ensures within { result < length places.new }
     ensures entered { entered places.new ≡ entered places.old }
-    ensures placed { IsPlaced places.new result (heap_items heap.new) }
-    ensures capacity { heap_capacity heap.old ≤ heap_capacity heap.new }
+    ensures placed { IsPlaced places.new result dues.new.items }
+    ensures capacity { dues.old.capacity ≤ dues.new.capacity }
 {
-    if heap.is_empty() {
+    if dues.is_empty() {
         0
-    } else if end < places.len() && end / 4 <= heap.len().saturating_add(SPARE) {
+    } else if end < places.len() && end / 8 <= dues.others().saturating_add(SPARE) {
         end
     } else {
         let past = end.min(places.len());
-        close_up(places, heap, past)
+        close_up(places, dues, past)
     }
 }
 

@@ -2,7 +2,7 @@ use Rattle.std.proofs.Common.{◌≡◌, ◌++◌, ◌∷◌, [], ◌∙◌, ap,
 use Rattle.std.proofs.lemmas.List.{take_at}
 use Rattle.mcs_release.specs.stored.Heap.{entered}
 use Rattle.mcs_release.specs.Release.{ReleaseQueue, dated, is_held}
-use Rattle.mcs_release.proofs.Kept.{IsKept-entered, entered-more, fewer-than-places, fewer-than-room, heap-fits, same_value}
+use Rattle.mcs_release.proofs.Kept.{IsKept-entered, entered-more, fewer-than-places, fewer-than-room, items-fit, same_value}
 use Rattle.mcs_release.proofs.releases.Releases.enter.Goals as goal
 
 pub place_behind-place-requires-clause-room : goal.place_behind-place-requires-clause-room
@@ -22,8 +22,7 @@ put-requires-clause-room c =
     let wide : length c.place_behind-place.new.places ≡ length c.self.inside.places.items = omega arith in
     omega (
       arith,
-      c.place_behind-place.new.heap.data.ok.0,
-      heap-fits _ _ _ _ _ c.self.invariant (dated c.args.x c.args.at) (rw (ap (λ (v : ReleaseQueue). v.room) c.self.view_is) c.requires.below) (ap (λ (v : ReleaseQueue). is_held c.args.x v.queue) c.self.view_is ∙ c.requires.free)
+      items-fit _ _ _ _ _ c.self.invariant (dated c.args.x c.args.at) (rw (ap (λ (v : ReleaseQueue). v.room) c.self.view_is) c.requires.below) (ap (λ (v : ReleaseQueue). is_held c.args.x v.queue) c.self.view_is ∙ c.requires.free)
           _ _ _ _ same wide c.place_behind-place.ensures.placed c.place_behind-place.ensures.within c.place_behind-place.ensures.capacity,
     )
 
@@ -37,7 +36,7 @@ invariant_of-self c =
     let put : length c.put.new.places ≡ len = omega (arith, c.put.auto.places, ap length now) in
     rw (take_at c.put.new.places _ len put, c.put.ensures.places, now) (
     IsKept-entered _ _ _ _ _ c.self.invariant (dated c.args.x c.args.at) (rw (ap (λ (v : ReleaseQueue). v.room) c.self.view_is) c.requires.below) (ap (λ (v : ReleaseQueue). is_held c.args.x v.queue) c.self.view_is ∙ c.requires.free)
-    _ _ _ _ same wide c.place_behind-place.ensures.placed c.place_behind-place.ensures.within c.place_behind-place.ensures.capacity _ _ c.put.ensures.heap c.put.ensures.order c.put.ensures.capacity
+    _ _ _ _ same wide c.place_behind-place.ensures.placed c.place_behind-place.ensures.within c.place_behind-place.ensures.capacity _ _ c.put.ensures.dues c.put.ensures.capacity
     )
 
 pub returns : goal.returns

@@ -4,7 +4,7 @@ use Rattle.std.specs.Prelude.{sum_by}
 use Rattle.std.specs.declared.cmp.Reverse.{Reverse}
 use Rattle.std.proofs.lemmas.List.Sums.{sum_by-cons}
 use Rattle.mcs_release.specs.declared.dated.Dated.{Dated}
-use Rattle.mcs_release.specs.declared.releases.Due.{Due}
+use Rattle.mcs_release.specs.declared.dues.Due.{Due}
 use Rattle.mcs_release.specs.stored.Heap.{entered, due_at, dues_from}
 
 module _ (f : Reverse Due → ℕ) where
