@@ -5,7 +5,7 @@ use Rattle.std.specs.declared.cmp.Reverse.{Reverse}
 use Rattle.std.specs.BinaryHeap.{lt_by_cmp}
 use Rattle.std.proofs.lemmas.Bool.{cases_eq, cases_lt, le-leb, ltb-true, lt-ltb, false≢true}
 use Rattle.std.proofs.lemmas.List.{get_or_default, get_or_past, length-replicate}
-use Rattle.std.proofs.lemmas.List.Sorted.{sum_by-IsPermutation}
+use Rattle.std.proofs.lemmas.List.Sorted.{IsPermutation-refl, sum_by-IsPermutation}
 use Rattle.std.proofs.lemmas.List.Sums.{sum_by-cons}
 use Rattle.mcs_release.specs.declared.dated.Dated.{Dated}
 use Rattle.mcs_release.specs.declared.dues.Due.{Due}
@@ -35,9 +35,10 @@ IsPlaced-empty places end items placed none = record {
   same = placed.same;
 }
 
-pub none-held : (n : ℕ) → (0 < n → false ≡ true) → n ≡ 0
-none-held zero empty = refl
-none-held (suc n) empty = absurd (false≢true (empty (omega arith)))
+-- one that comes in where there is none
+pub permuted-alone : (x : Reverse Due) (items items' : List (Reverse Due)) → length items ≡ 0 → items' ≡ x ∷ [] → IsPermutation (x ∷ items) items'
+permuted-alone x [] items' none e = rw e (IsPermutation-refl (x ∷ []))
+permuted-alone x (y ∷ items) items' none e = absurd (omega arith)
 
 -- one enters
 module _ (places : List (Option Dated)) (end room capacity : ℕ) (items : List (Reverse Due)) (kept : IsKept places end items room capacity) (x : Dated)

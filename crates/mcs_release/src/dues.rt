@@ -57,7 +57,7 @@ impl PartialOrd for Due {
 /// The threads that are held, by dates and places. Contracts see them in no particular order, and how many there is room for.
 #[derive(Debug, Drop)]
 pub(crate) struct Dues {
-    // the only one, if it came when there was none: so the heap stays empty where one thread waits
+    // the only one, where it came when there was none: so the heap stays empty where one thread waits
     lone: Option<Reverse<Due>>,
     // else all, the earliest on top
     heap: BinaryHeap<Reverse<Due>>,
@@ -139,6 +139,16 @@ impl Dues {
         Some(lone)
     }
 
+    /// Puts one in where there is none.
+    #[inline(always)]
+    pub(crate) fn put_lone(&mut self, due: Reverse<Due>)
+        requires empty { self.old.items ≡ [] }
+        ensures items { self.new.items ≡ due ∷ [] }
+        ensures capacity { self.new.capacity ≡ self.old.capacity }
+    {
+        self.lone = Some(due);
+    }
+
     /// Puts one more in. There is room.
     #[inline(always)]
     pub(crate) fn push(&mut self, due: Reverse<Due>)
@@ -147,11 +157,7 @@ impl Dues {
         ensures capacity { self.old.capacity ≤ self.new.capacity }
     {
         let Some(lone) = self.lone else {
-            if self.heap.is_empty() {
-                self.lone = Some(due);
-            } else {
-                put_on(&mut self.heap, due);
-            }
+            put_on(&mut self.heap, due);
             return;
         };
         self.lone = None;

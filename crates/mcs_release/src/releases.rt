@@ -88,16 +88,18 @@ impl Releases {
         requires free { is_held x self.old.queue ≡ false }
         ensures { self.new ≡ record self.old { queue = self.old.queue ++ dated x at ∷ [] } }
     {
+        let entry = Dated {
+            thread: x,
+            date: at,
+        };
+        if self.dues.is_empty() {
+            self.places[0] = Some(entry);
+            self.dues.put_lone(Reverse(Due { date: at, place: 0 }));
+            self.end = 1;
+            return;
+        }
         let place = place_behind(&mut self.places, &mut self.dues, self.end);
-        put(
-            &mut self.places,
-            &mut self.dues,
-            place,
-            Dated {
-                thread: x,
-                date: at,
-            },
-        );
+        put(&mut self.places, &mut self.dues, place, entry);
         self.end = place + 1;
     }
 }
@@ -160,9 +162,9 @@ fn close_up(places: &mut [Option<Dated>], dues: &mut Dues, past: usize) -> usize
     front
 }
 
-/// An empty place behind all entries: the first one where there is no entry. Where few of the places before it are in use, or
-/// the last one was taken, the entries move to the front: so few threads stay in few places. By then, since the last time, the
-/// threads of at least a fifth of the places to look through have left.
+/// An empty place behind all entries. Where few of the places before it are in use, or the last one was taken, the entries move
+/// to the front: so few threads stay in few places. By then, since the last time, the threads of at least a fifth of the places to
+/// look through have left.
 fn place_behind(
     places: &mut [Option<Dated>],
     dues: &mut Dues,
@@ -176,9 +178,7 @@ fn place_behind(
     ensures placed { IsPlaced places.new result dues.new.items }
     ensures capacity { dues.old.capacity ≤ dues.new.capacity }
 {
-    if dues.is_empty() {
-        0
-    } else if end < places.len() && end / 8 <= dues.others().saturating_add(SPARE) {
+    if end < places.len() && end / 8 <= dues.others().saturating_add(SPARE) {
         end
     } else {
         let past = end.min(places.len());

@@ -4,9 +4,5 @@ use Rattle.mcs_release.proofs.Closing.{behind_both}
 use Rattle.mcs_release.proofs.Kept.{IsPlaced-empty}
 use Rattle.mcs_release.proofs.releases.place_behind.Goals as goal
 
-pub returns-then-is_empty-clause-placed : goal.returns-then-is_empty-clause-placed
-returns-then-is_empty-clause-placed c =
-    IsPlaced-empty _ _ _ c.requires.placed (eqb-true _ 0 (sym c.if-is_empty.ensures))
-
 pub close_up-requires-clause-behind : goal.close_up-requires-clause-behind
 close_up-requires-clause-behind c = behind_both _ _ _ c.requires.placed.behind c.min-past.ensures
