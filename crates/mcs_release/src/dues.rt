@@ -77,7 +77,7 @@ impl Model for Dues {
 }
 
 impl Dues {
-    /// None, with room for so many.
+    /// None is held, and there is room for so many.
     pub(crate) fn new(alloc: Global, threads: usize) -> Result<Self, NoMemory>
         ensures items { IfOk result (λ dues. dues.items ≡ []) }
         ensures capacity { IfOk result (λ dues. threads ≤ dues.capacity) }
@@ -93,7 +93,7 @@ impl Dues {
         self.lone.is_none() && self.heap.is_empty()
     }
 
-    /// How many there are beside the first.
+    /// How many there are beside a lone one.
     pub(crate) fn others(&self) -> usize {
         self.heap.len()
     }

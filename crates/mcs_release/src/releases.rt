@@ -119,12 +119,7 @@ fn entries(alloc: Global, places: &[Option<Dated>]) -> Result<Vec<Dated>, NoMemo
 
 /// Puts the entry into a place, and its date and place among the others.
 #[inline(always)]
-fn put(
-    places: &mut [Option<Dated>],
-    dues: &mut Dues,
-    place: usize,
-    entry: Dated,
-)
+fn put(places: &mut [Option<Dated>], dues: &mut Dues, place: usize, entry: Dated)
     requires within { place < length places.old }
     requires room { length dues.old.items < dues.old.capacity }
     ensures places { places.new ≡ slice_set places.old place (Some entry) }
@@ -165,11 +160,7 @@ fn close_up(places: &mut [Option<Dated>], dues: &mut Dues, past: usize) -> usize
 /// An empty place behind all entries. Where few of the places before it are in use, or the last one was taken, the entries move
 /// to the front: so few threads stay in few places. By then, since the last time, the threads of at least a fifth of the places to
 /// look through have left.
-fn place_behind(
-    places: &mut [Option<Dated>],
-    dues: &mut Dues,
-    end: usize,
-) -> usize
+fn place_behind(places: &mut [Option<Dated>], dues: &mut Dues, end: usize) -> usize
     requires placed { IsPlaced places.old end dues.old.items }
     requires room { length (entered places.old) ≤ dues.old.capacity }
     requires some { length (entered places.old) < length places.old }

@@ -1,7 +1,4 @@
-use Rattle.std.proofs.Common.{arith, sym}
-use Rattle.std.proofs.lemmas.Bool.{eqb-true}
 use Rattle.mcs_release.proofs.Closing.{behind_both}
-use Rattle.mcs_release.proofs.Kept.{IsPlaced-empty}
 use Rattle.mcs_release.proofs.releases.place_behind.Goals as goal
 
 pub close_up-requires-clause-behind : goal.close_up-requires-clause-behind

@@ -1,4 +1,4 @@
-use Rattle.std.proofs.Common.{◌≡◌, ◌∙◌, List, [], ap, length, refl, sym}
+use Rattle.std.proofs.Common.{◌≡◌, ◌∙◌, List, [], ap, length, sym}
 use Rattle.mcs_release.specs.Release.{ReleaseQueue, next_date}
 use Rattle.mcs_release.specs.declared.dues.Due.{Due}
 use Rattle.std.specs.declared.cmp.Reverse.{Reverse}

@@ -1,4 +1,4 @@
-use Rattle.std.proofs.Common.{◌≡◌, ◌∙◌, Option, None, ap, arith, rules, refl, sym}
+use Rattle.std.proofs.Common.{◌≡◌, ◌∙◌, Option, None, ap, arith, rules, sym}
 use Rattle.mcs_release.specs.declared.dated.Dated.{Dated}
 use Rattle.mcs_release.specs.Release.{ReleaseQueue, first_due, thread_of, when_left, without_first_due}
 use Rattle.mcs_release.proofs.Kept.{IsKept-left, entry-top, first-later, first-top, place-within, rest-top, same_value}
