@@ -90,7 +90,7 @@ impl Dues {
     pub(crate) fn is_empty(&self) -> bool
         ensures { result ≡ (length self.now.items == 0) }
     {
-        self.lone.is_none() && self.heap.is_empty()
+        self.heap.is_empty() && self.lone.is_none()
     }
 
     /// How many there are beside a lone one.
@@ -113,10 +113,10 @@ impl Dues {
         ensures first { IfSome result (λ first. IsFirst first self.now.items) }
         ensures none { IfNone result (self.now.items ≡ []) }
     {
-        if let Some(lone) = self.lone {
-            return Some(lone);
+        if let Some(top) = self.heap.peek() {
+            return Some(*top);
         }
-        Some(*self.heap.peek()?)
+        self.lone
     }
 
     /// Takes the first if its date is at most `t`.
@@ -129,9 +129,10 @@ impl Dues {
         ensures later { IfNone result (AllLater t self.old.items) }
         ensures unchanged { IfNone result (self.new.items ≡ self.old.items) }
     {
-        let Some(lone) = self.lone else {
+        if !self.heap.is_empty() {
             return pop_top(&mut self.heap, t);
-        };
+        }
+        let lone = self.lone?;
         if lone.0.date > t {
             return None;
         }
