@@ -2,7 +2,7 @@
 """Tells how the time and memory of runs of the built program grow with events, threads, cores, workers and delay.
 
 It makes systems, runs the program on each, and prints tables in Markdown: rows of the schedule, seconds that pass, seconds of the processor and the
-greatest memory, where the schedule is written (to /dev/null) and where only the reports are. With --write the tables are put into
+greatest memory, where the schedule is written (to /dev/null) and where only the reports are, each the quickest of three runs. With --write the tables are put into
 docs/PERFORMANCE.md in place of those that stand there. Nothing else should run meanwhile. The count of the last line is of tables."""
 from __future__ import annotations
 
@@ -25,6 +25,8 @@ from measured import Cost, run_measured, system_text
 PAGE = TOP / 'docs' / 'PERFORMANCE.md'
 BEGIN, END = '<!-- tables of checks/performance.py -->', '<!-- end of tables -->'
 MANY = 100
+# of so many runs the quickest is told: another user of the machine only slows one down
+TRIES = 3
 HEAD = ['Horizon', 'Rows', 'Schedule: s', 'of the processor', 'MB', 'Reports: s', 'of the processor', 'MB']
 
 
@@ -66,10 +68,11 @@ class Measuring:
         self.program, self.scale = program, scale
 
     def cost(self, file: str, horizon: int, workers: int, show: str) -> Cost:
-        cost = run_measured([self.program, file, '--horizon', str(horizon), '--workers', str(workers), '--show', show])
-        if cost.status:
-            common.stop(f'a run ended with status {cost.status}')
-        return cost
+        command = [self.program, file, '--horizon', str(horizon), '--workers', str(workers), '--show', show]
+        costs = [run_measured(command) for _ in range(TRIES)]
+        if failed := next((cost for cost in costs if cost.status), None):
+            common.stop(f'a run ended with status {failed.status}')
+        return min(costs, key=lambda cost: cost.seconds)
 
     def rows(self, file: str, horizon: int) -> int:
         with subprocess.Popen([self.program, file, '--horizon', str(horizon)], stdout=subprocess.PIPE) as running:
@@ -84,6 +87,15 @@ class Measuring:
             rows = self.rows(file.name, horizon)
             whole, short = (self.cost(file.name, horizon, workers, show) for show in ('schedule', 'reports'))
         return cells([what, f'{horizon:,}', f'{rows:,}', *shown(whole), *shown(short)])
+
+    def teams(self, delay: int, text: str, horizon: int, numbers: Sequence[int]) -> str:
+        """A line of a table: seconds that pass by so many workers each, where the schedule is written and where the reports alone are."""
+        horizon = max(horizon // self.scale, 1)
+        with tempfile.NamedTemporaryFile('w', suffix='.toml') as file:
+            file.write(text)
+            file.flush()
+            costs = [[self.cost(file.name, horizon, workers, show) for show in ('schedule', 'reports')] for workers in numbers]
+        return cells([f'{delay:,}', *(' / '.join(f'{cost.seconds:.2f}' for cost in both) for both in costs)])
 
     def many(self, at_once: int) -> str:
         """A hundred systems by xargs, so many at a time: seconds that pass."""
@@ -116,6 +128,10 @@ class Measuring:
             'Delay', lambda: (self.line(f'{k:,}', crowd(64, 8, k, True), 100_000) for k in delays))
         yield 'Delay: the same, four workers', grown(
             'Delay', lambda: (self.line(f'{k:,}', crowd(64, 8, k, True), 100_000, 4) for k in delays))
+        numbers = (1, 2, 4, 8)
+        yield 'Workers and delays: 64 cores of 32 threads, seconds for the schedule / for reports', lambda: headed(
+            ['Delay', *(f'{number} worker{"s" * (number > 1)}' for number in numbers)],
+            (self.teams(k, crowd(64, 32, k, True), 100_000, numbers) for k in (1, 10, 30, 100, 300, 1000, 100_000)))
         yield 'Many systems: a hundred of 4 cores of 8 threads, by xargs', lambda: headed(['At once', 's'], map(self.many, (1, 2, 4, 8)))
 
 
