@@ -4,6 +4,7 @@ ghost use Rattle.mcs_verdict_forever.specs.Recurs.{past_before, watch_before};
 ghost use Rattle.mcs_course.specs.Course.{course_of};
 ghost use Rattle.mcs_search.specs.stored.Kept.{IsKeptOf};
 
+use crate::gaps::Gaps;
 use crate::seen::Seen;
 use crate::snapshot::snapshot;
 use mcs_course::Course;
@@ -18,6 +19,7 @@ use std::alloc::Global;
 #[derive(Drop)]
 pub(crate) struct Kept {
     pub(crate) snapshot: Snapshot,
+    pub(crate) gaps: Gaps,
     pub(crate) watch: Watch,
     pub(crate) course: Course,
 }
@@ -40,6 +42,7 @@ impl Kept {
     {
         Ok(Kept {
             snapshot: snapshot(alloc, system, lockstep, &seen.under_way)?,
+            gaps: Gaps::new(alloc, system, lockstep)?,
             watch: seen.watch.copy(alloc)?,
             course: seen.course.copy(alloc)?,
         })

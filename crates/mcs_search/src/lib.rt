@@ -2,6 +2,7 @@
 #![tactic(auto)]
 
 mod alike;
+mod gaps;
 mod kept;
 mod orders;
 mod repeats;

@@ -253,6 +253,13 @@ impl Search {
         if !may_stand_again(system, &self.lockstep, earlier.cores(), group) {
             return Ok(None);
         }
+        if !self
+            .kept
+            .gaps
+            .are_same(alloc, system, &self.lockstep, group)
+        {
+            return Ok(None);
+        }
         under_way_is_told();
         let present = snapshot(alloc, system, &self.lockstep, &self.seen.under_way)?;
         let found = Shifts::between(alloc, system, group, earlier, &present, &self.seen.marks)?;

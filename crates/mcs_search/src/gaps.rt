@@ -1,0 +1,75 @@
+ghost use Rattle.std.specs.Prelude.{◌≡◌, ◌<◌, [], false};
+
+use mcs_forever::CoreSet;
+use mcs_lockstep::Lockstep;
+use mcs_mail::Mailbox;
+use mcs_recurs::is_own;
+use mcs_system::System;
+use mcs_ticks::{CoreId, NoMemory};
+use std::alloc::Global;
+
+// In how many ticks the core does more than count a tick, where nothing arrives. None where it never does.
+fn gap(no_mail: &Mailbox, system: &System, lockstep: &Lockstep, core: CoreId) -> Option<u64>
+    requires known { core < system.now.cores }
+    requires same { lockstep.now.system ≡ system.now }
+    requires going { lockstep.now.failed ≡ false }
+    requires none { no_mail.now.mails ≡ [] }
+{
+    let next = lockstep.state(core).next_busy(system, no_mail)?;
+    Some(next.get().saturating_sub(lockstep.clock().get()))
+}
+
+/// In how many ticks each core does more than count a tick, where nothing arrives. A group that stands again as it stood does so in as many, and most
+/// others do not: so a moment is mostly told from the kept one without an image of its cores.
+#[derive(Drop)]
+pub(crate) struct Gaps {
+    of_cores: Vec<Option<u64>>,
+}
+
+impl Gaps {
+    /// Those of the present moment.
+    pub(crate) fn new(alloc: Global, system: &System, lockstep: &Lockstep) -> Result<Self, NoMemory>
+        requires same { lockstep.now.system ≡ system.now }
+        requires going { lockstep.now.failed ≡ false }
+    {
+        let no_mail = Mailbox::new(alloc);
+        let count = system.parts().cores;
+        let mut of_cores = Vec::with_capacity(alloc, count)?;
+        for core in 0..count {
+            of_cores.push(gap(&no_mail, system, lockstep, CoreId(core)))?;
+        }
+        Ok(Gaps { of_cores })
+    }
+
+    // That of a core.
+    fn of(&self, core: usize) -> Option<u64> {
+        if core < self.of_cores.len() {
+            self.of_cores[core]
+        } else {
+            None
+        }
+    }
+
+    /// Whether those of a group's cores are the same at the present moment. It takes no memory.
+    pub(crate) fn are_same(
+        &self,
+        alloc: Global,
+        system: &System,
+        lockstep: &Lockstep,
+        group: &CoreSet,
+    ) -> bool
+        requires same { lockstep.now.system ≡ system.now }
+        requires going { lockstep.now.failed ≡ false }
+    {
+        let no_mail = Mailbox::new(alloc);
+        for core in 0..system.parts().cores {
+            if !is_own(group, CoreId(core)) {
+                continue;
+            }
+            if gap(&no_mail, system, lockstep, CoreId(core)) != self.of(core) {
+                return false;
+            }
+        }
+        true
+    }
+}
