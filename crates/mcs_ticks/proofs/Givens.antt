@@ -2,7 +2,7 @@
 use Rattle.std.proofs.Common.{◌≡◌, ℕ, ◌+◌, ◌<◌, length, length-append, refl, inr, Bool, true, cond, List, [], ◌∷◌, ◌++◌, sym, ap, ◌∙◌, subst, append-nil, append_assoc}
 use Rattle.std.specs.Prelude.{max}
 use Rattle.mcs_ticks.specs.declared.row.Row.{Row}
-use Rattle.mcs_ticks.specs.Given.{Given, GivenUntil, IsShortAfter}
+use Rattle.mcs_ticks.specs.Given.{Given, GivenUntil, IsShortAfter, BothTake}
 
 module _ {S : Type 0} (takes : S → Row → Bool → S → Type 0) where
   pub given-none : (s : S) → Given takes s [] s
@@ -41,3 +41,15 @@ module _ {S : Type 0} (items : S → List Row) where
       let many : length (items h.0) ≡ length (items s) + length rows =
       ap (λ (xs : List Row). length xs) (given_to_a_list s h.0 rows h.1) ∙ length-append (items s) rows in
       subst (λ n. n < max most (length (items s) + 1)) many h.2
+
+-- two sinks that were told the same rows
+module _ {A : Type 0} {B : Type 0} (one : A → Row → Bool → A → Type 0) (other : B → Row → Bool → B → Type 0) where
+  abbrev pub BothBeside : A × B → Row → Bool → A × B → Type 0
+  BothBeside s row taken t = BothTake one other s.0 s.1 row taken t.0 t.1
+
+  -- each was given them
+  pub given_to_both : (s t : A × B) (rows : List Row) → Given BothBeside s rows t → Given one s.0 rows t.0 × Given other s.1 rows t.1
+  given_to_both s t [] g = (ap (λ (p : A × B). p.0) g, ap (λ (p : A × B). p.1) g)
+  given_to_both s t (row ∷ rows) g =
+      let rest = given_to_both g.0 t rows g.2 in
+      ((g.0.0, g.1.0, rest.0), (g.0.1, g.1.1, rest.1))

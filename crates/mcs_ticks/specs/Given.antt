@@ -21,3 +21,10 @@ module _ {S : Type 0} (takes : S → Row → Bool → S → Type 0) where
   -- after these rows its size was not yet what was asked for, or no more than at first
   abbrev pub IsShortAfter : (S → ℕ) → ℕ → S → List Row → Type 0
   IsShortAfter size most s rows = (m : S) × Given s rows m × (size m < max most (size s + 1))
+
+-- of two sinks one takes a row and then the other; where one refuses it, the other that comes after it stays as it was
+module _ {A : Type 0} {B : Type 0} (one : A → Row → Bool → A → Type 0) (other : B → Row → Bool → B → Type 0) where
+  abbrev pub BothTake : A → B → Row → Bool → A → B → Type 0
+  BothTake a b row true after beside = one a row true after × other b row true beside
+  BothTake a b row false after beside =
+      (one a row false after × (beside ≡ b)) ⊎ (one a row true after × other b row false beside)

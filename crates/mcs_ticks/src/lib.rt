@@ -2,6 +2,7 @@
 //! speak. Nothing here knows a scheduling rule.
 #![tactic(auto)]
 
+mod beside;
 mod ids;
 mod laws;
 mod limits;
@@ -10,8 +11,10 @@ mod queue;
 mod row;
 mod sequence;
 mod sink;
+mod soonest;
 mod tick;
 
+pub use beside::{Nothing, Pair};
 pub use ids::{ContextId, CoreId, NoteId, ThreadId};
 pub use laws::queues_answer_alike;
 pub use limits::Limits;
@@ -20,4 +23,5 @@ pub use queue::Queued;
 pub use row::{Row, What, Why};
 pub use sequence::Sequence;
 pub use sink::{FlowFault, Measured, Refused, Sink};
+pub use soonest::Soonest;
 pub use tick::Tick;

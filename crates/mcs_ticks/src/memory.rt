@@ -1,7 +1,8 @@
 use std::alloc::{AllocError, AllocFailed};
 use thiserror::Error;
 
-/// A growth for which there was no memory. It is answered only where the allocator really refused.
+/// A growth for which there was no memory. It is answered where the allocator refused, and where more is asked for than there is ever
+/// room for.
 #[derive(Clone, Copy, Debug, PartialEq, Eq, Error)]
 #[error("no memory")]
 pub struct NoMemory;

@@ -1,3 +1,5 @@
+ghost use Rattle.std.specs.Prelude.{◌≡◌, ◌<◌, OnOk, vec_len, vec_capacity};
+
 use crate::{NoMemory, Row};
 use thiserror::Error;
 
@@ -24,11 +26,38 @@ impl Sink for Vec<Row> {
 
     ghost takes = { λ before row taken after. after.items ≡ (if taken then before.items ++ row ∷ [] else before.items) };
 
+    #[inline(always)]
     fn row(&mut self, row: &Row) -> Result<(), Refused> {
         let Row { moment, core, what } = *row;
         let row = Row { moment, core, what };
-        self.push(row).ok().ok_or(Refused)
+        make_room(self)?;
+        self.push_reserved(row);
+        Ok(())
     }
+}
+
+/// Makes room for a row more, where there is none.
+#[inline(always)]
+fn make_room(rows: &mut Vec<Row>) -> Result<(), Refused>
+    ensures items { rows.new.items ≡ rows.old.items }
+    ensures room { OnOk result (vec_len rows.new < vec_capacity rows.new) }
+{
+    if rows.len() == rows.capacity() {
+        return grow(rows);
+    }
+    Ok(())
+}
+
+/// Makes room for a row more. It is a call of its own, so that what takes each row is short.
+#[inline(never)]
+fn grow(rows: &mut Vec<Row>) -> Result<(), Refused>
+    ensures items { rows.new.items ≡ rows.old.items }
+    ensures room { OnOk result (vec_len rows.new < vec_capacity rows.new) }
+{
+    if rows.reserve(1).is_err() {
+        return Err(Refused);
+    }
+    Ok(())
 }
 
 /// A sink with a size, at which a run can end.

@@ -1,0 +1,37 @@
+use crate::{Refused, Row, Sink};
+
+/// A sink that takes each row and keeps nothing.
+#[derive(Clone, Copy, Debug, PartialEq, Eq)]
+pub struct Nothing;
+
+impl Sink for Nothing {
+    ghost use Rattle.std.specs.Prelude.{◌≡◌, true};
+
+    ghost takes = { λ before row taken after. taken ≡ true };
+
+    #[inline(always)]
+    fn row(&mut self, _row: &Row) -> Result<(), Refused> {
+        Ok(())
+    }
+}
+
+/// Two sinks that are told the same rows: each row goes to the first one and then to the second. Where the first refuses a row the second
+/// isn't told it.
+#[derive(Debug, Drop)]
+pub struct Pair<A, B> {
+    pub first: A,
+    pub second: B,
+}
+
+impl<A: Sink, B: Sink> Sink for Pair<A, B> {
+    ghost use Rattle.mcs_ticks.specs.Given.{BothTake};
+
+    ghost takes = { λ before row taken after.
+        BothTake A.takes B.takes before.first before.second row taken after.first after.second };
+
+    #[inline(always)]
+    fn row(&mut self, row: &Row) -> Result<(), Refused> {
+        self.first.row(row)?;
+        self.second.row(row)
+    }
+}
