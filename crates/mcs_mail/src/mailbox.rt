@@ -3,7 +3,7 @@ ghost use Rattle.mcs_mail.specs.Box.{put, due, without_due, first_arrival, IsOrd
 
 use crate::Mail;
 use crate::merged::Merged;
-use mcs_ticks::{NoMemory, Tick};
+use mcs_ticks::{NoMemory, Soonest, Tick};
 use std::alloc::Global;
 use std::marker::Model;
 
@@ -13,7 +13,7 @@ use std::marker::Model;
 pub struct Mailbox {
     mail: Merged,
     // when the first mail arrives, so that a look costs nothing
-    next: Option<Tick>,
+    next: Soonest,
 }
 
 impl Model for Mailbox {
@@ -35,7 +35,7 @@ impl Mailbox {
     {
         Mailbox {
             mail: Merged::new(alloc),
-            next: None,
+            next: Soonest::never(),
         }
     }
 
@@ -50,7 +50,7 @@ impl Mailbox {
         ensures spare { OnOk result (self.old.spare ≤ self.new.spare + 1) }
     {
         let put = self.mail.put(mail);
-        self.next = self.mail.next();
+        self.next = Soonest::of(self.mail.next());
         put
     }
 
@@ -72,7 +72,7 @@ impl Mailbox {
         ensures spare { self.old.spare ≤ self.new.spare }
         ensures in_order { IsOrdered self.old.mails }
     {
-        if self.next? <= t {
+        if self.next.has_come(t) {
             self.take_first()
         } else {
             None
@@ -82,6 +82,15 @@ impl Mailbox {
     /// When the first mail arrives, or None where there is none.
     #[inline(always)]
     pub fn next(&self) -> Option<Tick>
+        ensures first { result ≡ first_arrival self.now.mails }
+        ensures in_order { IsOrdered self.now.mails }
+    {
+        self.next.moment()
+    }
+
+    /// When the first mail arrives, or never.
+    #[inline(always)]
+    pub fn soonest(&self) -> Soonest
         ensures first { result ≡ first_arrival self.now.mails }
         ensures in_order { IsOrdered self.now.mails }
     {
@@ -104,7 +113,7 @@ impl Mailbox {
         ensures spare { self.old.spare ≤ self.new.spare }
     {
         let first = self.mail.take_first();
-        self.next = self.mail.next();
+        self.next = Soonest::of(self.mail.next());
         first
     }
 }
