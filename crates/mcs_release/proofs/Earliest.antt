@@ -1,131 +1,156 @@
--- The first by date and place is the earliest.
-use Rattle.std.proofs.Common.{◌≡◌, ℕ, zero, suc, ◌+◌, ◌<◌, ◌≤◌, ◌==◌, Bool, true, false, cond, List, [], ◌∷◌, get_or, Option, Some, None, refl, sym, ap, subst, ◌∙◌, arith}
-use Rattle.std.specs.Prelude.{nat_lt, nat_le, sum_by, filter, IfSome}
-use Rattle.std.specs.List.{AllByRecursion}
-use Rattle.std.specs.Ordering.{nat_cmp, is_lt, ordering_then}
-use Rattle.std.specs.declared.cmp.Reverse.{Reverse}
-use Rattle.std.specs.BinaryHeap.{lt_by_cmp}
-use Rattle.std.proofs.lemmas.Bool.{and_parts, eqb-true, lt-leb, lt-ltb, le-ltb}
-use Rattle.std.proofs.lemmas.Bool.Decides.{nat_tests}
-use Rattle.std.proofs.lemmas.List.Sums.{sum_by-cons}
+-- The earliest of places and of queues, and those that are due.
+use Rattle.std.proofs.Common.{◌≡◌, ℕ, zero, suc, ◌<◌, ◌≤◌, Bool, true, false, cond, List, [], ◌∷◌, ◌++◌, get_or, Option, Some, None, refl, sym, ap, ◌∙◌, inl, inr, arith}
+use Rattle.std.specs.Prelude.{nat_lt, nat_le, filter, option_map, IfSome, IsSome}
+use Rattle.std.proofs.lemmas.Bool.{cases_lt, le-leb, lt-leb, lt-ltb, le-ltb, eq-eqb}
+use Rattle.mcs_ticks.specs.Soonest.{sooner, HasCome}
 use Rattle.mcs_release.specs.declared.dated.Dated.{Dated}
-use Rattle.mcs_release.specs.declared.dues.Due.{Due}
-use Rattle.mcs_release.specs.stored.Heap.{entered, due_at, dues_from, due_cmp, one_if, same_due, AllLater, HoldsSame, IsFirst}
-use Rattle.mcs_release.specs.Release.{earlier, earliest, is_due}
-
--- how many stand before this one in the heap's order
-abbrev pub before : Reverse Due → Reverse Due → ℕ
-before m y = one_if (lt_by_cmp due_cmp m y)
-
--- where none does, each has a date no less, and a greater one where it entered earlier
-not_before-numbers : (a b n p : ℕ) → one_if (is_lt (ordering_then (nat_cmp a b) (nat_cmp n p))) ≡ 0 → (b ≤ a) × (n < p → b < a)
-not_before-numbers a b n p h = (grind (arith, nat_tests), λ k. grind (arith, nat_tests))
-
-not_before : (m : Reverse Due) (n : ℕ) (x : Dated) → before m (due_at n x) ≡ 0 → (m.0.date ≤ x.date) × (n < m.0.place → m.0.date < x.date)
-not_before m n x h = not_before-numbers x.date m.0.date n m.0.place h
-
-pub before-top : (m : Reverse Due) (xs : List (Reverse Due)) → AllByRecursion (λ y. lt_by_cmp due_cmp m y ≡ false) xs → sum_by (before m) xs ≡ 0
-before-top m [] all = refl
-before-top m (x ∷ xs) all = omega (arith, sum_by-cons (before m) x xs, ap one_if all.0, before-top m xs all.1)
+use Rattle.mcs_release.specs.stored.Places.{entered}
+use Rattle.mcs_release.specs.Release.{earlier, earliest, next_date, is_due, first_due, when_left}
 
 earlier-first : (x : Dated) (r : Option Dated) → IfSome r (λ y. x.date ≤ y.date) → earlier x r ≡ x
 earlier-first x None h = refl
 earlier-first x (Some y) h = rw (le-ltb y.date x.date h) refl
 
-module _ (m : Reverse Due) (p : Dated → Bool) where
-  least : (places : List (Option Dated)) (n : ℕ) → sum_by (before m) (dues_from n places) ≡ 0 → IfSome (earliest (filter p (entered places))) (λ y. m.0.date ≤ y.date)
-  least [] n none = tt
-  least (None ∷ places) n none = least places (suc n) none
-  least (Some x ∷ places) n none =
-      let both = sum_by-cons (before m) (due_at n x) (dues_from (suc n) places) in
-      by (p x) (filter p (entered places)) (least places (suc n) (omega arith)) (not_before m n x (omega arith)).0
-    where
-      chosen : (b : Bool) (y : Dated) → m.0.date ≤ x.date → m.0.date ≤ y.date → m.0.date ≤ (cond b y x).date
-      chosen true y h k = k
-      chosen false y h k = h
-
-      go : (r : Option Dated) → IfSome r (λ y. m.0.date ≤ y.date) → m.0.date ≤ x.date → IfSome (Some (earlier x r)) (λ y. m.0.date ≤ y.date)
-      go None k h = h
-      go (Some y) k h = chosen (nat_lt y.date x.date) y h k
-
-      by : (b : Bool) (xs : List Dated) → IfSome (earliest xs) (λ y. m.0.date ≤ y.date) → m.0.date ≤ x.date → IfSome (earliest (cond b (x ∷ xs) xs)) (λ y. m.0.date ≤ y.date)
-      by false xs k h = k
-      by true xs k h = go (earliest xs) k h
-
-  -- the first of those that pass is the one on top, if it does
-  pub earliest-top : (places : List (Option Dated)) (n k : ℕ) (x : Dated) → get_or places k None ≡ Some x → m.0.place ≡ n + k → m.0.date ≡ x.date → p x ≡ true →
-      sum_by (before m) (dues_from n places) ≡ 0 → earliest (filter p (entered places)) ≡ Some x
-  earliest-top [] n k x e place date passes none = cc
-  earliest-top (None ∷ places) n zero x e place date passes none = cc
-  earliest-top (Some y ∷ places) n zero x e place date passes none =
-      let it : y ≡ x = cc in
-      let both = sum_by-cons (before m) (due_at n y) (dues_from (suc n) places) in
-      rw (it, passes) (
-      ap (λ (z : Dated). Some z) (earlier-first x (earliest (filter p (entered places))) (rw date at (least places (suc n) (omega arith))))
-      )
-  earliest-top (None ∷ places) n (suc k) x e place date passes none = earliest-top places (suc n) k x e (omega arith) date passes none
-  earliest-top (Some y ∷ places) n (suc k) x e place date passes none =
-      let both = sum_by-cons (before m) (due_at n y) (dues_from (suc n) places) in
-      let later : x.date < y.date = omega (arith, (not_before m n y (omega arith)).1 (omega arith)) in
-      by (p y) (filter p (entered places)) (earliest-top places (suc n) k x e (omega arith) date passes (omega arith)) later
-    where
-      by : (b : Bool) (xs : List Dated) → earliest xs ≡ Some x → x.date < y.date → earliest (cond b (y ∷ xs) xs) ≡ Some x
-      by false xs k h = k
-      by true xs k h = rw (k, lt-ltb x.date y.date h) refl
-
--- a thread of this date stands in this place
-abbrev pub Stands : List (Option Dated) → ℕ → ℕ → Type 0
-Stands places place date = (x : Dated) × (get_or places place None ≡ Some x) × (x.date ≡ date)
-
-counted-place : (m : Reverse Due) (places : List (Option Dated)) (n : ℕ) → 1 ≤ sum_by (λ y. one_if (same_due m y)) (dues_from n places) →
-    (k : ℕ) × (m.0.place ≡ n + k) × Stands places k m.0.date
-counted-place m [] n h = absurd (omega arith)
-counted-place m (None ∷ places) n h =
-    let found = counted-place m places (suc n) h in
-    (suc found.0, omega (arith, found.1), found.2)
-counted-place m (Some x ∷ places) n h =
-    by (same_due m (due_at n x)) refl (counted-place m places (suc n)) (rw (sum_by-cons (λ y. one_if (same_due m y)) (due_at n x) (dues_from (suc n) places)) at h)
+-- where no date is less than this one, that of the earliest is not
+earliest-least : (places : List (Option Dated)) (date : ℕ) → ((i : ℕ) (y : Dated) → get_or places i None ≡ Some y → date ≤ y.date) →
+    IfSome (earliest (entered places)) (λ y. date ≤ y.date)
+earliest-least [] date all = tt
+earliest-least (None ∷ places) date all = earliest-least places date (λ i y e. all (suc i) y e)
+earliest-least (Some x ∷ places) date all =
+    go (earliest (entered places)) (earliest-least places date (λ i y e. all (suc i) y e)) (all zero x refl)
   where
-    by : (b : Bool) → same_due m (due_at n x) ≡ b →
-        (1 ≤ sum_by (λ y. one_if (same_due m y)) (dues_from (suc n) places) → (k : ℕ) × (m.0.place ≡ suc n + k) × Stands places k m.0.date) →
-        1 ≤ one_if b + sum_by (λ y. one_if (same_due m y)) (dues_from (suc n) places) →
-        (k : ℕ) × (m.0.place ≡ n + k) × Stands (Some x ∷ places) k m.0.date
-    by true e rest h =
-        let place = eqb-true n m.0.place (and_parts _ _ e).0 in
-        let date = eqb-true x.date m.0.date (and_parts (n == m.0.place) _ e).1 in
-        (zero, omega arith, (x, refl, date))
-    by false e rest h =
-        let found = rest (omega arith) in
-        (suc found.0, omega (arith, found.1), found.2)
+    chosen : (b : Bool) (y : Dated) → date ≤ x.date → date ≤ y.date → date ≤ (cond b y x).date
+    chosen true y h k = k
+    chosen false y h k = h
 
--- of the one on top a thread stands in its place
-pub place-top : (m : Reverse Due) (items : List (Reverse Due)) (places : List (Option Dated)) → IsFirst m items → HoldsSame items places →
-    Stands places m.0.place m.0.date
-place-top m items places first same =
-    let found = counted-place m places 0 (omega (arith, first.found, same (λ y. one_if (same_due m y)))) in
-    let at : found.0 ≡ m.0.place = omega (arith, found.1) in
-    subst (λ (k : ℕ). Stands places k m.0.date) at found.2
+    go : (r : Option Dated) → IfSome r (λ y. date ≤ y.date) → date ≤ x.date → IfSome (Some (earlier x r)) (λ y. date ≤ y.date)
+    go None k h = h
+    go (Some y) k h = chosen (nat_lt y.date x.date) y h k
 
--- where the date of none has come, none is due
-later-none : (t : ℕ) (xs : List (Reverse Due)) → AllLater t xs → sum_by (λ y. one_if (nat_le y.0.date t)) xs ≡ 0
-later-none t [] all = refl
-later-none t (x ∷ xs) all =
-    omega (arith, sum_by-cons (λ (y : Reverse Due). one_if (nat_le y.0.date t)) x xs, ap one_if (lt-leb x.0.date t all.0), later-none t xs all.1)
+-- the one before which no other comes, by dates and then by places, is the earliest
+pub earliest-place : (places : List (Option Dated)) (k : ℕ) (x : Dated) → get_or places k None ≡ Some x →
+    ((i : ℕ) (y : Dated) → get_or places i None ≡ Some y → (x.date ≤ y.date) × (i < k → x.date < y.date)) → earliest (entered places) ≡ Some x
+earliest-place [] k x e first = cc
+earliest-place (None ∷ places) zero x e first = cc
+earliest-place (Some y ∷ places) zero x e first =
+    let it : y ≡ x = cc in
+    rw it (
+    ap (λ (z : Dated). Some z) (earlier-first x (earliest (entered places)) (earliest-least places x.date (λ i z at. (first (suc i) z at).0)))
+    )
+earliest-place (None ∷ places) (suc k) x e first =
+    earliest-place places k x e (λ i z at. ((first (suc i) z at).0, λ before. (first (suc i) z at).1 (omega arith)))
+earliest-place (Some y ∷ places) (suc k) x e first =
+    let rest = earliest-place places k x e (λ i z at. ((first (suc i) z at).0, λ before. (first (suc i) z at).1 (omega arith))) in
+    let later : x.date < y.date = (first zero y refl).1 (omega arith) in
+    rw (rest, lt-ltb x.date y.date later) refl
 
-none-due : (t : ℕ) (places : List (Option Dated)) (n : ℕ) → sum_by (λ y. one_if (nat_le y.0.date t)) (dues_from n places) ≡ 0 →
-    filter (is_due t) (entered places) ≡ []
-none-due t [] n none = refl
-none-due t (None ∷ places) n none = none-due t places (suc n) none
-none-due t (Some x ∷ places) n none =
-    by (nat_le x.date t) (none-due t places (suc n)) (rw (sum_by-cons (λ (y : Reverse Due). one_if (nat_le y.0.date t)) (due_at n x) (dues_from (suc n) places)) at none)
+-- the earliest, where its date has come
+abbrev due_only : ℕ → Option Dated → Option Dated
+due_only t None = None
+due_only t (Some x) = cond (nat_le x.date t) (Some x) None
+
+due_only-none : (t : ℕ) → due_only t None ≡ None
+due_only-none t = refl
+
+due_only-yes : (t : ℕ) (x : Dated) → x.date ≤ t → due_only t (Some x) ≡ Some x
+due_only-yes t x h = rw (le-leb x.date t h) refl
+
+due_only-no : (t : ℕ) (x : Dated) → t < x.date → due_only t (Some x) ≡ None
+due_only-no t x h = rw (lt-leb x.date t h) refl
+
+due-step : (t : ℕ) (x : Dated) (r : Option Dated) (dues : List Dated) → earliest dues ≡ due_only t r →
+    earliest (cond (nat_le x.date t) (x ∷ dues) dues) ≡ due_only t (Some (earlier x r))
+due-step t x None dues e = elim (cases_lt t x.date) [
+  | inl later ↦ rw (lt-leb x.date t later) e
+  | inr come ↦ rw (le-leb x.date t come) (ap (λ (r : Option Dated). Some (earlier x r)) e)
+]
+due-step t x (Some y) dues e = elim (cases_lt t x.date) [
+  | inl later ↦ elim (cases_lt t y.date) [
+    | inl later_y ↦ rw (lt-leb x.date t later) (e ∙ due_only-no t y later_y ∙ sym (by (nat_lt y.date x.date) later later_y))
+    | inr come_y ↦ rw (lt-leb x.date t later, lt-ltb y.date x.date (omega arith)) e
+  ]
+  | inr come ↦ elim (cases_lt t y.date) [
+    | inl later_y ↦
+        rw (le-leb x.date t come, le-ltb y.date x.date (omega arith)) (
+        ap (λ (r : Option Dated). Some (earlier x r)) (e ∙ due_only-no t y later_y) ∙ sym (due_only-yes t x come)
+        )
+    | inr come_y ↦
+        rw (le-leb x.date t come) (
+        ap (λ (r : Option Dated). Some (earlier x r)) (e ∙ due_only-yes t y come_y) ∙ sym (yes (nat_lt y.date x.date) come come_y)
+        )
+  ]
+]
   where
-    by : (b : Bool) → (sum_by (λ y. one_if (nat_le y.0.date t)) (dues_from (suc n) places) ≡ 0 → filter (is_due t) (entered places) ≡ []) →
-        one_if b + sum_by (λ y. one_if (nat_le y.0.date t)) (dues_from (suc n) places) ≡ 0 →
-        cond b (x ∷ filter (is_due t) (entered places)) (filter (is_due t) (entered places)) ≡ []
-    by true ih e = absurd (omega arith)
-    by false ih e = ih (omega arith)
+    by : (b : Bool) → t < x.date → t < y.date → due_only t (Some (cond b y x)) ≡ None
+    by true h k = due_only-no t y k
+    by false h k = due_only-no t x h
 
-pub none-later : (t : ℕ) (items : List (Reverse Due)) (places : List (Option Dated)) → AllLater t items → HoldsSame items places →
-    filter (is_due t) (entered places) ≡ []
-none-later t items places later same =
-    none-due t places 0 (sym (same (λ y. one_if (nat_le y.0.date t))) ∙ later-none t items later)
+    yes : (b : Bool) → x.date ≤ t → y.date ≤ t → due_only t (Some (cond b y x)) ≡ Some (cond b y x)
+    yes true h k = due_only-yes t y k
+    yes false h k = due_only-yes t x h
+
+first_due-earliest : (t : ℕ) (queue : List Dated) → first_due t queue ≡ due_only t (earliest queue)
+first_due-earliest t [] = refl
+first_due-earliest t (x ∷ queue) = due-step t x (earliest queue) (filter (is_due t) queue) (first_due-earliest t queue)
+
+-- where the least date has come, the earliest is the first that is due; else none is due
+pub first_due-come : (t : ℕ) (queue : List Dated) → HasCome t (next_date queue) → first_due t queue ≡ earliest queue
+first_due-come t queue come = first_due-earliest t queue ∙ by (earliest queue) come
+  where
+    by : (r : Option Dated) → HasCome t (option_map (λ x. x.date) r) → due_only t r ≡ r
+    by None h = absurd h
+    by (Some x) h = due_only-yes t x h
+
+pub first_due-later : (t : ℕ) (queue : List Dated) → (HasCome t (next_date queue) → ⊥) → first_due t queue ≡ None
+first_due-later t queue later = first_due-earliest t queue ∙ by (earliest queue) later
+  where
+    by : (r : Option Dated) → (HasCome t (option_map (λ x. x.date) r) → ⊥) → due_only t r ≡ None
+    by None h = due_only-none t
+    by (Some x) h = elim (cases_lt t x.date) [ inl less ↦ due_only-no t x less | inr more ↦ absurd (h more) ]
+
+pub earliest-come : (t : ℕ) (queue : List Dated) → HasCome t (next_date queue) → IsSome (earliest queue)
+earliest-come t queue come = by (earliest queue) come
+  where
+    by : (r : Option Dated) → HasCome t (option_map (λ x. x.date) r) → IsSome r
+    by None h = absurd h
+    by (Some x) h = refl
+
+-- the least date, when one enters
+next_date-cons : (x : Dated) (queue : List Dated) → next_date (x ∷ queue) ≡ sooner (Some x.date) (next_date queue)
+next_date-cons x queue = by (earliest queue)
+  where
+    chosen : (b : Bool) (y : Dated) → (cond b y x).date ≡ cond b y.date x.date
+    chosen true y = refl
+    chosen false y = refl
+
+    by : (r : Option Dated) → option_map (λ (z : Dated). z.date) (Some (earlier x r)) ≡ sooner (Some x.date) (option_map (λ (z : Dated). z.date) r)
+    by None = refl
+    by (Some y) = ap (λ (date : ℕ). Some date) (chosen (nat_lt y.date x.date) y)
+
+sooner-assoc : (a c : ℕ) (r : Option ℕ) → sooner (Some a) (sooner r (Some c)) ≡ sooner (sooner (Some a) r) (Some c)
+sooner-assoc a c None = refl
+sooner-assoc a c (Some b) = ap (λ (date : ℕ). Some date) (elim (cases_lt c b) [
+  | inl cb ↦ elim (cases_lt b a) [
+    | inl ba ↦ rw (lt-ltb c b cb, lt-ltb b a ba, lt-ltb c b cb, lt-ltb c a (omega arith)) refl
+    | inr ab ↦ rw (lt-ltb c b cb, le-ltb b a ab) refl
+  ]
+  | inr bc ↦ elim (cases_lt b a) [
+    | inl ba ↦ rw (le-ltb c b bc, lt-ltb b a ba, le-ltb c b bc) refl
+    | inr ab ↦ rw (le-ltb c b bc, le-ltb b a ab, le-ltb c a (omega arith)) refl
+  ]
+])
+
+pub next_date-entered : (queue : List Dated) (x : Dated) → next_date (queue ++ x ∷ []) ≡ sooner (next_date queue) (Some x.date)
+next_date-entered [] x = refl
+next_date-entered (y ∷ queue) x =
+    next_date-cons y (queue ++ x ∷ []) ∙ ap (sooner (Some y.date)) (next_date-entered queue x) ∙ sooner-assoc y.date x.date (next_date queue)
+    ∙ sym (ap (λ (r : Option ℕ). sooner r (Some x.date)) (next_date-cons y queue))
+
+-- there is no date where none waits, and only there
+pub next_date-none : (queue : List Dated) → next_date queue ≡ None → queue ≡ []
+next_date-none [] e = refl
+next_date-none (x ∷ queue) e = cc
+
+-- the only one leaves
+pub when_left-only : (x : Dated) → when_left (earliest (x ∷ [])) (x ∷ []) ≡ []
+when_left-only x = rw (eq-eqb x.thread x.thread refl) refl

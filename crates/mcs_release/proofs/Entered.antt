@@ -1,7 +1,7 @@
 -- The entries of places: one is put in, taken out, or moved to the front.
 use Rattle.std.proofs.Common.{◌≡◌, ℕ, zero, suc, ◌<◌, ◌≤◌, List, [], ◌∷◌, ◌++◌, length, get_or, set, take, Option, Some, None, refl, sym, ap, arith}
 use Rattle.mcs_release.specs.declared.dated.Dated.{Dated}
-use Rattle.mcs_release.specs.stored.Heap.{entered, times}
+use Rattle.mcs_release.specs.stored.Places.{entered, times}
 use Rattle.mcs_release.specs.Release.{without}
 use Rattle.std.proofs.lemmas.Bool.{ne_eqb, eq-eqb}
 use Rattle.mcs_release.proofs.Times.{times-cons_same}
@@ -108,3 +108,14 @@ entered-next (first ∷ places) zero place e below = ap (λ (p : Option Dated). 
 entered-next (None ∷ places) (suc i) place e below = entered-next places i place e (omega arith)
 entered-next (Some x ∷ places) (suc i) place e below =
     ap (λ (xs : List Dated). x ∷ xs) (entered-next places i place e (omega arith))
+
+-- as many entries stand before the end of those that moved as before, and one more
+pub entered-filled : (places : List (Option Dated)) (i front : ℕ) (x : Dated) → front ≤ i → i < length places →
+    length (entered (take (suc front) (set (set places i None) front (Some x)))) ≡ suc (length (entered (take front places)))
+entered-filled [] i front x before below = absurd (omega arith)
+entered-filled (place ∷ places) zero zero x before below = refl
+entered-filled (place ∷ places) (suc i) zero x before below = refl
+entered-filled (place ∷ places) zero (suc front) x before below = absurd (omega arith)
+entered-filled (None ∷ places) (suc i) (suc front) x before below = entered-filled places i front x (omega arith) (omega arith)
+entered-filled (Some y ∷ places) (suc i) (suc front) x before below =
+    ap (λ (n : ℕ). suc n) (entered-filled places i front x (omega arith) (omega arith))

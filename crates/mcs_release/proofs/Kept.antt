@@ -1,200 +1,156 @@
--- What the places keep, through each call.
-use Rattle.std.proofs.Common.{◌≡◌, ℕ, zero, suc, ◌+◌, ◌<◌, ◌≤◌, Bool, true, false, List, [], ◌∷◌, ◌++◌, length, get_or, set, Option, Some, None, refl, sym, ap, subst, ◌∙◌, inl, inr, arith, replicate, get_or-set_same, get_or-set_other, length-set}
-use Rattle.std.specs.Prelude.{nat_lt, nat_le, sum_by, filter, option_map, IsPermutation}
-use Rattle.std.specs.declared.cmp.Reverse.{Reverse}
-use Rattle.std.specs.BinaryHeap.{lt_by_cmp}
-use Rattle.std.proofs.lemmas.Bool.{cases_eq, cases_lt, le-leb, ltb-true, lt-ltb}
-use Rattle.std.proofs.lemmas.List.{get_or_default, get_or_past, length-replicate}
-use Rattle.std.proofs.lemmas.List.Sorted.{IsPermutation-refl, sum_by-IsPermutation}
-use Rattle.std.proofs.lemmas.List.Sums.{sum_by-cons}
+-- What a release queue keeps, through each call.
+use Rattle.std.proofs.Common.{◌≡◌, ℕ, zero, suc, ◌+◌, ◌^◌, ◌<◌, ◌≤◌, Bool, true, false, List, [], ◌∷◌, ◌++◌, length, get_or, set, Option, Some, None, refl, sym, ap, subst, ◌∙◌, inl, inr, arith, get_or-set_other, length-set}
+use Rattle.std.specs.Option.{is_some}
+use Rattle.std.specs.Prelude.{nat_lt}
+use Rattle.std.proofs.lemmas.Bool.{cases_eq, ltb-true, lt-ltb}
+use Rattle.mcs_ticks.specs.Soonest.{sooner}
 use Rattle.mcs_release.specs.declared.dated.Dated.{Dated}
-use Rattle.mcs_release.specs.declared.dues.Due.{Due}
-use Rattle.mcs_release.specs.stored.Heap.{entered, due_at, dues_from, due_cmp, times, one_if, AllLater, IsFirst, IsPlaced, IsKept}
-use Rattle.mcs_release.specs.Release.{ReleaseQueue, dated, is_held, earliest, next_date, first_due, without_first_due, when_left, AreBelow, AreDistinct}
-use Rattle.mcs_release.proofs.Counts.{dues-put, dues-left, dues-count, count-is-length}
-use Rattle.mcs_release.proofs.Earliest.{before-top, earliest-top, none-later, place-top, Stands}
+use Rattle.mcs_release.specs.stored.Places.{entered, times, one_if, waiting, AreEmptyFrom, IsAlone, IsKept, IsTaken}
+use Rattle.mcs_release.specs.Release.{ReleaseQueue, is_held, earliest, next_date, thread_of, when_left, AreBelow, AreDistinct}
+use Rattle.mcs_release.proofs.Earliest.{next_date-entered, next_date-none}
 use Rattle.mcs_release.proofs.Entered.{empty_from, entered-none, entered-push, entered-left, times-left}
 use Rattle.mcs_release.proofs.Times.{times-append, times-cons_same, times-cons_other, times-free, one_if-le-one, length-le-room}
 
--- there are as many as have entered
-module _ (places : List (Option Dated)) (end : ℕ) (items : List (Reverse Due)) (placed : IsPlaced places end items) where
-  pub items-counts : length items ≡ length (entered places)
-  items-counts = sym (count-is-length items) ∙ placed.same (λ (x : Reverse Due). 1) ∙ dues-count places 0
+-- with no thread
+pub entered-new : (places : List (Option Dated)) → AreEmptyFrom 0 places → entered places ≡ []
+entered-new places empty = entered-none places (λ place. empty place (omega arith))
 
-  pub entered-empty : length items ≡ 0 → entered places ≡ []
-  entered-empty none = nil (entered places) (sym items-counts ∙ none)
-    where
-      nil : (xs : List Dated) → length xs ≡ 0 → xs ≡ []
-      nil [] e = refl
-      nil (x ∷ xs) e = absurd (omega arith)
-
--- with no entry the first place is behind all
-pub IsPlaced-empty : (places : List (Option Dated)) (end : ℕ) (items : List (Reverse Due)) → IsPlaced places end items → length items ≡ 0 → IsPlaced places 0 items
-IsPlaced-empty places end items placed none = record {
-  behind = λ i from. empty_from places i (entered-empty places end items placed none);
-  same = placed.same;
+pub IsKept-new : (places : List (Option Dated)) (room : ℕ) → AreEmptyFrom 0 places → room < length places → length places ≤ 2 ^ 21 → IsKept None None places 0 room
+IsKept-new places room empty wide few = record {
+  first = sym (ap next_date (entered-new places empty));
+  alone = tt;
+  behind = empty;
+  once = λ thread. omega (arith, ap (times thread) (entered-new places empty));
+  wide = wide;
+  few = few;
 }
 
--- one that comes in where there is none
-pub permuted-alone : (x : Reverse Due) (items items' : List (Reverse Due)) → length items ≡ 0 → items' ≡ x ∷ [] → IsPermutation (x ∷ items) items'
-permuted-alone x [] items' none e = rw e (IsPermutation-refl (x ∷ []))
-permuted-alone x (y ∷ items) items' none e = absurd (omega arith)
+-- where none waits, no place has a thread
+pub entered-nil : (lone : Option Dated) (places : List (Option Dated)) → waiting lone places ≡ [] → entered places ≡ []
+entered-nil None places e = e
+entered-nil (Some x) places e = cc
 
 -- one enters
-module _ (places : List (Option Dated)) (end room capacity : ℕ) (items : List (Reverse Due)) (kept : IsKept places end items room capacity) (x : Dated)
-    (x_below : x.thread < room) (free : is_held x.thread (entered places) ≡ false) where
-  once-more : (thread : ℕ) → times thread (x ∷ entered places) ≤ one_if (nat_lt thread room)
+module _ (soonest : Option ℕ) (lone : Option Dated) (places : List (Option Dated)) (end room : ℕ) (kept : IsKept soonest lone places end room) (x : Dated)
+    (x_below : x.thread < room) (free : is_held x.thread (waiting lone places) ≡ false) where
+  once-more : (thread : ℕ) → times thread (x ∷ waiting lone places) ≤ one_if (nat_lt thread room)
   once-more thread = elim (cases_eq thread x.thread) [
     | inl e ↦
-        let Once : ℕ → Type 0 = λ t. times t (x ∷ entered places) ≤ one_if (nat_lt t room) in
-        subst Once (sym e) (omega (arith, times-cons_same x (entered places), times-free x.thread (entered places) free, ap one_if (lt-ltb x.thread room x_below)))
-    | inr ne ↦ omega (arith, times-cons_other thread x (entered places) (λ e. ne (sym e)), kept.once thread)
+        let Once : ℕ → Type 0 = λ t. times t (x ∷ waiting lone places) ≤ one_if (nat_lt t room) in
+        subst Once (sym e) (omega (arith, times-cons_same x (waiting lone places), times-free x.thread (waiting lone places) free, ap one_if (lt-ltb x.thread room x_below)))
+    | inr ne ↦ omega (arith, times-cons_other thread x (waiting lone places) (λ e. ne (sym e)), kept.once thread)
   ]
 
-  -- there is room for one more
-  pub fewer-than-room : length (entered places) < room
-  fewer-than-room = omega (arith, length-le-room (x ∷ entered places) room once-more)
+  -- there is a place for one more
+  pub fewer-than-places : length (waiting lone places) < length places
+  fewer-than-places = omega (arith, length-le-room (x ∷ waiting lone places) room once-more, kept.wide)
 
-  pub fewer-than-places : length (entered places) < length places
-  fewer-than-places = omega (arith, fewer-than-room, kept.wide)
+  -- it is the only one
+  pub alone-now : soonest ≡ None → x ∷ entered places ≡ waiting lone places ++ x ∷ []
+  alone-now none =
+      let empty = next_date-none (waiting lone places) (sym kept.first ∙ none) in
+      ap (λ (xs : List Dated). x ∷ xs) (entered-nil lone places empty) ∙ sym (ap (λ (xs : List Dated). xs ++ x ∷ []) empty)
 
-  module _ (places' : List (Option Dated)) (place capacity' : ℕ) (items' : List (Reverse Due)) (same : entered places' ≡ entered places)
-      (wide : length places' ≡ length places) (placed : IsPlaced places' place items') (within : place < length places') (more : capacity ≤ capacity')
+  pub IsKept-alone : soonest ≡ None → IsKept (Some x.date) (Some x) places end room
+  IsKept-alone none =
+      let empty = next_date-none (waiting lone places) (sym kept.first ∙ none) in
+      let nil = entered-nil lone places empty in
+      record {
+        first = sym (ap (λ (xs : List Dated). next_date (x ∷ xs)) nil);
+        alone = nil;
+        behind = kept.behind;
+        once = λ thread. omega (arith, once-more thread, ap (λ (xs : List Dated). times thread (x ∷ xs)) (nil ∙ sym empty));
+        wide = kept.wide;
+        few = kept.few;
+      }
+
+  -- it gets a place behind all
+  module _ (places' : List (Option Dated)) (place : ℕ) (same : entered places' ≡ waiting lone places) (within : place < length places')
+      (behind : AreEmptyFrom place places') (wide : length places' ≡ length places)
     where
-      pub items-fit : length items' < capacity'
-      items-fit = omega (arith, items-counts places' place items' placed, ap length same, fewer-than-room, kept.space)
+      pub entered-more : entered (set places' place (Some x)) ≡ waiting lone places ++ x ∷ []
+      entered-more = entered-push places' place x within behind ∙ ap (λ (xs : List Dated). xs ++ x ∷ []) same
 
-      pub entered-more : entered (set places' place (Some x)) ≡ entered places ++ x ∷ []
-      entered-more = entered-push places' place x within placed.behind ∙ ap (λ (xs : List Dated). xs ++ x ∷ []) same
-
-      pub IsKept-entered : (items'' : List (Reverse Due)) (capacity'' : ℕ) → IsPermutation (due_at place x ∷ items') items'' → capacity' ≤ capacity'' →
-          IsKept (set places' place (Some x)) (place + 1) items'' room capacity''
-      IsKept-entered items'' capacity'' moved yet_more = record {
-        placed = record {
-          behind = λ i from. get_or-set_other places' place i (Some x) None (omega arith) ∙ placed.behind i (omega arith);
-          same = λ f. omega (
-            arith,
-            sum_by-IsPermutation f (due_at place x ∷ items') items'' moved,
-            sum_by-cons f (due_at place x) items',
-            placed.same f,
-            dues-put f places' 0 place x within (placed.behind place (omega arith)),
-            ap (λ (n : ℕ). f (due_at n x)) zero_place,
-          );
-        };
+      pub IsKept-entered : IsKept (sooner soonest (Some x.date)) None (set places' place (Some x)) (place + 1) room
+      IsKept-entered = record {
+        first = ap (λ (r : Option ℕ). sooner r (Some x.date)) kept.first ∙ sym (next_date-entered (waiting lone places) x) ∙ sym (ap next_date entered-more);
+        alone = tt;
+        behind = λ i from. get_or-set_other places' place i (Some x) None (omega arith) ∙ behind i (omega arith);
         once = λ thread. omega (
           arith,
           ap (times thread) entered-more,
-          times-append thread (entered places) (x ∷ []),
+          times-append thread (waiting lone places) (x ∷ []),
           once-more thread,
         );
         wide = omega (arith, length-set places' place (Some x), wide, kept.wide);
-        space = omega (arith, kept.space);
+        few = omega (arith, length-set places' place (Some x), wide, kept.few);
       }
-        where
-          zero_place : 0 + place ≡ place
-          zero_place = omega arith
 
--- the first of all
-module _ (places : List (Option Dated)) (end room capacity : ℕ) (items : List (Reverse Due)) (kept : IsKept places end items room capacity) (m : Reverse Due)
-    (first : IsFirst m items) where
-  -- the thread that stands in its place, and its date
-  pub stands : Stands places m.0.place m.0.date
-  stands = place-top m items places first kept.placed.same
-
-  none-before : sum_by (λ y. one_if (lt_by_cmp due_cmp m y)) (dues_from 0 places) ≡ 0
-  none-before = sym (kept.placed.same (λ y. one_if (lt_by_cmp due_cmp m y))) ∙ before-top m items first.greatest
-
-  pub place-within : m.0.place < length places
-  place-within = elim (cases_lt m.0.place (length places)) [
-    | inl below ↦ below
-    | inr past ↦ absurd (no (sym (get_or_past places m.0.place None past) ∙ stands.1))
-  ]
-    where
-      no : {x : Dated} → None ≡ Some x → ⊥
-      no e = cc
-
-  zero_place : m.0.place ≡ 0 + m.0.place
-  zero_place = omega arith
-
-  pub next-top : next_date (entered places) ≡ Some m.0.date
-  next-top =
-      ap next_date (sym (all_pass (entered places)))
-      ∙ ap (option_map (λ (x : Dated). x.date)) (earliest-top m (λ _. true) places 0 m.0.place stands.0 stands.1 zero_place (sym stands.2) refl none-before)
-      ∙ ap (λ (date : ℕ). Some date) stands.2
-    where
-      all_pass : (xs : List Dated) → filter (λ (_ : Dated). true) xs ≡ xs
-      all_pass [] = refl
-      all_pass (x ∷ xs) = ap (λ (ys : List Dated). x ∷ ys) (all_pass xs)
-
-  -- what is read at its place
-  pub entry-top : (entry : Option Dated) → entry ≡ get_or places m.0.place entry → entry ≡ Some stands.0
-  entry-top entry read = read ∙ get_or_default places m.0.place entry None place-within ∙ stands.1
-
-  module _ (t : ℕ) (due : m.0.date ≤ t) where
-    pub first-top : first_due t (entered places) ≡ Some stands.0
-    first-top =
-        earliest-top m (λ x. nat_le x.date t) places 0 m.0.place stands.0 stands.1 zero_place (sym stands.2)
-        (le-leb stands.0.date t (omega (arith, stands.2))) none-before
-
-    pub rest-top : without_first_due t (entered places) ≡ entered (set places m.0.place None)
-    rest-top =
-        ap (λ (r : Option Dated). when_left r (entered places)) first-top
-        ∙ entered-left places m.0.place stands.0 stands.1 (omega (arith, kept.once stands.0.thread, one_if-le-one (nat_lt stands.0.thread room)))
-
-  module _ (items' : List (Reverse Due)) (capacity' : ℕ) where
-    pub IsKept-left : IsPermutation items (m ∷ items') → capacity' ≡ capacity → IsKept (set places m.0.place None) end items' room capacity'
-    IsKept-left moved capacities = record {
-      placed = record {
-        behind = λ i from. elim (cases_eq i m.0.place) [
-          | inl e ↦ ap (λ (k : ℕ). get_or (set places m.0.place None) k None) e ∙ get_or-set_same places m.0.place None None place-within
-          | inr ne ↦ get_or-set_other places m.0.place i None None ne ∙ kept.placed.behind i from
-        ];
-        same = λ f. omega (
-          arith,
-          sum_by-IsPermutation f items (m ∷ items') moved,
-          sum_by-cons f m items',
-          kept.placed.same f,
-          dues-left f places 0 m.0.place stands.0 stands.1,
-          ap (λ (n : ℕ). f (due_at n stands.0)) (sym zero_place),
-          ap f is_top,
-        );
-      };
-      once = λ thread. omega (arith, kept.once thread, times-left places m.0.place thread);
-      wide = omega (arith, kept.wide, length-set places m.0.place None);
-      space = omega (arith, kept.space);
-    }
-      where
-        is_top : due_at m.0.place stands.0 ≡ m
-        is_top = ap (λ (date : ℕ). due_at m.0.place (dated stands.0.thread date)) stands.2
-
--- where the date of none has come, nothing leaves
-pub first-later : (places : List (Option Dated)) (end t : ℕ) (items : List (Reverse Due)) → IsPlaced places end items → AllLater t items → first_due t (entered places) ≡ None
-first-later places end t items placed later = ap earliest (none-later t items places later placed.same)
-
--- with no thread, everything is kept
-empty_places : (n i : ℕ) → get_or (replicate {A = Option Dated} n None) i None ≡ None
-empty_places zero i = refl
-empty_places (suc n) zero = refl
-empty_places (suc n) (suc i) = empty_places n i
-
-no_dues : (n place : ℕ) → dues_from place (replicate n None) ≡ []
-no_dues zero place = refl
-no_dues (suc n) place = no_dues n (suc place)
-
-pub entered-new : (n : ℕ) → entered (replicate n None) ≡ []
-entered-new n = entered-none (replicate n None) (empty_places n)
-
-pub IsKept-new : (n room capacity : ℕ) (items : List (Reverse Due)) → room ≤ n → room ≤ capacity → items ≡ [] →
-    IsKept (replicate n None) 0 items room capacity
-IsKept-new n room capacity items wide space none = record {
-  placed = record {
-    behind = λ i from. empty_places n i;
-    same = λ f. ap (sum_by f) none ∙ ap (sum_by f) (sym (no_dues n 0));
-  };
-  once = λ thread. omega (arith, ap (times thread) (entered-new n));
-  wide = omega (arith, length-replicate {A = Option Dated} n None);
-  space = space;
+-- the only one leaves
+pub IsKept-none : (soonest : Option ℕ) (lone : Option Dated) (x : Dated) (places : List (Option Dated)) (end room : ℕ) → IsKept soonest lone places end room →
+    lone ≡ Some x → IsKept None None places end room
+IsKept-none soonest None x places end room kept e = cc
+IsKept-none soonest (Some y) x places end room kept e = record {
+  first = sym (ap next_date kept.alone);
+  alone = tt;
+  behind = kept.behind;
+  once = λ thread. omega (arith, ap (times thread) kept.alone);
+  wide = kept.wide;
+  few = kept.few;
 }
+
+pub waiting-alone : (soonest : Option ℕ) (lone : Option Dated) (x : Dated) (places : List (Option Dated)) (end room : ℕ) → IsKept soonest lone places end room →
+    lone ≡ Some x → (waiting lone places ≡ x ∷ []) × (entered places ≡ [])
+waiting-alone soonest None x places end room kept e = cc
+waiting-alone soonest (Some y) x places end room kept e =
+    let it : y ≡ x = cc in
+    (ap (λ (xs : List Dated). y ∷ xs) kept.alone ∙ ap (λ (z : Dated). z ∷ []) it, kept.alone)
+
+-- the earliest leaves its place
+module _ (soonest : Option ℕ) (lone : Option Dated) (places : List (Option Dated)) (end room : ℕ) (kept : IsKept soonest lone places end room) (places' : List (Option Dated))
+    (thread : ℕ) (taken : IsTaken places places' thread) (none : lone ≡ None) where
+  all : waiting lone places ≡ entered places
+  all = ap (λ (r : Option Dated). waiting r places) none
+
+  pub left-first : Some thread ≡ thread_of (earliest (waiting lone places))
+  left-first = ap (λ (t : ℕ). Some t) taken.it ∙ sym (ap thread_of (ap earliest all ∙ taken.is_earliest))
+
+  pub left-others : entered places' ≡ when_left (earliest (waiting lone places)) (waiting lone places)
+  left-others =
+      ap entered taken.left
+      ∙ sym (
+      entered-left places taken.place taken.first taken.stood
+      (omega (arith, ap (times taken.first.thread) all, kept.once taken.first.thread, one_if-le-one (nat_lt taken.first.thread room)))
+      )
+      ∙ sym (ap (λ (r : Option Dated). when_left r (entered places)) taken.is_earliest)
+      ∙ sym (ap (λ (xs : List Dated). when_left (earliest xs) xs) all)
+
+  pub IsKept-left : IsKept (next_date (entered places')) None places' end room
+  IsKept-left = record {
+    first = refl;
+    alone = tt;
+    behind = λ i from. ap (λ (ps : List (Option Dated)). get_or ps i None) taken.left ∙ still i (kept.behind i from);
+    once = λ t. omega (
+      arith,
+      ap (λ (ps : List (Option Dated)). times t (entered ps)) taken.left,
+      times-left places taken.place t,
+      ap (times t) all,
+      kept.once t,
+    );
+    wide = omega (arith, ap length taken.left, length-set places taken.place None, kept.wide);
+    few = omega (arith, ap length taken.left, length-set places taken.place None, kept.few);
+  }
+    where
+      still : (i : ℕ) → get_or places i None ≡ None → get_or (set places taken.place None) i None ≡ None
+      still i e = elim (cases_eq i taken.place) [
+        | inl same ↦ ap (λ (k : ℕ). get_or (set places k None) i None) (sym same) ∙ emptied places i
+        | inr ne ↦ get_or-set_other places taken.place i None None ne ∙ e
+      ]
+        where
+          emptied : (places : List (Option Dated)) (i : ℕ) → get_or (set places i None) i None ≡ None
+          emptied [] i = refl
+          emptied (place ∷ places) zero = refl
+          emptied (place ∷ places) (suc i) = emptied places i
 
 -- no thread stands twice, and none above what there is room for
 times-get_or : (xs : List Dated) (i : ℕ) (d : Dated) → i < length xs → 1 ≤ times (get_or xs i d).thread xs
@@ -222,3 +178,12 @@ pub same_value : (queue queue' : List Dated) (room room' : ℕ) → queue ≡ qu
     let new : ReleaseQueue = record { queue = queue'; room = room' } in
     old ≡ new
 same_value queue queue' room room' e f = cc
+
+pub none_from : {X : Type 0} (r : Option X) → is_some r ≡ false → r ≡ None
+none_from None e = refl
+none_from (Some x) e = cc
+
+-- behind a lone one all places are empty
+pub AreEmptyFrom-lone : (lone : Option Dated) (x : Dated) (places : List (Option Dated)) → IsAlone lone places → lone ≡ Some x → AreEmptyFrom 1 (set places 0 (Some x))
+AreEmptyFrom-lone None x places alone e i from = cc
+AreEmptyFrom-lone (Some y) x places alone e i from = get_or-set_other places 0 i (Some x) None (omega arith) ∙ empty_from places i alone

@@ -1,9 +1,9 @@
 pub mod Closing
-pub mod Counts
 pub mod Earliest
 pub mod Entered
 pub mod Order
+pub mod Stored
 pub mod Times
+pub mod Tree
 pub mod Kept
 mod Worked
-pub mod First

@@ -5,7 +5,7 @@ use Rattle.std.proofs.lemmas.Bool.{cases_eq, eq-eqb, ne_eqb}
 use Rattle.std.proofs.lemmas.Bool.Decides.{nat_tests}
 use Rattle.std.proofs.lemmas.List.{length-replicate}
 use Rattle.mcs_release.specs.declared.dated.Dated.{Dated}
-use Rattle.mcs_release.specs.stored.Heap.{times, one_if}
+use Rattle.mcs_release.specs.stored.Places.{times, one_if}
 use Rattle.mcs_release.specs.Release.{is_held}
 
 pub times-append : (x : ℕ) (ys zs : List Dated) → times x (ys ++ zs) ≡ times x ys + times x zs

@@ -3,8 +3,9 @@
 #![tactic(auto)]
 
 mod dated;
-mod dues;
 mod laws;
+mod least;
+mod places;
 mod releases;
 
 pub use dated::Dated;

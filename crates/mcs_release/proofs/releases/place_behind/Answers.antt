@@ -1,5 +1,5 @@
-use Rattle.mcs_release.proofs.Closing.{behind_both}
+use Rattle.mcs_release.proofs.Kept.{AreEmptyFrom-lone}
 use Rattle.mcs_release.proofs.releases.place_behind.Goals as goal
 
-pub close_up-requires-clause-behind : goal.close_up-requires-clause-behind
-close_up-requires-clause-behind c = behind_both _ _ _ c.requires.placed.behind c.min-past.ensures
+pub returns-in-Some-clause-behind : goal.returns-in-Some-clause-behind
+returns-in-Some-clause-behind c = rw c.put.ensures (AreEmptyFrom-lone _ _ _ c.requires.alone c.in-Some.is)

@@ -1,0 +1,28 @@
+use Rattle.std.proofs.Common.{◌≡◌, ◌+◌, ◌*◌, ◌/◌, arith, length, replicate, rules}
+use Rattle.mcs_release.specs.stored.Least.{empty}
+use Rattle.mcs_release.proofs.Stored.{AreEmptyFrom-new, IsStored-new, count-stored}
+use Rattle.mcs_release.proofs.places.Places.new.Goals as goal
+
+pub invariant_of-result : goal.invariant_of-result
+invariant_of-result c =
+    let nodes : c.in_ok-nodes.nodes.items ≡ replicate (4 * (c.args.wanted / 3 + 1) + 4) empty = c.in_ok-nodes.ensures.items_if_clones_equal (search rules) in
+    let threads : length c.in_ok-threads.threads.items ≡ 3 * (c.args.wanted / 3 + 1) + 1 = omega (arith, c.in_ok-threads.ensures.len) in
+    IsStored-new _ _ _ nodes threads (omega arith)
+
+pub returns-clause-empty : goal.returns-clause-empty
+returns-clause-empty c =
+    let nodes : c.in_ok-nodes.nodes.items ≡ replicate (4 * (c.args.wanted / 3 + 1) + 4) empty = c.in_ok-nodes.ensures.items_if_clones_equal (search rules) in
+    let threads : length c.in_ok-threads.threads.items ≡ 3 * (c.args.wanted / 3 + 1) + 1 = omega (arith, c.in_ok-threads.ensures.len) in
+    AreEmptyFrom-new _ _ _ nodes threads (omega arith)
+
+pub returns-clause-wide : goal.returns-clause-wide
+returns-clause-wide c =
+    let nodes : c.in_ok-nodes.nodes.items ≡ replicate (4 * (c.args.wanted / 3 + 1) + 4) empty = c.in_ok-nodes.ensures.items_if_clones_equal (search rules) in
+    let threads : length c.in_ok-threads.threads.items ≡ 3 * (c.args.wanted / 3 + 1) + 1 = omega (arith, c.in_ok-threads.ensures.len) in
+    omega (arith, count-stored _ _ _ (IsStored-new _ _ _ nodes threads (omega arith)))
+
+pub returns-clause-few : goal.returns-clause-few
+returns-clause-few c =
+    let nodes : c.in_ok-nodes.nodes.items ≡ replicate (4 * (c.args.wanted / 3 + 1) + 4) empty = c.in_ok-nodes.ensures.items_if_clones_equal (search rules) in
+    let threads : length c.in_ok-threads.threads.items ≡ 3 * (c.args.wanted / 3 + 1) + 1 = omega (arith, c.in_ok-threads.ensures.len) in
+    omega (arith, count-stored _ _ _ (IsStored-new _ _ _ nodes threads (omega arith)))
