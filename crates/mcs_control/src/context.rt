@@ -122,6 +122,7 @@ impl Context {
     }
 
     /// The context's thread is chosen at `t`: in mode `Bandwidth` the refills are unblocked. Nothing changes in mode `Sporadic`.
+    #[inline(always)]
     pub fn chosen(&mut self, t: Tick)
         requires { t ≤ 2 ^ 40 }
         ensures context { self.new.context ≡ context_chosen t self.old.context }

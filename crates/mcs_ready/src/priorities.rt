@@ -42,6 +42,7 @@ impl Priorities {
     }
 
     /// The set without `priority`, which is its greatest.
+    #[inline(always)]
     pub(crate) fn remove(&mut self, priority: u8)
         requires { IsGreatest self.old (Some priority) }
         ensures { (q : ℕ) → has self.new q ≡ (if q == priority then false else has self.old q) }

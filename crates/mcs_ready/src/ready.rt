@@ -51,6 +51,7 @@ impl Ready {
     }
 
     /// Enters `x` behind the threads of its priority. The thread is below the number that there is room for, and is not held.
+    #[inline(always)]
     pub fn push_back(&mut self, x: ThreadId, priority: u8)
         requires below { x < self.old.room }
         requires free { is_held x self.old.queue ≡ false }
@@ -68,6 +69,7 @@ impl Ready {
     }
 
     /// Enters `x` before the threads of its priority. The thread is below the number that there is room for, and is not held.
+    #[inline(always)]
     pub fn push_front(&mut self, x: ThreadId, priority: u8)
         requires below { x < self.old.room }
         requires free { is_held x self.old.queue ≡ false }
@@ -85,6 +87,7 @@ impl Ready {
     }
 
     /// The greatest priority of the threads that are held, or None where none is.
+    #[inline(always)]
     pub fn best(&self) -> Option<u8>
         ensures { result ≡ priority_of (by_priority.best self.now.queue) }
     {
@@ -92,6 +95,7 @@ impl Ready {
     }
 
     /// Takes the first thread of the greatest priority, or answers None where none is held.
+    #[inline(always)]
     pub fn pop_best(&mut self) -> Option<ThreadId>
         ensures first { result ≡ thread_of (by_priority.best self.old.queue) }
         ensures rest { self.new ≡ record self.old { queue = by_priority.rest self.old.queue } }
