@@ -19,7 +19,8 @@ use Rattle.mcs_system.specs.System.{System, thread_part}
 use Rattle.mcs_core.specs.Core.{Core, thread_of}
 use Rattle.mcs_core.specs.Orders.{AreByMoment, due_now, to_come, orders_of}
 use Rattle.mcs_core.specs.Turn.{its_context, is_for_now}
-use Rattle.mcs_core.specs.Busy.{IsFirst, sooner, first_moment, IsBest, GoesOnAfter, counted_by}
+use Rattle.mcs_ticks.specs.Soonest.{sooner}
+use Rattle.mcs_core.specs.Busy.{IsFirst, first_moment, IsBest, GoesOnAfter, counted_by}
 use Rattle.mcs_core.specs.Quiet.{counted_of, counted_times, IsQuietWith, IsNextBusyWith}
 use Rattle.mcs_core.proofs.Firsts.{first-both, first-same}
 use Rattle.mcs_core.proofs.Plans.{due-none, due-of, due-to_come}

@@ -2,6 +2,7 @@ pub mod Alike
 pub mod Budgets
 pub mod Busy
 pub mod Clock
+pub mod Counted
 pub mod Counts
 pub mod Effects
 pub mod Enters
@@ -21,6 +22,7 @@ pub mod Soundness
 pub mod Stopping
 pub mod Systems
 pub mod Ticks
+pub mod Turned
 pub mod Turning
 pub mod Wakes
 pub mod Whole

@@ -1,5 +1,5 @@
 -- Many quiet turns at once, and the next busy moment, on a sound core.
-use Rattle.std.proofs.Common.{◌≡◌, ℕ, zero, suc, ◌+◌, ◌-◌, ◌<◌, ◌≤◌, ◌^◌, Bool, true, false, cond, List, [], ◌∷◌, refl, sym, ap, subst, ◌∙◌, arith, ◌++◌}
+use Rattle.std.proofs.Common.{◌≡◌, ℕ, zero, suc, ◌+◌, ◌-◌, ◌<◌, ◌≤◌, ◌^◌, Bool, true, false, cond, List, [], ◌∷◌, length, refl, sym, ap, subst, ◌∙◌, arith, ◌++◌}
 use Rattle.std.specs.Prelude.{◌==◌, nat_le, max, filter, All, Option, Some, None, IfSome, Result, Ok, Err, OnOk}
 use Rattle.std.proofs.lemmas.Bool.Decides.{nat_tests}
 use Rattle.mcs_ticks.specs.Queue.{Discipline, by_priority, first_of}
@@ -21,9 +21,11 @@ use Rattle.mcs_system.specs.WellFormed.{IsWellFormed}
 use Rattle.mcs_core.specs.State.{State, Fits, IsExpected, made_by, state_after}
 use Rattle.mcs_core.specs.Run.{Ran, ran}
 use Rattle.mcs_core.proofs.Runs.{left_expected, joined, ran-more, same_state, to_come-twice}
-use Rattle.mcs_core.specs.Busy.{IsFirst, sooner, first_moment, IsBest, GoesOnAfter, counted_for}
+use Rattle.mcs_ticks.specs.Soonest.{sooner, before}
+use Rattle.mcs_core.specs.Busy.{IsFirst, first_moment, IsBest, GoesOnAfter, counted_for}
 use Rattle.mcs_core.specs.Quiet.{counted_times, IsQuietWith, AreQuietWith, IsNextBusyWith}
 use Rattle.mcs_core.proofs.Effects.{runner_small}
+use Rattle.mcs_core.proofs.Firsts.{before-some, before-none}
 use Rattle.mcs_core.proofs.Plans.{orders_of-by_moment, to_come-by_moment, due-of, due-to_come}
 use Rattle.mcs_core.proofs.Systems.{one-each, orders-proper, all-noted}
 use Rattle.mcs_core.proofs.Ticks.{runner-placed}
@@ -116,15 +118,22 @@ module _ (system : System) (c : ℕ) (w : IsWellFormed system) where
   pub counts-many : (n t : ℕ) (core : Core) → IsSound system c t Between None core → counted_times system c n core ≡ counted_for n core.running core
   counts-many n t core h = counted-for system c n core (λ chosen e. (known t core h chosen e).thread)
 
-  pub counts-fit : (ticks t : ℕ) (core : Core) → IsSound system c t Between None core → ticks ≤ 2 ^ 42 → IfSome core.running (λ chosen. chosen.using + ticks < 2 ^ 64)
+  pub counts-fit : (ticks t : ℕ) (core : Core) → IsSound system c t Between None core → ticks ≤ 2 ^ 42 → IfSome core.running (λ chosen. chosen.using + ticks < 2 ^ 63)
   counts-fit ticks t core h l = by core.running refl
     where
       small : (chosen : Chosen) → core.running ≡ Some chosen → chosen.using < 2 ^ 40
       small chosen e = runner_small system c t (one-each system w) chosen core h e
 
-      by : (o : Option Chosen) → core.running ≡ o → IfSome o (λ chosen. chosen.using + ticks < 2 ^ 64)
+      by : (o : Option Chosen) → core.running ≡ o → IfSome o (λ chosen. chosen.using + ticks < 2 ^ 63)
       by None e = tt
       by (Some chosen) e = let k = small chosen e in omega arith
+
+  pub runner-known : (t : ℕ) (core : Core) → IsSound system c t Between None core → IfSome core.running (λ chosen. chosen.thread < length core.threads)
+  runner-known t core h = by core.running refl
+    where
+      by : (o : Option Chosen) → core.running ≡ o → IfSome o (λ chosen. chosen.thread < length core.threads)
+      by None e = tt
+      by (Some chosen) e = (known t core h chosen e).thread
 
   pub next-busy-of : (clock : ℕ) (box : List Mail) (core : Core) (orders : List Order) (ends better date order mail : Option ℕ) →
       IsSound system c clock Between None core → orders ≡ to_come clock (orders_of system c) → IsOrdered box → All (λ (mail : Mail). clock ≤ mail.arrives) box →
@@ -137,17 +146,6 @@ module _ (system : System) (c : ℕ) (w : IsWellFormed system) where
       (rw e3 (first-release clock core.releases h.later (λ m e. early-some date l3 m (e3 ∙ e))))
       (rw e4 (first-order-of system c clock orders planned (rw planned (to_come-by_moment 0 clock (orders_of system c) (orders_of-by_moment system c))) (λ m e. early-some order l4 m (e4 ∙ e))))
       (rw e5 (first-mail clock box ordered come (λ m e. early-some mail l5 m (e5 ∙ e))))
-
-  -- the clock, where the thread that runs ends its item or uses up its head then
-  pub busy-now : (clock : ℕ) (box : List Mail) (core : Core) (ends : Option ℕ) → IsSound system c clock Between None core →
-      IsFirst clock (λ n. GoesOnAfter system n core.running core) ends → ends ≡ Some clock → IsNextBusyWith by_priority system c clock box core (Some clock)
-  busy-now clock box core ends h first e = by (subst (λ o. IsFirst clock (λ n. GoesOnAfter system n core.running core) o) e first)
-    where
-      by : IsFirst clock (λ n. GoesOnAfter system n core.running core) (Some clock) → IsNextBusyWith by_priority system c clock box core (Some clock)
-      by (n, there, early, before, not) =
-          let none : n ≡ 0 = omega arith in
-          let stops : ¬ GoesOnAfter system 0 core.running core = subst (λ m. ¬ GoesOnAfter system m core.running core) none not in
-          (0, omega arith, early, λ m l. absurd (omega arith), λ quiet. stops (quiet-only-when clock (arriving clock box) core h quiet).0)
 
   -- a state after quiet turns
   pub skipped-fits : (state : State) (to : ℕ) (core : Core) → c ≡ state.number → Fits system state → state.failed ≡ false → state.clock ≤ to → to ≤ 2 ^ 40 + 1 →
@@ -190,6 +188,26 @@ module _ (queue : Discipline) (system : System) (c t : ℕ) where
 
   pub later-busy : (moment : ℕ) (core : Core) (box : List Mail) → IsNextBusyWith queue system c t box core (Some moment) → t ≤ moment
   later-busy moment core box h = let f = h.1 in omega arith
+
+-- of a state, what it says that its next busy moment is before `to`, and that it isn't
+module _ (system : System) (state : State) (box : List Mail) (to : ℕ) (o : Option ℕ) (busy : IsNextBusyWith by_priority system state.number state.clock box state.core o) where
+  pub quiet-whole : before to o ≡ None → to ≤ 2 ^ 42 → AreQuietWith by_priority system state.number state.clock box state.core (to - state.clock)
+  quiet-whole e l = quiet-to by_priority system state.number state.clock to state.core box o busy (before-none to o e) l
+
+  module _ (moment : ℕ) (e : before to o ≡ Some moment) where
+    busy-here : IsNextBusyWith by_priority system state.number state.clock box state.core (Some moment)
+    busy-here =
+        let P : Option ℕ → Type 0 = λ o. IsNextBusyWith by_priority system state.number state.clock box state.core o in
+        subst P (before-some to o moment e).0 busy
+
+    pub busy-before : moment < to
+    busy-before = (before-some to o moment e).1
+
+    pub busy-later : state.clock ≤ moment
+    busy-later = later-busy by_priority system state.number state.clock moment state.core box busy-here
+
+    pub quiet-first : AreQuietWith by_priority system state.number state.clock box state.core (moment - state.clock)
+    quiet-first = quiet-at by_priority system state.number state.clock moment state.core box busy-here
 
 module _ (system : System) (state : State) (box : List Mail) (until : ℕ) (later : state.clock ≤ until) (quiet : AreQuietWith by_priority system state.number state.clock box state.core (until - state.clock)) where
   -- the state after quiet turns

@@ -1,6 +1,6 @@
 -- The first moment at which something does not hold, and what a busy moment may come from: the end of an item or of a
 -- head, a better thread, a date, an order, an arrival.
-use Rattle.std.specs.Prelude.{◌≡◌, ◌≢◌, ℕ, ◌+◌, ◌-◌, ◌<◌, ◌≤◌, ◌^◌, false, nat_lt, if◌then◌else◌, Option, Some, None, List, [], ◌∷◌}
+use Rattle.std.specs.Prelude.{◌≡◌, ◌≢◌, ℕ, ◌+◌, ◌-◌, ◌<◌, ◌≤◌, ◌^◌, false, nat_lt, Option, Some, None, List, [], ◌∷◌}
 use Rattle.mcs_ticks.specs.declared.queue.Queued.{Queued}
 use Rattle.mcs_control.specs.declared.config.Order.{Order}
 use Rattle.mcs_control.specs.Context.{head_amount}
@@ -18,12 +18,6 @@ IsFirst clock P (Some moment) =
     × ((m : ℕ) → m < n → P m)
     × (¬ P n)
 IsFirst clock P None = (n : ℕ) → clock + n ≤ 2 ^ 42 → P n
-
--- the sooner of two moments
-abbrev pub sooner : Option ℕ → Option ℕ → Option ℕ
-sooner None other = other
-sooner (Some moment) None = Some moment
-sooner (Some moment) (Some other) = Some (if nat_lt other moment then other else moment)
 
 -- the moment of the first order
 abbrev pub first_moment : List Order → Option ℕ

@@ -7,6 +7,7 @@ use Rattle.mcs_mail.specs.declared.mail.Mail.{Mail}
 use Rattle.mcs_system.specs.System.{System, note_part, delay_between}
 use Rattle.mcs_core.specs.Core.{Core, opening_core}
 use Rattle.mcs_core.specs.Orders.{orders_of, to_come}
+use Rattle.mcs_core.specs.Quiet.{counted_times}
 use Rattle.mcs_core.specs.Run.{Ran, ran, ran_with}
 use Rattle.mcs_core.specs.Clock.{shown}
 use Rattle.mcs_core.specs.stored.Sound.{IsSound}
@@ -73,3 +74,8 @@ AreOfOneList system state to box =
     (core : Core) → state.core ≡ shown core →
     made_by system state to box
     ≡ ran_shown (ran_with in_one_list system state.number (to - state.clock) state.clock core box)
+
+-- the state when all turns before moment `to` are quiet and were taken: their ticks are counted
+abbrev pub skipped : System → ℕ → State → State
+skipped system to state =
+    record state { clock = to; core = counted_times system state.number (to - state.clock) state.core }

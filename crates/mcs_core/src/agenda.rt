@@ -3,7 +3,7 @@ ghost use Rattle.mcs_core.specs.Busy.{first_moment};
 ghost use Rattle.mcs_core.specs.Orders.{first_due, without_first};
 
 use mcs_control::Order;
-use mcs_ticks::Tick;
+use mcs_ticks::{Soonest, Tick};
 use std::marker::Model;
 
 /// The orders that a core is yet to obey, by moment.
@@ -41,14 +41,15 @@ impl Agenda {
         Some(order)
     }
 
-    /// The moment of the first order, or None where there is none.
-    pub(crate) fn next(&self) -> Option<Tick>
+    /// The moment of the first order, or never where there is none.
+    #[inline(always)]
+    pub(crate) fn next(&self) -> Soonest
         ensures { result ≡ first_moment self.now }
     {
         if self.next == self.orders.len() {
-            return None;
+            return Soonest::never();
         }
-        Some(self.orders[self.next].moment)
+        Soonest::at(self.orders[self.next].moment)
     }
 
     /// These orders, of which none has been obeyed.

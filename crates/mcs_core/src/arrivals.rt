@@ -14,6 +14,7 @@ use mcs_ticks::{FlowFault, Sink, What};
 
 impl Local {
     /// A signal of another core arrives.
+    #[inline(always)]
     fn arrive<S: Sink>(
         &mut self,
         here: &Here<'_>,
@@ -36,6 +37,7 @@ impl Local {
     }
 
     /// The signals that arrive now, in the order of their delivery.
+    #[inline(always)]
     pub(crate) fn arrivals<S: Sink>(
         &mut self,
         here: &Here<'_>,

@@ -15,6 +15,7 @@ use mcs_ticks::{FlowFault, Sink, ThreadId, What, Why};
 
 impl Local {
     /// A running thread gives way to a ready one of greater priority.
+    #[inline(always)]
     pub(crate) fn preempt<S: Sink>(
         &mut self,
         here: &Here<'_>,
@@ -42,6 +43,7 @@ impl Local {
     }
 
     /// Where no thread runs, the best ready one is chosen; in bandwidth mode its context is unblocked.
+    #[inline(always)]
     pub(crate) fn choose<S: Sink>(
         &mut self,
         here: &Here<'_>,

@@ -44,6 +44,7 @@ impl Contexts {
     }
 
     /// A context is charged so many ticks. Answers the date with which its thread has to wait, if it isn't ready at a moment then.
+    #[inline(always)]
     pub(crate) fn charge_until(
         &mut self,
         number: ContextId,
@@ -80,6 +81,7 @@ impl Contexts {
     }
 
     /// The thread of a context is chosen.
+    #[inline(always)]
     pub(crate) fn chosen(&mut self, number: ContextId, moment: Tick)
         requires own { is_own number self.old ≡ true }
         requires soon { moment ≤ 2 ^ 40 }
@@ -106,6 +108,7 @@ impl Contexts {
     }
 
     /// The date with which the thread of a context has to wait, if the context isn't ready at a moment.
+    #[inline(always)]
     pub(crate) fn date(&self, number: ContextId, moment: Tick) -> Option<Tick>
         requires own { is_own number self.now ≡ true }
         ensures { result ≡ date_from moment (held number self.now) }
@@ -117,6 +120,7 @@ impl Contexts {
     }
 
     /// The head of a context, in ticks.
+    #[inline(always)]
     pub(crate) fn head_amount(&self, number: ContextId) -> u64
         requires own { is_own number self.now ≡ true }
         ensures { result ≡ head_amount (held number self.now) }

@@ -3,17 +3,20 @@
 
 mod agenda;
 mod arrivals;
+mod charges;
 mod choice;
 mod contexts;
 mod events;
 mod local;
 mod log;
 mod moves;
+mod next;
 mod open;
 mod orders;
 mod posts;
 mod readings;
 mod releases;
+mod run;
 mod standing;
 mod state;
 mod stops;

@@ -21,7 +21,7 @@ use mcs_ready::Ready;
 use mcs_release::Releases;
 use mcs_script::Place;
 use mcs_system::SystemParts;
-use mcs_ticks::{ContextId, NoMemory, NoteId, ThreadId, Tick};
+use mcs_ticks::{ContextId, NoMemory, NoteId, Soonest, ThreadId, Tick};
 use std::alloc::Global;
 use std::marker::Model;
 
@@ -32,7 +32,7 @@ pub(crate) struct Local {
     threads: Vec<Thread>,
     ready: Ready,
     releases: Releases,
-    contexts: Contexts,
+    pub(crate) contexts: Contexts,
     notes: Notes,
 }
 
@@ -101,6 +101,7 @@ impl Local {
     }
 
     /// The running thread leaves the core.
+    #[inline(always)]
     pub(crate) fn leave(&mut self)
         ensures { self.new ≡ off self.old }
     {
@@ -127,6 +128,7 @@ impl Local {
 
     #[tactic(auto, using(crate::proofs::Counts::not_held_ready))]
     /// The thread enters the ready queue at the front, or the release queue with a date.
+    #[inline(always)]
     pub(crate) fn enter_front(
         &mut self,
         system: &SystemParts,
@@ -149,96 +151,12 @@ impl Local {
         }
     }
 
-    /// The context of the thread is charged so many ticks.
-    pub(crate) fn charge(&mut self, system: &SystemParts, thread: ThreadId, ticks: u64)
-        requires part { thread < length system.now.threads }
-        requires has { has_context (thread_part system.now thread).context self.old ≡ true }
-        requires some { 1 ≤ ticks }
-        requires in_head { ticks ≤ head_amount (its_context system.now thread self.old) }
-        requires early { head_moment (its_context system.now thread self.old) ≤ 2 ^ 40 }
-        ensures { self.new ≡ charged system.now thread ticks self.old }
-    {
-        self.contexts
-            .charge(system.thread(thread).context, ticks, system.min_budget);
-    }
-
-    /// The context of the thread is charged so many ticks. Answers the date with which the thread has to wait for it, if it isn't
-    /// ready then.
-    pub(crate) fn charge_until(
-        &mut self,
-        here: &Here<'_>,
-        thread: ThreadId,
-        ticks: u64,
-    ) -> Option<Tick>
-        requires part { thread < length here.now.system.now.threads }
-        requires has { has_context (thread_part here.now.system.now thread).context self.old ≡ true }
-        requires some { 1 ≤ ticks }
-        requires in_head { ticks ≤ head_amount (its_context here.now.system.now thread self.old) }
-        requires early { head_moment (its_context here.now.system.now thread self.old) ≤ 2 ^ 40 }
-        ensures core { self.new ≡ charged here.now.system.now thread ticks self.old }
-        ensures until { result ≡ date_of here.now.system.now here.now.moment thread self.new }
-    {
-        let context = here.system.thread(thread).context;
-        self.contexts
-            .charge_until(context, ticks, here.system.min_budget, here.moment)
-    }
-
-    /// The date with which the thread has to wait for its context, if the context isn't ready.
-    pub(crate) fn date_of(&self, here: &Here<'_>, thread: ThreadId) -> Option<Tick>
-        requires part { thread < length here.now.system.now.threads }
-        requires has { has_context (thread_part here.now.system.now thread).context self.now ≡ true }
-        ensures { result ≡ date_of here.now.system.now here.now.moment thread self.now }
-    {
-        self.contexts
-            .date(here.system.thread(thread).context, here.moment)
-    }
-
-    /// The head of the thread's context, in ticks.
-    pub(crate) fn head_amount(&self, system: &SystemParts, thread: ThreadId) -> u64
-        requires part { thread < length system.now.threads }
-        requires has { has_context (thread_part system.now thread).context self.now ≡ true }
-        ensures { result ≡ head_amount (its_context system.now thread self.now) }
-    {
-        self.contexts.head_amount(system.thread(thread).context)
-    }
-
     /// The state of a thread of the core.
     pub(crate) fn thread(&self, thread: ThreadId) -> Thread
         requires { thread < length self.now.threads }
         ensures { result ≡ thread_of self.now thread }
     {
         self.threads[thread.0]
-    }
-
-    /// The thread of a context is woken.
-    pub(crate) fn wake_context(&mut self, context: ContextId, moment: Tick)
-        requires own { has_context context self.old ≡ true }
-        requires soon { moment ≤ 2 ^ 40 }
-        ensures { self.new ≡ with_context context (context_woken moment (context_of self.old context)) self.old }
-    {
-        self.contexts.wake(context, moment);
-    }
-
-    /// The thread is chosen: in bandwidth mode its context is unblocked.
-    pub(crate) fn choose_context(&mut self, here: &Here<'_>, thread: ThreadId)
-        requires part { thread < length here.now.system.now.threads }
-        requires has { has_context (thread_part here.now.system.now thread).context self.old ≡ true }
-        requires soon { here.now.moment ≤ 2 ^ 40 }
-        ensures { self.new ≡ with_chosen_context here.now.system.now here.now.moment thread self.old }
-    {
-        self.contexts
-            .chosen(here.system.thread(thread).context, here.moment);
-    }
-
-    /// An order changes its context.
-    pub(crate) fn apply(&mut self, moment: Tick, order: Order)
-        requires own { has_context order.context self.old ≡ true }
-        requires soon { moment ≤ 2 ^ 40 }
-        requires checked { IsConfig order.config }
-        requires same_kind { kind_of order.config ≡ kind_of (context_of self.old order.context).config }
-        ensures { self.new ≡ applied moment order self.old }
-    {
-        self.contexts.order(order.context, moment, order.config);
     }
 
     /// A badge is posted on a notification: whom it wakes leaves the waiters.
@@ -292,13 +210,6 @@ impl Local {
         &self.releases
     }
 
-    /// The contexts.
-    pub(crate) fn contexts(&self) -> &Contexts
-        ensures { result.now ≡ self.now.contexts }
-    {
-        &self.contexts
-    }
-
     /// The notifications.
     pub(crate) fn notes(&self) -> &Notes
         ensures { result.now.notes ≡ self.now.notes }
@@ -321,6 +232,7 @@ impl Local {
     }
 
     /// Takes the first thread whose date has come out of the release queue.
+    #[inline(always)]
     pub(crate) fn take_due(&mut self, moment: Tick) -> Option<ThreadId>
         ensures taken { result ≡ thread_of_dated (first_due moment self.old.releases) }
         ensures left { self.new ≡ record self.old { releases = without_first_due moment self.old.releases } }
@@ -328,14 +240,16 @@ impl Local {
         self.releases.pop_due(moment)
     }
 
-    /// The least date of the release queue, or None where it is empty.
-    pub(crate) fn next_date(&self) -> Option<Tick>
+    /// The least date of the release queue, or never where it is empty.
+    #[inline(always)]
+    pub(crate) fn next_date(&self) -> Soonest
         ensures { result ≡ next_date self.now.releases }
     {
-        self.releases.next()
+        self.releases.soonest()
     }
 
     /// The greatest priority of the ready threads.
+    #[inline(always)]
     pub(crate) fn best(&self) -> Option<u8>
         ensures { result ≡ priority_of (by_priority.best self.now.ready) }
     {
@@ -343,6 +257,7 @@ impl Local {
     }
 
     /// Takes the first thread of greatest priority out of the ready queue.
+    #[inline(always)]
     pub(crate) fn take_best(&mut self) -> Option<ThreadId>
         ensures taken { result ≡ thread_of_queued (by_priority.best self.old.ready) }
         ensures left { self.new ≡ record self.old { ready = by_priority.rest self.old.ready } }
@@ -376,20 +291,5 @@ impl Local {
             contexts,
             notes,
         }
-    }
-
-    /// What there is to see of a context, if the core holds it. `NoMemory` is answered where the list of refills is
-    /// refused.
-    pub(crate) fn view_context(
-        &self,
-        alloc: Global,
-        context: ContextId,
-        in_use: u64,
-    ) -> Result<Option<ContextView>, NoMemory>
-        requires known { context < length self.now.contexts }
-        ensures { IfOk result
-            (λ view. view ≡ option_map (view_of context in_use) (get_or self.now.contexts context None)) }
-    {
-        self.contexts.view(alloc, context, in_use)
     }
 }

@@ -24,6 +24,7 @@ pub(crate) struct Log<'a, S: Sink> {
 
 impl<S: Sink> Log<'_, S> {
     /// Tells what happens here.
+    #[inline(always)]
     pub(crate) fn tell(&mut self, here: &Here<'_>, what: What) -> Result<(), FlowFault>
         ensures { OnOk result (Adds S.takes here.now (what ∷ []) [] self.old self.new) }
     {
@@ -36,6 +37,7 @@ impl<S: Sink> Log<'_, S> {
     }
 
     /// Sends a signal to another core.
+    #[inline(always)]
     pub(crate) fn send(&mut self, here: &Here<'_>, mail: Mail) -> Result<(), FlowFault>
         ensures { OnOk result (Adds S.takes here.now [] (mail ∷ []) self.old self.new) }
     {

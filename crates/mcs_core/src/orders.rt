@@ -17,6 +17,7 @@ use mcs_ticks::{FlowFault, Sink, What, Why};
 
 impl Local {
     /// The thread that runs is charged, and then its context takes the order's configuration.
+    #[inline(always)]
     fn charge_and_apply(&mut self, here: &Here<'_>, order: Order, chosen: Chosen)
         requires well_formed { IsWellFormed here.now.system.now }
         requires sound { IsSound here.now.system.now here.now.core here.now.moment PastTick None self.old }
@@ -33,6 +34,7 @@ impl Local {
     }
 
     /// An order for the context of the thread that runs: the thread is charged, and stops.
+    #[inline(always)]
     fn obey_running<S: Sink>(
         &mut self,
         here: &Here<'_>,
@@ -59,6 +61,7 @@ impl Local {
     }
 
     /// An order for a context of the core.
+    #[inline(always)]
     fn obey<S: Sink>(
         &mut self,
         here: &Here<'_>,
@@ -85,6 +88,7 @@ impl Local {
     }
 
     /// The orders of this moment.
+    #[inline(always)]
     pub(crate) fn orders<S: Sink>(
         &mut self,
         here: &Here<'_>,

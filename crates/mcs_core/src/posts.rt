@@ -11,6 +11,7 @@ use mcs_ticks::{FlowFault, NoteId, Sink, ThreadId, What};
 
 impl Local {
     /// The thread is woken: its context is unblocked, unless it is in bandwidth mode.
+    #[inline(always)]
     pub(crate) fn wake_its_context(&mut self, here: &Here<'_>, thread: ThreadId)
         requires free { IsFree here.now.system.now thread self.old }
         requires soon { here.now.moment ≤ 2 ^ 40 }
@@ -21,6 +22,7 @@ impl Local {
     }
 
     /// A thread that has left the waiters is woken: it moves on behind its wait, and enters a queue.
+    #[inline(always)]
     pub(crate) fn wake<S: Sink>(
         &mut self,
         here: &Here<'_>,
@@ -42,6 +44,7 @@ impl Local {
     }
 
     /// A post on a notification of the core.
+    #[inline(always)]
     pub(crate) fn post<S: Sink>(
         &mut self,
         here: &Here<'_>,

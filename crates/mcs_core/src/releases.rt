@@ -13,6 +13,7 @@ use mcs_ticks::{FlowFault, Sink, ThreadId, What};
 
 impl Local {
     /// A thread that has left the release queue goes to the back of its ready queue.
+    #[inline(always)]
     fn release<S: Sink>(
         &mut self,
         here: &Here<'_>,
@@ -30,6 +31,7 @@ impl Local {
     }
 
     /// The threads whose date has come, in the order in which they entered the release queue.
+    #[inline(always)]
     pub(crate) fn releases<S: Sink>(
         &mut self,
         here: &Here<'_>,

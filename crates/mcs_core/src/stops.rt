@@ -13,6 +13,7 @@ use mcs_ticks::{FlowFault, Sink, ThreadId, Tick, What, Why};
 
 impl Local {
     /// The running thread leaves the core for the back of the ready queue, or for the release queue with this date.
+    #[inline(always)]
     fn leave_to_back(&mut self, here: &Here<'_>, thread: ThreadId, until: Option<Tick>)
         requires { IsFree here.now.system.now thread self.old }
         ensures { self.new ≡ enters_back by_priority here.now.system.now thread until (off self.old) }
@@ -22,6 +23,7 @@ impl Local {
     }
 
     /// The running thread leaves the core for the front of the ready queue, or for the release queue with this date.
+    #[inline(always)]
     fn leave_to_front(&mut self, here: &Here<'_>, thread: ThreadId, until: Option<Tick>)
         requires { IsFree here.now.system.now thread self.old }
         ensures { self.new ≡ enters_front by_priority here.now.system.now thread until (off self.old) }
@@ -31,6 +33,7 @@ impl Local {
     }
 
     /// The running thread stops for good, or until a signal.
+    #[inline(always)]
     pub(crate) fn stop<S: Sink>(
         &mut self,
         here: &Here<'_>,
@@ -73,6 +76,7 @@ impl Local {
 
     /// The running thread, whose context has been charged, stops, and goes to the front of the ready queue, or into the
     /// release queue with the date with which it has to wait.
+    #[inline(always)]
     pub(crate) fn stop_to_front<S: Sink>(
         &mut self,
         here: &Here<'_>,

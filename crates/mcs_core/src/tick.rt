@@ -1,9 +1,10 @@
-ghost use Rattle.std.specs.Prelude.{◌≡◌, ◌^◌, ◌≤◌, ◌<◌, OnOk, IfOk, Some, None, length};
+ghost use Rattle.std.specs.Prelude.{◌≡◌, ◌+◌, ◌^◌, ◌≤◌, ◌<◌, OnOk, IfOk, IfSome, Some, None, length};
 ghost use Rattle.mcs_ticks.specs.Queue.{by_priority};
 ghost use Rattle.mcs_notify.specs.Note.{waited};
-ghost use Rattle.mcs_core.specs.Core.{note_of, thread_of};
+ghost use Rattle.mcs_core.specs.Core.{note_of};
+ghost use Rattle.mcs_core.specs.Quiet.{counted_times};
 ghost use Rattle.mcs_core.specs.State.{delays_from};
-ghost use Rattle.mcs_core.specs.Turn.{counts, mail_to, signals, waits_as, takes_effect, item_of, after_item, after_move, after_waited, finishes, tick};
+ghost use Rattle.mcs_core.specs.Turn.{mail_to, signals, waits_as, takes_effect, item_of, after_item, after_move, after_waited, finishes, tick};
 ghost use Rattle.mcs_core.specs.stored.Items.{CanTakeEffect};
 ghost use Rattle.mcs_core.specs.stored.Parts.{HasDelays, Makes};
 ghost use Rattle.mcs_core.specs.stored.Sound.{IsFree, WakesFree, IsSound};
@@ -11,30 +12,15 @@ ghost use Rattle.mcs_core.specs.Places.{times_waiting};
 ghost use Rattle.mcs_core.specs.stored.Sound.Phase.{Between, InTick};
 ghost use Rattle.mcs_system.specs.WellFormed.{IsWellFormed};
 
+use crate::AfterItem;
 use crate::local::Local;
 use crate::log::{Here, Log};
-use crate::{AfterItem, Chosen};
 use mcs_mail::Mail;
 use mcs_notify::Waited;
 use mcs_script::{Item, Moved};
 use mcs_ticks::{FlowFault, NoteId, Sink, ThreadId, What};
 
 impl Local {
-    /// The running thread counts a tick. Answers what is left of its item.
-    fn count(&mut self, chosen: Chosen) -> u64
-        requires known { chosen.thread < length self.old.threads }
-        requires fits { chosen.using < 2 ^ 63 }
-        ensures core { self.new ≡ counts chosen self.old }
-        ensures left { result ≡ (thread_of self.new chosen.thread).place.left }
-    {
-        let thread = chosen.thread;
-        self.set_running(Chosen {
-            using: chosen.using + 1,
-            thread,
-        });
-        self.use_up(thread, 1)
-    }
-
     /// What follows a wait: the thread blocks where the word is 0.
     fn after_wait(&self, note: NoteId) -> AfterItem
         requires { note < length self.now.notes }
@@ -48,6 +34,7 @@ impl Local {
     }
 
     /// A signal: a post at home, and mail for another core.
+    #[inline(always)]
     fn signal<S: Sink>(
         &mut self,
         here: &Here<'_>,
@@ -82,6 +69,7 @@ impl Local {
     }
 
     /// A wait: a word that is not 0 is taken, and at word 0 the thread joins the waiters.
+    #[inline(always)]
     fn wait_on<S: Sink>(
         &mut self,
         here: &Here<'_>,
@@ -109,6 +97,7 @@ impl Local {
     }
 
     /// The thread's item takes effect, and the thread moves on unless it blocks. It answers what follows the item.
+    #[inline(always)]
     fn take_effect<S: Sink>(
         &mut self,
         here: &Here<'_>,
@@ -150,6 +139,7 @@ impl Local {
     }
 
     /// The running thread's item is finished: it takes effect, and at most one stop follows.
+    #[inline(always)]
     fn finish<S: Sink>(
         &mut self,
         here: &Here<'_>,
@@ -173,26 +163,34 @@ impl Local {
         self.may_stop(here, thread, used, after, log)
     }
 
-    /// The end of the tick.
+    /// The end of a tick, before which so many quiet ones are to be counted.
+    #[inline(always)]
     pub(crate) fn tick<S: Sink>(
         &mut self,
         here: &Here<'_>,
+        quiet: u64,
         log: &mut Log<'_, S>,
     ) -> Result<(), FlowFault>
         requires well_formed { IsWellFormed here.now.system.now }
-        requires sound { IsSound here.now.system.now here.now.core here.now.moment Between None self.old }
+        requires sound { IsSound here.now.system.now here.now.core here.now.moment Between None
+            (counted_times here.now.system.now here.now.core quiet self.old) }
+        requires known { IfSome self.old.running (λ chosen. chosen.thread < length self.old.threads) }
         requires delays { here.now.delays.now ≡ delays_from here.now.system.now here.now.core }
         requires soon { here.now.moment ≤ 2 ^ 40 }
+        requires few { IfSome self.old.running (λ chosen. chosen.using + quiet < 2 ^ 63) }
         ensures { OnOk result
-            (Makes S.takes here.now (tick by_priority here.now.system.now here.now.core here.now.moment self.old)
+            (Makes S.takes here.now
+            (tick by_priority here.now.system.now here.now.core here.now.moment
+            (counted_times here.now.system.now here.now.core quiet self.old))
             self.new log.old log.new) }
     {
         let Some(before) = self.running() else {
             return Ok(());
         };
         let thread = before.thread;
-        let used = before.using + 1;
-        let left = self.count(before);
+        let ticks = quiet + 1;
+        let used = before.using + ticks;
+        let left = self.count(before, ticks);
         if left == 0 {
             self.finish(here, thread, used, log)
         } else {
@@ -202,6 +200,7 @@ impl Local {
 }
 
 /// A signal to a notification of another core.
+#[inline(always)]
 fn mail_to(here: &Here<'_>, note: NoteId, badge: u32) -> Mail
     requires soon { here.now.moment ≤ 2 ^ 40 }
     requires part { note < length here.now.system.now.notes }

@@ -1,11 +1,18 @@
--- One part of a turn in the hands of the code: where and when it is taken, and what it adds to the lists that it was
--- lent.
-use Rattle.std.specs.Prelude.{◌≡◌, ℕ, Bool, ◌<◌, ◌≤◌, ◌^◌, List, ◌++◌, length, slice_index}
+-- One part of a turn in the hands of the code: where and when it is taken, what a whole turn asks for, and what a part adds to the lists
+-- that it was lent.
+use Rattle.std.specs.Prelude.{◌≡◌, ℕ, Bool, ◌+◌, ◌<◌, ◌≤◌, ◌^◌, List, ◌++◌, length, slice_index, All, IfSome, None}
 use Rattle.mcs_ticks.specs.declared.row.Row.{Row}
 use Rattle.mcs_ticks.specs.declared.row.What.{What}
 use Rattle.mcs_ticks.specs.Given.{Given}
 use Rattle.mcs_mail.specs.declared.mail.Mail.{Mail}
-use Rattle.mcs_system.specs.System.{note_part, delay_between}
+use Rattle.mcs_control.specs.declared.config.Order.{Order}
+use Rattle.mcs_system.specs.System.{System, note_part, delay_between}
+use Rattle.mcs_system.specs.WellFormed.{IsWellFormed}
+use Rattle.mcs_core.specs.Orders.{orders_of, to_come}
+use Rattle.mcs_core.specs.Quiet.{counted_times}
+use Rattle.mcs_core.specs.State.{delays_from}
+use Rattle.mcs_core.specs.stored.Sound.{IsSound}
+use Rattle.mcs_core.specs.stored.Sound.Phase.{Between}
 use Rattle.mcs_core.specs.Core.{Core}
 use Rattle.mcs_core.specs.Turn.{stamped, Turn}
 use Rattle.mcs_core.specs.declared.log.Here.{Here}
@@ -35,3 +42,16 @@ module _ {S : Type 0} (takes : S → Row → Bool → S → Type 0) where
   pub record Makes (here : Here) (made : Turn) (left : Core) (before after : Log S) : Type 0 where
     pub core : left ≡ made.core
     pub adds : Adds here made.rows made.mails before after
+
+-- core c of a system may take its turn at moment t, when so many quiet ticks are counted, with this row of delays of its signals, these orders
+-- to come and this mail in its box
+pub record CanTurn (system : System) (c t : ℕ) (row : List ℕ) (quiet : ℕ) (orders : List Order) (mails : List Mail) (core : Core) : Type 0 where
+  pub well_formed : IsWellFormed system
+  pub sound : IsSound system c t Between None (counted_times system c quiet core)
+  pub running : IfSome core.running (λ chosen. chosen.thread < length core.threads)
+  pub few : IfSome core.running (λ chosen. chosen.using + quiet < 2 ^ 63)
+  pub planned : orders ≡ to_come t (orders_of system c)
+  pub known : All (λ mail. mail.note < length system.notes) mails
+  pub come : All (λ mail. t ≤ mail.arrives) mails
+  pub delays : row ≡ delays_from system c
+  pub soon : t ≤ 2 ^ 40

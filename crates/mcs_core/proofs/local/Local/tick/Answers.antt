@@ -1,20 +1,50 @@
-use Rattle.std.proofs.Common.{sym, ◌∙◌, arith}
-use Rattle.mcs_core.proofs.Effects.{runner_small}
-use Rattle.mcs_core.proofs.Ticks.{counts-sound}
+use Rattle.std.proofs.Common.{◌≡◌, ◌+◌, ◌<◌, length, sym, ◌∙◌, subst, arith, rules, Option, Some}
+use Rattle.std.specs.Prelude.{IfSome, OnOk}
+use Rattle.mcs_core.specs.declared.standing.Chosen.{Chosen}
+use Rattle.mcs_core.specs.Turn.{Turn}
+use Rattle.mcs_core.specs.stored.Parts.{Makes}
+use Rattle.mcs_core.proofs.Counted.{tick-more, counted-sound, counted-can_stop, tick-idle}
 use Rattle.mcs_core.proofs.Systems.{one-each}
 use Rattle.mcs_core.proofs.local.Local.tick.Goals as goal
 
-pub overflow_add-used : goal.overflow_add-used
-overflow_add-used g c =
-    let small = runner_small c.args.here.now.system.now c.args.here.now.core c.args.here.now.moment (one-each c.args.here.now.system.now c.requires.well_formed) c.in-Some.before c.args.self.now c.requires.sound (sym c.running.ensures ∙ c.in-Some.is) in
-    omega (arith, small)
+known-runner : (P : Chosen → Type 0) (o : Option Chosen) (chosen : Chosen) → IfSome o P → o ≡ Some chosen → P chosen
+known-runner P o chosen h e = subst (λ o. IfSome o P) e h
 
-pub count-left-requires-clause-fits : goal.count-left-requires-clause-fits
-count-left-requires-clause-fits g c =
-    let small = runner_small c.args.here.now.system.now c.args.here.now.core c.args.here.now.moment (one-each c.args.here.now.system.now c.requires.well_formed) c.in-Some.before c.args.self.now c.requires.sound (sym c.running.ensures ∙ c.in-Some.is) in
-    omega (arith, small)
+pub returns-in_default : goal.returns-in_default
+returns-in_default g c =
+    let P : Turn → Type 0 = λ turn. Makes g.S.Sink.takes c.args.here.now turn c.args.self.now c.args.log.now c.args.log.now in
+    subst P (sym (tick-idle c.args.here.now.system.now c.args.here.now.core c.args.quiet c.args.here.now.moment c.args.self.now (sym c.running.ensures ∙ c.in_default.is))) (search rules)
 
 pub finish-requires-clause-sound : goal.finish-requires-clause-sound
 finish-requires-clause-sound g c =
-    rw c.count-left.ensures.core
-    (counts-sound c.args.here.now.system.now c.args.here.now.core c.args.here.now.moment (one-each c.args.here.now.system.now c.requires.well_formed) c.in-Some.before c.args.self.now c.requires.sound (sym c.running.ensures ∙ c.in-Some.is))
+    let runs : c.args.self.now.running ≡ Some c.in-Some.before = sym c.running.ensures ∙ c.in-Some.is in
+    let known = known-runner (λ chosen. chosen.thread < length c.args.self.now.threads) _ c.in-Some.before c.requires.known runs in
+    counted-sound c.args.here.now.system.now c.args.here.now.core c.args.quiet c.in-Some.before c.args.self.now runs known
+    (c.in-Some.before.using + c.args.quiet + 1) c.count-left.new.self (omega arith) c.count-left.ensures.core
+    (one-each c.args.here.now.system.now c.requires.well_formed) c.args.here.now.moment c.requires.sound
+
+pub may_stop-requires : goal.may_stop-requires
+may_stop-requires g c =
+    let runs : c.args.self.now.running ≡ Some c.in-Some.before = sym c.running.ensures ∙ c.in-Some.is in
+    let known = known-runner (λ chosen. chosen.thread < length c.args.self.now.threads) _ c.in-Some.before c.requires.known runs in
+    counted-can_stop c.args.here.now.system.now c.args.here.now.core c.args.quiet c.in-Some.before c.args.self.now runs known
+    (c.in-Some.before.using + (c.args.quiet + 1)) c.count-left.new.self (omega arith) c.count-left.ensures.core
+    (one-each c.args.here.now.system.now c.requires.well_formed) c.args.here.now.moment c.requires.sound
+
+pub returns-then-left-eq0 : goal.returns-then-left-eq0
+returns-then-left-eq0 g c =
+    let runs : c.args.self.now.running ≡ Some c.in-Some.before = sym c.running.ensures ∙ c.in-Some.is in
+    let known = known-runner (λ chosen. chosen.thread < length c.args.self.now.threads) _ c.in-Some.before c.requires.known runs in
+    let P : Turn → Type 0 = λ turn. OnOk c.finish.result (Makes g.S.Sink.takes c.args.here.now turn c.finish.new.self c.args.log.now c.finish.new.log) in
+    subst P (sym (tick-more c.args.here.now.system.now c.args.here.now.core c.args.quiet c.in-Some.before c.args.self.now runs known
+    (c.in-Some.before.using + (c.args.quiet + 1)) c.count-left.new.self (omega arith) c.count-left.ensures.core c.args.here.now.moment))
+    (search rules)
+
+pub returns-else-left-eq0 : goal.returns-else-left-eq0
+returns-else-left-eq0 g c =
+    let runs : c.args.self.now.running ≡ Some c.in-Some.before = sym c.running.ensures ∙ c.in-Some.is in
+    let known = known-runner (λ chosen. chosen.thread < length c.args.self.now.threads) _ c.in-Some.before c.requires.known runs in
+    let P : Turn → Type 0 = λ turn. OnOk c.may_stop.result (Makes g.S.Sink.takes c.args.here.now turn c.may_stop.new.self c.args.log.now c.may_stop.new.log) in
+    subst P (sym (tick-more c.args.here.now.system.now c.args.here.now.core c.args.quiet c.in-Some.before c.args.self.now runs known
+    (c.in-Some.before.using + (c.args.quiet + 1)) c.count-left.new.self (omega arith) c.count-left.ensures.core c.args.here.now.moment))
+    (search rules)

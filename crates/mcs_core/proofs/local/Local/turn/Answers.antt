@@ -1,6 +1,7 @@
 use Rattle.std.proofs.Common.{length, ap, ◌∙◌}
 use Rattle.mcs_mail.specs.Box.{arriving}
 use Rattle.mcs_core.specs.Orders.{due_now, orders_of}
+use Rattle.mcs_core.specs.Quiet.{counted_times}
 use Rattle.mcs_core.proofs.Loops.{known-arriving}
 use Rattle.mcs_core.proofs.Plans.{orders_of-by_moment, to_come-by_moment, orders_of-planned, to_come-planned, due-of}
 use Rattle.mcs_core.proofs.Systems.{one-each, orders-proper, all-noted}
@@ -10,11 +11,11 @@ use Rattle.mcs_core.proofs.local.Local.turn.Goals as goal
 
 pub arrivals-requires-clause-sound : goal.arrivals-requires-clause-sound
 arrivals-requires-clause-sound g c =
-    ticked-sound c.args.here.now c.requires.well_formed c.requires.soon c.args.self.now c.tick.new.self c.requires.sound c.in_ok-tick.ensures.core
+    ticked-sound c.args.here.now c.requires.well_formed c.requires.soon (counted_times c.args.here.now.system.now c.args.here.now.core c.args.quiet c.args.self.now) c.tick.new.self c.requires.sound c.in_ok-tick.ensures.core
 
 pub orders-requires-clause-sound : goal.orders-requires-clause-sound
 orders-requires-clause-sound g c =
-    let ticked = ticked-sound c.args.here.now c.requires.well_formed c.requires.soon c.args.self.now c.tick.new.self c.requires.sound c.in_ok-tick.ensures.core in
+    let ticked = ticked-sound c.args.here.now c.requires.well_formed c.requires.soon (counted_times c.args.here.now.system.now c.args.here.now.core c.args.quiet c.args.self.now) c.tick.new.self c.requires.sound c.in_ok-tick.ensures.core in
     arrived-sound c.args.here.now c.requires.well_formed c.requires.soon c.args.mail.now.mails c.tick.new.self c.arrivals.new.self c.requires.known ticked c.in_ok-arrivals.ensures.makes.core
 
 pub orders-requires-clause-planned : goal.orders-requires-clause-planned
@@ -27,20 +28,20 @@ orders-requires-clause-by_moment g c =
 
 pub releases-requires-clause-sound : goal.releases-requires-clause-sound
 releases-requires-clause-sound g c =
-    let ticked = ticked-sound c.args.here.now c.requires.well_formed c.requires.soon c.args.self.now c.tick.new.self c.requires.sound c.in_ok-tick.ensures.core in
+    let ticked = ticked-sound c.args.here.now c.requires.well_formed c.requires.soon (counted_times c.args.here.now.system.now c.args.here.now.core c.args.quiet c.args.self.now) c.tick.new.self c.requires.sound c.in_ok-tick.ensures.core in
     let arrived = arrived-sound c.args.here.now c.requires.well_formed c.requires.soon c.args.mail.now.mails c.tick.new.self c.arrivals.new.self c.requires.known ticked c.in_ok-arrivals.ensures.makes.core in
     obeyed-sound c.args.here.now c.requires.well_formed c.requires.soon c.args.agenda.now c.arrivals.new.self c.orders.new.self c.requires.planned arrived c.in_ok-orders.ensures.makes.core
 
 pub preempt-requires-clause-sound : goal.preempt-requires-clause-sound
 preempt-requires-clause-sound g c =
-    let ticked = ticked-sound c.args.here.now c.requires.well_formed c.requires.soon c.args.self.now c.tick.new.self c.requires.sound c.in_ok-tick.ensures.core in
+    let ticked = ticked-sound c.args.here.now c.requires.well_formed c.requires.soon (counted_times c.args.here.now.system.now c.args.here.now.core c.args.quiet c.args.self.now) c.tick.new.self c.requires.sound c.in_ok-tick.ensures.core in
     let arrived = arrived-sound c.args.here.now c.requires.well_formed c.requires.soon c.args.mail.now.mails c.tick.new.self c.arrivals.new.self c.requires.known ticked c.in_ok-arrivals.ensures.makes.core in
     let obeyed = obeyed-sound c.args.here.now c.requires.well_formed c.requires.soon c.args.agenda.now c.arrivals.new.self c.orders.new.self c.requires.planned arrived c.in_ok-orders.ensures.makes.core in
     released-sound c.args.here.now c.requires.well_formed c.requires.soon c.orders.new.self c.releases.new.self obeyed c.in_ok-releases.ensures.core
 
 pub choose-requires-clause-sound : goal.choose-requires-clause-sound
 choose-requires-clause-sound g c =
-    let ticked = ticked-sound c.args.here.now c.requires.well_formed c.requires.soon c.args.self.now c.tick.new.self c.requires.sound c.in_ok-tick.ensures.core in
+    let ticked = ticked-sound c.args.here.now c.requires.well_formed c.requires.soon (counted_times c.args.here.now.system.now c.args.here.now.core c.args.quiet c.args.self.now) c.tick.new.self c.requires.sound c.in_ok-tick.ensures.core in
     let arrived = arrived-sound c.args.here.now c.requires.well_formed c.requires.soon c.args.mail.now.mails c.tick.new.self c.arrivals.new.self c.requires.known ticked c.in_ok-arrivals.ensures.makes.core in
     let obeyed = obeyed-sound c.args.here.now c.requires.well_formed c.requires.soon c.args.agenda.now c.arrivals.new.self c.orders.new.self c.requires.planned arrived c.in_ok-orders.ensures.makes.core in
     let released = released-sound c.args.here.now c.requires.well_formed c.requires.soon c.orders.new.self c.releases.new.self obeyed c.in_ok-releases.ensures.core in
@@ -50,7 +51,7 @@ pub returns-clause-makes : goal.returns-clause-makes
 returns-clause-makes g c =
     on_ok-map _ _ c.choose.result
     (whole-turn c.args.here.now (arriving c.args.here.now.moment c.args.mail.now.mails) (due_now c.args.here.now.moment c.args.agenda.now)
-    c.args.self.now c.tick.new.self c.arrivals.new.self c.orders.new.self c.releases.new.self c.preempt.new.self c.choose.new.self
+    (counted_times c.args.here.now.system.now c.args.here.now.core c.args.quiet c.args.self.now) c.tick.new.self c.arrivals.new.self c.orders.new.self c.releases.new.self c.preempt.new.self c.choose.new.self
     c.args.log.now c.tick.new.log c.arrivals.new.log c.orders.new.log c.releases.new.log c.preempt.new.log c.choose.new.log
     (ap (due_now c.args.here.now.moment) c.requires.planned ∙ due-of c.args.here.now.system.now c.args.here.now.core c.args.here.now.moment)
     c.in_ok-tick.ensures c.in_ok-arrivals.ensures.makes c.in_ok-orders.ensures.makes c.in_ok-releases.ensures c.in_ok-preempt.ensures)
@@ -60,12 +61,12 @@ pub returns-clause-sound : goal.returns-clause-sound
 returns-clause-sound g c =
     on_ok-map _ _ c.choose.result
     (λ e. let made = whole-turn c.args.here.now (arriving c.args.here.now.moment c.args.mail.now.mails) (due_now c.args.here.now.moment c.args.agenda.now)
-    c.args.self.now c.tick.new.self c.arrivals.new.self c.orders.new.self c.releases.new.self c.preempt.new.self c.choose.new.self
+    (counted_times c.args.here.now.system.now c.args.here.now.core c.args.quiet c.args.self.now) c.tick.new.self c.arrivals.new.self c.orders.new.self c.releases.new.self c.preempt.new.self c.choose.new.self
     c.args.log.now c.tick.new.log c.arrivals.new.log c.orders.new.log c.releases.new.log c.preempt.new.log c.choose.new.log
     (ap (due_now c.args.here.now.moment) c.requires.planned ∙ due-of c.args.here.now.system.now c.args.here.now.core c.args.here.now.moment)
     c.in_ok-tick.ensures c.in_ok-arrivals.ensures.makes c.in_ok-orders.ensures.makes c.in_ok-releases.ensures c.in_ok-preempt.ensures e in
     rw made.core
-    (turn-sound c.args.here.now.system.now c.args.here.now.core (one-each c.args.here.now.system.now c.requires.well_formed) c.args.here.now.moment c.requires.soon (arriving c.args.here.now.moment c.args.mail.now.mails) c.args.self.now
+    (turn-sound c.args.here.now.system.now c.args.here.now.core (one-each c.args.here.now.system.now c.requires.well_formed) c.args.here.now.moment c.requires.soon (arriving c.args.here.now.moment c.args.mail.now.mails) (counted_times c.args.here.now.system.now c.args.here.now.core c.args.quiet c.args.self.now)
     (all-noted c.args.here.now.system.now c.requires.well_formed) (orders-proper c.args.here.now.system.now c.requires.well_formed)
     (known-arriving c.args.here.now.moment (length c.args.here.now.system.now.notes) c.args.mail.now.mails c.requires.known) c.requires.sound))
     c.choose.ensures

@@ -1,0 +1,291 @@
+ghost use Rattle.std.specs.Prelude.{◌≡◌, ◌⊎◌, ◌+◌, ◌-◌, ◌^◌, ◌≤◌, ◌<◌, ◌++◌, max, true, false, [], length, OnOk, OnErr, IsTrue, ◌↔◌, All};
+ghost use Rattle.mcs_ticks.specs.Given.{Given, IsShortAfter};
+ghost use Rattle.mcs_ticks.specs.Queue.{by_priority};
+ghost use Rattle.mcs_core.specs.Quiet.{AreQuietWith};
+ghost use Rattle.mcs_core.specs.State.{Fits, IsExpected, made_by, state_after, skipped, AreOfOneList};
+
+use crate::CoreState;
+use crate::log::{Here, Log};
+use mcs_mail::{Mail, Mailbox};
+use mcs_system::System;
+use mcs_ticks::{FlowFault, Measured, NoMemory, Row, Sink, Tick};
+
+impl CoreState {
+    /// Whether the clock is before a moment.
+    fn is_before(&self, to: Tick) -> bool
+        ensures { IsTrue result ↔ (self.now.clock < to) }
+    {
+        self.clock.get() < to.get()
+    }
+
+    /// The turn at a moment, with the quiet ones before it.
+    #[inline(always)]
+    fn turn_at<S: Sink>(
+        &mut self,
+        system: &System,
+        moment: Tick,
+        mail: &mut Mailbox,
+        sink: &mut S,
+        signals: &mut Vec<Mail>,
+    ) -> Result<(), FlowFault>
+        requires going { self.old.failed ≡ false }
+        requires fits { Fits system.now self.old }
+        requires later { self.old.clock ≤ moment }
+        requires in_time { moment ≤ 2 ^ 40 }
+        requires quiet { AreQuietWith by_priority system.now self.old.number self.old.clock [] self.old.core (moment - self.old.clock) }
+        requires expected { All (IsExpected system.now (skipped system.now moment self.old)) mail.old.mails }
+        ensures state { let quiet = skipped system.now moment self.old in
+            OnOk result (self.new ≡ state_after quiet (moment + 1) (made_by system.now quiet (moment + 1) mail.old.mails)) }
+        ensures rows { let quiet = skipped system.now moment self.old in
+            OnOk result (Given S.takes sink.old (made_by system.now quiet (moment + 1) mail.old.mails).rows sink.new) }
+        ensures signals { let quiet = skipped system.now moment self.old in
+            OnOk result (signals.new.items ≡ signals.old.items ++ (made_by system.now quiet (moment + 1) mail.old.mails).mails) }
+        ensures mail { let quiet = skipped system.now moment self.old in
+            OnOk result (mail.new.mails ≡ (made_by system.now quiet (moment + 1) mail.old.mails).box) }
+        ensures fits { OnOk result (Fits system.now self.new) }
+        ensures kept { (self.new.number ≡ self.old.number) × (OnErr result (self.new.clock ≡ self.old.clock)) }
+    {
+        let here = Here {
+            system: system.parts(),
+            core: self.number,
+            delays: &self.delays,
+            moment,
+        };
+        let quiet = moment.get() - self.clock.get();
+        let mut log = Log { sink, signals };
+        self.local
+            .turn(&here, quiet, &mut self.agenda, mail, &mut log)?;
+        self.clock = moment.plus(1).unwrap();
+        Ok(())
+    }
+
+    /// The quiet turns up to the next busy one, and that one, of those before moment `to`. Where memory or a row is
+    /// refused the state is spent.
+    #[inline(always)]
+    fn advance<S: Sink>(
+        &mut self,
+        system: &System,
+        mail: &mut Mailbox,
+        to: Tick,
+        sink: &mut S,
+        signals: &mut Vec<Mail>,
+    ) -> Result<(), FlowFault>
+        requires going { self.old.failed ≡ false }
+        requires fits { Fits system.now self.old }
+        requires before { self.old.clock < to }
+        requires in_time { to ≤ 2 ^ 40 + 1 }
+        requires expected { All (IsExpected system.now self.old) mail.old.mails }
+        ensures state { OnOk result
+            (self.new
+            ≡ state_after self.old self.new.clock (made_by system.now self.old self.new.clock mail.old.mails)) }
+        ensures rows { OnOk result
+            (Given S.takes sink.old (made_by system.now self.old self.new.clock mail.old.mails).rows sink.new) }
+        ensures signals { OnOk result
+            (signals.new.items
+            ≡ signals.old.items ++ (made_by system.now self.old self.new.clock mail.old.mails).mails) }
+        ensures mail { OnOk result
+            (mail.new.mails ≡ (made_by system.now self.old self.new.clock mail.old.mails).box) }
+        ensures fits { Fits system.now self.new }
+        ensures failed { OnErr result (self.new.failed ≡ true) }
+        ensures going { OnOk result (self.new.failed ≡ false) }
+        ensures later { OnOk result (self.old.clock < self.new.clock) }
+        ensures last { OnOk result
+            ((made_by system.now self.old (self.new.clock - 1) mail.old.mails).rows ≡ []) }
+        ensures kept { (self.new.number ≡ self.old.number)
+            × (self.old.clock ≤ self.new.clock)
+            × (self.new.clock ≤ to) }
+    {
+        let Some(moment) = self.soonest(system, mail).before(to) else {
+            self.skip(system, to);
+            return Ok(());
+        };
+        if let Err(fault) = self.turn_at(system, moment, mail, sink, signals) {
+            self.failed = true;
+            return Err(fault);
+        }
+        Ok(())
+    }
+
+    /// As `run`, but each row goes to the sink as soon as it is made. Where memory or a row is refused the state is spent.
+    pub fn run_to<S: Sink>(
+        &mut self,
+        system: &System,
+        mail: &mut Mailbox,
+        to: Tick,
+        sink: &mut S,
+        signals: &mut Vec<Mail>,
+    ) -> Result<(), FlowFault>
+        requires fits { Fits system.now self.old }
+        requires in_time { to ≤ 2 ^ 40 + 1 }
+        requires expected { All (IsExpected system.now self.old) mail.old.mails }
+        ensures state { OnOk result
+            (self.new ≡ state_after self.old to (made_by system.now self.old to mail.old.mails)) }
+        ensures rows { OnOk result
+            (Given S.takes sink.old (made_by system.now self.old to mail.old.mails).rows sink.new) }
+        ensures signals { OnOk result
+            (signals.new.items ≡ signals.old.items ++ (made_by system.now self.old to mail.old.mails).mails) }
+        ensures mail { OnOk result (mail.new.mails ≡ (made_by system.now self.old to mail.old.mails).box) }
+        ensures fits { Fits system.now self.new }
+        ensures failed { OnErr result (self.new.failed ≡ true) }
+        ensures refused { OnErr result
+            ((self.new.number ≡ self.old.number)
+            × (self.old.clock ≤ self.new.clock)
+            × (self.new.clock ≤ max self.old.clock to)) }
+        ensures going { OnOk result (self.old.failed ≡ false) }
+        ensures spent { self.old.failed ≡ true →
+            (self.new ≡ self.old) × (sink.new ≡ sink.old) × (signals.new ≡ signals.old) × (mail.new ≡ mail.old) }
+    {
+        if self.failed {
+            return Err(FlowFault::NoMemory);
+        }
+        'turns: while self.is_before(to) {
+            self.advance(system, mail, to, sink, signals)?;
+        }
+        Ok(())
+    }
+
+    /// Takes the turns from the clock up to, not including, moment `to`, with the mail of the box as arrivals. Rows are
+    /// appended, and so are the signals for other cores; mail that does not arrive stays in the box. Where memory is
+    /// refused the state is spent, with its number kept and its clock at a moment on the way to `to`, and nothing is
+    /// said of the box, the rows and the signals; a state that is spent refuses at once and changes nothing. Each core that keeps its ready
+    /// threads in one list, and that the state shows, makes the same.
+    pub fn run(
+        &mut self,
+        system: &System,
+        mail: &mut Mailbox,
+        to: Tick,
+        rows: &mut Vec<Row>,
+        signals: &mut Vec<Mail>,
+    ) -> Result<(), NoMemory>
+        requires fits { Fits system.now self.old }
+        requires in_time { to ≤ 2 ^ 40 + 1 }
+        requires expected { All (IsExpected system.now self.old) mail.old.mails }
+        ensures state { OnOk result
+            (self.new ≡ state_after self.old to (made_by system.now self.old to mail.old.mails)) }
+        ensures rows { OnOk result
+            (rows.new.items ≡ rows.old.items ++ (made_by system.now self.old to mail.old.mails).rows) }
+        ensures signals { OnOk result
+            (signals.new.items ≡ signals.old.items ++ (made_by system.now self.old to mail.old.mails).mails) }
+        ensures mail { OnOk result (mail.new.mails ≡ (made_by system.now self.old to mail.old.mails).box) }
+        ensures one_list { OnOk result (AreOfOneList system.now self.old to mail.old.mails) }
+        ensures fits { Fits system.now self.new }
+        ensures failed { OnErr result (self.new.failed ≡ true) }
+        ensures refused { OnErr result
+            ((self.new.number ≡ self.old.number)
+            × (self.old.clock ≤ self.new.clock)
+            × (self.new.clock ≤ max self.old.clock to)) }
+        ensures going { OnOk result (self.old.failed ≡ false) }
+        ensures spent { self.old.failed ≡ true →
+            (self.new ≡ self.old) × (rows.new ≡ rows.old) × (signals.new ≡ signals.old) × (mail.new ≡ mail.old) }
+    {
+        if self.run_to(system, mail, to, rows, signals).is_err() {
+            return Err(NoMemory);
+        }
+        Ok(())
+    }
+
+    /// As `run_to`, but it ends after the turn with which the sink's size is at least `most`: so it takes a turn where the
+    /// clock is before moment `to`, and the caller can go on from the new clock.
+    pub fn run_some_to<S: Measured>(
+        &mut self,
+        system: &System,
+        mail: &mut Mailbox,
+        to: Tick,
+        most: usize,
+        sink: &mut S,
+        signals: &mut Vec<Mail>,
+    ) -> Result<(), FlowFault>
+        requires fits { Fits system.now self.old }
+        requires in_time { to ≤ 2 ^ 40 + 1 }
+        requires expected { All (IsExpected system.now self.old) mail.old.mails }
+        ensures state { OnOk result
+            (self.new
+            ≡ state_after self.old self.new.clock (made_by system.now self.old self.new.clock mail.old.mails)) }
+        ensures rows { OnOk result
+            (Given S.takes sink.old (made_by system.now self.old self.new.clock mail.old.mails).rows sink.new) }
+        ensures signals { OnOk result
+            (signals.new.items
+            ≡ signals.old.items ++ (made_by system.now self.old self.new.clock mail.old.mails).mails) }
+        ensures mail { OnOk result
+            (mail.new.mails ≡ (made_by system.now self.old self.new.clock mail.old.mails).box) }
+        ensures reaches { OnOk result
+            ((self.new.clock ≤ max self.old.clock to)
+            × (self.old.clock < to → self.old.clock < self.new.clock)
+            × ((self.new.clock ≡ max self.old.clock to) ⊎ (most ≤ S.size sink.new))) }
+        ensures no_further { OnOk result
+            (IsShortAfter S.takes S.size most sink.old
+            (made_by system.now self.old (self.new.clock - 1) mail.old.mails).rows) }
+        ensures fits { Fits system.now self.new }
+        ensures failed { OnErr result (self.new.failed ≡ true) }
+        ensures refused { OnErr result
+            ((self.new.number ≡ self.old.number)
+            × (self.old.clock ≤ self.new.clock)
+            × (self.new.clock ≤ max self.old.clock to)) }
+        ensures going { OnOk result (self.old.failed ≡ false) }
+        ensures spent { self.old.failed ≡ true →
+            (self.new ≡ self.old) × (sink.new ≡ sink.old) × (signals.new ≡ signals.old) × (mail.new ≡ mail.old) }
+    {
+        if self.failed {
+            return Err(FlowFault::NoMemory);
+        }
+        'turns: while self.is_before(to) {
+            self.advance(system, mail, to, sink, signals)?;
+            if sink.size() >= most {
+                return Ok(());
+            }
+        }
+        Ok(())
+    }
+
+    /// As `run`, but it ends after the turn with which `rows` holds at least `most` rows: so it takes a turn where the
+    /// clock is before moment `to`, and the caller can hand the rows on before it goes on from the new clock.
+    pub fn run_some(
+        &mut self,
+        system: &System,
+        mail: &mut Mailbox,
+        to: Tick,
+        most: usize,
+        rows: &mut Vec<Row>,
+        signals: &mut Vec<Mail>,
+    ) -> Result<(), NoMemory>
+        requires fits { Fits system.now self.old }
+        requires in_time { to ≤ 2 ^ 40 + 1 }
+        requires expected { All (IsExpected system.now self.old) mail.old.mails }
+        ensures state { OnOk result
+            (self.new
+            ≡ state_after self.old self.new.clock (made_by system.now self.old self.new.clock mail.old.mails)) }
+        ensures rows { OnOk result
+            (rows.new.items
+            ≡ rows.old.items ++ (made_by system.now self.old self.new.clock mail.old.mails).rows) }
+        ensures signals { OnOk result
+            (signals.new.items
+            ≡ signals.old.items ++ (made_by system.now self.old self.new.clock mail.old.mails).mails) }
+        ensures mail { OnOk result
+            (mail.new.mails ≡ (made_by system.now self.old self.new.clock mail.old.mails).box) }
+        ensures one_list { OnOk result (AreOfOneList system.now self.old self.new.clock mail.old.mails) }
+        ensures reaches { OnOk result
+            ((self.new.clock ≤ max self.old.clock to)
+            × (self.old.clock < to → self.old.clock < self.new.clock)
+            × ((self.new.clock ≡ max self.old.clock to) ⊎ (most ≤ length rows.new.items))) }
+        ensures no_further { OnOk result
+            (length rows.old.items + length (made_by system.now self.old (self.new.clock - 1) mail.old.mails).rows
+            < max most (length rows.old.items + 1)) }
+        ensures fits { Fits system.now self.new }
+        ensures failed { OnErr result (self.new.failed ≡ true) }
+        ensures refused { OnErr result
+            ((self.new.number ≡ self.old.number)
+            × (self.old.clock ≤ self.new.clock)
+            × (self.new.clock ≤ max self.old.clock to)) }
+        ensures going { OnOk result (self.old.failed ≡ false) }
+        ensures spent { self.old.failed ≡ true →
+            (self.new ≡ self.old) × (rows.new ≡ rows.old) × (signals.new ≡ signals.old) × (mail.new ≡ mail.old) }
+    {
+        if self
+            .run_some_to(system, mail, to, most, rows, signals)
+            .is_err()
+        {
+            return Err(NoMemory);
+        }
+        Ok(())
+    }
+}
