@@ -11,3 +11,4 @@ pub mod Demand
 pub mod Bandwidth
 pub mod Rounds
 pub mod ByCore
+pub mod Given

@@ -1,5 +1,5 @@
 -- A tally of the rows so far: one step for each row, and the reports at the end.
-use Rattle.std.specs.Prelude.{ℕ, ◌+◌, ◌-◌, min, max, ◌==◌, if◌then◌else◌, List, map, filter, get_or, set, Option, Some, None}
+use Rattle.std.specs.Prelude.{◌≡◌, ℕ, ◌+◌, ◌-◌, min, max, ◌==◌, if◌then◌else◌, Bool, true, List, map, filter, get_or, set, Option, Some, None}
 use Rattle.std.specs.List.{range_with_len}
 use Rattle.mcs_ticks.specs.declared.row.Row.{Row}
 use Rattle.mcs_ticks.specs.declared.row.What.{What}
@@ -114,6 +114,10 @@ added tally r =
       last = r.moment;
       accounts = told tally.horizon r.moment r.what tally.accounts;
     }
+
+-- how a tally takes a row: it counts it, and refuses none
+abbrev pub Counts : Tally → Row → Bool → Tally → Type 0
+Counts before row taken after = (taken ≡ true) × (after ≡ added before row)
 
 -- the report of a thread at the horizon, where its open run ends
 abbrev pub report_at : ℕ → Account → ThreadReport

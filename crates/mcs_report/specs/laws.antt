@@ -3,3 +3,4 @@ pub mod Schedules
 pub mod Demand
 pub mod Bandwidth
 pub mod ByCore
+pub mod Given

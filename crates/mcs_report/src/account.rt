@@ -14,12 +14,14 @@ pub(crate) struct Account {
     pub report: ThreadReport,
 }
 
+#[inline(always)]
 fn is_late(deadline: u64, response: u64) -> bool
     ensures { result ≡ is_late deadline response }
 {
     deadline != 0 && deadline < response
 }
 
+#[inline(always)]
 fn ticks_since(moment: Tick, since: Option<Tick>) -> u64
     ensures { result ≡ ticks_since moment since }
 {
@@ -29,6 +31,7 @@ fn ticks_since(moment: Tick, since: Option<Tick>) -> u64
     }
 }
 
+#[inline(always)]
 fn wait_until(horizon: Tick, moment: Tick, until: Option<Tick>) -> u64
     ensures { result ≡ wait_until horizon moment until }
 {
@@ -60,12 +63,14 @@ impl Account {
         }
     }
 
+    #[inline(always)]
     pub(crate) fn begin(&mut self, moment: Tick)
         ensures { self.new ≡ begun moment self.old }
     {
         self.since = Some(moment);
     }
 
+    #[inline(always)]
     pub(crate) fn end(&mut self, moment: Tick)
         ensures { self.new ≡ ended moment self.old }
     {
@@ -74,6 +79,7 @@ impl Account {
         self.report.ran = self.report.ran.saturating_add(ran);
     }
 
+    #[inline(always)]
     fn wait(&mut self, wait: u64)
         ensures { self.new ≡ waited wait self.old }
     {
@@ -83,6 +89,7 @@ impl Account {
         report.longest = report.longest.max(wait);
     }
 
+    #[inline(always)]
     pub(crate) fn stop(&mut self, horizon: Tick, moment: Tick, why: Why, until: Option<Tick>)
         ensures { self.new ≡ stopped horizon moment why until self.old }
     {
@@ -92,6 +99,7 @@ impl Account {
         }
     }
 
+    #[inline(always)]
     pub(crate) fn respond(&mut self, response: u64)
         ensures { self.new ≡ responded response self.old }
     {

@@ -3,6 +3,7 @@ ghost use Rattle.mcs_report.specs.laws.Schedules.{SchedulesRunApart, SchedulesAr
 ghost use Rattle.mcs_report.specs.laws.Bandwidth.{BandwidthIsBounded};
 ghost use Rattle.mcs_report.specs.laws.Demand.{RunsAreTicks, DemandIsBounded};
 ghost use Rattle.mcs_report.specs.laws.ByCore.{CoresAreCounted};
+ghost use Rattle.mcs_report.specs.laws.Given.{GivenAreAdded};
 
 /// A law of tallies, for every list of rows in which each run of a thread is stopped before the next one, as in every schedule:
 /// what is finished after adding the rows is the reports of the rows.
@@ -47,4 +48,9 @@ pub fn bandwidth_is_bounded()
 /// the end is the reports of the schedule. So rows need not be merged to be counted.
 pub fn cores_are_counted()
     ensures { CoresAreCounted }
+{}
+
+/// A law of tallies as sinks: a tally that was given rows, as by a core's turns, has added them in their order.
+pub fn given_rows_are_added()
+    ensures { GivenAreAdded }
 {}

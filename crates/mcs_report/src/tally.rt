@@ -8,7 +8,7 @@ ghost use Rattle.mcs_report.specs.Tally.{opened, told, report_at, ran_by, opened
 use crate::account::Account;
 use crate::{CoreReport, Reports, ThreadReport};
 use mcs_system::{System, SystemParts, ThreadPart};
-use mcs_ticks::{CoreId, NoMemory, Row, Sequence, Tick, What};
+use mcs_ticks::{CoreId, NoMemory, Refused, Row, Sequence, Sink, Tick, What};
 use std::alloc::Global;
 use std::marker::Model;
 
@@ -52,6 +52,8 @@ fn opened_accounts(alloc: Global, parts: &SystemParts) -> Result<Vec<Account>, N
     Ok(accounts)
 }
 
+// A row whose kind is known where it is told is counted by that kind's steps alone.
+#[inline(always)]
 #[tactic(auto, using(std::proofs::lemmas::List::set_past))]
 fn tell(accounts: &mut [Account], horizon: Tick, moment: Tick, what: What)
     ensures { accounts.new ≡ told horizon moment what accounts.old }
@@ -171,6 +173,7 @@ impl Tally {
     }
 
     /// Counts one row more, in constant time and without memory. A row of a thread that the system does not have is not counted.
+    #[inline(always)]
     pub fn add(&mut self, row: &Row)
         ensures { self.new ≡ added self.old row.now }
     {
@@ -210,5 +213,18 @@ impl Tally {
             threads: Sequence::new(threads),
             cores: Sequence::new(cores),
         }
+    }
+}
+
+/// A tally counts each row that it is given, and refuses none.
+impl Sink for Tally {
+    ghost use Rattle.mcs_report.specs.Tally.{Counts};
+
+    ghost takes = { Counts };
+
+    #[inline(always)]
+    fn row(&mut self, row: &Row) -> Result<(), Refused> {
+        self.add(row);
+        Ok(())
     }
 }
