@@ -1,7 +1,7 @@
 -- Bytes up to the end of a text that was written into them.
-use Rattle.std.proofs.Common.{◌≡◌, ℕ, ◌+◌, ◌/◌, ◌^◌, ◌<◌, ◌≤◌, List, [], ◌∷◌, ◌++◌, length, take, drop, set, subst, ap, sym, ◌∙◌, arith, append_assoc}
-use Rattle.std.proofs.Math.Seq.{take-append-add, take-append_seam, take-length}
-use Rattle.std.proofs.lemmas.List.{take-append-le, take-append-drop, take_more_set, length-set, length-take-le}
+use Rattle.std.proofs.Common.{◌≡◌, ℕ, ◌+◌, ◌-◌, ◌/◌, ◌^◌, ◌<◌, ◌≤◌, List, [], ◌∷◌, ◌++◌, length, take, drop, set, refl, subst, ap, sym, ◌∙◌, length-append, arith, append_assoc}
+use Rattle.std.proofs.Math.Seq.{set-append_seam, take-set-lt, take-append-add, take-append_seam, take-length}
+use Rattle.std.proofs.lemmas.List.{drop-set-add, length-drop, set-append_right, take-append-le, take-append-drop, take_more_set, length-set, length-take-le}
 use Rattle.std.specs.Fmt.{decimal}
 use Rattle.itoa.proofs.Decimal.{length_one, length_pair, length_two, length_four as length_fours}
 use borrow.Rule.Slice.PartMut.{put_mid, post_of}
@@ -43,6 +43,38 @@ take_word bytes word part at k long is =
     let all : take (length word) word ≡ word = take-length word in
     subst (λ p. take (at + 1 + length word) (put_mid (at + 1) k (set bytes at 32) p) ≡ take at bytes ++ 32 ∷ word) (sym is)
     (take_block bytes word at k (length word) long (omega arith) ∙ ap (λ w. take at bytes ++ 32 ∷ w) all)
+
+-- a word behind a space, in a block of spaces
+pub take_short : (blank word : List ℕ) (k : ℕ) → take 1 blank ≡ 32 ∷ [] → 1 ≤ length blank →
+    take (1 + length word) (put_mid 1 k blank word) ≡ 32 ∷ word
+take_short blank word k first long =
+    let all : take (length word) word ≡ word = take-length word in
+    take_part blank word 1 k (length word) long (omega arith) ∙ ap (λ zs. zs ++ take (length word) word) first ∙ ap (λ w. 32 ∷ w) all
+
+-- the last two digits of a block are others
+pub last_two : (block upper : List ℕ) (start p q a b : ℕ) → start ≤ 16 → 16 ≤ length block →
+    take (16 - start) (drop start block) ≡ upper ++ p ∷ q ∷ [] → take (16 - start) (drop start (set (set block 14 a) 15 b)) ≡ upper ++ a ∷ b ∷ []
+last_two block upper start p q a b within long e =
+    let n = 16 - start in
+    let many : length (take n (drop start block)) ≡ n = length-take-le n (drop start block) (omega (arith, length-drop start block)) in
+    let all : length (take n (drop start block)) ≡ length (upper ++ p ∷ q ∷ []) = ap (λ (xs : List ℕ). length xs) e in
+    let digits : n ≡ length upper + 2 = omega (arith, length-append upper (p ∷ q ∷ [])) in
+    let k = length upper in
+    let first : 14 ≡ start + k = omega arith in
+    let second : 15 ≡ start + (k + 1) = omega arith in
+    let dropped : drop start (set (set block 14 a) 15 b) ≡ set (set (drop start block) k a) (k + 1) b =
+    ap (λ i. drop start (set (set block 14 a) i b)) second ∙ drop-set-add start (set block 14 a) (k + 1) b
+    ∙ ap (λ i. set (drop start (set block i a)) (k + 1) b) first ∙ ap (λ xs. set xs (k + 1) b) (drop-set-add start block k a)
+    in
+    let taken : take n (set (set (drop start block) k a) (k + 1) b) ≡ set (set (take n (drop start block)) k a) (k + 1) b =
+    take-set-lt n (set (drop start block) k a) (k + 1) b (omega arith) ∙ ap (λ xs. set xs (k + 1) b) (take-set-lt n (drop start block) k a (omega arith))
+    in
+    let next : k + 1 - k ≡ 1 = omega arith in
+    let one : set (upper ++ p ∷ q ∷ []) k a ≡ upper ++ a ∷ q ∷ [] = set-append_seam upper p (q ∷ []) a in
+    let two : set (upper ++ a ∷ q ∷ []) (k + 1) b ≡ upper ++ a ∷ b ∷ [] =
+    set-append_right upper (a ∷ q ∷ []) k (k + 1) b refl (omega arith) ∙ ap (λ i. upper ++ set (a ∷ q ∷ []) i b) next
+    in
+    ap (λ xs. take n xs) dropped ∙ taken ∙ ap (λ xs. set (set xs k a) (k + 1) b) e ∙ ap (λ xs. set xs (k + 1) b) one ∙ two
 
 pub length_three : (n : ℕ) → 100 ≤ n → n < 1000 → length (decimal n) ≡ 3
 length_three n lo hi = omega (arith, length_pair n lo (omega arith), length_one (n / 100) (omega arith))

@@ -1,2 +1,5 @@
 mod Behind
 pub mod Worked
+pub mod Givens
+pub mod Places
+pub mod Moments

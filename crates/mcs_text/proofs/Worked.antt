@@ -1,12 +1,15 @@
 -- Lines of rows, evaluated.
-use Rattle.std.proofs.Common.{◌≡◌, refl, codes, [], ◌∷◌, Some}
+use Rattle.std.proofs.Common.{◌≡◌, ℕ, refl, codes, [], ◌∷◌, Some}
 use Rattle.mcs_script.specs.declared.item.Item.TheVariants.{Compute}
 use Rattle.mcs_ticks.specs.declared.row.What.TheVariants as row
 use Rattle.mcs_ticks.specs.declared.row.Why.TheVariants as why
 use Rattle.mcs_control.specs.declared.config.Mode.TheVariants as mode
 use Rattle.mcs_system.specs.System.{System}
 use Rattle.std.specs.Fmt.{digits}
+use Rattle.std.specs.Prelude.{fold}
+use Rattle.mcs_ticks.specs.declared.row.Row.{Row}
 use Rattle.mcs_text.specs.Text.{row_text}
+use Rattle.mcs_text.specs.Lines.{Lines, no_lines, with_row, text_at}
 
 one_thread : System
 one_thread =
@@ -30,3 +33,28 @@ stop_line = refl
 order_line : row_text one_thread (record { moment = 40; core = 7; what = row.Order 0 }) ≡ codes "40 7 order a\n"
 unfolding one_thread digits
 order_line = refl
+
+abbrev at : ℕ → Row
+at moment = record { moment = moment; core = 0; what = row.Release 0 }
+
+abbrev runs_at : ℕ → Row
+runs_at moment = record { moment = moment; core = 0; what = row.Run 0 }
+
+three_lines : Lines
+three_lines = fold with_row (no_lines one_thread) (at 0 ∷ runs_at 0 ∷ at 5 ∷ [])
+
+lines_are : three_lines.bytes ≡ codes "0 0 release A\n0 0 run A\n5 0 release A\n"
+unfolding three_lines one_thread digits
+lines_are = refl
+
+marks_are : three_lines.marks ≡ record { moment = 0; start = 0 } ∷ record { moment = 5; start = 24 } ∷ []
+unfolding three_lines one_thread digits
+marks_are = refl
+
+first_text : text_at three_lines 0 ≡ codes "0 0 release A\n0 0 run A\n"
+unfolding three_lines one_thread digits
+first_text = refl
+
+second_text : text_at three_lines 1 ≡ codes "5 0 release A\n"
+unfolding three_lines one_thread digits
+second_text = refl

@@ -23,6 +23,21 @@ pub(crate) fn write_word(bytes: &mut [u8], at: usize, word: &str) -> usize
     end
 }
 
+/// Writes a space and a word of at most seven bytes, in a block of eight that is copied whole.
+#[inline(always)]
+pub(crate) fn write_short(bytes: &mut [u8], at: usize, word: &str) -> usize
+    requires short { length word.now ≤ 7 }
+    requires room { at + 8 ≤ length bytes.old }
+    ensures end { result ≡ at + 1 + length word.now }
+    ensures written { take result bytes.new ≡ take at bytes.old ++ 32 ∷ word.now }
+{
+    let mut block = [b' '; 8];
+    let end = 1 + word.len();
+    block[1..end].copy_from_slice(word.as_bytes());
+    bytes[at..at + 8].copy_from_slice(&block);
+    at + end
+}
+
 /// Writes a space and a name, whose block is copied whole.
 #[inline(always)]
 pub(crate) fn write_name(bytes: &mut [u8], at: usize, name: &Name) -> usize
@@ -32,8 +47,10 @@ pub(crate) fn write_name(bytes: &mut [u8], at: usize, name: &Name) -> usize
 {
     let start = at + 1;
     let end = start + name.len();
+    let mut block = [0; Name::BLOCK];
+    block.copy_from_slice(name.block());
     bytes[at] = b' ';
-    bytes[start..start + Name::BLOCK].copy_from_slice(name.block());
+    bytes[start..start + Name::BLOCK].copy_from_slice(&block);
     end
 }
 

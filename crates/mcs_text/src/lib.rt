@@ -2,7 +2,10 @@
 #![tactic(auto)]
 
 mod bytes;
+mod laws;
 mod line;
+mod lines;
+mod mark;
 mod moment;
 mod name;
 mod names;
@@ -10,7 +13,10 @@ mod page;
 mod report;
 mod row;
 
+pub use laws::{given_rows_are_lines, texts_are_of_moments};
 pub use line::{append_number, append_word};
+pub use lines::Lines;
+pub use mark::Mark;
 pub use names::{Names, context_name, note_name, thread_name};
 pub use page::Page;
 pub use report::{append_counts, put_reports};

@@ -1,4 +1,4 @@
-ghost use Rattle.std.specs.Prelude.{◌≡◌, ◌≤◌, ◌+◌, ◌++◌, take, length, decimal};
+ghost use Rattle.std.specs.Prelude.{◌≡◌, ◌≤◌, ◌+◌, ◌/◌, ◌++◌, ◌↔◌, true, take, length, decimal, IsTrue};
 
 use itoa::write_digits;
 use mcs_ticks::Tick;
@@ -7,10 +7,15 @@ use std::marker::Model;
 // Where the digits end in their block: a moment has at most 13.
 const END: usize = 16;
 
+// No moment is as late.
+const NONE: u64 = 1 << 43;
+
 /// The digits of a moment, for all rows that have it. Contracts see the moment.
 #[derive(Debug, Drop)]
 pub(crate) struct MomentDigits {
     moment: Tick,
+    // the moment with its last two digits 0, where it has more than two
+    hundred: u64,
     block: [u8; 32],
     // where the digits begin in the block
     start: usize,
@@ -24,7 +29,7 @@ impl Model for MomentDigits {
 
     ghost view = { λ a. a.moment };
 
-    ghost invariant = { λ a. AreDigits a.moment a.block a.start };
+    ghost invariant = { λ a. AreDigits a.moment a.hundred a.block a.start };
 }
 
 impl MomentDigits {
@@ -34,14 +39,23 @@ impl MomentDigits {
     {
         MomentDigits {
             moment: Tick::ZERO,
+            hundred: NONE,
             block: [b'0'; 32],
             start: END - 1,
         }
     }
 
+    /// Whether they are those of this moment.
+    #[inline(always)]
+    pub(crate) fn are_of(&self, moment: Tick) -> bool
+        ensures { IsTrue result ↔ (self.now ≡ moment) }
+    {
+        self.moment == moment
+    }
+
     /// Makes them those of this moment, where they are not.
     #[inline(always)]
-    fn set(&mut self, moment: Tick)
+    pub(crate) fn set(&mut self, moment: Tick)
         ensures { self.new ≡ moment }
     {
         if self.moment != moment {
@@ -49,22 +63,60 @@ impl MomentDigits {
         }
     }
 
+    #[inline(always)]
     fn make(&mut self, moment: Tick)
         ensures { self.new ≡ moment }
     {
-        self.start = write_digits(moment.get(), &mut self.block, END);
+        if self.is_near(moment) {
+            self.make_last_two(moment);
+        } else {
+            self.make_all(moment);
+        }
+    }
+
+    /// Whether a moment has more than two digits, of which all but the last two are these.
+    #[inline(always)]
+    fn is_near(&self, moment: Tick) -> bool
+        ensures { result ≡ true → (100 ≤ moment) × (moment / 100 ≡ self.now / 100) }
+    {
+        let ticks = moment.get();
+        ticks >= self.hundred && ticks - self.hundred < 100
+    }
+
+    #[inline(always)]
+    fn make_last_two(&mut self, moment: Tick)
+        requires long { 100 ≤ moment }
+        requires near { moment / 100 ≡ self.old / 100 }
+        ensures { self.new ≡ moment }
+    {
+        let rest = (moment.get() - self.hundred) as u8;
+        self.block[END - 2] = b'0' + rest / 10;
+        self.block[END - 1] = b'0' + rest % 10;
+        self.moment = moment;
+    }
+
+    #[inline(never)]
+    fn make_all(&mut self, moment: Tick)
+        ensures { self.new ≡ moment }
+    {
+        let ticks = moment.get();
+        self.start = write_digits(ticks, &mut self.block, END);
+        self.hundred = if ticks < 100 { NONE } else { ticks / 100 * 100 };
         self.moment = moment;
     }
 
     /// Writes the digits, whose block is copied whole.
     #[inline(always)]
-    fn write(&self, bytes: &mut [u8], at: usize) -> usize
+    pub(crate) fn write(&self, bytes: &mut [u8], at: usize) -> usize
         requires { at + 16 ≤ length bytes.old }
         ensures short { result ≤ at + 16 }
         ensures written { take result bytes.new ≡ take at bytes.old ++ decimal self.now }
     {
-        bytes[at..at + END].copy_from_slice(&self.block[self.start..self.start + END]);
-        at + (END - self.start)
+        let mut digits = [0; END];
+        digits.copy_from_slice(&self.block[self.start..self.start + END]);
+        let end = at + (END - self.start);
+        bytes[at..at + END].copy_from_slice(&digits);
+        end
     }
 
     /// Writes a moment.

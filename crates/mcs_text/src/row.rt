@@ -1,7 +1,7 @@
 ghost use Rattle.std.specs.Prelude.{◌≡◌, ◌+◌, ◌≤◌, ◌++◌, ◌∷◌, [], OnOk, OnErr, take, length, decimal};
 ghost use Rattle.mcs_text.specs.Text.{after, row_text, until_words, why_word, words_of, note_name, thread_name};
 
-use crate::bytes::{LINE, write_decimal, write_number, write_word};
+use crate::bytes::{LINE, write_decimal, write_number, write_short};
 use crate::names::Naming;
 use mcs_system::System;
 use mcs_ticks::{NoMemory, NoteId, Row, ThreadId, Tick, What, Why};
@@ -59,7 +59,7 @@ fn write_what<N: Naming>(bytes: &mut [u8], at: usize, names: &N, what: &What) ->
         } => write_noted(bytes, at, "signal", names, thread, note, badge),
         What::Arrive { note, badge, maker } => {
             let name = write_held(bytes, at, "arrive", names, note, badge);
-            let from = write_word(bytes, name, "from");
+            let from = write_short(bytes, name, "from");
             write_number(bytes, from, maker.0 as u64)
         }
         What::Wake { thread, note, word } => {
@@ -79,7 +79,7 @@ fn write_what<N: Naming>(bytes: &mut [u8], at: usize, names: &N, what: &What) ->
             write_number(bytes, round, response)
         }
         What::Order { context } => {
-            let word = write_word(bytes, at, "order");
+            let word = write_short(bytes, at, "order");
             names.write_context(bytes, word, context)
         }
     }
@@ -100,7 +100,7 @@ fn write_named<N: Naming>(
     ensures written { take result bytes.new
         ≡ take at bytes.old ++ after (word.now ∷ thread_name (N.system names.now) thread ∷ []) }
 {
-    let name = write_word(bytes, at, word);
+    let name = write_short(bytes, at, word);
     names.write_thread(bytes, name, thread)
 }
 
@@ -120,7 +120,7 @@ fn write_held<N: Naming>(
     ensures written { take result bytes.new
         ≡ take at bytes.old ++ after (word.now ∷ note_name (N.system names.now) note ∷ decimal bits ∷ []) }
 {
-    let name = write_word(bytes, at, word);
+    let name = write_short(bytes, at, word);
     let number = names.write_note(bytes, name, note);
     write_number(bytes, number, u64::from(bits))
 }
@@ -170,7 +170,7 @@ fn write_until(bytes: &mut [u8], at: usize, until: Option<Tick>) -> usize
 {
     match until {
         Some(date) => {
-            let number = write_word(bytes, at, "until");
+            let number = write_short(bytes, at, "until");
             write_number(bytes, number, date.get())
         }
         None => at,
@@ -185,11 +185,11 @@ fn write_why(bytes: &mut [u8], at: usize, why: Why) -> usize
     ensures written { take result bytes.new ≡ take at bytes.old ++ 32 ∷ why_word why }
 {
     match why {
-        Why::Spent => write_word(bytes, at, "spent"),
-        Why::Yield => write_word(bytes, at, "yield"),
-        Why::Wait => write_word(bytes, at, "wait"),
-        Why::Done => write_word(bytes, at, "done"),
-        Why::Preempt => write_word(bytes, at, "preempt"),
-        Why::Order => write_word(bytes, at, "order"),
+        Why::Spent => write_short(bytes, at, "spent"),
+        Why::Yield => write_short(bytes, at, "yield"),
+        Why::Wait => write_short(bytes, at, "wait"),
+        Why::Done => write_short(bytes, at, "done"),
+        Why::Preempt => write_short(bytes, at, "preempt"),
+        Why::Order => write_short(bytes, at, "order"),
     }
 }

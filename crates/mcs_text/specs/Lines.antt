@@ -1,0 +1,76 @@
+-- Lines of rows, with the places at which moments begin among them.
+use Rattle.std.specs.Prelude.{◌≡◌, ℕ, ◌+◌, ◌==◌, Bool, false, ◌<◌, ◌≤◌, filter, if◌then◌else◌, List, [], ◌∷◌, ◌++◌, length, get_or, slice_range, fold, Option, Some, None}
+use Rattle.std.specs.List.{last_or}
+use Rattle.mcs_ticks.specs.declared.row.Row.{Row}
+use Rattle.mcs_ticks.specs.Given.{Given}
+use Rattle.mcs_system.specs.System.{System}
+use Rattle.mcs_text.specs.declared.mark.Mark.{Mark}
+use Rattle.mcs_text.specs.Text.{row_text, schedule_text}
+
+-- the bytes, and a mark where the lines of each moment begin
+pub record Lines : Type 0 where
+  pub system : System
+  pub bytes : List ℕ
+  pub marks : List Mark
+
+abbrev pub no_lines : System → Lines
+no_lines system = record { system = system; bytes = []; marks = [] }
+
+abbrev pub is_of : ℕ → Option Mark → Bool
+is_of moment None = false
+is_of moment (Some mark) = mark.moment == moment
+
+-- a mark more, unless the last one is of the same moment
+abbrev pub marked : ℕ → ℕ → List Mark → List Mark
+marked moment start marks =
+    if is_of moment (last_or None marks) then marks else marks ++ (record { moment = moment; start = start }) ∷ []
+
+-- one row more
+abbrev pub with_row : Lines → Row → Lines
+with_row lines r =
+    record lines {
+      bytes = lines.bytes ++ row_text lines.system r;
+      marks = marked r.moment (length lines.bytes) lines.marks;
+    }
+
+-- how lines take a row; where they refuse it they stay as they were
+abbrev pub TakesLine : Lines → Row → Bool → Lines → Type 0
+TakesLine before row taken after = after ≡ (if taken then with_row before row else before)
+
+-- where the lines of this mark begin
+abbrev pub start_of : List Mark → ℕ → ℕ
+start_of marks place = (get_or marks place (record { moment = 0; start = 0 })).start
+
+-- where they end: at the next mark, or where all lines end
+abbrev pub end_of : ℕ → List Mark → ℕ → ℕ
+end_of end marks place = (get_or marks (place + 1) (record { moment = 0; start = end })).start
+
+-- the bytes from this mark on
+abbrev pub text_at : Lines → ℕ → List ℕ
+text_at lines place = slice_range lines.bytes (start_of lines.marks place) (end_of (length lines.bytes) lines.marks place)
+
+-- after rows were given, their lines stand behind the others, in the order of the rows
+abbrev pub GivenAreLines : Type 0
+GivenAreLines =
+    (before after : Lines) (rows : List Row) → Given TakesLine before rows after →
+    (after ≡ fold with_row before rows)
+    × (after.system ≡ before.system)
+    × (after.bytes ≡ before.bytes ++ schedule_text before.system rows)
+
+-- rows that come in the order of their moments, none before this one
+abbrev pub ComeInTime : ℕ → List Row → Type 0
+ComeInTime moment [] = Unit {0}
+ComeInTime moment (r ∷ rows) = (moment ≤ r.moment) × ComeInTime r.moment rows
+
+abbrev pub rows_at : ℕ → List Row → List Row
+rows_at moment rows = filter (λ (r : Row). r.moment == moment) rows
+
+-- the moment of this mark
+abbrev pub moment_of : List Mark → ℕ → ℕ
+moment_of marks place = (get_or marks place (record { moment = 0; start = 0 })).moment
+
+-- of rows in the order of their moments, the text at a mark is that of the rows of its moment
+abbrev pub TextsAreOfMoments : Type 0
+TextsAreOfMoments =
+    (system : System) (rows : List Row) (lines : Lines) → lines ≡ fold with_row (no_lines system) rows → ComeInTime 0 rows →
+    (place : ℕ) → place < length lines.marks → text_at lines place ≡ schedule_text system (rows_at (moment_of lines.marks place) rows)
