@@ -17,7 +17,8 @@ use Rattle.mcs_verdict.specs.declared.finding.Found.{Found}
 use Rattle.mcs_verdict.specs.declared.job.Job.{Job}
 use Rattle.mcs_verdict.specs.declared.standing.Stood.{Stood}
 use Rattle.mcs_verdict.specs.Jobs.{jobs_in}
-use Rattle.mcs_verdict.specs.Findings.{findings, past_of}
+use Rattle.mcs_verdict.specs.Findings.{findings, found_in, past_of}
+use Rattle.mcs_verdict.specs.laws.ByCore.{rows_on, found_on}
 use Rattle.mcs_verdict.specs.Words.{merges}
 use Rattle.mcs_verdict.specs.Account.{account_of}
 use Rattle.mcs_verdict.specs.Watch.{Watch, watch_of}
@@ -237,3 +238,38 @@ of_no_thread_later h = absurd (omega (arith, h.known_before))
 
 of_no_note : IsSetWord first 1 → ⊥
 of_no_note h = absurd (omega (arith, h.known))
+
+-- Thread 0 on core 0 signals twice across to a notification of core 1, where the word is still held when the second signal arrives.
+abbrev across : System
+across =
+    record {
+      cores = 2;
+      delay = 1;
+      call = 1;
+      min_budget = 1;
+      contexts = record { name = []; core = 0; config = record { budget = 20; period = 20; extra = 0 }; mode = mode.Sporadic } ∷ [];
+      notes = record { name = []; core = 1 } ∷ [];
+      threads = thread 0 0 (Signal 0 1 ∷ Signal 0 1 ∷ []) ∷ [];
+      orders = [];
+      links = [];
+    }
+
+abbrev on : ℕ → ℕ → What → Row
+on core moment what = record { moment = moment; core = core; what = what }
+
+abbrev crossed : List Row
+crossed =
+    on 0 0 (row.Release 0) ∷ on 0 0 (row.Run 0) ∷ on 0 1 (row.Signal 0 0 1) ∷ on 0 2 (row.Signal 0 0 1) ∷ on 1 2 (row.Arrive 0 1 0)
+    ∷ on 1 2 (row.Hold 0 1) ∷ on 0 2 (row.Round 0 0 2) ∷ on 1 3 (row.Arrive 0 1 0) ∷ on 1 3 (row.Hold 0 1) ∷ []
+
+abbrev lost_there : List Found
+lost_there = record { moment = 3; core = 1; finding = finding.Lost 0 1 } ∷ []
+
+lost_among_all : found_on 1 (found_in across [] crossed) ≡ lost_there
+lost_among_all = refl
+
+lost_on_its_core : found_in across [] (rows_on 1 crossed) ≡ lost_there
+lost_on_its_core = refl
+
+none_on_the_other : found_in across [] (rows_on 0 crossed) ≡ []
+none_on_the_other = refl

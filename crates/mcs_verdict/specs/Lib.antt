@@ -6,6 +6,7 @@ pub mod Rounds
 pub mod Jobs
 pub mod Misses
 pub mod Findings
+pub mod Found
 pub mod Account
 pub mod Watch
 pub mod Later

@@ -1,4 +1,4 @@
-ghost use Rattle.std.specs.Prelude.{◌≡◌, List, ◌++◌, [], IfOk};
+ghost use Rattle.std.specs.Prelude.{◌≡◌, List, ◌++◌, [], IfOk, OnErr};
 ghost use Rattle.mcs_ticks.specs.declared.row.Row.{Row as TheRow};
 ghost use Rattle.mcs_system.specs.System.{System as TheSystem};
 ghost use Rattle.mcs_verdict.specs.Findings.{UpTo, InOrder, past_of, found_at, found_in, found_at_end, findings};
@@ -9,13 +9,15 @@ use mcs_system::{System, SystemParts};
 use mcs_ticks::{CoreId, NoMemory, Row, ThreadId, Tick};
 use std::alloc::Global;
 
-fn keep(
+/// Adds what a row told, if it told something. Where a growth was refused nothing is added.
+pub(crate) fn keep(
     found: &mut Vec<Found>,
     moment: Tick,
     core: CoreId,
     finding: Option<Finding>,
 ) -> Result<(), NoMemory>
-    ensures { IfOk result (λ _. found.new.items ≡ found.old.items ++ found_at moment core finding) }
+    ensures ok { IfOk result (λ _. found.new.items ≡ found.old.items ++ found_at moment core finding) }
+    ensures err { OnErr result (found.new.items ≡ found.old.items) }
 {
     if let Some(finding) = finding {
         found.push(Found {

@@ -5,6 +5,7 @@
 mod account;
 mod again;
 mod all;
+mod finder;
 mod finding;
 mod held;
 mod job;
@@ -14,8 +15,9 @@ mod watch;
 
 pub use account::first_wait;
 pub use all::{find_all, find_unended};
+pub use finder::Finder;
 pub use finding::{Finding, Found};
 pub use job::Job;
-pub use laws::all_ticks_are_counted;
+pub use laws::{all_ticks_are_counted, cores_are_watched, given_rows_are_found};
 pub use standing::{Standing, Stood};
 pub use watch::Watch;
