@@ -10,6 +10,8 @@ mod events;
 #[cfg(test)]
 mod play;
 #[cfg(test)]
+mod sinks;
+#[cfg(test)]
 mod stretches;
 #[cfg(test)]
 mod systems;
