@@ -18,12 +18,12 @@ ALWAYS_TRIED = (
     'mcs_refills/refills_charge_overwrites_the_oldest_refill',
     'mcs_refills/refills_charge_tests_fullness_before_the_head_leaves',
     'mcs_refills/refills_unblock_unblocks_the_head_alone',
-    'mcs_core/state_skip_charges_what_is_in_use',
+    'mcs_core/next_skip_charges_what_is_in_use',
     # a core's turn
     'mcs_core/turn_turn_releases_before_arrivals',
     'mcs_core/stops_leave_to_front_enters_at_the_back',
     'mcs_core/choice_gives_way_to_an_equal',
-    'mcs_core/state_next_busy_forgets_the_arrival',
+    'mcs_core/next_soonest_forgets_the_arrival',
     # signals
     'mcs_mail/mailbox_put_takes_arrivals_in_settling_order',
     'mcs_window/delivery_deliver_reserved_drops_signals',
