@@ -24,6 +24,16 @@ module _ {S : Type 0} (takes : S → Row → Bool → S → Type 0) where
   until-append s m t [] ys g h = subst (λ a. GivenUntil takes a ys t) (sym g) h
   until-append s m t (x ∷ xs) ys g h = inr (g.0, g.1, until-append g.0 m t xs ys g.2 h)
 
+-- a sink that says which rows it holds, and holds each row more that it takes
+module _ {S : Type 0} (takes : S → Row → Bool → S → Type 0) (holds : S → List Row → Type 0)
+    (holds_more : (s t : S) (held : List Row) (row : Row) → holds s held → takes s row true t → holds t (held ++ row ∷ [])) where
+  -- holds those that it was given behind those that it held
+  pub held_more : (s t : S) (held rows : List Row) → holds s held → Given takes s rows t → holds t (held ++ rows)
+  held_more s t held [] h g = subst (λ a. holds a (held ++ [])) g (subst (holds s) (sym (append-nil held)) h)
+  held_more s t held (row ∷ rows) h g =
+      subst (holds t) (append_assoc held (row ∷ []) rows)
+      (held_more g.0 t (held ++ row ∷ []) rows (holds_more s g.0 held row h g.1) g.2)
+
 -- a sink that keeps its rows in a list
 module _ {S : Type 0} (items : S → List Row) where
   abbrev pub Appends : S → Row → Bool → S → Type 0

@@ -1,4 +1,4 @@
-use crate::{Refused, Row, Sink};
+use crate::{Collector, Measured, Refused, Row, Sink};
 
 /// A sink that takes each row and keeps nothing.
 #[derive(Clone, Copy, Debug, PartialEq, Eq)]
@@ -13,6 +13,30 @@ impl Sink for Nothing {
     fn row(&mut self, _row: &Row) -> Result<(), Refused> {
         Ok(())
     }
+}
+
+/// Nothing has no size.
+impl Measured for Nothing {
+    ghost size = { λ _. 0 };
+
+    fn size(&self) -> usize {
+        0
+    }
+}
+
+/// What keeps nothing may have taken any rows.
+impl Collector for Nothing {
+    ghost use Rattle.std.specs.Prelude.{refl};
+
+    ghost holds = { λ _ _. Unit {0} };
+
+    ghost amount = { λ _. 0 };
+
+    fn clear(&mut self) {}
+
+    ghost holds_more = { λ _ _ _ _ _ _. record {} };
+
+    ghost is_measured = { λ _ _ _. refl };
 }
 
 /// Two sinks that are told the same rows: each row goes to the first one and then to the second. Where the first refuses a row the second

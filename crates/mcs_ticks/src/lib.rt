@@ -22,6 +22,6 @@ pub use memory::NoMemory;
 pub use queue::Queued;
 pub use row::{Row, What, Why};
 pub use sequence::Sequence;
-pub use sink::{FlowFault, Measured, Refused, Sink};
+pub use sink::{Collector, FlowFault, Measured, Refused, Sink};
 pub use soonest::Soonest;
 pub use tick::Tick;

@@ -82,6 +82,43 @@ impl Measured for Vec<Row> {
     }
 }
 
+/// A sink that can be emptied, and that says which rows it holds: those that it took since it was empty. Its size is a measure of them.
+pub trait Collector: Measured {
+    ghost use Rattle.std.specs.Prelude.{◌≡◌, ◌++◌, ◌∷◌, [], true, ℕ, List};
+    ghost use Rattle.mcs_ticks.specs.declared.row.Row.{Row};
+
+    ghost holds: { Self → List Row → Type 0 };
+
+    ghost amount: { List Row → ℕ };
+
+    /// Lets go of what it holds. Its room stays.
+    fn clear(&mut self)
+        ensures { holds self.new [] };
+
+    ghost holds_more: { (before after : Self) (held : List Row) (row : Row) → holds before held → Self.takes before row true after
+        → holds after (held ++ row ∷ []) };
+
+    ghost is_measured: { (sink : Self) (held : List Row) → holds sink held → Self.size sink ≡ amount held };
+}
+
+/// A list holds its rows.
+impl Collector for Vec<Row> {
+    ghost use Rattle.std.specs.Prelude.{◌≡◌, length};
+    ghost use Rattle.std.proofs.Common.{rules};
+
+    ghost holds = { λ rows held. rows.items ≡ held };
+
+    ghost amount = { length };
+
+    fn clear(&mut self) {
+        self.clear();
+    }
+
+    ghost holds_more = { Prim.search rules };
+
+    ghost is_measured = { Prim.search rules };
+}
+
 /// Why a simulation that gives its rows to a sink ends early.
 #[derive(Clone, Copy, Debug, PartialEq, Eq, Error)]
 pub enum FlowFault {
