@@ -15,6 +15,7 @@ pub mod Opening
 pub mod Plans
 pub mod Quiet
 pub mod QuietAlike
+pub mod Reached
 pub mod Released
 pub mod Runs
 pub mod Skips

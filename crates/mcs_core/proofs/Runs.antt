@@ -31,13 +31,6 @@ later-staying t (x ∷ xs) h = by (x.arrives == t) refl (later-staying t xs (λ 
         both : All (λ (mail : Mail). t + 1 ≤ mail.arrives) (x ∷ staying t xs)
         both = All-cons (λ (mail : Mail). t + 1 ≤ mail.arrives) x (staying t xs) (first x.arrives (h 0 x (omega arith)) e) i
 
--- what the turns from here on make, with what was made so far, is what the whole makes
-pub record RunsOn {S : Type 0} (takes : S → Row → Bool → S → Type 0) (before : S) (sent : List Mail) (whole rest : Ran) (now : S) (signals : List Mail) : Type 0 where
-  pub core : rest.core ≡ whole.core
-  pub told : (after : S) → Given takes now rest.rows after → Given takes before whole.rows after
-  pub made : signals ++ rest.mails ≡ sent ++ whole.mails
-  pub box : rest.box ≡ whole.box
-
 -- what turns make, and then what those after them make
 abbrev pub joined : Ran → Ran → Ran
 joined before after = record { core = after.core; rows = before.rows ++ after.rows; mails = before.mails ++ after.mails; box = after.box }
@@ -101,23 +94,6 @@ module _ (system : System) where
       ap (λ x. ran system state.number x state.clock state.core box) many ∙ ran-more system state.number n (to - u) state.clock state.core box
       ∙ ap (λ t. joined made (ran system state.number (to - u) t made.core made.box)) there ∙ ap (joined made) (sym rest)
 
-  -- what turns from the state after some of them make with what was made so far is what the whole makes
-  pub runs-on : {S : Type 0} (takes : S → Row → Bool → S → Type 0) (to u : ℕ) (state state' : State) (box box' : List Mail) (before now now' : S) (sent signals signals' : List Mail) (whole : Ran) → state.clock ≤ u → u ≤ to →
-      RunsOn takes before sent whole (made_by system state to box) now signals → state' ≡ state_after state u (made_by system state u box) →
-      box' ≡ (made_by system state u box).box → Given takes now (made_by system state u box).rows now' →
-      signals' ≡ signals ++ (made_by system state u box).mails → RunsOn takes before sent whole (made_by system state' to box') now' signals'
-  runs-on takes to u state state' box box' before now now' sent signals signals' whole l k h e f g i =
-      let P : Ran → Type 0 = λ rest. RunsOn takes before sent whole rest now signals in
-      after (made_by system state u box) (made_by system state' to box') (subst P (made-through u to state state' box box' l k e f) h) g i
-    where
-      after : (first rest : Ran) → RunsOn takes before sent whole (joined first rest) now signals → Given takes now first.rows now' → signals' ≡ signals ++ first.mails → RunsOn takes before sent whole rest now' signals'
-      after first rest h i j = record {
-        core = h.core;
-        told = λ t k. h.told t (given-append takes now now' t first.rows rest.rows i k);
-        made = rw j (append_assoc signals first.mails rest.mails ∙ h.made);
-        box = h.box;
-      }
-
 -- a call that was no refusal
 pub if_ok : {E : Type 0} (r : Result (Unit {0}) E) (P : Type 0) → is_err r ≡ false → OnOk r P → P
 if_ok (Ok x) P e p = p
@@ -150,19 +126,6 @@ to_come-twice a b (x ∷ xs) = by (nat_le b x.moment) (nat_le a x.moment) (nat_l
         no a b m e g = grind (arith, nat_tests)
     by false q false e f g i = i
 
--- fewer turns make no more rows
-pub rows-grow : (system : System) (state : State) (box : List Mail) (u to : ℕ) → u ≤ to → length (made_by system state u box).rows ≤ length (made_by system state to box).rows
-rows-grow system state box u to l =
-    let n = u - state.clock in
-    let m = (to - state.clock) - n in
-    let many : to - state.clock ≡ n + m = omega arith in
-    let first = ran system state.number n state.clock state.core box in
-    let rest = ran system state.number m (state.clock + n) first.core first.box in
-    let all : (made_by system state to box).rows ≡ first.rows ++ rest.rows =
-    ap (λ x. (ran system state.number x state.clock state.core box).rows) many ∙ ap (λ (made : Ran). made.rows) (ran-more system state.number n m state.clock state.core box) in
-    let both : length (made_by system state to box).rows ≡ length first.rows + length rest.rows = ap (λ (xs : List Row). length xs) all ∙ length-append first.rows rest.rows in
-    omega arith
-
 -- the state after turns, from which more turns were taken, is the state after all of them; so are rows, signals and mail
 module _ (system : System) where
   -- no turn was taken yet
@@ -191,12 +154,6 @@ module _ (system : System) where
         (ap (λ (s : State). to_come to s.orders) e ∙ to_come-twice to u state.orders ∙ ap (λ n. to_come n state.orders) past)
         (ap (λ (s : State). s.delays) e) (ap (λ (s : State). s.failed) e)
 
-    pub rows-through : (before rows rows' : List Row) → rows ≡ before ++ (made_by system state u box).rows → rows' ≡ rows ++ (made_by system mid to left).rows → rows' ≡ before ++ (made_by system state to box).rows
-    rows-through before rows rows' g h =
-        let all = made-through system u to state mid box left l k e f in
-        h ∙ ap (λ (xs : List Row). xs ++ (made_by system mid to left).rows) g
-        ∙ append_assoc before (made_by system state u box).rows (made_by system mid to left).rows ∙ ap (λ (made : Ran). before ++ made.rows) (sym all)
-
     pub given-through : {S : Type 0} (takes : S → Row → Bool → S → Type 0) (before now after : S) → Given takes before (made_by system state u box).rows now →
         Given takes now (made_by system mid to left).rows after → Given takes before (made_by system state to box).rows after
     given-through {S} takes before now after g h =
@@ -208,12 +165,6 @@ module _ (system : System) where
         (made_by system mid to left).rows ≡ [] → Given takes before (made_by system state to box).rows now
     given-rest {S} takes before now g none = given-through takes before now now g (subst (λ (rows : List Row). Given takes now rows now) (sym none) refl)
 
-    -- where no row is made after some turns, there are as many after more of them
-    pub rows-rest : (before rows : List Row) → rows ≡ before ++ (made_by system state u box).rows → (made_by system mid to left).rows ≡ [] → length before + length (made_by system state to box).rows ≡ length rows
-    rows-rest before rows g none =
-        let all = rows-through before rows (rows ++ (made_by system mid to left).rows) g refl in
-        sym (length-append before (made_by system state to box).rows) ∙ ap (λ (xs : List Row). length xs) (sym all ∙ ap (λ (xs : List Row). rows ++ xs) none ∙ append-nil rows)
-
     pub signals-through : (sent signals signals' : List Mail) → signals ≡ sent ++ (made_by system state u box).mails → signals' ≡ signals ++ (made_by system mid to left).mails → signals' ≡ sent ++ (made_by system state to box).mails
     signals-through sent signals signals' g h =
         let all = made-through system u to state mid box left l k e f in
@@ -222,30 +173,6 @@ module _ (system : System) where
 
     pub box-through : (made_by system mid to left).box ≡ (made_by system state to box).box
     box-through = ap (λ (made : Ran). made.box) (sym (made-through system u to state mid box left l k e f))
-
--- no turn is left
-module _ {S : Type 0} (takes : S → Row → Bool → S → Type 0) where
-  pub runs-end : (system : System) (c t n : ℕ) (core : Core) (box : List Mail) (before now : S) (sent signals : List Mail) (whole : Ran) →
-      n ≡ 0 → RunsOn takes before sent whole (ran system c n t core box) now signals →
-      RunsOn takes before sent whole (record { core = core; rows = []; mails = []; box = box }) now signals
-  runs-end system c t n core box before now sent signals whole e h =
-      let P : ℕ → Type 0 = λ x. RunsOn takes before sent whole (ran system c x t core box) now signals in subst P e h
-
-  pub told-all : (before now : S) (sent signals : List Mail) (whole : Ran) (core : Core) (box : List Mail) →
-      RunsOn takes before sent whole (record { core = core; rows = []; mails = []; box = box }) now signals → Given takes before whole.rows now
-  told-all before now sent signals whole core box h = h.told now refl
-
-  pub made-all : (before now : S) (sent signals : List Mail) (whole : Ran) (core : Core) (box : List Mail) →
-      RunsOn takes before sent whole (record { core = core; rows = []; mails = []; box = box }) now signals → signals ≡ sent ++ whole.mails
-  made-all before now sent signals whole core box h = sym (append-nil signals) ∙ h.made
-
-pub not_before : (b : Bool) (n m : ℕ) → (IsTrue b ↔ (n < m)) → b ≡ false → m ≤ n
-not_before true n m h e = absurd (cc)
-not_before false n m h e = by (nat_le m n) refl
-  where
-    by : (p : Bool) → nat_le m n ≡ p → m ≤ n
-    by true f = grind (arith, nat_tests)
-    by false f = let g : false ≡ true = h.1 (grind (arith, nat_tests)) in cc
 
 -- what holds of each mail of a box holds of each that stays, and of each when one more is put
 kept-staying : (P : Mail → Type 0) (t : ℕ) (mails : List Mail) → All P mails → All P (staying t mails)

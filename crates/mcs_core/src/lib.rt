@@ -22,6 +22,7 @@ mod state;
 mod stops;
 mod tick;
 mod turn;
+mod unmeasured;
 mod views;
 
 pub use mcs_system::{ContextPart, Link, Name, NotePart, System, SystemParts, ThreadPart};

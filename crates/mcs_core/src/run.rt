@@ -6,6 +6,7 @@ ghost use Rattle.mcs_core.specs.State.{Fits, IsExpected, made_by, state_after, s
 
 use crate::CoreState;
 use crate::log::{Here, Log};
+use crate::unmeasured::Unmeasured;
 use mcs_mail::{Mail, Mailbox};
 use mcs_system::System;
 use mcs_ticks::{FlowFault, Measured, NoMemory, Row, Sink, Tick};
@@ -135,13 +136,8 @@ impl CoreState {
         ensures spent { self.old.failed ≡ true →
             (self.new ≡ self.old) × (sink.new ≡ sink.old) × (signals.new ≡ signals.old) × (mail.new ≡ mail.old) }
     {
-        if self.failed {
-            return Err(FlowFault::NoMemory);
-        }
-        'turns: while self.is_before(to) {
-            self.advance(system, mail, to, sink, signals)?;
-        }
-        Ok(())
+        let mut unmeasured = Unmeasured::new(sink);
+        self.run_some_to(system, mail, to, 1, &mut unmeasured, signals)
     }
 
     /// Takes the turns from the clock up to, not including, moment `to`, with the mail of the box as arrivals. Rows are
