@@ -79,7 +79,7 @@ impl Places {
     }
 
     /// Takes the thread of least date, and of several with that date the one in the first of their places. There is one.
-    #[inline(never)]
+    #[inline(always)]
     pub(crate) fn take_first(&mut self) -> ThreadId
         requires { IsSome (earliest (entered self.old)) }
         ensures { IsTaken self.old self.new result }

@@ -137,7 +137,7 @@ impl Releases {
     }
 
     /// Enters a thread into a place.
-    #[inline(never)]
+    #[inline(always)]
     fn enter_beside(&mut self, entry: Dated)
         requires below { entry.thread < self.old.room }
         requires free { is_held entry.thread self.old.queue ≡ false }
