@@ -40,7 +40,7 @@ ALWAYS_TRIED = (
     'mcs_report/account_report_at_leaves_an_open_run_out',
     # files, and who is blamed
     'mcs_load/config_config_later_fault_first',
-    'mcs_load/words_number_repairs_a_bad_file',
+    'mcs_load/values_number_repairs_a_bad_file',
     'mcs_cli/streams_read_text_blames_a_source_that_did_not_fail',
 )
 

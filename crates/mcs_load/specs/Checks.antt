@@ -41,7 +41,8 @@ abbrev pub Gives : {X A : Type 0} → (X → A) → Result X LoadFault → Check
 Gives view (Ok x) step = (first_failed step.tests ≡ None) × (step.value ≡ view x)
 Gives view (Err fault) step = ¬ (fault ≡ no_memory) → first_failed step.tests ≡ Some fault
 
--- The same of a function that takes no memory: whatever fault it returned is the first failed test's.
+-- Of a function that takes no memory: where it returned Ok, each test passes, and what it returned,
+-- seen by view, is what is read; whatever fault it returned is the first failed test's.
 abbrev pub Tells : {X A : Type 0} → (X → A) → Result X LoadFault → Checked A → Type 0
 Tells view (Ok x) step = (first_failed step.tests ≡ None) × (step.value ≡ view x)
 Tells view (Err fault) step = first_failed step.tests ≡ Some fault

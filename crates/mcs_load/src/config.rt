@@ -1,3 +1,5 @@
+#![tactic(auto, using(crate::proofs::Steps::steps), unfolding(crate::specs::Walk::config, crate::specs::Walk::accepts, crate::specs::Walk::accepted_config, crate::specs::Walk::takes_mode, crate::specs::Walk::settings))]
+
 ghost use Rattle.std.specs.Prelude.{◌≡◌};
 ghost use Rattle.toml.specs.View.{table_view};
 ghost use Rattle.mcs_load.specs.Checks.{Tells};
@@ -7,7 +9,7 @@ ghost use Rattle.mcs_control.specs.Control.{checked, kind_of};
 use crate::at::At;
 use crate::fault::{FaultKind, LoadFault};
 use crate::spot::Key;
-use crate::words::{find, number_with_default, whole_number};
+use crate::values::{find, number_with_default, whole_number};
 use mcs_control::{Config, ControlFault, Kind, Mode};
 use toml::Table;
 
@@ -22,13 +24,12 @@ pub(crate) struct Settings {
 }
 
 /// The budget, the period and the extra refills of a row, which Config::check is yet to see.
-#[tactic(auto, using(crate::proofs::Steps::both, crate::proofs::Steps::or_else_none, crate::proofs::Steps::or_else_some), unfolding(crate::specs::Walk::config))]
-fn config(at: At, row: &Table) -> Result<Config, LoadFault>
+fn config(row: &Table, at: At) -> Result<Config, LoadFault>
     ensures { Tells (λ x. x) result (config at (table_view row.now)) }
 {
-    let budget = whole_number(at, Key::Budget, 0, GREATEST, row)?;
-    let period = whole_number(at, Key::Period, 0, GREATEST, row)?;
-    let extra = number_with_default(at, Key::ExtraRefills, 0, GREATEST, 0, row)?;
+    let budget = whole_number(row, at, Key::Budget, 0, GREATEST)?;
+    let period = whole_number(row, at, Key::Period, 0, GREATEST)?;
+    let extra = number_with_default(row, at, Key::ExtraRefills, 0, GREATEST, 0)?;
     Ok(Config {
         budget,
         period,
@@ -48,7 +49,7 @@ fn key_of(fault: ControlFault) -> Key
     }
 }
 
-#[tactic(auto, unfolding(crate::specs::Walk::accepts))]
+/// Tests that SchedControl takes the configuration.
 fn accept(at: At, min_budget: u64, config: Config) -> Result<(), LoadFault>
     ensures { Tells (λ x. x) result (accepts at (checked min_budget config)) }
 {
@@ -59,11 +60,10 @@ fn accept(at: At, min_budget: u64, config: Config) -> Result<(), LoadFault>
 }
 
 /// The configuration of a row, which passes Config::check.
-#[tactic(auto, using(crate::proofs::Steps::both, crate::proofs::Steps::or_else_none, crate::proofs::Steps::or_else_some), unfolding(crate::specs::Walk::accepted_config))]
-pub(crate) fn accepted_config(at: At, min_budget: u64, row: &Table) -> Result<Config, LoadFault>
+pub(crate) fn accepted_config(row: &Table, at: At, min_budget: u64) -> Result<Config, LoadFault>
     ensures { Tells (λ x. x) result (accepted_config min_budget at (table_view row.now)) }
 {
-    let config = config(at, row)?;
+    let config = config(row, at)?;
     accept(at, min_budget, config)?;
     Ok(config)
 }
@@ -81,23 +81,19 @@ fn named_mode(name: &str) -> Option<Mode>
 
 /// The mode of a row: `Sporadic` where it says none.
 #[tactic(auto, unfolding(crate::specs::Walk::mode))]
-fn mode(at: At, row: &Table) -> Result<Mode, LoadFault>
+fn mode(row: &Table, at: At) -> Result<Mode, LoadFault>
     ensures { Tells (λ x. x) result (mode at (table_view row.now)) }
 {
     let Some(value) = find(row, Key::Mode) else {
         return Ok(Mode::Sporadic);
     };
-    let Some(name) = value.as_str() else {
-        return Err(at.fault(Key::Mode, FaultKind::WrongKind));
-    };
-    match named_mode(name) {
-        Some(mode) => Ok(mode),
-        None => Err(at.fault(Key::Mode, FaultKind::OutOfRange)),
-    }
+    let name = value
+        .as_str()
+        .ok_or(at.fault(Key::Mode, FaultKind::WrongKind))?;
+    named_mode(name).ok_or(at.fault(Key::Mode, FaultKind::OutOfRange))
 }
 
-/// A slice is never unblocked, so a round robin context has no mode but `Sporadic`.
-#[tactic(auto, unfolding(crate::specs::Walk::takes_mode))]
+/// Tests that the kind has this mode: a slice is never unblocked, so a round robin context has no mode but `Sporadic`.
 fn take_mode(at: At, kind: Kind, mode: Mode) -> Result<(), LoadFault>
     ensures { Tells (λ x. x) result (takes_mode at kind mode) }
 {
@@ -108,12 +104,11 @@ fn take_mode(at: At, kind: Kind, mode: Mode) -> Result<(), LoadFault>
 }
 
 /// The configuration of a context's row, which passes Config::check, and its mode.
-#[tactic(auto, using(crate::proofs::Steps::both, crate::proofs::Steps::or_else_none, crate::proofs::Steps::or_else_some), unfolding(crate::specs::Walk::settings))]
-pub(crate) fn read_settings(at: At, min_budget: u64, row: &Table) -> Result<Settings, LoadFault>
+pub(crate) fn read_settings(row: &Table, at: At, min_budget: u64) -> Result<Settings, LoadFault>
     ensures { Tells (λ x. x) result (settings min_budget at (table_view row.now)) }
 {
-    let config = config(at, row)?;
-    let mode = mode(at, row)?;
+    let config = config(row, at)?;
+    let mode = mode(row, at)?;
     accept(at, min_budget, config)?;
     take_mode(at, config.kind(), mode)?;
     Ok(Settings { config, mode })

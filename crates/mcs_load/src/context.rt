@@ -1,3 +1,5 @@
+#![tactic(auto, using(crate::proofs::Steps::steps), unfolding(crate::specs::Walk::listed_context_keys, crate::specs::Walk::context, crate::specs::Walk::contexts, crate::specs::Walk::known, crate::specs::Walk::known_context))]
+
 ghost use Rattle.std.specs.Prelude.{◌≡◌, ◌<◌, ◌≤◌, IfOk, length, map, []};
 ghost use Rattle.toml.specs.View.{table_view};
 ghost use Rattle.mcs_load.specs.Checks.{Gives, Tells};
@@ -9,13 +11,13 @@ use crate::fault::{FaultKind, LoadFault};
 use crate::names::Names;
 use crate::reader::{RowReader, read_array};
 use crate::spot::{Key, Section};
-use crate::words::{new_name, only_keys, text, whole_number};
+use crate::values::{new_name, only_keys, text, whole_number};
 use mcs_system::{ContextPart, Name};
 use mcs_ticks::CoreId;
 use std::alloc::Global;
 use toml::Table;
 
-// The first is of version 2 alone.
+/// The keys of a context. The first is of version 2 alone.
 const CONTEXT_KEYS: [Key; 6] = [
     Key::Mode,
     Key::Name,
@@ -26,7 +28,6 @@ const CONTEXT_KEYS: [Key; 6] = [
 ];
 
 /// The keys that a context may have: modes are of version 2 alone.
-#[tactic(auto, unfolding(crate::specs::Walk::listed_context_keys))]
 fn listed_keys(has_modes: bool) -> &'static [Key]
     ensures { result.now ≡ listed_context_keys has_modes }
 {
@@ -56,12 +57,11 @@ impl<'a> RowReader<'a> for ContextReader<'a> {
     ghost keeps = { λ reader earlier.
         (1 ≤ reader.cores) × (reader.cores ≤ 64) × (reader.names ≡ map (λ c. c.name) earlier) };
 
-    #[tactic(auto, using(crate::proofs::Steps::both, crate::proofs::Steps::or_else_none, crate::proofs::Steps::or_else_some), unfolding(crate::specs::Walk::context))]
-    fn read(&mut self, at: At, row: &'a Table) -> Result<ContextPart, LoadFault> {
-        only_keys(at, listed_keys(self.has_modes), row)?;
-        let name = new_name(at, &mut self.names, row)?;
-        let core = whole_number(at, Key::Core, 0, self.cores - 1, row)?;
-        let Settings { config, mode } = read_settings(at, self.min_budget, row)?;
+    fn read(&mut self, row: &'a Table, at: At) -> Result<ContextPart, LoadFault> {
+        only_keys(row, at, listed_keys(self.has_modes))?;
+        let name = new_name(row, at, &mut self.names)?;
+        let core = whole_number(row, at, Key::Core, 0, self.cores - 1)?;
+        let Settings { config, mode } = read_settings(row, at, self.min_budget)?;
         Ok(ContextPart {
             name: Name::new(String::from_str(self.alloc, name)?),
             core: CoreId(core as usize),
@@ -72,10 +72,9 @@ impl<'a> RowReader<'a> for ContextReader<'a> {
 }
 
 /// The contexts of a file in order; the reader keeps their names.
-#[tactic(auto, unfolding(crate::specs::Walk::contexts))]
 pub(crate) fn contexts<'a>(
-    reader: &mut ContextReader<'a>,
     file: &'a Table,
+    reader: &mut ContextReader<'a>,
 ) -> Result<Vec<ContextPart>, LoadFault>
     requires range { (1 ≤ reader.old.cores) × (reader.old.cores ≤ 64) }
     requires empty { reader.old.names ≡ [] }
@@ -83,32 +82,29 @@ pub(crate) fn contexts<'a>(
         (contexts reader.old.has_modes reader.old.cores reader.old.min_budget (table_view file.now)) }
     ensures kept { IfOk result (λ v. reader.new.names ≡ map (λ c. c.name) v.items) }
 {
-    read_array(reader.alloc, reader, Section::Context, Key::Context, file)
+    read_array(reader.alloc, file, Section::Context, Key::Context, reader)
 }
 
 /// The place of the context that has this name.
-#[tactic(auto, unfolding(crate::specs::Walk::known))]
 fn known<'a>(at: At, names: &Names<'a>, name: &'a str) -> Result<usize, LoadFault>
     ensures gives { Tells (λ n. n) result (known at names.now name.now) }
     ensures within { IfOk result (λ n. n < length names.now) }
 {
-    match names.find(name) {
-        Some(place) => Ok(place),
-        None => Err(at.fault(Key::Context, FaultKind::UnknownName)),
-    }
+    names
+        .find(name)
+        .ok_or(at.fault(Key::Context, FaultKind::UnknownName))
 }
 
 /// The place of the context that the row names.
-#[tactic(auto, using(crate::proofs::Steps::both, crate::proofs::Steps::or_else_none, crate::proofs::Steps::or_else_some), unfolding(crate::specs::Walk::known_context))]
 pub(crate) fn known_context<'a>(
+    row: &'a Table,
     at: At,
     names: &Names<'a>,
-    row: &'a Table,
 ) -> Result<usize, LoadFault>
     ensures gives { Tells (λ n. n) result (known_context names.now at (table_view row.now)) }
     ensures within { IfOk result (λ n. n < length names.now) }
 {
-    let name = text(at, Key::Context, row)?;
+    let name = text(row, at, Key::Context)?;
     known(at, names, name)
 }
 

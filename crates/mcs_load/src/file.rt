@@ -1,3 +1,5 @@
+#![tactic(auto, using(crate::proofs::Steps::steps), unfolding(crate::specs::Walk::listed_keys, crate::specs::Walk::document, crate::specs::Walk::numbers, crate::specs::Walk::walk, crate::specs::Walk::file))]
+
 ghost use Rattle.std.specs.Prelude.{◌≡◌, ◌≤◌, IfOk};
 ghost use Rattle.toml.specs.View.{table_view};
 ghost use Rattle.mcs_load.specs.Checks.{Gives, Tells};
@@ -13,7 +15,7 @@ use crate::numbers::Numbers;
 use crate::order::orders;
 use crate::spot::{Key, Section};
 use crate::thread::threads;
-use crate::words::{find, number_with_default, only_keys, whole_number};
+use crate::values::{find, number_with_default, only_keys, whole_number};
 use mcs_system::{System, SystemParts};
 use mcs_ticks::{Limits, Sequence};
 use std::alloc::Global;
@@ -22,7 +24,7 @@ use toml::Table;
 /// The newest version of the format.
 const NEWEST: u64 = 2;
 
-// The first is of version 2 alone.
+/// The keys at the top. The first is of version 2 alone.
 const TOP_KEYS: [Key; 10] = [
     Key::Link,
     Key::Version,
@@ -47,7 +49,6 @@ fn is_version_2(file: &Table) -> bool
 }
 
 /// The keys at the top that a file of its version may have: links are of version 2 alone.
-#[tactic(auto, unfolding(crate::specs::Walk::listed_keys))]
 fn listed_keys(file: &Table) -> &'static [Key]
     ensures { result.now ≡ listed_keys (table_view file.now) }
 {
@@ -58,7 +59,7 @@ fn listed_keys(file: &Table) -> &'static [Key]
     }
 }
 
-#[tactic(auto, unfolding(crate::specs::Walk::document))]
+/// The tree of the text that the bytes are.
 fn document(alloc: Global, bytes: &[u8]) -> Result<Table, LoadFault>
     ensures { Gives (λ t. table_view t) result (document bytes.now) }
 {
@@ -72,18 +73,18 @@ fn document(alloc: Global, bytes: &[u8]) -> Result<Table, LoadFault>
     }
 }
 
-#[tactic(auto, using(crate::proofs::Steps::both, crate::proofs::Steps::or_else_none, crate::proofs::Steps::or_else_some), unfolding(crate::specs::Walk::numbers))]
+/// The numbers at the top, which has no other keys than those of its version.
 fn numbers(file: &Table) -> Result<Numbers, LoadFault>
     ensures range { IfOk result (λ n. (1 ≤ n.cores) × (n.cores ≤ 64)) }
     ensures gives { Tells (λ n. n) result (numbers (table_view file.now)) }
 {
     let top = At::array(Section::Top);
-    only_keys(top, listed_keys(file), file)?;
-    let _version = whole_number(top, Key::Version, 1, NEWEST, file)?;
-    let cores = whole_number(top, Key::Cores, 1, Limits::CORES as u64, file)?;
-    let delay = whole_number(top, Key::Delay, 1, Limits::DELAY, file)?;
-    let call = number_with_default(top, Key::Call, 1, Limits::CALL, 1, file)?;
-    let min_budget = number_with_default(top, Key::MinBudget, 1, Limits::MIN_BUDGET, 1, file)?;
+    only_keys(file, top, listed_keys(file))?;
+    let _version = whole_number(file, top, Key::Version, 1, NEWEST)?;
+    let cores = whole_number(file, top, Key::Cores, 1, Limits::CORES as u64)?;
+    let delay = whole_number(file, top, Key::Delay, 1, Limits::DELAY)?;
+    let call = number_with_default(file, top, Key::Call, 1, Limits::CALL, 1)?;
+    let min_budget = number_with_default(file, top, Key::MinBudget, 1, Limits::MIN_BUDGET, 1)?;
     Ok(Numbers {
         cores,
         delay,
@@ -92,7 +93,7 @@ fn numbers(file: &Table) -> Result<Numbers, LoadFault>
     })
 }
 
-#[tactic(auto, using(crate::proofs::Steps::both, crate::proofs::Steps::or_else_none, crate::proofs::Steps::or_else_some), unfolding(crate::specs::Walk::walk))]
+/// What the file describes: the numbers at the top, then links, contexts, notifications, threads and orders.
 fn walk(alloc: Global, file: &Table) -> Result<SystemParts, LoadFault>
     ensures { Gives (λ s. s) result (walk (table_view file.now)) }
 {
@@ -102,7 +103,7 @@ fn walk(alloc: Global, file: &Table) -> Result<SystemParts, LoadFault>
         call,
         min_budget,
     } = numbers(file)?;
-    let links = links(alloc, cores, file)?;
+    let links = links(alloc, file, cores)?;
     let mut of_contexts = ContextReader {
         alloc,
         has_modes: is_version_2(file),
@@ -110,23 +111,23 @@ fn walk(alloc: Global, file: &Table) -> Result<SystemParts, LoadFault>
         min_budget,
         names: Names::new(alloc),
     };
-    let contexts = contexts(&mut of_contexts, file)?;
+    let contexts = contexts(file, &mut of_contexts)?;
     let mut of_notes = NoteReader {
         alloc,
         cores,
         names: Names::new(alloc),
     };
-    let notes = notes(&mut of_notes, file)?;
+    let notes = notes(file, &mut of_notes)?;
     let context_names = &of_contexts.names;
     let threads = threads(
         alloc,
+        file,
         &contexts,
         context_names,
         &notes,
         &of_notes.names,
-        file,
     )?;
-    let orders = orders(alloc, cores, min_budget, &contexts, context_names, file)?;
+    let orders = orders(alloc, file, cores, min_budget, &contexts, context_names)?;
     Ok(SystemParts {
         cores: cores as usize,
         delay,
@@ -143,7 +144,6 @@ fn walk(alloc: Global, file: &Table) -> Result<SystemParts, LoadFault>
 /// The system that the text of a file describes, or the first fault of the walk: the text as TOML, the keys and numbers at the top,
 /// then links, contexts, notifications, threads and orders, each array row by row. `NoMemory` is answered, as
 /// [`FaultKind::NoMemory`](crate::FaultKind::NoMemory), where a growth was refused, before any later fault.
-#[tactic(auto, using(crate::proofs::Steps::both, crate::proofs::Steps::or_else_none, crate::proofs::Steps::or_else_some), unfolding(crate::specs::Walk::file))]
 pub fn load(alloc: Global, text: &[u8]) -> Result<System, LoadFault>
     ensures { Gives (λ s. s) result (file text.now) }
 {

@@ -1,5 +1,7 @@
 //! Files: the text of a system, read in one walk that answers the first fault of a wrong file with its place. The fault kinds, their
 //! order and their texts are this project's own (profile M); the text itself is TOML.
+//!
+//! Inside, arguments come in one order: the allocator, what of the tree is read, its place, and what is known beside it.
 #![tactic(auto)]
 
 mod at;
@@ -18,7 +20,7 @@ mod reader;
 mod script;
 mod spot;
 mod thread;
-mod words;
+mod values;
 
 pub use fault::{FaultKind, LoadFault};
 pub use file::load;

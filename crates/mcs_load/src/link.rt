@@ -1,3 +1,5 @@
+#![tactic(auto, using(crate::proofs::Steps::steps, crate::proofs::Pairs::marked_none), unfolding(crate::specs::Walk::link_numbers, crate::specs::Walk::link, crate::specs::Walk::links))]
+
 ghost use Rattle.std.specs.Prelude.{◌<◌, ◌≤◌, IfOk};
 ghost use Rattle.toml.specs.View.{table_view};
 ghost use Rattle.mcs_system.specs.declared.part.Link.{Link};
@@ -9,7 +11,7 @@ use crate::at::At;
 use crate::fault::{FaultKind, LoadFault};
 use crate::reader::{RowReader, read_array};
 use crate::spot::{Key, Section};
-use crate::words::{only_keys, whole_number};
+use crate::values::{only_keys, whole_number};
 use mcs_system::Link;
 use mcs_ticks::{CoreId, Limits};
 use std::alloc::Global;
@@ -18,18 +20,19 @@ use toml::Table;
 /// Pairs of cores, a core with itself among them.
 const PAIRS: usize = Limits::CORES * Limits::CORES;
 
+/// The keys of a link.
 const LINK_KEYS: [Key; 3] = [Key::Maker, Key::Home, Key::Delay];
 
-#[tactic(auto, using(crate::proofs::Steps::both, crate::proofs::Steps::or_else_none, crate::proofs::Steps::or_else_some), unfolding(crate::specs::Walk::link_numbers))]
-fn link_numbers(cores: u64, at: At, row: &Table) -> Result<Link, LoadFault>
+/// The two cores of a row, and its delay.
+fn link_numbers(row: &Table, at: At, cores: u64) -> Result<Link, LoadFault>
     requires { (1 ≤ cores) × (cores ≤ 64) }
     ensures known { IfOk result (λ link. (link.maker < cores) × (link.home < cores)) }
     ensures gives { Tells (λ x. x) result (link_numbers cores at (table_view row.now)) }
 {
-    only_keys(at, &LINK_KEYS, row)?;
-    let maker = whole_number(at, Key::Maker, 0, cores - 1, row)?;
-    let home = whole_number(at, Key::Home, 0, cores - 1, row)?;
-    let delay = whole_number(at, Key::Delay, 1, Limits::DELAY, row)?;
+    only_keys(row, at, &LINK_KEYS)?;
+    let maker = whole_number(row, at, Key::Maker, 0, cores - 1)?;
+    let home = whole_number(row, at, Key::Home, 0, cores - 1)?;
+    let delay = whole_number(row, at, Key::Delay, 1, Limits::DELAY)?;
     Ok(Link {
         maker: CoreId(maker as usize),
         home: CoreId(home as usize),
@@ -52,9 +55,8 @@ impl<'a> RowReader<'a> for LinkReader {
     ghost keeps = { λ reader earlier.
         (1 ≤ reader.cores) × (reader.cores ≤ 64) × AreMarked reader.has_link earlier };
 
-    #[tactic(auto, using(crate::proofs::Steps::both, crate::proofs::Steps::or_else_none, crate::proofs::Steps::or_else_some), unfolding(crate::specs::Walk::link))]
-    fn read(&mut self, at: At, row: &'a Table) -> Result<Link, LoadFault> {
-        let link = link_numbers(self.cores, at, row)?;
+    fn read(&mut self, row: &'a Table, at: At) -> Result<Link, LoadFault> {
+        let link = link_numbers(row, at, self.cores)?;
         if link.maker == link.home {
             return Err(at.fault(Key::Home, FaultKind::SelfLink));
         }
@@ -68,8 +70,7 @@ impl<'a> RowReader<'a> for LinkReader {
 }
 
 /// The links of a file in order.
-#[tactic(auto, using(crate::proofs::Pairs::marked_none), unfolding(crate::specs::Walk::links))]
-pub(crate) fn links(alloc: Global, cores: u64, file: &Table) -> Result<Vec<Link>, LoadFault>
+pub(crate) fn links(alloc: Global, file: &Table, cores: u64) -> Result<Vec<Link>, LoadFault>
     requires { (1 ≤ cores) × (cores ≤ 64) }
     ensures { Gives (λ v. v.items) result (links cores (table_view file.now)) }
 {
@@ -77,5 +78,5 @@ pub(crate) fn links(alloc: Global, cores: u64, file: &Table) -> Result<Vec<Link>
         cores,
         has_link: [false; PAIRS],
     };
-    read_array(alloc, &mut reader, Section::Link, Key::Link, file)
+    read_array(alloc, file, Section::Link, Key::Link, &mut reader)
 }

@@ -1,3 +1,5 @@
+#![tactic(auto, using(crate::proofs::Steps::steps), unfolding(crate::specs::Walk::ordered_context, crate::specs::Walk::keeps_kind, crate::specs::Walk::order, crate::specs::Walk::orders))]
+
 ghost use Rattle.std.specs.Prelude.{◌≡◌, ◌≤◌, ◌<◌, IfOk, List, suc, length, map, []};
 ghost use Rattle.toml.specs.View.{table_view, view, items_view};
 ghost use Rattle.mcs_control.specs.Control.{kind_of};
@@ -15,13 +17,14 @@ use crate::names::Names;
 use crate::numbers::moment;
 use crate::reader::{RowReader, read_array};
 use crate::spot::{Key, Section};
-use crate::words::{only_keys, whole_number};
+use crate::values::{only_keys, whole_number};
 use mcs_control::{Config, Order};
 use mcs_system::ContextPart;
 use mcs_ticks::{ContextId, CoreId, Limits};
 use std::alloc::Global;
 use toml::Table;
 
+/// The keys of an order.
 const ORDER_KEYS: [Key; 6] = [
     Key::At,
     Key::Core,
@@ -32,29 +35,27 @@ const ORDER_KEYS: [Key; 6] = [
 ];
 
 /// The context that the row names, which is on the core whose SchedControl capability is used.
-#[tactic(auto, using(crate::proofs::Steps::both, crate::proofs::Steps::or_else_none, crate::proofs::Steps::or_else_some), unfolding(crate::specs::Walk::ordered_context))]
 fn ordered_context<'a>(
+    row: &'a Table,
+    at: At,
     cores: u64,
     contexts: &[ContextPart],
     names: &Names<'a>,
-    at: At,
-    row: &'a Table,
 ) -> Result<usize, LoadFault>
     requires range { (1 ≤ cores) × (cores ≤ 64) }
     requires names { names.now ≡ map (λ c. c.name) contexts.now }
     ensures gives { Tells (λ n. n) result (ordered_context cores contexts.now at (table_view row.now)) }
     ensures within { IfOk result (λ n. n < length contexts.now) }
 {
-    let core = whole_number(at, Key::Core, 0, cores - 1, row)?;
-    let context = known_context(at, names, row)?;
+    let core = whole_number(row, at, Key::Core, 0, cores - 1)?;
+    let context = known_context(row, at, names)?;
     if core_of_part(contexts, context) != CoreId(core as usize) {
         return Err(at.fault(Key::Core, FaultKind::OtherCore));
     }
     Ok(context)
 }
 
-/// An order leaves a context round robin, or leaves it sporadic.
-#[tactic(auto, unfolding(crate::specs::Walk::keeps_kind))]
+/// Tests that the order leaves its context round robin, or leaves it sporadic.
 fn keep_kind(
     at: At,
     contexts: &[ContextPart],
@@ -88,12 +89,11 @@ impl<'c, 'n, 'a> RowReader<'a> for OrderReader<'c, 'n, 'a> {
     ghost keeps = { λ reader _.
         (1 ≤ reader.cores) × (reader.cores ≤ 64) × (reader.names.now ≡ map (λ c. c.name) reader.contexts.now) };
 
-    #[tactic(auto, using(crate::proofs::Steps::both, crate::proofs::Steps::or_else_none, crate::proofs::Steps::or_else_some), unfolding(crate::specs::Walk::order))]
-    fn read(&mut self, at: At, row: &'a Table) -> Result<Order, LoadFault> {
-        only_keys(at, &ORDER_KEYS, row)?;
-        let ticks = whole_number(at, Key::At, 0, Limits::ORDER_MOMENT, row)?;
-        let context = ordered_context(self.cores, self.contexts, self.names, at, row)?;
-        let config = accepted_config(at, self.min_budget, row)?;
+    fn read(&mut self, row: &'a Table, at: At) -> Result<Order, LoadFault> {
+        only_keys(row, at, &ORDER_KEYS)?;
+        let ticks = whole_number(row, at, Key::At, 0, Limits::ORDER_MOMENT)?;
+        let context = ordered_context(row, at, self.cores, self.contexts, self.names)?;
+        let config = accepted_config(row, at, self.min_budget)?;
         keep_kind(at, self.contexts, context, config)?;
         Ok(Order {
             moment: moment(ticks),
@@ -104,14 +104,13 @@ impl<'c, 'n, 'a> RowReader<'a> for OrderReader<'c, 'n, 'a> {
 }
 
 /// The orders of a file in order; `names` are the names of its contexts.
-#[tactic(auto, unfolding(crate::specs::Walk::orders))]
 pub(crate) fn orders<'a>(
     alloc: Global,
+    file: &'a Table,
     cores: u64,
     min_budget: u64,
     contexts: &[ContextPart],
     names: &Names<'a>,
-    file: &'a Table,
 ) -> Result<Vec<Order>, LoadFault>
     requires range { (1 ≤ cores) × (cores ≤ 64) }
     requires names { names.now ≡ map (λ c. c.name) contexts.now }
@@ -123,5 +122,5 @@ pub(crate) fn orders<'a>(
         contexts,
         names,
     };
-    read_array(alloc, &mut reader, Section::Order, Key::Order, file)
+    read_array(alloc, file, Section::Order, Key::Order, &mut reader)
 }

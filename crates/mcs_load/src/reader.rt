@@ -1,3 +1,5 @@
+#![tactic(auto, using(crate::proofs::Steps::steps), unfolding(crate::specs::Words::array_of))]
+
 ghost use Rattle.std.specs.Prelude.{◌≡◌, IfOk, List, suc, length, [], ◌∷◌, ◌++◌};
 ghost use Rattle.toml.specs.Data.{Members};
 ghost use Rattle.toml.specs.View.{table_view, view, items_view};
@@ -8,7 +10,7 @@ ghost use Rattle.mcs_load.specs.Words.{row, each, array_of};
 use crate::at::At;
 use crate::fault::LoadFault;
 use crate::spot::{Key, Section};
-use crate::words::{row_table, rows};
+use crate::values::{row_table, rows};
 use std::alloc::Global;
 use toml::{Table, Value};
 
@@ -21,7 +23,7 @@ pub(crate) trait RowReader<'a> {
     ghost keeps: { Self → List Self.Part → Type 0 };
 
     /// The part that a row gives.
-    fn read(&mut self, at: At, row: &'a Table) -> Result<Self::Part, LoadFault>
+    fn read(&mut self, row: &'a Table, at: At) -> Result<Self::Part, LoadFault>
         requires { (earlier : List Self.Part) × keeps self.old earlier }
         ensures gives { (earlier : List Self.Part) → keeps self.old earlier
             → Gives (λ x. x) result (reads self.old at earlier (table_view row.now)) }
@@ -30,12 +32,12 @@ pub(crate) trait RowReader<'a> {
         ensures same { IfOk result (λ _. reads self.new ≡ reads self.old) };
 }
 
-#[tactic(auto, using(crate::proofs::Steps::both, crate::proofs::Steps::or_else_none, crate::proofs::Steps::or_else_some))]
+/// The part that a value of the array gives; `number` is that of its row, from 1.
 fn read_row<'a, R: RowReader<'a>>(
-    reader: &mut R,
+    value: &'a Value,
     section: Section,
     number: usize,
-    value: &'a Value,
+    reader: &mut R,
 ) -> Result<R::Part, LoadFault>
     requires { (earlier : List R.Part) × R.keeps reader.old earlier }
     ensures gives { (earlier : List R.Part) → R.keeps reader.old earlier → number ≡ suc (length earlier)
@@ -48,40 +50,40 @@ fn read_row<'a, R: RowReader<'a>>(
         section,
         row: number,
     };
-    let row = row_table(at, value)?;
-    reader.read(at, row)
+    let row = row_table(value, at)?;
+    reader.read(row, at)
 }
 
+/// The parts that the rows give, in order.
 fn read_rows<'a, R: RowReader<'a>>(
     alloc: Global,
-    reader: &mut R,
-    section: Section,
     rows: &'a [Value],
+    section: Section,
+    reader: &mut R,
 ) -> Result<Vec<R::Part>, LoadFault>
     requires { R.keeps reader.old [] }
     ensures gives { Gives (λ v. v.items) result (each (row section (R.reads reader.old)) [] (items_view rows.now)) }
     ensures kept { IfOk result (λ v. R.keeps reader.new v.items) }
 {
-    let mut parts = Vec::new(alloc);
+    let mut parts = Vec::with_capacity(alloc, rows.len())?;
     for (i, value) in rows.iter().enumerate() {
-        parts.push(read_row(reader, section, i + 1, value)?)?;
+        parts.push_reserved(read_row(value, section, i + 1, reader)?);
     }
     Ok(parts)
 }
 
-/// The parts that the rows of an array give, in order.
-#[tactic(auto, using(crate::proofs::Steps::both, crate::proofs::Steps::or_else_none, crate::proofs::Steps::or_else_some), unfolding(crate::specs::Words::array_of))]
+/// The parts that the rows of the array at a key of the file give, in order.
 pub(crate) fn read_array<'a, R: RowReader<'a>>(
     alloc: Global,
-    reader: &mut R,
+    file: &'a Table,
     section: Section,
     key: Key,
-    file: &'a Table,
+    reader: &mut R,
 ) -> Result<Vec<R::Part>, LoadFault>
     requires { R.keeps reader.old [] }
     ensures gives { Gives (λ v. v.items) result (array_of section key (R.reads reader.old) (table_view file.now)) }
     ensures kept { IfOk result (λ v. R.keeps reader.new v.items) }
 {
-    let rows = rows(section, key, file)?;
-    read_rows(alloc, reader, section, rows)
+    let rows = rows(file, section, key)?;
+    read_rows(alloc, rows, section, reader)
 }

@@ -1,3 +1,5 @@
+#![tactic(auto, using(crate::proofs::Steps::steps), unfolding(crate::specs::Script::note_named, crate::specs::Script::named, crate::specs::Script::said, crate::specs::Script::script_item, crate::specs::Script::ends_without_wait, crate::specs::Script::script))]
+
 ghost use Rattle.std.specs.Prelude.{◌≡◌, ◌+◌, ◌<◌, ◌≤◌, IfOk, length, map, []};
 ghost use Rattle.toml.specs.View.{view, table_view, items_view};
 ghost use Rattle.mcs_script.specs.Raw.{raw_view, read_as};
@@ -9,7 +11,7 @@ use crate::at::At;
 use crate::fault::{FaultKind, LoadFault};
 use crate::names::Names;
 use crate::spot::Key;
-use crate::words::find;
+use crate::values::find;
 use mcs_script::{Item, RawItem, Script, read_item};
 use mcs_system::NotePart;
 use mcs_ticks::{CoreId, Limits, NoteId};
@@ -17,7 +19,6 @@ use std::alloc::Global;
 use toml::{Table, Value};
 
 /// The notification that has this name.
-#[tactic(auto, unfolding(crate::specs::Script::note_named))]
 fn note_named<'a>(
     at: At,
     number: usize,
@@ -27,10 +28,10 @@ fn note_named<'a>(
     ensures gives { Tells (λ n. n) result (note_named at number names.now name.now) }
     ensures within { IfOk result (λ n. n < length names.now) }
 {
-    match names.find(name) {
-        Some(place) => Ok(NoteId(place)),
-        None => Err(at.item_fault(Key::Script, number, FaultKind::UnknownName)),
-    }
+    let place = names
+        .find(name)
+        .ok_or(at.item_fault(Key::Script, number, FaultKind::UnknownName))?;
+    Ok(NoteId(place))
 }
 
 /// The core at which a notification is at home.
@@ -42,7 +43,6 @@ fn core_of(notes: &[NotePart], note: NoteId) -> CoreId
 }
 
 /// The item with its notification's number in place of the name.
-#[tactic(auto, using(crate::proofs::Steps::both, crate::proofs::Steps::or_else_none, crate::proofs::Steps::or_else_some), unfolding(crate::specs::Script::named))]
 fn named<'a>(
     at: At,
     number: usize,
@@ -72,8 +72,7 @@ fn named<'a>(
 }
 
 /// What a text says.
-#[tactic(auto, unfolding(crate::specs::Script::said))]
-fn said(at: At, number: usize, text: &str) -> Result<RawItem<'_>, LoadFault>
+fn said(text: &str, at: At, number: usize) -> Result<RawItem<'_>, LoadFault>
     ensures { Tells (λ raw. raw_view raw) result (said at number (read_as text.now)) }
 {
     match read_item(text) {
@@ -83,47 +82,45 @@ fn said(at: At, number: usize, text: &str) -> Result<RawItem<'_>, LoadFault>
 }
 
 /// The item of a value of the array.
-#[tactic(auto, using(crate::proofs::Steps::both, crate::proofs::Steps::or_else_none, crate::proofs::Steps::or_else_some), unfolding(crate::specs::Script::script_item))]
 fn script_item<'a>(
+    value: &'a Value,
     at: At,
     number: usize,
     names: &Names<'a>,
     notes: &[NotePart],
     core: CoreId,
-    value: &'a Value,
 ) -> Result<Item, LoadFault>
     requires { names.now ≡ map (λ n. n.name) notes.now }
     ensures { Tells (λ x. x) result (script_item notes.now core at number (view value.now)) }
 {
-    let Some(text) = value.as_str() else {
-        return Err(at.item_fault(Key::Script, number, FaultKind::WrongKind));
-    };
-    let raw = said(at, number, text)?;
+    let text = value
+        .as_str()
+        .ok_or(at.item_fault(Key::Script, number, FaultKind::WrongKind))?;
+    let raw = said(text, at, number)?;
     named(at, number, names, notes, core, raw)
 }
 
 /// The items of the texts in order.
 fn script_items<'a>(
     alloc: Global,
+    values: &'a [Value],
     at: At,
     names: &Names<'a>,
     notes: &[NotePart],
     core: CoreId,
-    values: &'a [Value],
 ) -> Result<Vec<Item>, LoadFault>
     requires { names.now ≡ map (λ n. n.name) notes.now }
     ensures gives { Gives (λ v. v.items) result (each (next_item notes.now core at) [] (items_view values.now)) }
     ensures count { IfOk result (λ v. length v.items ≡ length values.now) }
 {
-    let mut items = Vec::new(alloc);
+    let mut items = Vec::with_capacity(alloc, values.len())?;
     for (i, value) in values.iter().enumerate() {
-        items.push(script_item(at, i + 1, names, notes, core, value)?)?;
+        items.push_reserved(script_item(value, at, i + 1, names, notes, core)?);
     }
     Ok(items)
 }
 
 /// The script of these items, whose last is to be no wait.
-#[tactic(auto, unfolding(crate::specs::Script::ends_without_wait))]
 fn ends_without_wait(at: At, items: Vec<Item>) -> Result<Script, LoadFault>
     requires { (1 ≤ length items.items) × (length items.items ≤ 1024) }
     ensures { Tells (λ s. s) result (ends_without_wait at items.items) }
@@ -135,17 +132,15 @@ fn ends_without_wait(at: At, items: Vec<Item>) -> Result<Script, LoadFault>
 }
 
 /// The array at the key `script`.
-#[tactic(auto, using(crate::proofs::Steps::both, crate::proofs::Steps::or_else_none, crate::proofs::Steps::or_else_some, crate::proofs::Members::item_count_view), unfolding(crate::specs::Script::texts))]
-fn texts(at: At, row: &Table) -> Result<&[Value], LoadFault>
+#[tactic(auto, using(crate::proofs::Members::item_count_view), unfolding(crate::specs::Script::texts))]
+fn texts(row: &Table, at: At) -> Result<&[Value], LoadFault>
     ensures gives { Tells (λ v. items_view v.now) result (texts at (table_view row.now)) }
     ensures count { IfOk result (λ v. (1 ≤ length v.now) × (length v.now ≤ 1024)) }
 {
-    let Some(value) = find(row, Key::Script) else {
-        return Err(at.fault(Key::Script, FaultKind::MissingKey));
-    };
-    let Some(values) = value.as_array() else {
-        return Err(at.fault(Key::Script, FaultKind::WrongKind));
-    };
+    let value = find(row, Key::Script).ok_or(at.fault(Key::Script, FaultKind::MissingKey))?;
+    let values = value
+        .as_array()
+        .ok_or(at.fault(Key::Script, FaultKind::WrongKind))?;
     if values.is_empty() {
         return Err(at.fault(Key::Script, FaultKind::OutOfRange));
     }
@@ -156,19 +151,18 @@ fn texts(at: At, row: &Table) -> Result<&[Value], LoadFault>
 }
 
 /// The script of a thread on this core; `names` are the names of the notifications.
-#[tactic(auto, using(crate::proofs::Steps::both, crate::proofs::Steps::or_else_none, crate::proofs::Steps::or_else_some), unfolding(crate::specs::Script::script))]
 pub(crate) fn script<'a>(
     alloc: Global,
+    row: &'a Table,
     at: At,
     names: &Names<'a>,
     notes: &[NotePart],
     core: CoreId,
-    row: &'a Table,
 ) -> Result<Script, LoadFault>
     requires { names.now ≡ map (λ n. n.name) notes.now }
     ensures { Gives (λ s. s) result (script notes.now core at (table_view row.now)) }
 {
-    let values = texts(at, row)?;
-    let items = script_items(alloc, at, names, notes, core, values)?;
+    let values = texts(row, at)?;
+    let items = script_items(alloc, values, at, names, notes, core)?;
     ends_without_wait(at, items)
 }

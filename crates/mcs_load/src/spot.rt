@@ -110,6 +110,7 @@ impl fmt::Display for Spot {
     }
 }
 
+/// A row that is meant, behind a space.
 fn put_row<W: fmt::Write>(f: &mut fmt::Formatter<W>, row: usize) -> fmt::Result
     ensures { DisplaysOnOk W.write_str_gives f.old result (Some (row_text row)) f.new }
 {
@@ -119,6 +120,7 @@ fn put_row<W: fmt::Write>(f: &mut fmt::Formatter<W>, row: usize) -> fmt::Result
     }
 }
 
+/// A key that is meant, behind a space.
 fn put_key<W: fmt::Write>(f: &mut fmt::Formatter<W>, key: Key) -> fmt::Result
     ensures { DisplaysOnOk W.write_str_gives f.old result (Some (key_text key)) f.new }
 {
@@ -128,6 +130,7 @@ fn put_key<W: fmt::Write>(f: &mut fmt::Formatter<W>, key: Key) -> fmt::Result
     }
 }
 
+/// An item that is meant, behind a space.
 fn put_item<W: fmt::Write>(f: &mut fmt::Formatter<W>, item: usize) -> fmt::Result
     ensures { DisplaysOnOk W.write_str_gives f.old result (Some (item_text item)) f.new }
 {

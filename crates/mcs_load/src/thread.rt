@@ -1,3 +1,5 @@
+#![tactic(auto, using(crate::proofs::Steps::steps), unfolding(crate::specs::Walk::own_context, crate::specs::Walk::times, crate::specs::Walk::thread, crate::specs::Walk::threads))]
+
 ghost use Rattle.std.specs.Prelude.{◌≡◌, ◌<◌, IfOk, length, map, [], ◌∷◌, ◌++◌};
 ghost use Rattle.toml.specs.View.{table_view};
 ghost use Rattle.mcs_load.specs.Checks.{Gives, Tells};
@@ -11,13 +13,14 @@ use crate::numbers::moment;
 use crate::reader::{RowReader, read_array};
 use crate::script::script;
 use crate::spot::{Key, Section};
-use crate::words::{new_name, number_with_default, only_keys, whole_number};
+use crate::values::{new_name, number_with_default, only_keys, whole_number};
 use indexmap::IndexSet;
 use mcs_system::{ContextPart, Name, NotePart, ThreadPart};
 use mcs_ticks::{ContextId, Limits, Tick};
 use std::alloc::Global;
 use toml::Table;
 
+/// The keys of a thread.
 const THREAD_KEYS: [Key; 7] = [
     Key::Name,
     Key::Context,
@@ -37,18 +40,17 @@ struct Timing {
 }
 
 /// The context of the row, which no earlier thread has; it goes into the set of those that are taken.
-#[tactic(auto, using(crate::proofs::Steps::both, crate::proofs::Steps::or_else_none, crate::proofs::Steps::or_else_some), unfolding(crate::specs::Walk::own_context))]
 fn own_context<'a>(
-    names: &Names<'a>,
-    at: At,
-    taken: &mut IndexSet<usize>,
     row: &'a Table,
+    at: At,
+    names: &Names<'a>,
+    taken: &mut IndexSet<usize>,
 ) -> Result<usize, LoadFault>
     ensures gives { Gives (λ n. n) result (own_context names.now at taken.old.keys (table_view row.now)) }
     ensures within { IfOk result (λ n. n < length names.now) }
     ensures kept { IfOk result (λ n. taken.new.keys ≡ taken.old.keys ++ n ∷ []) }
 {
-    let context = known_context(at, names, row)?;
+    let context = known_context(row, at, names)?;
     if !taken.insert(context)? {
         return Err(at.fault(Key::Context, FaultKind::ContextTaken));
     }
@@ -56,17 +58,16 @@ fn own_context<'a>(
 }
 
 /// The start, the rounds and the deadline of a row.
-#[tactic(auto, using(crate::proofs::Steps::both, crate::proofs::Steps::or_else_none, crate::proofs::Steps::or_else_some), unfolding(crate::specs::Walk::times))]
-fn times(at: At, row: &Table) -> Result<Timing, LoadFault>
+fn times(row: &Table, at: At) -> Result<Timing, LoadFault>
     ensures { Tells (λ x. x) result (times at (table_view row.now)) }
 {
-    let start = number_with_default(at, Key::Start, 0, Limits::START, 0, row)?;
-    let rounds = number_with_default(at, Key::Rounds, 0, Limits::ROUNDS, 0, row)?;
-    let latest = number_with_default(at, Key::Deadline, 0, Limits::DEADLINE, 0, row)?;
+    let start = number_with_default(row, at, Key::Start, 0, Limits::START, 0)?;
+    let rounds = number_with_default(row, at, Key::Rounds, 0, Limits::ROUNDS, 0)?;
+    let deadline = number_with_default(row, at, Key::Deadline, 0, Limits::DEADLINE, 0)?;
     Ok(Timing {
         start: moment(start),
         rounds,
-        deadline: latest,
+        deadline,
     })
 }
 
@@ -92,15 +93,14 @@ impl<'c, 'n, 'a> RowReader<'a> for ThreadReader<'c, 'n, 'a> {
         × (reader.note_names.now ≡ map (λ n. n.name) reader.notes.now) × (reader.names ≡ map (λ t. t.name) earlier)
         × (reader.taken.keys ≡ map (λ t. t.context) earlier) };
 
-    #[tactic(auto, using(crate::proofs::Steps::both, crate::proofs::Steps::or_else_none, crate::proofs::Steps::or_else_some), unfolding(crate::specs::Walk::thread))]
-    fn read(&mut self, at: At, row: &'a Table) -> Result<ThreadPart, LoadFault> {
-        only_keys(at, &THREAD_KEYS, row)?;
-        let name = new_name(at, &mut self.names, row)?;
-        let context = own_context(self.context_names, at, &mut self.taken, row)?;
-        let priority = whole_number(at, Key::Priority, 0, Limits::PRIORITY, row)?;
-        let times = times(at, row)?;
+    fn read(&mut self, row: &'a Table, at: At) -> Result<ThreadPart, LoadFault> {
+        only_keys(row, at, &THREAD_KEYS)?;
+        let name = new_name(row, at, &mut self.names)?;
+        let context = own_context(row, at, self.context_names, &mut self.taken)?;
+        let priority = whole_number(row, at, Key::Priority, 0, Limits::PRIORITY)?;
+        let times = times(row, at)?;
         let core = core_of_part(self.contexts, context);
-        let script = script(self.alloc, at, self.note_names, self.notes, core, row)?;
+        let script = script(self.alloc, row, at, self.note_names, self.notes, core)?;
         Ok(ThreadPart {
             name: Name::new(String::from_str(self.alloc, name)?),
             context: ContextId(context),
@@ -114,14 +114,13 @@ impl<'c, 'n, 'a> RowReader<'a> for ThreadReader<'c, 'n, 'a> {
 }
 
 /// The threads of a file in order.
-#[tactic(auto, unfolding(crate::specs::Walk::threads))]
 pub(crate) fn threads<'a>(
     alloc: Global,
+    file: &'a Table,
     contexts: &[ContextPart],
     context_names: &Names<'a>,
     notes: &[NotePart],
     note_names: &Names<'a>,
-    file: &'a Table,
 ) -> Result<Vec<ThreadPart>, LoadFault>
     requires contexts { context_names.now ≡ map (λ c. c.name) contexts.now }
     requires notes { note_names.now ≡ map (λ n. n.name) notes.now }
@@ -136,5 +135,5 @@ pub(crate) fn threads<'a>(
         names: Names::new(alloc),
         taken: IndexSet::new(alloc),
     };
-    read_array(alloc, &mut reader, Section::Thread, Key::Thread, file)
+    read_array(alloc, file, Section::Thread, Key::Thread, &mut reader)
 }

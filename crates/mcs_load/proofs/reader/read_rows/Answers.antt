@@ -8,7 +8,7 @@ use Rattle.mcs_load.proofs.reader.read_rows.Goals as goal
 
 pub returns-in_err-read_row-clause-gives : goal.returns-in_err-read_row-clause-gives
 returns-in_err-read_row-clause-gives g c =
-    let p = err_from_is_err_and c.from_residual.result c.from_residual.ensures.1 in
+    let p = err_from_is_err_and c.from_residual-in_err-read_row.result c.from_residual-in_err-read_row.ensures.1 in
     let fault = c.in_err-read_row.field-0.0 in
     let parts = c.loop-i.parts.items in
     let failed = c.in_err-read_row.ensures.gives parts c.loop-i.invariant.keeps (omega (arith, c.loop-i.invariant.count)) in
@@ -23,11 +23,12 @@ loop-i-preserved g c =
     let tests = ap (λ read. first_failed (row c.args.section read parts (view c.index-rows-i.result)).tests) (sym c.loop-i.invariant.same) in
     let value = ap (λ read. (row c.args.section read parts (view c.index-rows-i.result)).value) (sym c.loop-i.invariant.same) in
     let next = step_passes (row c.args.section (g.R.RowReader.reads c.args.reader.now)) _ c.args.rows.now c.loop-i.i c.index-rows-i.result x (omega arith) c.index-rows-i.is (tests ∙ given.0, value ∙ given.1) in
-    rw c.in_ok-push.ensures.items
+    rw c.push_reserved.ensures.items
     (record {
       tests = next.0 ∙ c.loop-i.invariant.tests;
       value = next.1 ∙ c.loop-i.invariant.value;
       same = c.in_ok-read_row.ensures.same ∙ c.loop-i.invariant.same;
       keeps = c.in_ok-read_row.ensures.kept parts c.loop-i.invariant.keeps;
       count = omega (arith, length-append {A = g.row.R-Part.Denot}, c.loop-i.invariant.count);
+      room = omega (arith, c.push_reserved.ensures.capacity, c.loop-i.invariant.room);
     })

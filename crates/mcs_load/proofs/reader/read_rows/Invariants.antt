@@ -1,4 +1,4 @@
-use Rattle.std.proofs.Common.{◌≡◌, [], length, drop}
+use Rattle.std.proofs.Common.{◌≡◌, ◌≤◌, [], length, drop, vec_capacity}
 use Rattle.toml.specs.View.{items_view}
 use Rattle.mcs_load.specs.Checks.{first_failed}
 use Rattle.mcs_load.specs.Words.{row, each}
@@ -15,4 +15,5 @@ invariant-loop-i g l =
       same : g.R.RowReader.reads l.reader ≡ g.R.RowReader.reads l.initial.reader;
       keeps : g.R.RowReader.keeps l.reader l.parts.items;
       count : length l.parts.items ≡ l.i;
+      room : length l.rows ≤ vec_capacity l.parts;
     }

@@ -1,3 +1,6 @@
+//! Reading the values of the tree: of a key, of a row and of an array.
+#![tactic(auto, using(crate::proofs::Steps::steps, crate::proofs::Members::item_count_view), unfolding(crate::specs::Words::number, crate::specs::Words::whole_number, crate::specs::Words::number_with_default, crate::specs::Words::text, crate::specs::Words::row_table, crate::specs::Words::only_keys, crate::specs::Words::new_name, crate::specs::Words::rows))]
+
 ghost use Rattle.std.specs.Prelude.{◌≡◌, ◌<◌, ◌≤◌, option_map, Option, IfOk, [], ◌∷◌, ◌++◌};
 ghost use Rattle.toml.specs.Data.{get_member};
 ghost use Rattle.toml.specs.View.{view, table_view, items_view};
@@ -24,14 +27,14 @@ pub(crate) fn find(table: &Table, key: Key) -> Option<&Value>
     table.get(name_of(key))
 }
 
-#[tactic(auto, unfolding(crate::specs::Words::number))]
+/// The whole number that was found at a key, or the default where nothing was.
 fn number(
+    found: Option<&Value>,
     at: At,
     key: Key,
     least: u64,
     most: u64,
     default: u64,
-    found: Option<&Value>,
 ) -> Result<u64, LoadFault>
     requires { (least ≤ default) × (default ≤ most) }
     ensures in_range { IfOk result (λ n. (least ≤ n) × (n ≤ most)) }
@@ -41,111 +44,103 @@ fn number(
     let Some(value) = found else {
         return Ok(default);
     };
-    let Some(number) = value.as_integer() else {
-        return Err(at.fault(key, FaultKind::WrongKind));
-    };
+    let number = value
+        .as_integer()
+        .ok_or(at.fault(key, FaultKind::WrongKind))?;
     match u64::try_from(number) {
         Ok(number) if least <= number && number <= most => Ok(number),
         _ => Err(at.fault(key, FaultKind::OutOfRange)),
     }
 }
 
-#[tactic(auto, unfolding(crate::specs::Words::whole_number))]
+/// The whole number at a key, which has to be there.
 pub(crate) fn whole_number(
+    table: &Table,
     at: At,
     key: Key,
     least: u64,
     most: u64,
-    table: &Table,
 ) -> Result<u64, LoadFault>
     requires { least ≤ most }
     ensures in_range { IfOk result (λ n. (least ≤ n) × (n ≤ most)) }
     ensures gives { Tells (λ n. n) result (whole_number at key least most (table_view table.now)) }
 {
-    let Some(value) = find(table, key) else {
-        return Err(at.fault(key, FaultKind::MissingKey));
-    };
-    number(at, key, least, most, least, Some(value))
+    let value = find(table, key).ok_or(at.fault(key, FaultKind::MissingKey))?;
+    number(Some(value), at, key, least, most, least)
 }
 
-#[tactic(auto, unfolding(crate::specs::Words::number_with_default))]
+/// The whole number at a key, or the default where the table has none.
 pub(crate) fn number_with_default(
+    table: &Table,
     at: At,
     key: Key,
     least: u64,
     most: u64,
     default: u64,
-    table: &Table,
 ) -> Result<u64, LoadFault>
     requires { (least ≤ default) × (default ≤ most) }
     ensures in_range { IfOk result (λ n. (least ≤ n) × (n ≤ most)) }
     ensures gives { Tells (λ n. n) result (number_with_default at key least most default (table_view table.now)) }
 {
-    number(at, key, least, most, default, find(table, key))
+    number(find(table, key), at, key, least, most, default)
 }
 
-#[tactic(auto, unfolding(crate::specs::Words::text))]
-pub(crate) fn text(at: At, key: Key, table: &Table) -> Result<&str, LoadFault>
+/// The text at a key, which has to be there.
+pub(crate) fn text(table: &Table, at: At, key: Key) -> Result<&str, LoadFault>
     ensures { Tells (λ s. s.now) result (text at key (table_view table.now)) }
 {
-    let Some(value) = find(table, key) else {
-        return Err(at.fault(key, FaultKind::MissingKey));
-    };
-    match value.as_str() {
-        Some(text) => Ok(text),
-        None => Err(at.fault(key, FaultKind::WrongKind)),
-    }
+    let value = find(table, key).ok_or(at.fault(key, FaultKind::MissingKey))?;
+    value.as_str().ok_or(at.fault(key, FaultKind::WrongKind))
 }
 
-#[tactic(auto, unfolding(crate::specs::Words::row_table))]
-pub(crate) fn row_table(at: At, row: &Value) -> Result<&Table, LoadFault>
+/// The table that a row is.
+pub(crate) fn row_table(row: &Value, at: At) -> Result<&Table, LoadFault>
     ensures { Tells (λ t. table_view t.now) result (row_table at (view row.now)) }
 {
-    match row.as_table() {
-        Some(table) => Ok(table),
-        None => Err(at.fault(Key::Whole, FaultKind::WrongKind)),
-    }
+    row.as_table()
+        .ok_or(at.fault(Key::Whole, FaultKind::WrongKind))
 }
 
 /// Whether the name is one of the keys'.
-fn is_listed(keys: &[Key], name: &str) -> bool
+fn is_listed(name: &str, keys: &[Key]) -> bool
     ensures { result ≡ is_listed keys.now name.now }
 {
     keys.iter().any(|key| name_of(*key) == name)
 }
 
-fn has_only(keys: &[Key], table: &Table) -> bool
+/// Whether each name of the table is one of the keys'.
+fn has_only(table: &Table, keys: &[Key]) -> bool
     ensures { result ≡ has_only keys.now (table_view table.now) }
 {
     'names: for (name, _value) in table.iter() {
-        if !is_listed(keys, name.as_str()) {
+        if !is_listed(name.as_str(), keys) {
             return false;
         }
     }
     true
 }
 
-#[tactic(auto, unfolding(crate::specs::Words::only_keys))]
-pub(crate) fn only_keys(at: At, keys: &[Key], table: &Table) -> Result<(), LoadFault>
+/// Tests that the table has no other keys than these.
+pub(crate) fn only_keys(table: &Table, at: At, keys: &[Key]) -> Result<(), LoadFault>
     ensures { Tells (λ x. x) result (only_keys at keys.now (table_view table.now)) }
 {
-    if has_only(keys, table) {
+    if has_only(table, keys) {
         Ok(())
     } else {
         Err(at.fault(Key::Other, FaultKind::UnknownKey))
     }
 }
 
-#[tactic(auto, using(crate::proofs::Steps::both, crate::proofs::Steps::or_else_none, crate::proofs::Steps::or_else_some), unfolding(crate::specs::Words::new_name))]
+/// The name of a row, which no earlier row has; it goes to the end of the earlier ones.
 pub(crate) fn new_name<'a>(
+    table: &'a Table,
     at: At,
     earlier: &mut Names<'a>,
-    table: &'a Table,
 ) -> Result<&'a str, LoadFault>
     ensures gives { Gives (λ s. s.now) result (new_name at earlier.old (table_view table.now)) }
     ensures kept { IfOk result (λ s. earlier.new ≡ earlier.old ++ s.now ∷ []) }
 {
-    let name = text(at, Key::Name, table)?;
+    let name = text(table, at, Key::Name)?;
     if !Name::accepts(name) {
         return Err(at.fault(Key::Name, FaultKind::BadName));
     }
@@ -156,17 +151,16 @@ pub(crate) fn new_name<'a>(
 }
 
 /// The rows at a key: the values of its array, or none.
-#[tactic(auto, using(crate::proofs::Members::item_count_view), unfolding(crate::specs::Words::rows))]
-pub(crate) fn rows(section: Section, key: Key, table: &Table) -> Result<&[Value], LoadFault>
+pub(crate) fn rows(table: &Table, section: Section, key: Key) -> Result<&[Value], LoadFault>
     ensures { Tells (λ v. items_view v.now) result (rows section key (table_view table.now)) }
 {
     let at = At::array(section);
     let Some(value) = find(table, key) else {
         return Ok(&[]);
     };
-    let Some(rows) = value.as_array() else {
-        return Err(at.fault(Key::Whole, FaultKind::WrongKind));
-    };
+    let rows = value
+        .as_array()
+        .ok_or(at.fault(Key::Whole, FaultKind::WrongKind))?;
     if rows.len() > MOST_ROWS {
         return Err(at.fault(Key::Whole, FaultKind::TooMany));
     }

@@ -2,7 +2,7 @@ use Rattle.std.proofs.Common.{◌∙◌, ap}
 use Rattle.toml.specs.View.{table_view}
 use Rattle.toml.specs.Data.{get_member}
 use Rattle.toml.proofs.Views.{table_get}
-use Rattle.mcs_load.proofs.words.find.Goals as goal
+use Rattle.mcs_load.proofs.values.find.Goals as goal
 
 pub returns : goal.returns
 returns c =
