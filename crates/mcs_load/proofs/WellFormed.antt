@@ -9,8 +9,6 @@ use Rattle.toml.specs.Data.{Data, Members}
 use Rattle.mcs_control.specs.declared.config.ControlFault.{ControlFault}
 use Rattle.mcs_control.specs.declared.config.Kind.{Kind}
 use Rattle.mcs_control.specs.declared.config.Kind.TheVariants as kinds
-use Rattle.mcs_control.specs.declared.config.Mode.{Mode}
-use Rattle.mcs_control.specs.declared.config.Mode.TheVariants as modes
 use Rattle.mcs_control.specs.declared.config.Order.{Order}
 use Rattle.mcs_control.specs.Control.{checked, kind_of, takes, IsModeOf}
 use Rattle.mcs_system.specs.declared.part.ContextPart.{ContextPart}

@@ -90,15 +90,20 @@ pub(crate) fn text(table: &Table, at: At, key: Key) -> Result<&str, LoadFault>
     ensures { Tells (λ s. s.now) result (text at key (table_view table.now)) }
 {
     let value = find(table, key).ok_or(at.fault(key, FaultKind::MissingKey))?;
-    value.as_str().ok_or(at.fault(key, FaultKind::WrongKind))
+    match value.as_str() {
+        Some(text) => Ok(text),
+        None => Err(at.fault(key, FaultKind::WrongKind)),
+    }
 }
 
 /// The table that a row is.
 pub(crate) fn row_table(row: &Value, at: At) -> Result<&Table, LoadFault>
     ensures { Tells (λ t. table_view t.now) result (row_table at (view row.now)) }
 {
-    row.as_table()
-        .ok_or(at.fault(Key::Whole, FaultKind::WrongKind))
+    match row.as_table() {
+        Some(table) => Ok(table),
+        None => Err(at.fault(Key::Whole, FaultKind::WrongKind)),
+    }
 }
 
 /// Whether the name is one of the keys'.
