@@ -113,9 +113,9 @@ fn script_items<'a>(
     ensures gives { Gives (λ v. v.items) result (each (next_item notes.now core at) [] (items_view values.now)) }
     ensures count { IfOk result (λ v. length v.items ≡ length values.now) }
 {
-    let mut items = Vec::with_capacity(alloc, values.len())?;
+    let mut items = Vec::new(alloc);
     for (i, value) in values.iter().enumerate() {
-        items.push_reserved(script_item(value, at, i + 1, names, notes, core)?);
+        items.push(script_item(value, at, i + 1, names, notes, core)?)?;
     }
     Ok(items)
 }

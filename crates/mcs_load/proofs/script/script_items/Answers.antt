@@ -7,7 +7,7 @@ use Rattle.mcs_load.proofs.script.script_items.Goals as goal
 
 pub returns-in_err-script_item-clause-gives : goal.returns-in_err-script_item-clause-gives
 returns-in_err-script_item-clause-gives c =
-    let p = err_from_is_err_and c.from_residual-in_err-script_item.result c.from_residual-in_err-script_item.ensures.1 in
+    let p = err_from_is_err_and c.from_residual.result c.from_residual.ensures.1 in
     let number : c.loop-i.i + 1 ≡ suc (length c.loop-i.items.items) = omega (arith, c.loop-i.invariant.count) in
     let failed = rw number at c.in_err-script_item.ensures in
     rw (p.1, p.2) (λ _. sym c.loop-i.invariant.tests ∙ step_fails (next_item c.args.notes.now c.args.core c.args.at) _ c.args.values.now c.loop-i.i c.index-values-i.result c.in_err-script_item.field-0.0 (omega arith) c.index-values-i.is failed)
@@ -18,10 +18,9 @@ loop-i-preserved c =
     let number : c.loop-i.i + 1 ≡ suc (length c.loop-i.items.items) = omega (arith, c.loop-i.invariant.count) in
     let given = rw number at c.in_ok-script_item.ensures in
     let next = step_passes (next_item c.args.notes.now c.args.core c.args.at) _ c.args.values.now c.loop-i.i c.index-values-i.result x (omega arith) c.index-values-i.is given in
-    rw c.push_reserved.ensures.items
+    rw c.in_ok-push.ensures.items
     (record {
       tests = next.0 ∙ c.loop-i.invariant.tests;
       value = next.1 ∙ c.loop-i.invariant.value;
       count = omega (arith, length-append {A = Item}, c.loop-i.invariant.count);
-      room = omega (arith, c.push_reserved.ensures.capacity, c.loop-i.invariant.room);
     })
