@@ -106,7 +106,7 @@ length-each f n (x ∷ xs) = ap suc (length-each f (suc n) xs)
 length-fold : (rows : List Row) (tally : Tally) → length (fold added tally rows).accounts ≡ length tally.accounts
 length-fold rows tally = ap length (accounts-fold rows tally) ∙ length-each (λ i account. fold (told_alone tally.horizon i) account rows) 0 tally.accounts
 
-account-fold : (rows : List Row) (tally : Tally) (x : ℕ) → x < length tally.accounts
+pub account-fold : (rows : List Row) (tally : Tally) (x : ℕ) → x < length tally.accounts
     → get_or (fold added tally rows).accounts x no_account ≡ fold (told_alone tally.horizon x) (get_or tally.accounts x no_account) rows
 account-fold rows tally x known =
     ap (λ accounts. get_or accounts x no_account) (accounts-fold rows tally)
@@ -116,7 +116,7 @@ account-fold rows tally x known =
 first_account : System → ℕ → ℕ → Account
 first_account system h x = get_or (opened_tally system h).accounts x no_account
 
-length-opened : (system : System) (h : ℕ) → length (opened_tally system h).accounts ≡ length system.threads
+pub length-opened : (system : System) (h : ℕ) → length (opened_tally system h).accounts ≡ length system.threads
 length-opened system h = length-map system.threads _
 
 account-rows : (system : System) (h x : ℕ) (rows : List Row) → x < length system.threads
@@ -160,7 +160,7 @@ module _ (system : System) (takes_time : TakesTime system) (h x : ℕ) where
   clock-home known t a =
       clock-within known t a ∙ ap (λ n. fold (told_alone h x) a (flat_map (clocks.rows_of system (home_of system x)) (range_with_len 0 n))) (omega arith)
 
-home_known : (system : System) → IsWellFormed system → (x : ℕ) → home_of system x < system.cores
+pub home_known : (system : System) → IsWellFormed system → (x : ℕ) → home_of system x < system.cores
 unfolding own_core
 home_known system well x = own_core_known system well x
 

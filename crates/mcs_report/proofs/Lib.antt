@@ -12,3 +12,7 @@ pub mod Bandwidth
 pub mod Rounds
 pub mod ByCore
 pub mod Given
+pub mod Homes
+pub mod OnCore
+pub mod Joined
+pub mod CoreRows

@@ -1,5 +1,5 @@
 -- Reports that were worked by hand, of the rows and of whole schedules.
-use Rattle.std.specs.Prelude.{◌≡◌, ℕ, List, [], ◌∷◌, Some, None, sum, refl}
+use Rattle.std.specs.Prelude.{◌≡◌, ℕ, List, [], ◌∷◌, Some, None, map, sum, refl}
 use Rattle.mcs_ticks.specs.declared.row.Row.{Row}
 use Rattle.mcs_ticks.specs.declared.row.What.{What}
 use Rattle.mcs_ticks.specs.declared.row.What.TheVariants as row
@@ -15,6 +15,10 @@ use Rattle.mcs_report.specs.declared.reports.ThreadReport.{ThreadReport}
 use Rattle.mcs_report.specs.declared.reports.Reports.{Reports}
 use Rattle.mcs_laws.specs.Demand.{ticks_run, demand_of}
 use Rattle.mcs_report.specs.Reports.{run_lengths, thread_report, reports_of}
+use Rattle.mcs_report.specs.Tally.{opened, finished}
+use Rattle.mcs_report.specs.Places.{threads_on, place_of, place_on}
+use Rattle.mcs_report.specs.CoreTally.{CoreTally, core_tally_of, joined}
+use Rattle.mcs_report.specs.laws.ByCore.{rows_within}
 
 abbrev context : ℕ → ℕ → ContextPart
 context budget period = record { name = []; core = 0; config = record { budget = budget; period = period; extra = 0 }; mode = mode.Sporadic }
@@ -152,3 +156,67 @@ an_order_lets_it_run_more = refl
 
 more_than_by_its_first_budget : demand_of raised 0 10 ≡ 1
 more_than_by_its_first_budget = refl
+
+-- core 1 has the threads 0 and 2, and core 0 has thread 1
+abbrev two_cores : System
+two_cores =
+    record (one_core
+    (record (context 5 10) { core = 1 } ∷ context 5 10 ∷ record (context 5 10) { core = 1 } ∷ [])
+    (thread 0 5 1 0 (Compute 2 ∷ []) ∷ thread 1 5 1 0 (Compute 3 ∷ []) ∷ thread 2 4 1 9 (Compute 1 ∷ []) ∷ [])) {
+      cores = 2;
+    }
+
+has_two_threads : map (λ thread. thread.context) (threads_on two_cores 1) ≡ 0 ∷ 2 ∷ []
+has_two_threads = refl
+
+first_of_its_core : place_of two_cores 1 ≡ 0
+first_of_its_core = refl
+
+second_of_its_core : place_on two_cores 1 2 ≡ Some 1
+second_of_its_core = refl
+
+no_place_on_another_core : place_on two_cores 0 2 ≡ None
+no_place_on_another_core = refl
+
+no_place_of_no_thread : place_on two_cores 0 3 ≡ None
+no_place_of_no_thread = refl
+
+-- the rows of thread 2 are counted at its place, and those of thread 1, of another core, and of thread 3, which there is not, nowhere
+counts_its_own_threads :
+    (core_tally_of
+    two_cores
+    1
+    10
+    (at 1 (row.Run 2)
+    ∷ at 2 (row.Run 1)
+    ∷ at 4 (row.Stop 2 why.Done 3 None)
+    ∷ at 4 (row.Round 2 1 4)
+    ∷ at 5 (row.Round 1 1 5)
+    ∷ at 6 (row.Round 3 1 6)
+    ∷ [])).accounts
+    ≡ opened 1 0 ∷ record (opened 1 9) { report = report 3 1 4 4 4 0 0 0 0 } ∷ []
+counts_its_own_threads = refl
+
+-- each core counts the rows of its own turns, and together they report the schedule
+abbrev tallies_by_core : List CoreTally
+tallies_by_core =
+    core_tally_of two_cores 0 6 (rows_within two_cores 0 0 7) ∷ core_tally_of two_cores 1 6 (rows_within two_cores 1 0 7) ∷ []
+
+abbrev by_core_six : Reports
+by_core_six =
+    record {
+      threads = report 2 1 2 2 2 0 0 0 0 ∷ report 3 1 3 3 3 0 0 0 0 ∷ report 1 1 3 3 3 0 0 0 0 ∷ [];
+      cores = record { busy = 3; idle = 3 } ∷ record { busy = 3; idle = 3 } ∷ [];
+    }
+
+together_they_report : finished (joined two_cores 6 tallies_by_core) ≡ by_core_six
+together_they_report = refl
+
+as_the_schedule_does : of_schedule two_cores 6 ≡ by_core_six
+as_the_schedule_does = refl
+
+-- a core without its tally counts nothing
+nothing_of_a_core_left_out :
+    map (λ report. report.rounds) (finished (joined two_cores 6 (core_tally_of two_cores 0 6 (rows_within two_cores 0 0 7) ∷ []))).threads
+    ≡ 0 ∷ 1 ∷ 0 ∷ []
+nothing_of_a_core_left_out = refl

@@ -91,6 +91,20 @@ responded response account =
 abbrev pub changed : ℕ → (Account → Account) → List Account → List Account
 changed thread change accounts = set accounts thread (change (get_or accounts thread no_account))
 
+-- the thread whose account a row changes
+abbrev pub counted_thread : What → Option ℕ
+counted_thread (row.Run x) = Some x
+counted_thread (row.Stop x cause charged until) = Some x
+counted_thread (row.Round x number response) = Some x
+counted_thread _ = None
+
+-- what it says to that account
+abbrev pub heard : ℕ → ℕ → What → Account → Account
+heard horizon moment (row.Run x) account = begun moment account
+heard horizon moment (row.Stop x cause charged until) account = stopped horizon moment cause until account
+heard horizon moment (row.Round x number response) account = responded response account
+heard horizon moment _ account = account
+
 abbrev pub told : ℕ → ℕ → What → List Account → List Account
 told horizon moment (row.Run x) accounts = changed x (begun moment) accounts
 told horizon moment (row.Stop x cause charged until) accounts = changed x (stopped horizon moment cause until) accounts

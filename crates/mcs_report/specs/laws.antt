@@ -4,3 +4,4 @@ pub mod Demand
 pub mod Bandwidth
 pub mod ByCore
 pub mod Given
+pub mod CoreTallies

@@ -3,6 +3,7 @@ ghost use Rattle.mcs_report.specs.laws.Schedules.{SchedulesRunApart, SchedulesAr
 ghost use Rattle.mcs_report.specs.laws.Bandwidth.{BandwidthIsBounded};
 ghost use Rattle.mcs_report.specs.laws.Demand.{RunsAreTicks, DemandIsBounded};
 ghost use Rattle.mcs_report.specs.laws.ByCore.{CoresAreCounted};
+ghost use Rattle.mcs_report.specs.laws.CoreTallies.{GivenAreAddedByCore, CoreTalliesGiveReports};
 ghost use Rattle.mcs_report.specs.laws.Given.{GivenAreAdded};
 
 /// A law of tallies, for every list of rows in which each run of a thread is stopped before the next one, as in every schedule:
@@ -53,4 +54,16 @@ pub fn cores_are_counted()
 /// A law of tallies as sinks: a tally that was given rows, as by a core's turns, has added them in their order.
 pub fn given_rows_are_added()
     ensures { GivenAreAdded }
+{}
+
+/// A law of tallies of one core as sinks: one that was given rows has added them in their order.
+pub fn given_rows_are_added_by_core()
+    ensures { GivenAreAddedByCore }
+{}
+
+/// A law of tallies: where each core has counted its own rows in a tally of its own, these put together are as one tally in which the rows of
+/// each core were counted by themselves (`cores_are_counted`). When all rows up to the horizon were counted, what is finished is the reports
+/// of the schedule.
+pub fn core_tallies_give_reports()
+    ensures { CoreTalliesGiveReports }
 {}

@@ -4,9 +4,11 @@ ghost use Rattle.mcs_system.specs.System.{core_of};
 ghost use Rattle.mcs_ticks.specs.Capped.{capped};
 ghost use Rattle.mcs_report.specs.Reports.{core_report_of};
 ghost use Rattle.mcs_report.specs.Tally.{opened, told, report_at, ran_by, opened_tally, added, finished};
+ghost use Rattle.mcs_report.specs.CoreTally.{joined};
 
-use crate::account::Account;
-use crate::{CoreReport, Reports, ThreadReport};
+use crate::account::{Account, counted_thread};
+use crate::together::put_together;
+use crate::{CoreReport, CoreTally, Places, Reports, ThreadReport};
 use mcs_system::{System, SystemParts, ThreadPart};
 use mcs_ticks::{CoreId, NoMemory, Refused, Row, Sequence, Sink, Tick, What};
 use std::alloc::Global;
@@ -52,38 +54,16 @@ fn opened_accounts(alloc: Global, parts: &SystemParts) -> Result<Vec<Account>, N
     Ok(accounts)
 }
 
-// A row whose kind is known where it is told is counted by that kind's steps alone.
+// A row of a thread that the system has is told to that thread's account.
 #[inline(always)]
 #[tactic(auto, using(std::proofs::lemmas::List::set_past))]
-fn tell(accounts: &mut [Account], horizon: Tick, moment: Tick, what: What)
-    ensures { accounts.new ≡ told horizon moment what accounts.old }
+fn tell(accounts: &mut [Account], horizon: Tick, moment: Tick, what: &What)
+    ensures { accounts.new ≡ told horizon moment what.now accounts.old }
 {
-    match what {
-        What::Run { thread } => {
-            if thread.0 < accounts.len() {
-                accounts[thread.0].begin(moment);
-            }
+    if let Some(thread) = counted_thread(what) {
+        if thread.0 < accounts.len() {
+            accounts[thread.0].hear(horizon, moment, what);
         }
-        What::Stop {
-            thread,
-            why,
-            until,
-            ..
-        } => {
-            if thread.0 < accounts.len() {
-                accounts[thread.0].stop(horizon, moment, why, until);
-            }
-        }
-        What::Round {
-            thread,
-            response,
-            ..
-        } => {
-            if thread.0 < accounts.len() {
-                accounts[thread.0].respond(response);
-            }
-        }
-        _ => {}
     }
 }
 
@@ -96,7 +76,7 @@ fn tell_all(accounts: &mut [Account], horizon: Tick, last: Tick, rows: &[Row]) -
     let mut moment = last;
     for row in rows {
         moment = row.moment;
-        tell(accounts, horizon, moment, row.what);
+        tell(accounts, horizon, moment, &row.what);
     }
     moment
 }
@@ -182,7 +162,7 @@ impl Tally {
             self.accounts.as_mut_slice(),
             self.horizon,
             row.moment,
-            row.what,
+            &row.what,
         );
     }
 
@@ -192,6 +172,16 @@ impl Tally {
     {
         let accounts = self.accounts.as_mut_slice();
         self.last = tell_all(accounts, self.horizon, self.last, rows);
+    }
+
+    /// The reports of the rows that the cores have counted each by itself, without taking memory: the account of each thread is that of its
+    /// core's tally. This tally had no rows. It was opened for its room, when the run began.
+    pub fn together(mut self, places: &Places, tallies: &[CoreTally]) -> Reports
+        requires { self ≡ opened_tally places.now self.horizon }
+        ensures { result ≡ finished (joined places.now self.horizon tallies.now) }
+    {
+        put_together(self.accounts.as_mut_slice(), places, tallies);
+        self.finish()
     }
 
     /// The reports of the rows that were added, without taking memory: runs that were not stopped end at the horizon.

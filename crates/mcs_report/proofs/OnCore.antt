@@ -1,0 +1,142 @@
+-- The accounts of one core.
+use Rattle.std.proofs.Common.{◌≡◌, ◌≢◌, ℕ, ◌+◌, ◌<◌, ◌≤◌, Bool, true, false, cond, ◌==◌, List, [], ◌∷◌, length, get_or, set, map, refl, sym, ap, subst, ◌∙◌, Option, Some, None, arith}
+use Rattle.std.specs.Prelude.{nat_lt, ◌&&◌}
+use Rattle.std.proofs.Math.Seq.{map-set_same}
+use Rattle.std.proofs.lemmas.Bool.Decides.{nat_tests}
+use Rattle.std.proofs.lemmas.List.{length-map, length-set, get_or-map, get_or_default, get_or-set_same, get_or-set_other, ext_get_or}
+use Rattle.mcs_ticks.specs.declared.row.What.{What}
+use Rattle.mcs_ticks.specs.declared.row.What.TheVariants as row
+use Rattle.mcs_ticks.specs.declared.row.Why.{Why}
+use Rattle.mcs_ticks.specs.declared.row.Why.TheVariants as why
+use Rattle.mcs_system.specs.declared.part.ThreadPart.{ThreadPart}
+use Rattle.mcs_system.specs.System.{System, thread_part, core_of}
+use Rattle.mcs_report.specs.declared.account.Account.{Account}
+use Rattle.mcs_report.specs.Tally.{no_account, opened, counted_thread, heard, stopped, changed}
+use Rattle.mcs_report.specs.Places.{is_on, threads_on, place_of, place_on}
+use Rattle.mcs_report.specs.CoreTally.{opened_on, changed_at, told_on}
+use Rattle.mcs_report.specs.stored.CoreTally.{reopened}
+use Rattle.mcs_report.proofs.Homes.{place-within}
+
+-- a thread with a place on a core
+pub record IsPlaced (system : System) (c x place : ℕ) : Type 0 where
+  pub known : x < length system.threads
+  pub home : core_of system (thread_part system x) ≡ c
+  pub at : place_of system x ≡ place
+
+pub placed : (system : System) (c x place : ℕ) → place_on system c x ≡ Some place → IsPlaced system c x place
+placed system c x place e = by (nat_lt x (length system.threads) && is_on system c (thread_part system x)) refl e
+  where
+    by : (b : Bool) → (nat_lt x (length system.threads) && is_on system c (thread_part system x)) ≡ b → cond b (Some (place_of system x)) None ≡ Some place
+        → IsPlaced system c x place
+    by true passes e = record { known = grind (arith, nat_tests); home = grind (arith, nat_tests); at = cc }
+    by false fails e = absurd (cc)
+
+-- what a row says to the accounts of a core is what it says to the account of its thread, if that has a place there
+module _ (system : System) (c : ℕ) where
+  abbrev changed_on : Option ℕ → (Account → Account) → List Account → List Account
+  changed_on None change accounts = accounts
+  changed_on (Some x) change accounts = changed_at (place_on system c x) change accounts
+
+  told-by : (h m : ℕ) (what : What) (accounts : List Account) → told_on system c h m what accounts ≡ changed_on (counted_thread what) (heard h m what) accounts
+  told-by h m (row.Run x) accounts = refl
+  told-by h m (row.Stop x cause charged until) accounts = refl
+  told-by h m (row.Round x number response) accounts = refl
+  told-by h m (row.Release x) accounts = refl
+  told-by h m (row.Signal x note badge) accounts = refl
+  told-by h m (row.Arrive note badge maker) accounts = refl
+  told-by h m (row.Wake x note word) accounts = refl
+  told-by h m (row.Hold note word) accounts = refl
+  told-by h m (row.Got x note word) accounts = refl
+  told-by h m (row.Order context) accounts = refl
+
+  told-here : (h m : ℕ) (what : What) (x place : ℕ) (accounts : List Account) → counted_thread what ≡ Some x → place_on system c x ≡ Some place
+      → told_on system c h m what accounts ≡ changed place (heard h m what) accounts
+  told-here h m what x place accounts e f =
+      told-by h m what accounts
+      ∙ ap (λ one. changed_on one (heard h m what) accounts) e
+      ∙ ap (λ at. changed_at at (heard h m what) accounts) f
+
+-- what is heard changes neither core nor deadline
+stopped-reopened : (h m : ℕ) (cause : Why) (until : Option ℕ) (a : Account) → reopened (stopped h m cause until a) ≡ reopened a
+stopped-reopened h m why.Spent until a = refl
+stopped-reopened h m why.Yield until a = refl
+stopped-reopened h m why.Wait until a = refl
+stopped-reopened h m why.Done until a = refl
+stopped-reopened h m why.Preempt until a = refl
+stopped-reopened h m why.Order until a = refl
+
+heard-reopened : (h m : ℕ) (what : What) (a : Account) → reopened (heard h m what a) ≡ reopened a
+heard-reopened h m (row.Run x) a = refl
+heard-reopened h m (row.Stop x cause charged until) a = stopped-reopened h m cause until a
+heard-reopened h m (row.Round x number response) a = refl
+heard-reopened h m (row.Release x) a = refl
+heard-reopened h m (row.Signal x note badge) a = refl
+heard-reopened h m (row.Arrive note badge maker) a = refl
+heard-reopened h m (row.Wake x note word) a = refl
+heard-reopened h m (row.Hold note word) a = refl
+heard-reopened h m (row.Got x note word) a = refl
+heard-reopened h m (row.Order context) a = refl
+
+-- so the accounts are always those of the core's threads
+module _ (system : System) (c : ℕ) (accounts : List Account) (own : map reopened accounts ≡ opened_on system c) where
+  pub accounts-length : length accounts ≡ length (threads_on system c)
+  accounts-length = sym (length-map accounts reopened) ∙ ap length own ∙ length-map (threads_on system c) _
+
+  pub accounts-within : (x place : ℕ) → place_on system c x ≡ Some place → place < length accounts
+  accounts-within x place e =
+      let p = placed system c x place e in
+      let within : place_of system x < length (threads_on system c) = subst (λ k. place_of system x < length (threads_on system k)) p.home (place-within system x p.known) in
+      omega (arith, accounts-length, within, p.at)
+
+  pub accounts-heard : (h m place : ℕ) (what : What) (a : Account) → a ≡ get_or accounts place a
+      → map reopened (set accounts place (heard h m what a)) ≡ opened_on system c
+  accounts-heard h m place what a is =
+      map-set_same reopened accounts place (heard h m what a) a (heard-reopened h m what a ∙ ap reopened is) ∙ own
+
+  pub accounts-told : (h m x place : ℕ) (what : What) (a : Account) → Some x ≡ counted_thread what → Some place ≡ place_on system c x → a ≡ get_or accounts place a
+      → set accounts place (heard h m what a) ≡ told_on system c h m what accounts
+  accounts-told h m x place what a counted here is =
+      ap (λ b. set accounts place (heard h m what b)) (is ∙ get_or_default accounts place a no_account (accounts-within x place (sym here)))
+      ∙ sym (told-here system c h m what x place accounts (sym counted) (sym here))
+
+-- clearing: the first n accounts are as before the first row, the others as they were
+pub record AreReopened (before now : List Account) (n : ℕ) : Type 0 where
+  pub many : length now ≡ length before
+  pub first : (k : ℕ) → k < n → get_or now k no_account ≡ reopened (get_or before k no_account)
+  pub rest : (k : ℕ) → n ≤ k → get_or now k no_account ≡ get_or before k no_account
+
+pub reopened-none : (accounts : List Account) → AreReopened accounts accounts 0
+reopened-none accounts = record { many = refl; first = λ k l. absurd (omega arith); rest = λ k l. refl }
+
+pub reopened-more : (before now : List Account) (n : ℕ) (a other : Account) → AreReopened before now n → n < length now → a ≡ reopened (get_or now n other)
+    → AreReopened before (set now n a) (n + 1)
+reopened-more before now n a other are within is =
+    record {
+      many = length-set now n a ∙ are.many;
+      first = λ k l. by k l (k == n) refl;
+      rest = λ k l. get_or-set_other now n k a no_account (omega arith) ∙ are.rest k (omega arith);
+    }
+  where
+    by : (k : ℕ) → k < n + 1 → (b : Bool) → (k == n) ≡ b → get_or (set now n a) k no_account ≡ reopened (get_or before k no_account)
+    by k l true e =
+        let same : k ≡ n = grind (arith, nat_tests) in
+        ap (λ i. get_or (set now n a) i no_account) same
+        ∙ get_or-set_same now n a no_account within
+        ∙ is
+        ∙ ap reopened (get_or_default now n other no_account within ∙ are.rest n (omega arith))
+        ∙ ap (λ i. reopened (get_or before i no_account)) (sym same)
+    by k l false e =
+        let differ : k ≢ n = grind (arith, nat_tests) in
+        get_or-set_other now n k a no_account differ ∙ are.first k (omega (arith, l, differ))
+
+pub reopened-all : (before now : List Account) (n : ℕ) → AreReopened before now n → length now ≤ n → now ≡ map reopened before
+reopened-all before now n are all =
+    ext_get_or no_account now (map reopened before)
+    (are.many ∙ sym (length-map before reopened))
+    (λ k l. are.first k (omega (arith, l, all)) ∙ sym (get_or-map reopened before k no_account no_account (omega (arith, l, are.many))))
+
+-- what was just opened stays so
+pub opened-reopened : (system : System) (threads : List ThreadPart) →
+    map reopened (map (λ thread. opened (core_of system thread) thread.deadline) threads) ≡ map (λ thread. opened (core_of system thread) thread.deadline) threads
+opened-reopened system [] = refl
+opened-reopened system (thread ∷ threads) = ap (λ accounts. opened (core_of system thread) thread.deadline ∷ accounts) (opened-reopened system threads)

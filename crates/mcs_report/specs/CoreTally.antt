@@ -1,0 +1,80 @@
+-- A tally of the rows of one core: the accounts of that core's threads alone.
+use Rattle.std.specs.Prelude.{◌≡◌, ℕ, Bool, true, List, [], map, fold, get_or, length, Option, Some, None}
+use Rattle.std.specs.List.{range_with_len}
+use Rattle.mcs_ticks.specs.declared.row.Row.{Row}
+use Rattle.mcs_ticks.specs.declared.row.What.{What}
+use Rattle.mcs_ticks.specs.declared.row.What.TheVariants as row
+use Rattle.mcs_system.specs.System.{System, thread_part, core_of}
+use Rattle.mcs_report.specs.declared.account.Account.{Account}
+use Rattle.mcs_report.specs.Tally.{Tally, opened, no_account, begun, stopped, responded, changed}
+use Rattle.mcs_report.specs.Places.{threads_on, place_of, place_on}
+
+-- what is counted of each thread of a core, in their order
+pub record CoreTally : Type 0 where
+  pub system : System
+  pub core : ℕ
+  pub horizon : ℕ
+  pub accounts : List Account
+
+-- before the first row
+abbrev pub opened_on : System → ℕ → List Account
+opened_on system c = map (λ thread. opened (core_of system thread) thread.deadline) (threads_on system c)
+
+abbrev pub opened_core_tally : System → ℕ → ℕ → CoreTally
+opened_core_tally system c horizon =
+    record {
+      system = system;
+      core = c;
+      horizon = horizon;
+      accounts = opened_on system c;
+    }
+
+-- the account at this place changes; with no place, none does
+abbrev pub changed_at : Option ℕ → (Account → Account) → List Account → List Account
+changed_at None change accounts = accounts
+changed_at (Some place) change accounts = changed place change accounts
+
+module _ (system : System) (c : ℕ) where
+  -- as `told` of all accounts, of those of core c
+  abbrev pub told_on : ℕ → ℕ → What → List Account → List Account
+  told_on horizon moment (row.Run x) accounts = changed_at (place_on system c x) (begun moment) accounts
+  told_on horizon moment (row.Stop x cause charged until) accounts =
+      changed_at (place_on system c x) (stopped horizon moment cause until) accounts
+  told_on horizon moment (row.Round x number response) accounts = changed_at (place_on system c x) (responded response) accounts
+  told_on horizon moment _ accounts = accounts
+
+-- one row more
+abbrev pub core_added : CoreTally → Row → CoreTally
+core_added tally r =
+    record tally { accounts = told_on tally.system tally.core tally.horizon r.moment r.what tally.accounts }
+
+-- how a tally of a core takes a row: it counts it if it is of one of its threads, and refuses none
+abbrev pub CoreCounts : CoreTally → Row → Bool → CoreTally → Type 0
+CoreCounts before row taken after = (taken ≡ true) × (after ≡ core_added before row)
+
+-- the tally of core c of these rows
+abbrev pub core_tally_of : System → ℕ → ℕ → List Row → CoreTally
+core_tally_of system c horizon rows = fold core_added (opened_core_tally system c horizon) rows
+
+-- these are the rows that it was told
+abbrev pub HoldsRows : CoreTally → List Row → Type 0
+HoldsRows tally rows = tally ≡ core_tally_of tally.system tally.core tally.horizon rows
+
+-- the accounts of core c stand in its tally
+abbrev pub accounts_of : List CoreTally → ℕ → List Account
+accounts_of tallies c = get_or (map (λ tally. tally.accounts) tallies) c []
+
+-- and that of a thread among them, at its place
+abbrev pub account_of : System → List CoreTally → ℕ → Account
+account_of system tallies thread =
+    get_or (accounts_of tallies (core_of system (thread_part system thread))) (place_of system thread) no_account
+
+-- the tallies of all cores put together
+abbrev pub joined : System → ℕ → List CoreTally → Tally
+joined system horizon tallies =
+    record {
+      horizon = horizon;
+      cores = system.cores;
+      last = 0;
+      accounts = map (account_of system tallies) (range_with_len 0 (length system.threads));
+    }

@@ -1,0 +1,146 @@
+ghost use Rattle.std.specs.Prelude.{◌≡◌, ◌<◌, length, map, fold, get_or, IfOk};
+ghost use Rattle.std.specs.Arc.{arc_value};
+ghost use Rattle.mcs_report.specs.Tally.{no_account};
+ghost use Rattle.mcs_report.specs.CoreTally.{opened_on, opened_core_tally, core_added};
+ghost use Rattle.mcs_report.specs.stored.CoreTally.{reopened};
+
+use crate::Places;
+use crate::account::{Account, counted_thread};
+use mcs_system::System;
+use mcs_ticks::{Collector, CoreId, Measured, NoMemory, Refused, Row, Sink, Tick};
+use std::alloc::Global;
+use std::marker::Model;
+use std::sync::Arc;
+
+/// What is counted of the rows of one core so far, with accounts of that core's threads alone. Rows are added one by one, each in constant
+/// time and without memory. Contracts see the system, the core, the horizon and the accounts of the core's threads in their order.
+#[derive(Drop)]
+pub struct CoreTally {
+    places: Arc<Places>,
+    core: CoreId,
+    horizon: Tick,
+    accounts: Vec<Account>,
+}
+
+impl Model for CoreTally {
+    ghost use Rattle.std.specs.Prelude.{◌≡◌, map};
+    ghost use Rattle.std.specs.Arc.{arc_value};
+    ghost use Rattle.mcs_report.specs.CoreTally.{CoreTally, opened_on};
+    ghost use Rattle.mcs_report.specs.stored.CoreTally.{reopened};
+
+    ghost Value = { CoreTally };
+
+    ghost view = { λ a. record { system = arc_value a.places; core = a.core; horizon = a.horizon; accounts = a.accounts.items } };
+
+    ghost invariant = { λ a. map reopened a.accounts.items ≡ opened_on (arc_value a.places) a.core };
+}
+
+fn opened_on(alloc: Global, system: &System, core: CoreId) -> Result<Vec<Account>, NoMemory>
+    ensures { IfOk result (λ accounts. accounts.items ≡ opened_on system.now core) }
+{
+    let parts = system.parts();
+    let accounts = parts
+        .threads
+        .as_slice()
+        .iter()
+        .filter(|thread| parts.core_of_thread(thread) == core)
+        .map(|thread| Account::new(parts.core_of_thread(thread), thread.deadline))
+        .collect(alloc)?;
+    Ok(accounts)
+}
+
+impl CoreTally {
+    /// The tally of this core before its first row, of a run of the system up to the horizon. `NoMemory` where a growth was refused.
+    pub fn new(
+        alloc: Global,
+        places: Arc<Places>,
+        core: CoreId,
+        horizon: Tick,
+    ) -> Result<Self, NoMemory>
+        ensures { IfOk result (λ tally. tally ≡ opened_core_tally (arc_value places) core horizon) }
+    {
+        let accounts = opened_on(alloc, places.system(), core)?;
+        Ok(CoreTally {
+            places,
+            core,
+            horizon,
+            accounts,
+        })
+    }
+
+    /// Counts one row more, in constant time and without memory. A row of a thread of another core, or of one that the system does not have,
+    /// is not counted.
+    #[inline(always)]
+    pub fn add(&mut self, row: &Row)
+        ensures { self.new ≡ core_added self.old row.now }
+    {
+        if let Some(thread) = counted_thread(&row.what) {
+            if let Some(place) = self.places.place_on(self.core, thread) {
+                self.accounts[place].hear(self.horizon, row.moment, &row.what);
+            }
+        }
+    }
+
+    // The account at this place.
+    pub(crate) fn account(&self, place: usize) -> Account
+        ensures { result ≡ get_or self.now.accounts place no_account }
+    {
+        match self.accounts.get(place) {
+            Some(account) => *account,
+            None => Account::new(CoreId(0), 0),
+        }
+    }
+}
+
+fn reopen(accounts: &mut [Account])
+    ensures { accounts.new ≡ map reopened accounts.old }
+{
+    for account in accounts.iter_mut() {
+        *account = Account::new(account.core, account.deadline);
+    }
+}
+
+/// A tally counts each row of its core that it is given, and refuses none.
+impl Sink for CoreTally {
+    ghost use Rattle.mcs_report.specs.CoreTally.{CoreCounts};
+
+    ghost takes = { CoreCounts };
+
+    #[inline(always)]
+    fn row(&mut self, row: &Row) -> Result<(), Refused> {
+        self.add(row);
+        Ok(())
+    }
+}
+
+/// A tally keeps no rows, so it has no size.
+impl Measured for CoreTally {
+    ghost size = { λ _. 0 };
+
+    fn size(&self) -> usize {
+        0
+    }
+}
+
+/// A tally holds the rows that it was told since it was opened or cleared.
+impl Collector for CoreTally {
+    ghost use Rattle.std.specs.Prelude.{◌≡◌, [], refl};
+    ghost use Rattle.mcs_report.specs.CoreTally.{HoldsRows, opened_core_tally};
+    ghost use Rattle.mcs_report.specs.stored.CoreTally.{holds_added};
+
+    ghost holds = { HoldsRows };
+
+    ghost amount = { λ _. 0 };
+
+    /// The tally as it was before its first row.
+    fn clear(&mut self)
+        ensures emptied { HoldsRows self.new [] }
+        ensures opened { self.new ≡ opened_core_tally self.old.system self.old.core self.old.horizon }
+    {
+        reopen(self.accounts.as_mut_slice());
+    }
+
+    ghost holds_more = { holds_added };
+
+    ghost is_measured = { λ _ _ _. refl };
+}
