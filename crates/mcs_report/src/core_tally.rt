@@ -1,4 +1,4 @@
-ghost use Rattle.std.specs.Prelude.{◌≡◌, ◌<◌, length, map, fold, get_or, IfOk};
+ghost use Rattle.std.specs.Prelude.{◌≡◌, ◌↔◌, map, get_or, IfOk, IsTrue};
 ghost use Rattle.std.specs.Arc.{arc_value};
 ghost use Rattle.mcs_report.specs.Tally.{no_account};
 ghost use Rattle.mcs_report.specs.CoreTally.{opened_on, opened_core_tally, core_added};
@@ -79,6 +79,13 @@ impl CoreTally {
                 self.accounts[place].hear(self.horizon, row.moment, &row.what);
             }
         }
+    }
+
+    /// Whether it counts for this core in a run of this system up to this horizon. It compares the systems.
+    pub fn is_for(&self, system: &System, core: CoreId, horizon: Tick) -> bool
+        ensures { IsTrue result ↔ ((self.now.system ≡ system.now) × (self.now.core ≡ core) × (self.now.horizon ≡ horizon)) }
+    {
+        self.core == core && self.horizon == horizon && *self.places.system() == *system
     }
 
     // The account at this place.
