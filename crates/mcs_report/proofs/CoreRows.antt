@@ -11,9 +11,9 @@ use Rattle.mcs_ticks.specs.declared.row.What.TheVariants as row
 use Rattle.mcs_system.specs.System.{System, thread_part, core_of, no_thread}
 use Rattle.mcs_system.specs.WellFormed.{IsWellFormed}
 use Rattle.mcs_report.specs.declared.account.Account.{Account}
-use Rattle.mcs_report.specs.Tally.{no_account, opened, begun, stopped, responded, opened_tally}
+use Rattle.mcs_report.specs.Tally.{no_account, opened, begun, stopped, responded, changed_at, told_at, opened_tally}
 use Rattle.mcs_report.specs.Places.{is_on, threads_on, place_of, place_on}
-use Rattle.mcs_report.specs.CoreTally.{CoreTally, opened_on, changed_at, told_on, core_added, core_tally_of, account_of, joined}
+use Rattle.mcs_report.specs.CoreTally.{CoreTally, opened_on, core_added, core_tally_of, account_of, joined}
 use Rattle.mcs_report.specs.laws.Agreement.{tally_of}
 use Rattle.mcs_report.specs.laws.ByCore.{home_of, rows_within}
 use Rattle.mcs_report.specs.laws.CoreTallies.{GivenAreAddedByCore, AreOfCores, JoinedCount, CoreTalliesGiveReports}
@@ -31,7 +31,7 @@ length-changed : (o : Option ℕ) (f : Account → Account) (accounts : List Acc
 length-changed None f accounts = refl
 length-changed (Some place) f accounts = length-set accounts place _
 
-length-told : (system : System) (c h m : ℕ) (what : What) (accounts : List Account) → length (told_on system c h m what accounts) ≡ length accounts
+length-told : (system : System) (c h m : ℕ) (what : What) (accounts : List Account) → length (told_at (place_on system c) h m what accounts) ≡ length accounts
 length-told system c h m (row.Run y) accounts = length-changed (place_on system c y) (begun m) accounts
 length-told system c h m (row.Stop y cause charged until) accounts = length-changed (place_on system c y) (stopped h m cause until) accounts
 length-told system c h m (row.Round y number response) accounts = length-changed (place_on system c y) (responded response) accounts
@@ -73,7 +73,7 @@ module _ (system : System) (x : ℕ) (known : x < length system.threads) where
           changed-other y (place_on system (core_of system (thread_part system x)) y) f accounts refl other
 
   told-place : (h m : ℕ) (what : What) (accounts : List Account) → place_of system x < length accounts
-      → get_or (told_on system (core_of system (thread_part system x)) h m what accounts) (place_of system x) no_account
+      → get_or (told_at (place_on system (core_of system (thread_part system x))) h m what accounts) (place_of system x) no_account
       ≡ alone h x m what (get_or accounts (place_of system x) no_account)
   told-place h m (row.Run y) accounts within = changed-place y (begun m) accounts within
   told-place h m (row.Stop y cause charged until) accounts within = changed-place y (stopped h m cause until) accounts within
@@ -91,7 +91,7 @@ module _ (system : System) (x : ℕ) (known : x < length system.threads) where
       ≡ fold (told_alone h x) (get_or accounts (place_of system x) no_account) rows
   core-fold h [] accounts within = refl
   core-fold h (r ∷ rows) accounts within =
-      core-fold h rows (told_on system (core_of system (thread_part system x)) h r.moment r.what accounts)
+      core-fold h rows (told_at (place_on system (core_of system (thread_part system x))) h r.moment r.what accounts)
       (omega (arith, within, length-told system (core_of system (thread_part system x)) h r.moment r.what accounts))
       ∙ ap (λ a. fold (told_alone h x) a rows) (told-place h r.moment r.what accounts within)
 

@@ -11,9 +11,9 @@ use Rattle.mcs_ticks.specs.declared.row.Why.TheVariants as why
 use Rattle.mcs_system.specs.declared.part.ThreadPart.{ThreadPart}
 use Rattle.mcs_system.specs.System.{System, thread_part, core_of}
 use Rattle.mcs_report.specs.declared.account.Account.{Account}
-use Rattle.mcs_report.specs.Tally.{no_account, opened, counted_thread, heard, stopped, changed}
+use Rattle.mcs_report.specs.Tally.{no_account, opened, begun, stopped, responded, changed_at, told_at}
 use Rattle.mcs_report.specs.Places.{is_on, threads_on, place_of, place_on}
-use Rattle.mcs_report.specs.CoreTally.{opened_on, changed_at, told_on}
+use Rattle.mcs_report.specs.CoreTally.{opened_on}
 use Rattle.mcs_report.specs.stored.CoreTally.{reopened}
 use Rattle.mcs_report.proofs.Homes.{place-within}
 
@@ -31,32 +31,7 @@ placed system c x place e = by (nat_lt x (length system.threads) && is_on system
     by true passes e = record { known = grind (arith, nat_tests); home = grind (arith, nat_tests); at = cc }
     by false fails e = absurd (cc)
 
--- what a row says to the accounts of a core is what it says to the account of its thread, if that has a place there
-module _ (system : System) (c : ℕ) where
-  abbrev changed_on : Option ℕ → (Account → Account) → List Account → List Account
-  changed_on None change accounts = accounts
-  changed_on (Some x) change accounts = changed_at (place_on system c x) change accounts
-
-  told-by : (h m : ℕ) (what : What) (accounts : List Account) → told_on system c h m what accounts ≡ changed_on (counted_thread what) (heard h m what) accounts
-  told-by h m (row.Run x) accounts = refl
-  told-by h m (row.Stop x cause charged until) accounts = refl
-  told-by h m (row.Round x number response) accounts = refl
-  told-by h m (row.Release x) accounts = refl
-  told-by h m (row.Signal x note badge) accounts = refl
-  told-by h m (row.Arrive note badge maker) accounts = refl
-  told-by h m (row.Wake x note word) accounts = refl
-  told-by h m (row.Hold note word) accounts = refl
-  told-by h m (row.Got x note word) accounts = refl
-  told-by h m (row.Order context) accounts = refl
-
-  told-here : (h m : ℕ) (what : What) (x place : ℕ) (accounts : List Account) → counted_thread what ≡ Some x → place_on system c x ≡ Some place
-      → told_on system c h m what accounts ≡ changed place (heard h m what) accounts
-  told-here h m what x place accounts e f =
-      told-by h m what accounts
-      ∙ ap (λ one. changed_on one (heard h m what) accounts) e
-      ∙ ap (λ at. changed_at at (heard h m what) accounts) f
-
--- what is heard changes neither core nor deadline
+-- what a row says changes neither core nor deadline of an account
 stopped-reopened : (h m : ℕ) (cause : Why) (until : Option ℕ) (a : Account) → reopened (stopped h m cause until a) ≡ reopened a
 stopped-reopened h m why.Spent until a = refl
 stopped-reopened h m why.Yield until a = refl
@@ -65,17 +40,23 @@ stopped-reopened h m why.Done until a = refl
 stopped-reopened h m why.Preempt until a = refl
 stopped-reopened h m why.Order until a = refl
 
-heard-reopened : (h m : ℕ) (what : What) (a : Account) → reopened (heard h m what a) ≡ reopened a
-heard-reopened h m (row.Run x) a = refl
-heard-reopened h m (row.Stop x cause charged until) a = stopped-reopened h m cause until a
-heard-reopened h m (row.Round x number response) a = refl
-heard-reopened h m (row.Release x) a = refl
-heard-reopened h m (row.Signal x note badge) a = refl
-heard-reopened h m (row.Arrive note badge maker) a = refl
-heard-reopened h m (row.Wake x note word) a = refl
-heard-reopened h m (row.Hold note word) a = refl
-heard-reopened h m (row.Got x note word) a = refl
-heard-reopened h m (row.Order context) a = refl
+changed-reopened : (o : Option ℕ) (f : Account → Account) (accounts : List Account) → ((a : Account) → reopened (f a) ≡ reopened a)
+    → map reopened (changed_at o f accounts) ≡ map reopened accounts
+changed-reopened None f accounts same = refl
+changed-reopened (Some place) f accounts same =
+    map-set_same reopened accounts place (f (get_or accounts place no_account)) no_account (same (get_or accounts place no_account))
+
+pub told-reopened : (place : ℕ → Option ℕ) (h m : ℕ) (what : What) (accounts : List Account) → map reopened (told_at place h m what accounts) ≡ map reopened accounts
+told-reopened place h m (row.Run x) accounts = changed-reopened (place x) (begun m) accounts (λ a. refl)
+told-reopened place h m (row.Stop x cause charged until) accounts = changed-reopened (place x) (stopped h m cause until) accounts (stopped-reopened h m cause until)
+told-reopened place h m (row.Round x number response) accounts = changed-reopened (place x) (responded response) accounts (λ a. refl)
+told-reopened place h m (row.Release x) accounts = refl
+told-reopened place h m (row.Signal x note badge) accounts = refl
+told-reopened place h m (row.Arrive note badge maker) accounts = refl
+told-reopened place h m (row.Wake x note word) accounts = refl
+told-reopened place h m (row.Hold note word) accounts = refl
+told-reopened place h m (row.Got x note word) accounts = refl
+told-reopened place h m (row.Order context) accounts = refl
 
 -- so the accounts are always those of the core's threads
 module _ (system : System) (c : ℕ) (accounts : List Account) (own : map reopened accounts ≡ opened_on system c) where
@@ -87,17 +68,6 @@ module _ (system : System) (c : ℕ) (accounts : List Account) (own : map reopen
       let p = placed system c x place e in
       let within : place_of system x < length (threads_on system c) = subst (λ k. place_of system x < length (threads_on system k)) p.home (place-within system x p.known) in
       omega (arith, accounts-length, within, p.at)
-
-  pub accounts-heard : (h m place : ℕ) (what : What) (a : Account) → a ≡ get_or accounts place a
-      → map reopened (set accounts place (heard h m what a)) ≡ opened_on system c
-  accounts-heard h m place what a is =
-      map-set_same reopened accounts place (heard h m what a) a (heard-reopened h m what a ∙ ap reopened is) ∙ own
-
-  pub accounts-told : (h m x place : ℕ) (what : What) (a : Account) → Some x ≡ counted_thread what → Some place ≡ place_on system c x → a ≡ get_or accounts place a
-      → set accounts place (heard h m what a) ≡ told_on system c h m what accounts
-  accounts-told h m x place what a counted here is =
-      ap (λ b. set accounts place (heard h m what b)) (is ∙ get_or_default accounts place a no_account (accounts-within x place (sym here)))
-      ∙ sym (told-here system c h m what x place accounts (sym counted) (sym here))
 
 -- clearing: the first n accounts are as before the first row, the others as they were
 pub record AreReopened (before now : List Account) (n : ℕ) : Type 0 where

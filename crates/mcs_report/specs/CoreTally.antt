@@ -1,12 +1,10 @@
 -- A tally of the rows of one core: the accounts of that core's threads alone.
-use Rattle.std.specs.Prelude.{◌≡◌, ℕ, Bool, true, List, [], map, fold, get_or, length, Option, Some, None}
+use Rattle.std.specs.Prelude.{◌≡◌, ℕ, Bool, true, List, [], map, fold, get_or, length}
 use Rattle.std.specs.List.{range_with_len}
 use Rattle.mcs_ticks.specs.declared.row.Row.{Row}
-use Rattle.mcs_ticks.specs.declared.row.What.{What}
-use Rattle.mcs_ticks.specs.declared.row.What.TheVariants as row
 use Rattle.mcs_system.specs.System.{System, thread_part, core_of}
 use Rattle.mcs_report.specs.declared.account.Account.{Account}
-use Rattle.mcs_report.specs.Tally.{Tally, opened, no_account, begun, stopped, responded, changed}
+use Rattle.mcs_report.specs.Tally.{Tally, opened, no_account, told_at}
 use Rattle.mcs_report.specs.Places.{threads_on, place_of, place_on}
 
 -- what is counted of each thread of a core, in their order
@@ -29,24 +27,12 @@ opened_core_tally system c horizon =
       accounts = opened_on system c;
     }
 
--- the account at this place changes; with no place, none does
-abbrev pub changed_at : Option ℕ → (Account → Account) → List Account → List Account
-changed_at None change accounts = accounts
-changed_at (Some place) change accounts = changed place change accounts
-
-module _ (system : System) (c : ℕ) where
-  -- as `told` of all accounts, of those of core c
-  abbrev pub told_on : ℕ → ℕ → What → List Account → List Account
-  told_on horizon moment (row.Run x) accounts = changed_at (place_on system c x) (begun moment) accounts
-  told_on horizon moment (row.Stop x cause charged until) accounts =
-      changed_at (place_on system c x) (stopped horizon moment cause until) accounts
-  told_on horizon moment (row.Round x number response) accounts = changed_at (place_on system c x) (responded response) accounts
-  told_on horizon moment _ accounts = accounts
-
 -- one row more
 abbrev pub core_added : CoreTally → Row → CoreTally
 core_added tally r =
-    record tally { accounts = told_on tally.system tally.core tally.horizon r.moment r.what tally.accounts }
+    record tally {
+      accounts = told_at (place_on tally.system tally.core) tally.horizon r.moment r.what tally.accounts;
+    }
 
 -- how a tally of a core takes a row: it counts it if it is of one of its threads, and refuses none
 abbrev pub CoreCounts : CoreTally → Row → Bool → CoreTally → Type 0

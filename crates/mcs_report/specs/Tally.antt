@@ -91,25 +91,24 @@ responded response account =
 abbrev pub changed : ℕ → (Account → Account) → List Account → List Account
 changed thread change accounts = set accounts thread (change (get_or accounts thread no_account))
 
--- the thread whose account a row changes
-abbrev pub counted_thread : What → Option ℕ
-counted_thread (row.Run x) = Some x
-counted_thread (row.Stop x cause charged until) = Some x
-counted_thread (row.Round x number response) = Some x
-counted_thread _ = None
-
--- what it says to that account
-abbrev pub heard : ℕ → ℕ → What → Account → Account
-heard horizon moment (row.Run x) account = begun moment account
-heard horizon moment (row.Stop x cause charged until) account = stopped horizon moment cause until account
-heard horizon moment (row.Round x number response) account = responded response account
-heard horizon moment _ account = account
-
 abbrev pub told : ℕ → ℕ → What → List Account → List Account
 told horizon moment (row.Run x) accounts = changed x (begun moment) accounts
 told horizon moment (row.Stop x cause charged until) accounts = changed x (stopped horizon moment cause until) accounts
 told horizon moment (row.Round x number response) accounts = changed x (responded response) accounts
 told horizon moment _ accounts = accounts
+
+-- the account at this place changes; with no place, none does
+abbrev pub changed_at : Option ℕ → (Account → Account) → List Account → List Account
+changed_at None change accounts = accounts
+changed_at (Some place) change accounts = changed place change accounts
+
+-- as `told`, where the account of a thread stands at a place of its own, or isn't there
+abbrev pub told_at : (ℕ → Option ℕ) → ℕ → ℕ → What → List Account → List Account
+told_at place horizon moment (row.Run x) accounts = changed_at (place x) (begun moment) accounts
+told_at place horizon moment (row.Stop x cause charged until) accounts =
+    changed_at (place x) (stopped horizon moment cause until) accounts
+told_at place horizon moment (row.Round x number response) accounts = changed_at (place x) (responded response) accounts
+told_at place horizon moment _ accounts = accounts
 
 -- before the first row
 abbrev pub opened_tally : System → ℕ → Tally

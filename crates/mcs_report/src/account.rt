@@ -1,9 +1,9 @@
 ghost use Rattle.std.specs.Prelude.{◌≡◌};
 ghost use Rattle.mcs_report.specs.Reports.{is_late, wait_until};
-ghost use Rattle.mcs_report.specs.Tally.{opened, begun, ended, waited, stopped, responded, counted_thread, heard, ticks_since, report_at};
+ghost use Rattle.mcs_report.specs.Tally.{opened, begun, ended, waited, stopped, responded, ticks_since, report_at};
 
 use crate::ThreadReport;
-use mcs_ticks::{CoreId, ThreadId, Tick, What, Why};
+use mcs_ticks::{CoreId, Tick, Why};
 
 /// What is counted of a thread so far, and the moment at which its open run began.
 #[derive(Clone, Copy, Debug, PartialEq, Eq)]
@@ -41,19 +41,6 @@ fn wait_until(horizon: Tick, moment: Tick, until: Option<Tick>) -> u64
     }
 }
 
-/// The thread whose account a row changes, if it changes one.
-#[inline(always)]
-pub(crate) fn counted_thread(what: &What) -> Option<ThreadId>
-    ensures { result ≡ counted_thread what.now }
-{
-    match *what {
-        What::Run { thread } | What::Stop { thread, .. } | What::Round { thread, .. } => {
-            Some(thread)
-        }
-        _ => None,
-    }
-}
-
 impl Account {
     pub(crate) fn new(core: CoreId, deadline: u64) -> Self
         ensures { result ≡ opened core deadline }
@@ -76,28 +63,15 @@ impl Account {
         }
     }
 
-    // What a row of this thread says. Where its kind is known it is counted by that kind's steps alone.
     #[inline(always)]
-    pub(crate) fn hear(&mut self, horizon: Tick, moment: Tick, what: &What)
-        ensures { self.new ≡ heard horizon moment what.now self.old }
-    {
-        match *what {
-            What::Run { .. } => self.begin(moment),
-            What::Stop { why, until, .. } => self.stop(horizon, moment, why, until),
-            What::Round { response, .. } => self.respond(response),
-            _ => {}
-        }
-    }
-
-    #[inline(always)]
-    fn begin(&mut self, moment: Tick)
+    pub(crate) fn begin(&mut self, moment: Tick)
         ensures { self.new ≡ begun moment self.old }
     {
         self.since = Some(moment);
     }
 
     #[inline(always)]
-    fn end(&mut self, moment: Tick)
+    pub(crate) fn end(&mut self, moment: Tick)
         ensures { self.new ≡ ended moment self.old }
     {
         let ran = ticks_since(moment, self.since);
@@ -116,7 +90,7 @@ impl Account {
     }
 
     #[inline(always)]
-    fn stop(&mut self, horizon: Tick, moment: Tick, why: Why, until: Option<Tick>)
+    pub(crate) fn stop(&mut self, horizon: Tick, moment: Tick, why: Why, until: Option<Tick>)
         ensures { self.new ≡ stopped horizon moment why until self.old }
     {
         self.end(moment);
@@ -126,7 +100,7 @@ impl Account {
     }
 
     #[inline(always)]
-    fn respond(&mut self, response: u64)
+    pub(crate) fn respond(&mut self, response: u64)
         ensures { self.new ≡ responded response self.old }
     {
         let late = u64::from(is_late(self.deadline, response));

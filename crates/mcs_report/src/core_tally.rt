@@ -5,9 +5,10 @@ ghost use Rattle.mcs_report.specs.CoreTally.{opened_on, opened_core_tally, core_
 ghost use Rattle.mcs_report.specs.stored.CoreTally.{reopened};
 
 use crate::Places;
-use crate::account::{Account, counted_thread};
+use crate::account::Account;
+use crate::telling::{Stand, tell};
 use mcs_system::System;
-use mcs_ticks::{Collector, CoreId, Measured, NoMemory, Refused, Row, Sink, Tick};
+use mcs_ticks::{Collector, CoreId, Measured, NoMemory, Refused, Row, Sink, ThreadId, Tick};
 use std::alloc::Global;
 use std::marker::Model;
 use std::sync::Arc;
@@ -16,8 +17,7 @@ use std::sync::Arc;
 /// time and without memory. Contracts see the system, the core, the horizon and the accounts of the core's threads in their order.
 #[derive(Drop)]
 pub struct CoreTally {
-    places: Arc<Places>,
-    core: CoreId,
+    own: Own,
     horizon: Tick,
     accounts: Vec<Account>,
 }
@@ -30,9 +30,28 @@ impl Model for CoreTally {
 
     ghost Value = { CoreTally };
 
-    ghost view = { λ a. record { system = arc_value a.places; core = a.core; horizon = a.horizon; accounts = a.accounts.items } };
+    ghost view = { λ a. record { system = arc_value a.own.places; core = a.own.core; horizon = a.horizon; accounts = a.accounts.items } };
 
-    ghost invariant = { λ a. map reopened a.accounts.items ≡ opened_on (arc_value a.places) a.core };
+    ghost invariant = { λ a. map reopened a.accounts.items ≡ opened_on (arc_value a.own.places) a.own.core };
+}
+
+// A core, whose threads have their places on it.
+#[derive(Drop)]
+struct Own {
+    places: Arc<Places>,
+    core: CoreId,
+}
+
+impl Stand for Own {
+    ghost use Rattle.std.specs.Arc.{arc_value};
+    ghost use Rattle.mcs_report.specs.Places.{place_on};
+
+    ghost place = { λ own thread. place_on (arc_value own.places) own.core thread };
+
+    #[inline(always)]
+    fn place(&self, thread: ThreadId) -> Option<usize> {
+        self.places.place_on(self.core, thread)
+    }
 }
 
 fn opened_on(alloc: Global, system: &System, core: CoreId) -> Result<Vec<Account>, NoMemory>
@@ -61,8 +80,7 @@ impl CoreTally {
     {
         let accounts = opened_on(alloc, places.system(), core)?;
         Ok(CoreTally {
-            places,
-            core,
+            own: Own { places, core },
             horizon,
             accounts,
         })
@@ -74,18 +92,21 @@ impl CoreTally {
     pub fn add(&mut self, row: &Row)
         ensures { self.new ≡ core_added self.old row.now }
     {
-        if let Some(thread) = counted_thread(&row.what) {
-            if let Some(place) = self.places.place_on(self.core, thread) {
-                self.accounts[place].hear(self.horizon, row.moment, &row.what);
-            }
-        }
+        tell(
+            self.accounts.as_mut_slice(),
+            &self.own,
+            self.horizon,
+            row.moment,
+            row.what,
+        );
     }
 
     /// Whether it counts for this core in a run of this system up to this horizon. It compares the systems.
     pub fn is_for(&self, system: &System, core: CoreId, horizon: Tick) -> bool
         ensures { IsTrue result ↔ ((self.now.system ≡ system.now) × (self.now.core ≡ core) × (self.now.horizon ≡ horizon)) }
     {
-        self.core == core && self.horizon == horizon && *self.places.system() == *system
+        let own = &self.own;
+        own.core == core && self.horizon == horizon && *own.places.system() == *system
     }
 
     // The account at this place.

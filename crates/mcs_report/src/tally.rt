@@ -6,11 +6,12 @@ ghost use Rattle.mcs_report.specs.Reports.{core_report_of};
 ghost use Rattle.mcs_report.specs.Tally.{opened, told, report_at, ran_by, opened_tally, added, finished};
 ghost use Rattle.mcs_report.specs.CoreTally.{joined};
 
-use crate::account::{Account, counted_thread};
+use crate::account::Account;
+use crate::telling::{Stand, tell};
 use crate::together::put_together;
 use crate::{CoreReport, CoreTally, Places, Reports, ThreadReport};
 use mcs_system::{System, SystemParts, ThreadPart};
-use mcs_ticks::{CoreId, NoMemory, Refused, Row, Sequence, Sink, Tick, What};
+use mcs_ticks::{CoreId, NoMemory, Refused, Row, Sequence, Sink, ThreadId, Tick, What};
 use std::alloc::Global;
 use std::marker::Model;
 
@@ -54,17 +55,35 @@ fn opened_accounts(alloc: Global, parts: &SystemParts) -> Result<Vec<Account>, N
     Ok(accounts)
 }
 
-// A row of a thread that the system has is told to that thread's account.
-#[inline(always)]
-#[tactic(auto, using(std::proofs::lemmas::List::set_past))]
-fn tell(accounts: &mut [Account], horizon: Tick, moment: Tick, what: &What)
-    ensures { accounts.new ≡ told horizon moment what.now accounts.old }
-{
-    if let Some(thread) = counted_thread(what) {
-        if thread.0 < accounts.len() {
-            accounts[thread.0].hear(horizon, moment, what);
+// Each account at its thread's number.
+#[derive(Clone, Copy)]
+struct Numbers {
+    many: usize,
+}
+
+impl Stand for Numbers {
+    ghost use Rattle.std.specs.Prelude.{nat_lt, if◌then◌else◌, Some, None};
+
+    ghost place = { λ numbers thread. if nat_lt thread numbers.many then Some thread else None };
+
+    #[inline(always)]
+    fn place(&self, thread: ThreadId) -> Option<usize> {
+        if thread.0 < self.many {
+            Some(thread.0)
+        } else {
+            None
         }
     }
+}
+
+#[inline(always)]
+fn tell_numbered(accounts: &mut [Account], horizon: Tick, moment: Tick, what: What)
+    ensures { accounts.new ≡ told horizon moment what accounts.old }
+{
+    let numbers = Numbers {
+        many: accounts.len(),
+    };
+    tell(accounts, &numbers, horizon, moment, what);
 }
 
 // Tells rows one after another. Answers the moment of the last one, or `last` where there is none.
@@ -76,7 +95,7 @@ fn tell_all(accounts: &mut [Account], horizon: Tick, last: Tick, rows: &[Row]) -
     let mut moment = last;
     for row in rows {
         moment = row.moment;
-        tell(accounts, horizon, moment, &row.what);
+        tell_numbered(accounts, horizon, moment, row.what);
     }
     moment
 }
@@ -158,11 +177,11 @@ impl Tally {
         ensures { self.new ≡ added self.old row.now }
     {
         self.last = row.moment;
-        tell(
+        tell_numbered(
             self.accounts.as_mut_slice(),
             self.horizon,
             row.moment,
-            &row.what,
+            row.what,
         );
     }
 
