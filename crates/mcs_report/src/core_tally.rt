@@ -1,5 +1,6 @@
 ghost use Rattle.std.specs.Prelude.{◌≡◌, ◌↔◌, map, get_or, IfOk, IsTrue};
 ghost use Rattle.std.specs.Arc.{arc_value};
+ghost use Rattle.std.specs.List.{range_with_len};
 ghost use Rattle.mcs_report.specs.Tally.{no_account};
 ghost use Rattle.mcs_report.specs.CoreTally.{opened_on, opened_core_tally, core_added};
 ghost use Rattle.mcs_report.specs.stored.CoreTally.{reopened};
@@ -84,6 +85,25 @@ impl CoreTally {
             horizon,
             accounts,
         })
+    }
+
+    /// A tally for each core of the system, from core 0 on, before their first rows. `NoMemory` where a growth was refused.
+    pub fn of_all_cores(
+        alloc: Global,
+        places: &Arc<Places>,
+        horizon: Tick,
+    ) -> Result<Vec<CoreTally>, NoMemory>
+        ensures { IfOk result
+            (λ tallies. tallies.items
+            ≡ map (λ c. opened_core_tally (arc_value places.now) c horizon) (range_with_len 0 (arc_value places.now).cores)) }
+    {
+        let cores = places.system().parts().cores;
+        let mut tallies = Vec::with_capacity(alloc, cores)?;
+        for core in 0..cores {
+            let places = Arc::try_clone(places)?;
+            tallies.push_reserved(CoreTally::new(alloc, places, CoreId(core), horizon)?);
+        }
+        Ok(tallies)
     }
 
     /// Counts one row more, in constant time and without memory. A row of a thread of another core, or of one that the system does not have,
