@@ -2,4 +2,6 @@
 #![tactic(auto)]
 
 #[cfg(test)]
+mod core_tallies;
+#[cfg(test)]
 mod tests;
