@@ -1,5 +1,5 @@
 #!/usr/bin/env python3
-"""Tells what mcscheck --show findings takes beside mcsim: seconds of the processor and the greatest memory, on systems of performance.py and costs.py.
+"""Tells what mcscheck --show findings takes beside mcsim: CPU seconds and the greatest memory, on systems of performance.py and costs.py.
 
 On one core it is to take at most 1.3 times what `mcsim --show reports` takes, and on several at most what `mcsim --show both` does, both with as many
 workers. Of each run the least of several tries counts, the programs by turns; some systems have deadlines that each round meets, or misses. Nothing
@@ -76,7 +76,7 @@ CASES = (
 
 
 def least(costs_found: list[Cost]) -> Cost:
-    """The try that took the least of the processor."""
+    """The try that took the least CPU time."""
     return min(costs_found, key=lambda cost: cost.of_processor)
 
 

@@ -5,7 +5,7 @@ They turn functions whose contracts pin the result, so that any wrong body is re
 crates/CRATE/must-fail are tried too, which the gate tries. With --look each is only read: whether it can be applied is told at once.
 
 Each edit is tried by the kit's own means, on a copy of the crate, over what a check of the crate as it stands proved. A line for each says
-what came of it, in how many seconds of the processor, and the first words of the refusal. It passes where the prover refuses it for a goal; not
+what came of it, in how many CPU seconds, and the first words of the refusal. It passes where the prover refuses it for a goal; not
 where it is still proved, cannot be applied or read, is refused only since a proof names what it took away, or meets a limit of the whole check.
 'gave up' is a refusal for a goal at which a search met a limit of its own: such an edit costs more and tells less, so it has no place in must-fail.
 
@@ -119,7 +119,7 @@ def edits_of(crate: pathlib.Path, has_all: bool, names: Sequence[str]) -> list[p
 
 
 def used() -> float:
-    """The seconds of the processor that ended children of this process took."""
+    """The CPU seconds that ended children of this process took."""
     spent = resource.getrusage(resource.RUSAGE_CHILDREN)
     return spent.ru_utime + spent.ru_stime
 

@@ -6,7 +6,7 @@ a horizon. Where no repetition is found, though the rows of the set came ten tim
 --missed names each. A row of the schedule counts as an event.
 
 What it takes is held against a run of mcsim --show reports to the end of the latest first period, or to the horizon where a set does not repeat, both on
-one worker: of systems for which that run takes some hundredths of a second, seconds of the processor, of each the least of three tries; nothing else
+one worker: of systems for which that run takes some hundredths of a second, CPU seconds, of each the least of three tries; nothing else
 should run meanwhile. With --instructions valgrind counts them instead, without those of a run to horizon 0, whatever else runs. With --write both tables
 are written to docs/FOREVER.md, between the lines that mark their place. The count of the last line is of runs of which two agree on the status."""
 from __future__ import annotations

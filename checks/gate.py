@@ -1,12 +1,12 @@
 #!/usr/bin/env python3
-"""Tells what takes the time in the gate: runs it (rt ci), and then writes a table of the processor's seconds by crate, in Markdown.
+"""Tells what takes the time in the gate: runs it (rt ci), and then writes a table of the CPU seconds by crate, in Markdown.
 
 After the table: the longest chain of tasks of which each waits for the one before, the wall time on 2 and on 4 processors by a model, and the dearest
 edits. With TIMES all this goes to that file too. A task that an earlier gate on this machine kept takes next to nothing, so a whole table needs
 --anew. The columns are a crate's own proof; its tests' proof; the second proof, over which its edits are tried; and its edits. The last line is that
 of rt ci.
 
-The model: each task takes one processor for as long as it took of the processor when it was measured, in the order in which rt begins tasks, and the
+The model: each task occupies one processor for the CPU seconds that it took when it was measured, in the order in which rt begins tasks, and the
 runs of tests and programs come at the end, one after another. Memory is left out."""
 from __future__ import annotations
 
@@ -43,7 +43,7 @@ def edits_of(crate: str) -> list[str]:
 
 
 class Task(NamedTuple):
-    """A task of the gate: which it is, the places of those that it waits for, its work in lines, and its seconds of the processor."""
+    """A task of the gate: which it is, the places of those that it waits for, its work in lines, and its CPU seconds."""
 
     crate: str
     part: str
@@ -176,7 +176,7 @@ def report(found: Measured, said: str, count: Tally | None) -> str:
     parts = ', '.join(f'{column.lower()} {spent / 60:.1f}' for column, spent in sums_of(found.tasks).items())
     walls = ', '.join(f'{(wall(found.tasks, lanes) + found.runs) / 60:.1f} on {lanes}' for lanes in LANES)
     return '\n'.join([
-        f'The gate on {datetime.date.today()}: {count or "no count"}. In seconds of the processor:', '',
+        f'The gate on {datetime.date.today()}: {count or "no count"}. In CPU seconds:', '',
         *table(found.tasks), '',
         f'Processor minutes: {found.seconds / 60:.1f}: {parts}, runs of tests and programs {found.runs / 60:.1f}.',
         f'Minutes: {found.minutes:.1f} on {processors} processors. By the model: {walls}.',

@@ -11,7 +11,7 @@ from common import Word
 
 
 class Cost(NamedTuple):
-    """Seconds that passed, seconds of the processor, the greatest memory, and the status."""
+    """Seconds that passed, CPU seconds, the greatest memory, and the status."""
 
     seconds: float
     of_processor: float

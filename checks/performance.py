@@ -1,7 +1,7 @@
 #!/usr/bin/env python3
 """Tells how the time and memory of runs of the built program grow with events, threads, cores, workers and delay.
 
-It makes systems, runs the program on each, and prints tables in Markdown: rows of the schedule, seconds that pass, seconds of the processor and the
+It makes systems, runs the program on each, and prints tables in Markdown: rows of the schedule, seconds that pass, CPU seconds and the
 greatest memory, where the schedule is written (to /dev/null) and where only the reports are, each the quickest of three runs. With --write the tables are put into
 docs/PERFORMANCE.md in place of those that stand there. Nothing else should run meanwhile. The count of the last line is of tables."""
 from __future__ import annotations
@@ -27,7 +27,7 @@ BEGIN, END = '<!-- tables of checks/performance.py -->', '<!-- end of tables -->
 MANY = 100
 # of so many runs the quickest is told: another user of the machine only slows one down
 TRIES = 3
-HEAD = ['Horizon', 'Rows', 'Schedule: s', 'of the processor', 'MB', 'Reports: s', 'of the processor', 'MB']
+HEAD = ['Horizon', 'Rows', 'Schedule: s', 'CPU s', 'MB', 'Reports: s', 'CPU s', 'MB']
 
 
 def crowd(cores: int, each: int, delay: int = 1000, signals: bool = False) -> str:
