@@ -1,0 +1,85 @@
+//! How far each core may go, by the clocks of the others.
+ghost use Rattle.std.specs.Prelude.{◌≡◌, ◌↔◌, ◌+◌, ◌≤◌, ◌<◌, ◌^◌, IsTrue};
+ghost use Rattle.mcs_system.specs.System.{delay_between};
+ghost use Rattle.mcs_window.specs.ByScripts.{IsFarByScripts};
+ghost use Rattle.mcs_laws.specs.Links.{Signals};
+ghost use Rattle.mcs_window.specs.Stretch.{NothingArrivesBefore};
+ghost use Rattle.mcs_window.specs.stored.Reaches.{IsReach};
+ghost use Rattle.mcs_window.specs.Desk.{past_of};
+
+use crate::desk::Desk;
+use mcs_ticks::{CoreId, Tick};
+
+impl Desk {
+    // How long a signal of this core is under way to another.
+    fn delay(&self, maker: CoreId, home: CoreId) -> u64
+        requires maker { maker < self.now.system.cores }
+        requires home { home < self.now.system.cores }
+        ensures value { result ≡ delay_between self.now.system maker home }
+        ensures short { result ≤ 2 ^ 20 }
+    {
+        self.delays[home.0][maker.0]
+    }
+
+    // The moment up to which a core may be lent.
+    pub(crate) fn past(&self, core: CoreId) -> Tick
+        requires { core < self.now.system.cores }
+        ensures { result ≡ past_of self.now core }
+    {
+        let mut past = self.horizon.get() + 1;
+        for other in 0..self.cores() {
+            if other != core.0 {
+                let maker = CoreId(other);
+                past = past.min(self.clock(maker).get() + self.delay(maker, CoreId(core.0)));
+            }
+        }
+        Tick::new(past).unwrap()
+    }
+
+    // After how long a signal of this core may reach another one, from a moment on: after its delay, and never where no script says one.
+    fn reach(&self, maker: CoreId, home: CoreId) -> u64
+        requires maker { maker < self.now.system.cores }
+        requires home { home < self.now.system.cores }
+        ensures { IsReach self.now.system maker home (Signals self.now.system maker home) result }
+    {
+        self.reaches[maker.0][home.0]
+    }
+
+    // A moment before which no signal arrives at a core that another one has still to make. It is no earlier than the moment up to which the
+    // core may be lent.
+    pub(crate) fn farthest(&self, core: CoreId) -> Tick
+        requires { core < self.now.system.cores }
+        ensures reached { NothingArrivesBefore self.now.system core result self.now.clocks }
+        ensures far { IsFarByScripts self.now.system self.now.clocks core result }
+        ensures in_time { result ≤ self.now.horizon + 1 }
+        ensures no_less { past_of self.now core ≤ result }
+    {
+        let mut past = self.horizon.get() + 1;
+        for other in 0..self.cores() {
+            if other != core.0 {
+                let maker = CoreId(other);
+                past = past.min(self.clock(maker).get() + self.reach(maker, CoreId(core.0)));
+            }
+        }
+        Tick::new(past).unwrap()
+    }
+
+    // Whether a core may not be lent up to the moment after this one. It looks no further than at the first core that it waits for.
+    pub(crate) fn must_wait(&self, core: CoreId, moment: Tick) -> bool
+        requires { core < self.now.system.cores }
+        ensures { IsTrue result ↔ (past_of self.now core ≤ moment) }
+    {
+        if moment > self.horizon {
+            return true;
+        }
+        for other in 0..self.cores() {
+            if other != core.0 {
+                let maker = CoreId(other);
+                if self.clock(maker).get() + self.delay(maker, CoreId(core.0)) <= moment.get() {
+                    return true;
+                }
+            }
+        }
+        false
+    }
+}

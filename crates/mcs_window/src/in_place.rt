@@ -1,0 +1,215 @@
+//! Turns in the caller's thread: of cores that take them where they lie.
+ghost use Rattle.std.specs.Prelude.{◌≡◌, ℕ, ◌≤◌, ◌<◌, max, ◌⊎◌, false, [], slice_index, IfOk, OnOk, OnErr, IsTrue, IsFalse};
+ghost use Rattle.mcs_window.specs.Inbox.{signals_between};
+ghost use Rattle.mcs_window.specs.stored.Slots.{HoldsAt};
+ghost use Rattle.mcs_window.specs.Desk.{clock_of, past_of, MayGoOn, lent_to, settled_at, taken_at, AllAreHere, IsFinished, WentByScripts, IsLater, IsSpent, rows_kept, turns_left};
+
+use crate::calendar::Calendar;
+use crate::delivery::deliver;
+use crate::desk::Desk;
+use crate::turns::{run_slot, spend};
+use mcs_ticks::{CoreId, NoMemory, Tick};
+
+impl Desk {
+    // Takes turns of a core that may go on, where it lies, until it comes to `past` or has that many rows on the desk: at least one.
+    // Answers whether it made a signal for another core. Where memory is refused the core stays lent, and its rows are gone.
+    fn run_here(&mut self, core: CoreId, past: Tick, most: usize) -> Result<bool, NoMemory>
+        requires may { MayGoOn self.old core past }
+        ensures ok { OnOk result (self.new ≡ settled_at self.old core (clock_of self.new core)) }
+        ensures moved { OnOk result ((clock_of self.old core < clock_of self.new core) × (clock_of self.new core ≤ past)) }
+        ensures went { OnOk result (WentByScripts self.old self.new) }
+        ensures fewer { OnOk result (turns_left self.new < turns_left self.old) }
+        ensures err { OnErr result (self.new ≡ taken_at (lent_to self.old core past) core) }
+        ensures silent { IfOk result (λ signals. IsFalse signals →
+            signals_between self.old.system core (clock_of self.old core) (clock_of self.new core) ≡ []) }
+        ensures run { (self.new.system ≡ self.old.system) × (self.new.horizon ≡ self.old.horizon) }
+    {
+        let index = core.0;
+        let slot = &mut self.slots[index];
+        let mail = &mut self.boxes[index];
+        let rows = &mut self.rows[index];
+        let signals = &mut self.signals;
+        let ran = run_slot(
+            &self.system,
+            core,
+            &self.clocks,
+            slot,
+            mail,
+            past,
+            most,
+            rows,
+            signals,
+        );
+        let Ok(to) = ran else {
+            let (slot, mail) = (&mut self.slots[index], &mut self.boxes[index]);
+            let rows = &mut self.rows[index];
+            spend(past, &self.clocks, slot, mail, rows, self.alloc);
+            self.taken[index] = self.clocks[index];
+            return Err(NoMemory);
+        };
+        let Ok(()) = deliver(&self.system, &mut self.boxes, &self.signals) else {
+            let (slot, mail) = (&mut self.slots[index], &mut self.boxes[index]);
+            let rows = &mut self.rows[index];
+            spend(past, &self.clocks, slot, mail, rows, self.alloc);
+            self.taken[index] = self.clocks[index];
+            return Err(NoMemory);
+        };
+        self.clocks[index] = to;
+        Ok(!self.signals.is_empty())
+    }
+
+    // The same with a calendar, in which nothing is known of the core from then on, and of no core where a signal was made.
+    fn run_noted(
+        &mut self,
+        core: CoreId,
+        past: Tick,
+        most: usize,
+        calendar: &mut Calendar,
+    ) -> Result<(), NoMemory>
+        requires may { MayGoOn self.old core past }
+        requires here { AllAreHere self.old }
+        requires holds { HoldsAt self.old calendar.old }
+        ensures ok { OnOk result (self.new ≡ settled_at self.old core (clock_of self.new core)) }
+        ensures went { OnOk result (WentByScripts self.old self.new) }
+        ensures fewer { OnOk result (turns_left self.new < turns_left self.old) }
+        ensures holds { OnOk result (HoldsAt self.new calendar.new) }
+        ensures err { OnErr result (self.new ≡ taken_at (lent_to self.old core past) core) }
+    {
+        let _lost = self.lost;
+        let signals = self.run_here(core, past, most)?;
+        calendar.until[core.0] = Tick::ZERO;
+        calendar.stale = calendar.stale || signals;
+        Ok(())
+    }
+
+    // The same where the core is busy, as the calendar has it, before the moment up to which it may be lent: then it goes on as far as it
+    // may, so that cores which others never signal need not wait for them. Answers whether it took turns.
+    fn run_busy(
+        &mut self,
+        core: CoreId,
+        most: usize,
+        calendar: &mut Calendar,
+    ) -> Result<bool, NoMemory>
+        requires known { core < self.old.system.cores }
+        requires sound { self.old.lost ≡ false }
+        requires here { AllAreHere self.old }
+        requires holds { HoldsAt self.old calendar.old }
+        ensures later { OnOk result (IsLater self.old self.new) }
+        ensures holds { OnOk result (HoldsAt self.new calendar.new) }
+        ensures same { IfOk result (λ moved. IsFalse moved → (self.new ≡ self.old) × (calendar.new ≡ calendar.old)) }
+        ensures waits { IfOk result (λ moved. IsFalse moved →
+            past_of self.old core ≤ max (clock_of self.old core) (slice_index calendar.old.until core)) }
+        ensures fewer { IfOk result (λ moved. IsTrue moved → turns_left self.new < turns_left self.old) }
+        ensures spent { OnErr result (IsSpent self.old self.new) }
+    {
+        let _lost = self.lost;
+        if self.must_wait(core, calendar.until[core.0]) {
+            return Ok(false);
+        }
+        let past = self.farthest(core);
+        if self.clock(core) < past {
+            self.run_noted(core, past, most, calendar)?;
+            return Ok(true);
+        }
+        Ok(false)
+    }
+
+    // Takes turns of each core that is busy before it waits for another one. Answers whether some core took any.
+    fn sweep(&mut self, most: usize, calendar: &mut Calendar) -> Result<bool, NoMemory>
+        requires sound { self.old.lost ≡ false }
+        requires here { AllAreHere self.old }
+        requires holds { HoldsAt self.old calendar.old }
+        ensures later { OnOk result (IsLater self.old self.new) }
+        ensures holds { OnOk result (HoldsAt self.new calendar.new) }
+        ensures same { IfOk result (λ moved. IsFalse moved → (self.new ≡ self.old) × (calendar.new ≡ calendar.old)) }
+        ensures waits { IfOk result (λ moved. IsFalse moved → (c : ℕ) → c < self.old.system.cores →
+            past_of self.old c ≤ max (clock_of self.old c) (slice_index calendar.old.until c)) }
+        ensures no_more { OnOk result (turns_left self.new ≤ turns_left self.old) }
+        ensures fewer { IfOk result (λ moved. IsTrue moved → turns_left self.new < turns_left self.old) }
+        ensures spent { OnErr result (IsSpent self.old self.new) }
+    {
+        let mut moved = false;
+        for core in 0..self.cores() {
+            let ran = self.run_busy(CoreId(core), most, calendar)?;
+            moved = moved || ran;
+        }
+        Ok(moved)
+    }
+
+    // Takes turns of the core that would be lent. Answers whether there is one.
+    fn run_first(&mut self, most: usize, calendar: &mut Calendar) -> Result<bool, NoMemory>
+        requires sound { self.old.lost ≡ false }
+        requires here { AllAreHere self.old }
+        requires holds { HoldsAt self.old calendar.old }
+        ensures holds { OnOk result (HoldsAt self.new calendar.new) }
+        ensures later { OnOk result (IsLater self.old self.new) }
+        ensures more { IfOk result (λ more. IsTrue more → turns_left self.new < turns_left self.old) }
+        ensures same { IfOk result (λ more. IsFalse more → self.new ≡ self.old) }
+        ensures done { IfOk result (λ more. IsFalse more → IsFinished self.new) }
+        ensures spent { OnErr result (IsSpent self.old self.new) }
+    {
+        let Some(core) = self.choice() else {
+            self.none_waits();
+            return Ok(false);
+        };
+        let past = self.farthest(core);
+        self.run_noted(core, past, most, calendar)?;
+        Ok(true)
+    }
+
+    // Skips idle time, and then takes turns of the cores that are busy, as the calendar has it. Answers whether there were turns to take.
+    fn round(&mut self, most: usize, calendar: &mut Calendar) -> Result<bool, NoMemory>
+        requires sound { self.old.lost ≡ false }
+        requires here { AllAreHere self.old }
+        requires holds { HoldsAt self.old calendar.old }
+        ensures holds { OnOk result (HoldsAt self.new calendar.new) }
+        ensures later { OnOk result (IsLater self.old self.new) }
+        ensures more { IfOk result (λ more. IsTrue more → turns_left self.new < turns_left self.old) }
+        ensures done { IfOk result (λ more. IsFalse more → IsFinished self.new) }
+        ensures spent { OnErr result (IsSpent self.old self.new) }
+    {
+        let moment = self.look_ahead(calendar);
+        self.skip_to(moment);
+        let moved = self.sweep(most, calendar)?;
+        if moved {
+            return Ok(true);
+        }
+        let more = self.run_first(most, calendar)?;
+        Ok(more)
+    }
+
+    /// Takes turns in the caller's thread until at least this many rows lie on the desk, as `kept` counts them, or every core has taken
+    /// its turn at the horizon. Unless all have, it takes at least one turn or skips idle time, also where there are as many rows already.
+    /// After `NoMemory` one core stays lent for good, and its rows that were not taken are gone; nothing else is lent or lost.
+    pub fn go(&mut self, rows: usize) -> Result<(), NoMemory>
+        requires sound { self.old.lost ≡ false }
+        requires here { AllAreHere self.old }
+        ensures later { OnOk result (IsLater self.old self.new) }
+        ensures fewer { OnOk result (IsFinished self.new ⊎ (turns_left self.new < turns_left self.old)) }
+        ensures enough { OnOk result (IsFinished self.new ⊎ (rows ≤ rows_kept self.new)) }
+        ensures spent { OnErr result (IsSpent self.old self.new) }
+        ensures run { (self.new.system ≡ self.old.system) × (self.new.horizon ≡ self.old.horizon) }
+    {
+        let mut calendar = Calendar::new();
+        'rounds: while self.round(rows, &mut calendar)? {
+            if self.kept() >= rows {
+                return Ok(());
+            }
+        }
+        Ok(())
+    }
+
+    /// Takes all turns that are left, in the caller's thread. After `NoMemory` one core stays lent for good, and its rows that were not taken
+    /// are gone; nothing else is lent or lost.
+    pub fn finish(&mut self) -> Result<(), NoMemory>
+        requires sound { self.old.lost ≡ false }
+        requires here { AllAreHere self.old }
+        ensures later { OnOk result (IsLater self.old self.new) }
+        ensures finished { OnOk result (IsFinished self.new) }
+        ensures spent { OnErr result (IsSpent self.old self.new) }
+    {
+        let mut calendar = Calendar::new();
+        while self.round(usize::MAX, &mut calendar)? {}
+        Ok(())
+    }
+}

@@ -1,0 +1,158 @@
+//! Cores that are lent for stretches, and taken back.
+ghost use Rattle.std.specs.Prelude.{◌≡◌, ℕ, ◌⊎◌, true, false, IfErr, OnOk, OnErr, IfSome, IfNone, IsTrue, IsFalse};
+ghost use Rattle.mcs_window.specs.Desk.{clock_of, past_of, MayLend, IsChosen, lent_at, settled_at, IsAwake, IsLent, IsSameRun, with_lost, IsLoan, IsSettleFault, AllAreHere, IsFinished};
+
+use crate::delivery::{deliver_reserved, make_room};
+use crate::desk::Desk;
+use crate::settle::{make_own_room, put_box, put_rows, same_front};
+use crate::slot::{Loan, Slot};
+use crate::{Done, Lost, Piece, SettleFault};
+use mcs_mail::Mailbox;
+use std::mem;
+
+impl Desk {
+    /// Whether a core may be lent now.
+    pub fn can_lend(&self) -> bool
+        ensures some { IsTrue result → (self.now.lost ≡ false) × (c : ℕ) × MayLend self.now c }
+        ensures none { IsFalse result → (self.now.lost ≡ true) ⊎ ((c : ℕ) → ¬ MayLend self.now c) }
+    {
+        !self.lost && self.choice().is_some()
+    }
+
+    /// Lends the core with the least clock, and of those the one with the least number, of those that are not lent and may take a turn,
+    /// for as long as the clocks of the others allow. Where nothing is lent and nothing was lost, all cores skip idle time first, as
+    /// `skip_idle` does. None where there is no such core, or a piece was lost; where nothing is lent and nothing was lost, that is only
+    /// where every core has taken its turn at the horizon, or skipped it.
+    pub fn lend(&mut self) -> Option<Piece>
+        ensures some { IfSome result (λ piece. IsLent self.old piece.core self.new) }
+        ensures piece { IfSome result (λ piece. (piece.system ≡ self.old.system)
+            × (piece.first ≡ clock_of self.new piece.core)
+            × (piece.past ≡ past_of self.new piece.core)
+            × (piece.front ≡ self.new.clocks)) }
+        ensures none { IfNone result (IsAwake self.old self.new
+            × ((self.old.lost ≡ true) ⊎ ((c : ℕ) → ¬ MayLend self.new c))) }
+        ensures goes_on { IfNone result (self.old.lost ≡ false → AllAreHere self.old → IsFinished self.new) }
+        ensures same_run { IsSameRun self.old self.new }
+    {
+        if !self.lost && self.all_are_here() {
+            self.skip_idle();
+        }
+        self.lend_now()
+    }
+
+    // The same without the skip.
+    fn lend_now(&mut self) -> Option<Piece>
+        ensures some { IfSome result (λ piece. (self.old.lost ≡ false)
+            × IsChosen self.old piece.core
+            × (self.new ≡ lent_at self.old piece.core)) }
+        ensures piece { IfSome result (λ piece. (piece.system ≡ self.old.system)
+            × (piece.first ≡ clock_of self.old piece.core)
+            × (piece.past ≡ past_of self.old piece.core)
+            × (piece.front ≡ self.old.clocks)) }
+        ensures none { IfNone result ((self.new ≡ self.old)
+            × ((self.old.lost ≡ true) ⊎ ((c : ℕ) → ¬ MayLend self.old c))) }
+        ensures goes_on { IfNone result (self.old.lost ≡ false → AllAreHere self.old → IsFinished self.old) }
+    {
+        if self.lost {
+            return None;
+        }
+        let core = self.choice()?;
+        let first = self.clock(core);
+        let past = self.past(core);
+        let front = self.clocks;
+        let slot = mem::replace(&mut self.slots[core.0], Slot::Away(Loan { past, front }));
+        let mail = mem::replace(&mut self.boxes[core.0], Mailbox::new(self.alloc));
+        let Slot::Here { spare, state } = slot else {
+            return None;
+        };
+        Some(Piece {
+            system: spare,
+            core,
+            first,
+            past,
+            front,
+            state,
+            mail,
+            alloc: self.alloc,
+        })
+    }
+
+    /// Marks a piece as lost: nothing is lent from now on. All loans stay, and stretches that are away may still be settled.
+    pub fn forfeit(&mut self, _lost: Lost)
+        ensures { self.new ≡ with_lost self.old }
+    {
+        self.lost = true;
+    }
+
+    // Why a stretch of the desk's system is not the one that its core is lent for.
+    fn fault_of(&self, done: &Done) -> Option<SettleFault>
+        requires { done.now.system ≡ self.now.system }
+        ensures none { IfNone result (IsLoan self.now done.now) }
+        ensures some { IfSome result (IsSettleFault self.now done.now) }
+    {
+        let Slot::Away(loan) = &self.slots[done.core.0] else {
+            return Some(SettleFault::NotLent);
+        };
+        let first = self.clocks[done.core.0];
+        if done.first != first || done.past != loan.past || !same_front(&done.front, &loan.front) {
+            return Some(SettleFault::OtherLoan);
+        }
+        None
+    }
+
+    /// Takes a stretch back that was run: the core comes to its end, its signals go to their homes, and the mail that collected
+    /// meanwhile joins its own. On each fault the desk is as it was, and the stretch is handed back. It compares the systems.
+    pub fn settle(&mut self, done: Done) -> Result<(), (SettleFault, Done)>
+        ensures ok { OnOk result ((done.system ≡ self.old.system)
+            × IsLoan self.old done
+            × (self.new ≡ settled_at self.old done.core done.past)) }
+        ensures err { OnErr result (self.new ≡ self.old) }
+        ensures fault { IfErr result (λ back. IsSettleFault self.old done back.0) }
+        ensures handed_back { IfErr result (λ back. back.1 ≡ done) }
+    {
+        if !self.is_of(&done.system) {
+            return Err((SettleFault::Foreign, done));
+        }
+        self.take_back(done)
+    }
+
+    /// The same for a stretch of the desk's system. It compares no systems, so that its cost does not grow with the system's size.
+    pub fn take_back(&mut self, done: Done) -> Result<(), (SettleFault, Done)>
+        requires { done.system ≡ self.old.system }
+        ensures ok { OnOk result (IsLoan self.old done × (self.new ≡ settled_at self.old done.core done.past)) }
+        ensures err { OnErr result (self.new ≡ self.old) }
+        ensures fault { IfErr result (λ back. IsSettleFault self.old done back.0) }
+        ensures handed_back { IfErr result (λ back. back.1 ≡ done) }
+    {
+        if let Some(fault) = self.fault_of(&done) {
+            return Err((fault, done));
+        }
+        let core = done.core.0;
+        let mut done = done;
+        if make_room(&self.system, &mut self.boxes, &done.out).is_err() {
+            return Err((SettleFault::NoMemory, done));
+        }
+        let (collected, rows) = (&self.boxes[core], &mut self.rows[core]);
+        if make_own_room(&mut done.mail, collected, rows, done.rows.len()).is_err() {
+            return Err((SettleFault::NoMemory, done));
+        }
+        let Done {
+            system,
+            past,
+            state,
+            rows,
+            out,
+            mail,
+            ..
+        } = done;
+        put_box(&mut self.boxes, core, mail);
+        deliver_reserved(&self.system, &mut self.boxes, &out);
+        put_rows(&mut self.rows[core], rows);
+        self.clocks[core] = past;
+        self.slots[core] = Slot::Here {
+            spare: system,
+            state,
+        };
+        Ok(())
+    }
+}
