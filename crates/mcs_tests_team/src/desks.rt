@@ -460,9 +460,9 @@ fn comes_back_alone(
     Ok(())
 }
 
-// Which of what a desk says of itself is so: that it is whole, finished, lost.
+// Which of what a desk says of itself is so: that all its cores are here, that it is finished, that a piece was lost.
 fn says(desk: &Desk) -> (bool, bool, bool) {
-    (desk.is_whole(), desk.finished(), desk.lost())
+    (desk.all_are_here(), desk.finished(), desk.lost())
 }
 
 // How many rows a core has made.
@@ -481,10 +481,10 @@ fn a_desk_is_finished_by_one_thread(rt: HostRuntime) -> Result<(), Fail> {
 
 fn finishes(rt: &impl Abort, desk: &mut Desk) -> Result<(), Fail> {
     assert_eq!(rt; (desk.cores(), desk.horizon().get()), (3, 7));
-    if !desk.is_whole() {
-        return Err(Fail::from("a whole desk"));
+    if desk.lost() || !desk.all_are_here() {
+        return Err(Fail::from("a core is away"));
     }
-    desk.finish()?;
+    desk.go(usize::MAX)?;
     assert!(rt; says(desk) == (true, true, false));
     assert_eq!(rt; desk.cores(), 3);
     // the rows of the whole schedule
@@ -548,10 +548,10 @@ fn all_come_back(
 
 fn has_made_all(rt: &impl Abort, desk: &mut Desk, schedule: &[Row]) -> Result<(), Fail> {
     assert_eq!(rt; desk.cores(), 3);
-    if !desk.is_whole() {
-        return Err(Fail::from("a whole desk"));
+    if desk.lost() || !desk.all_are_here() {
+        return Err(Fail::from("a core is away"));
     }
-    desk.finish()?;
+    desk.go(usize::MAX)?;
     assert!(rt; has_made(desk, 0, schedule));
     assert!(rt; has_made(desk, 1, schedule));
     assert!(rt; has_made(desk, 2, schedule));

@@ -13,6 +13,7 @@ use Rattle.mcs_system.specs.WellFormed.{IsWellFormed}
 use Rattle.mcs_core.specs.Run.{Ran}
 use Rattle.mcs_core.specs.State.{State, Fits, IsExpected, made_by, state_after}
 use Rattle.mcs_window.specs.stored.Delivery.{is_home, AreDelivered}
+use Rattle.mcs_window.specs.stored.Opening.{HasItems}
 use Rattle.mcs_window.specs.Inbox.{inbox, signals_between, IsMade, IsFor, Rises}
 use Rattle.mcs_window.specs.stored.Cores.{IsHere, AreHere, AreSince}
 use Rattle.mcs_window.specs.Stretch.{StandsAt, rows_between, NothingArrivesBefore, IsAfter}
@@ -22,6 +23,10 @@ use Rattle.mcs_system.proofs.Linked.{delays_within}
 use Rattle.mcs_core.proofs.Known.{known-said}
 use Rattle.mcs_window.proofs.Ranges.{rows-join}
 use Rattle.mcs_window.proofs.Stretches.{stretches}
+
+-- a list with more rows behind those that it had
+pub list-more : (old new : Vec Row Global) (rows : List Row) → new.items ≡ old.items ++ rows → (held : List Row) → HasItems old held → HasItems new (held ++ rows)
+list-more old new rows e held h = e ∙ ap (λ xs. xs ++ rows) h
 
 all_in : (P : Mail → Type 0) (mails : List Mail) → ((mail : Mail) → IsIn mail mails → P mail) → All P mails
 all_in P [] h = All-nil P
@@ -143,20 +148,20 @@ module _ (system : System) (well : IsWellFormed system) where
       ]
 
     -- the clocks, and the rows since the last taking
-    module _ (horizon : ℕ) (taken : List ℕ) (rows : List (Vec Row Global)) (kept : AreSince system horizon front taken rows) (h : c < system.cores) (l : slice_index front c ≤ to) (in_time : to ≤ horizon + 1)
-        (old new : Vec Row Global) (at : old ≡ get_or rows c old) (more : new.items ≡ old.items ++ rows_between system c (slice_index front c) to) where
-      rows_own : new.items ≡ rows_between system c (slice_index taken c) to
+    module _ {S : Type 0} {holds : S → List Row → Type 0} (horizon : ℕ) (taken : List ℕ) (told : List S) (kept : AreSince holds system horizon front taken told) (h : c < system.cores) (l : slice_index front c ≤ to)
+        (in_time : to ≤ horizon + 1) (old new : S) (at : old ≡ get_or told c old) (more : (held : List Row) → holds old held → holds new (held ++ rows_between system c (slice_index front c) to)) where
+      rows_own : holds new (rows_between system c (slice_index taken c) to)
       rows_own =
-          more ∙ ap (λ (v : Vec Row Global). v.items ++ rows_between system c (slice_index front c) to) at
-          ∙ ap (λ xs. xs ++ rows_between system c (slice_index front c) to) (kept.rows_are c old h)
-          ∙ rows-join system c (slice_index taken c) (slice_index front c) to (kept.in_order c h) l
+          subst (holds new) (rows-join system c (slice_index taken c) (slice_index front c) to (kept.in_order c h) l)
+          (more (rows_between system c (slice_index taken c) (slice_index front c)) (subst (λ s. holds s (rows_between system c (slice_index taken c) (slice_index front c))) (sym at) (kept.rows_are c old h)))
 
-      rows_later : (b : ℕ) (x : Vec Row Global) → b < system.cores → (get_or (set rows c new) b x).items ≡ rows_between system b (slice_index taken b) (slice_index later b)
+      rows_later : (b : ℕ) (x : S) → b < system.cores → holds (get_or (set told c new) b x) (rows_between system b (slice_index taken b) (slice_index later b))
       rows_later b x p = elim (eqb_tells b c) [
-        | inl e ↦ ap (λ d. (get_or (set rows c new) d x).items) e.1 ∙ ap (λ (v : Vec Row Global). v.items) (get_or-set_same rows c new x (let many = kept.rows_of in omega arith)) ∙ rows_own
-            ∙ ap (λ t. rows_between system c (slice_index taken c) t) (sym (ap (slice_index later) e.1 ∙ later_same))
-            ∙ ap (λ d. rows_between system d (slice_index taken d) (slice_index later b)) (sym e.1)
-        | inr e ↦ ap (λ (v : Vec Row Global). v.items) (get_or-set_other rows c b new x e.1) ∙ kept.rows_are b x p ∙ ap (λ t. rows_between system b (slice_index taken b) t) (sym (later_other b e.1))
+        | inl e ↦ subst (λ d. holds (get_or (set told c new) d x) (rows_between system d (slice_index taken d) (slice_index later d))) (sym e.1)
+            (subst (λ s. holds s (rows_between system c (slice_index taken c) (slice_index later c))) (sym (get_or-set_same told c new x (let many = kept.told_of in omega arith)))
+            (subst (λ t. holds new (rows_between system c (slice_index taken c) t)) (sym later_same) rows_own))
+        | inr e ↦ subst (λ s. holds s (rows_between system b (slice_index taken b) (slice_index later b))) (sym (get_or-set_other told c b new x e.1))
+            (subst (λ t. holds (get_or told b x) (rows_between system b (slice_index taken b) t)) (sym (later_other b e.1)) (kept.rows_are b x p))
       ]
 
       in_time_later : (b : ℕ) → b < system.cores → slice_index later b ≤ horizon + 1
@@ -168,10 +173,10 @@ module _ (system : System) (well : IsWellFormed system) where
       in_order_later : (b : ℕ) → b < system.cores → slice_index taken b ≤ slice_index later b
       in_order_later b p = let f = rises l b p in let g = kept.in_order b p in omega arith
 
-      pub since_later : AreSince system horizon later taken (set rows c new)
+      pub since_later : AreSince holds system horizon later taken (set told c new)
       since_later =
           record {
-            rows_of = length-set rows c new ∙ kept.rows_of;
+            told_of = length-set told c new ∙ kept.told_of;
             in_time = in_time_later;
             in_order = in_order_later;
             rows_are = rows_later;

@@ -4,6 +4,7 @@ use Rattle.std.specs.Prelude.{filter, slice_index}
 use Rattle.std.specs.Arc.{arc_value}
 use Rattle.std.proofs.lemmas.Bool.Decides.{eqb_tells}
 use Rattle.std.proofs.lemmas.List.{get_or-set_other}
+use Rattle.mcs_ticks.specs.declared.row.Row.{Row}
 use Rattle.mcs_mail.specs.declared.mail.Mail.{Mail}
 use Rattle.mcs_mail.specs.Box.{arriving, put_all}
 use Rattle.mcs_system.specs.System.{System}
@@ -75,7 +76,7 @@ zero-set [] k = refl
 zero-set (x ∷ xs) zero = refl
 zero-set (x ∷ xs) (suc k) = zero-set xs k
 
-module _ (a : Inside) (kept : IsKept a) (here : AllAreHere (table_of a)) where
+module _ {S : Type 0} {holds : S → List Row → Type 0} (a : Inside S) (kept : IsKept holds a) (here : AllAreHere (table_of a)) where
   abbrev system : System
   system = arc_value a.system
 
@@ -91,7 +92,7 @@ module _ (a : Inside) (kept : IsKept a) (here : AllAreHere (table_of a)) where
       ])
 
 -- the same of the table that the desk shows
-pub holds-noted : (a : Inside) (kept : IsKept a) (table : Table) (view : table_of a ≡ table) (here : AllAreHere table) (k n : ℕ) (e : k ≡ n) (after : Table) (calendar new : Calendar) → n < table.system.cores → HoldsAt table calendar
+pub holds-noted : {S : Type 0} {holds : S → List Row → Type 0} (a : Inside S) (kept : IsKept holds a) (table : Table) (view : table_of a ≡ table) (here : AllAreHere table) (k n : ℕ) (e : k ≡ n) (after : Table) (calendar new : Calendar) → n < table.system.cores → HoldsAt table calendar
     → clock_of table n < clock_of after n → after ≡ settled_at table n (clock_of after n) → new.until ≡ set calendar.until k 0
     → (new.stale ≡ false → (calendar.stale ≡ false) × (signals_between table.system n (clock_of table n) (clock_of after n) ≡ [])) → HoldsAt after new
 holds-noted a kept table view here k n e after calendar new known holds moved is until fresh =

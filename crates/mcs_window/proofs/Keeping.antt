@@ -16,7 +16,7 @@ use Rattle.mcs_window.specs.stored.Cores.{AreHere, AreWhole, IsKept}
 use Rattle.mcs_window.specs.Stretch.{StandsAt, rows_between, NothingArrivesBefore, IsAfter}
 use Rattle.mcs_window.specs.declared.cores.Cores.TheInside.{Inside}
 use Rattle.mcs_window.proofs.Deliveries.{signals_from}
-use Rattle.mcs_window.proofs.Advances.{ran_here, state_here, signals_own, here_later, since_later}
+use Rattle.mcs_window.proofs.Advances.{list-more, ran_here, state_here, signals_own, here_later, since_later}
 
 -- what a core has made, its turns taken
 pub record HasRun (system : System) (to : ℕ) (state after : State) (box left : Content) (rows : List Row) (signals made : List Mail) : Type 0 where
@@ -48,7 +48,7 @@ module _ (a : Inside) (kept : IsKept a) where
           clocks_of = kept.kept.clocks_of;
           taken_of = kept.kept.taken_of;
           since = record {
-            rows_of = length-set a.rows.items k new ∙ kept.kept.since.rows_of;
+            told_of = length-set a.rows.items k new ∙ kept.kept.since.told_of;
             in_time = kept.kept.since.in_time;
             in_order = kept.kept.since.in_order;
             rows_are = rows_same;
@@ -59,7 +59,7 @@ module _ (a : Inside) (kept : IsKept a) where
     where
       rows_same : (b : ℕ) (x : Vec Row Global) → b < system.cores → (get_or (set a.rows.items k new) b x).items ≡ rows_between system b (slice_index a.taken.items b) (slice_index a.clocks.items b)
       rows_same b x p = elim (eqb_tells b k) [
-        | inl e ↦ ap (λ d. (get_or (set a.rows.items k new) d x).items) e.1 ∙ ap (λ (v : Vec Row Global). v.items) (get_or-set_same a.rows.items k new x (let all = kept.kept.since.rows_of in omega arith))
+        | inl e ↦ ap (λ d. (get_or (set a.rows.items k new) d x).items) e.1 ∙ ap (λ (v : Vec Row Global). v.items) (get_or-set_same a.rows.items k new x (let all = kept.kept.since.told_of in omega arith))
             ∙ same ∙ ap (λ (v : Vec Row Global). v.items) at ∙ kept.kept.since.rows_are k old h
             ∙ ap (λ d. rows_between system d (slice_index a.taken.items d) (slice_index a.clocks.items d)) (sym e.1)
         | inr e ↦ ap (λ (v : Vec Row Global). v.items) (get_or-set_other a.rows.items k b new x e.1) ∙ kept.kept.since.rows_are b x p
@@ -88,7 +88,7 @@ module _ (a : Inside) (kept : IsKept a) where
         kept = record {
           clocks_of = length-set a.clocks.items k to ∙ kept.kept.clocks_of;
           taken_of = kept.kept.taken_of;
-          since = since_later system kept.well_formed a.clocks.items k to there a.horizon a.taken.items a.rows.items kept.kept.since h l in_time old new r_at rows_more;
+          since = since_later system kept.well_formed a.clocks.items k to there a.horizon a.taken.items a.rows.items kept.kept.since h l in_time old new r_at (list-more old new _ rows_more);
         };
         whole = λ e. record { here = subst (λ boxes. AreHere system (set a.clocks.items k to) (set a.states.items k after) boxes) (sym boxes_full) here; no_signals = no_signals };
       }

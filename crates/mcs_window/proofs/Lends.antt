@@ -7,6 +7,7 @@ use Rattle.std.specs.declared.alloc.Global.{Global}
 use Rattle.std.specs.declared.sync.Arc.{Arc}
 use Rattle.std.proofs.lemmas.Bool.Decides.{eqb_tells}
 use Rattle.std.proofs.lemmas.List.{get_or-set_same, get_or-set_other, get_or-map, length-set, map-set}
+use Rattle.mcs_ticks.specs.declared.row.Row.{Row}
 use Rattle.mcs_mail.specs.declared.mail.Mail.{Mail}
 use Rattle.mcs_mail.specs.Box.{Content}
 use Rattle.mcs_system.specs.System.{System}
@@ -37,7 +38,7 @@ placed-set system horizon clocks slots boxes k slot box old in_slots in_boxes ne
     same : (c d : ℕ) (s t : Slot) (m n : List Mail) → c ≡ d → s ≡ t → m ≡ n → IsPlaced system horizon d clocks n t → IsPlaced system horizon c clocks m s
     same c d s t m n e f g h = rw (e, f, g) h
 
-module _ (a : Inside) (kept : IsKept a) where
+module _ {S : Type 0} {holds : S → List Row → Type 0} (a : Inside S) (kept : IsKept holds a) where
   abbrev system : System
   system = arc_value a.system
 
@@ -99,7 +100,7 @@ module _ (a : Inside) (kept : IsKept a) where
 
   -- what the desk keeps
   pub lent_kept : (k : ℕ) (slot : Slot) (loan : Loan) (box : Content) → MayLend (table_of a) k → slot ≡ Away loan → loan.past ≡ past_of (table_of a) k → loan.front ≡ a.clocks → box.mails ≡ [] →
-      IsKept (record a { slots = with_item a.slots k slot; boxes = with_item a.boxes k box })
+      IsKept holds (record a { slots = with_item a.slots k slot; boxes = with_item a.boxes k box })
   lent_kept k slot loan box may e past front none =
       record {
         horizon = kept.horizon;

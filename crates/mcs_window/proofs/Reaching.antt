@@ -5,6 +5,7 @@ use Rattle.std.specs.Arc.{arc_value}
 use Rattle.std.specs.List.{slice_get}
 use Rattle.std.proofs.lemmas.Bool.Decides.{eqb_tells, nat_tests}
 use Rattle.std.proofs.lemmas.List.{get_or-set_same, get_or-set_other, get_or_append_left, get_or_push, length_push, length-set}
+use Rattle.mcs_ticks.specs.declared.row.Row.{Row}
 use Rattle.mcs_script.specs.declared.item.Item.{Item}
 use Rattle.mcs_script.specs.declared.item.Item.TheVariants.{Compute, Signal, Wait, Yield}
 use Rattle.mcs_system.specs.System.{System, note_part, thread_part, core_of, delay_between}
@@ -239,7 +240,7 @@ module _ (system : System) (n : ℕ) (rows : List (List ℕ)) (before : AreReach
           ]
 
 -- what the desk keeps
-pub reach-said : (a : Inside) → IsKept a → (maker home : ℕ) (row : List ℕ) → maker < (arc_value a.system).cores → home < (arc_value a.system).cores → row ≡ get_or a.reaches.items maker row →
+pub reach-said : {S : Type 0} {holds : S → List Row → Type 0} (a : Inside S) → IsKept holds a → (maker home : ℕ) (row : List ℕ) → maker < (arc_value a.system).cores → home < (arc_value a.system).cores → row ≡ get_or a.reaches.items maker row →
     IsReach (arc_value a.system) maker home (Signals (arc_value a.system) maker home) (slice_index row home)
 reach-said a kept maker home row l k is =
     let system = arc_value a.system in

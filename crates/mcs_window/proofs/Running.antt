@@ -1,5 +1,5 @@
 -- A desk whose cores take their turns where they lie.
-use Rattle.std.proofs.Common.{◌≡◌, ◌≢◌, ℕ, ◌<◌, ◌≤◌, Some, None, List, [], length, map, Vec, get_or, set, inl, inr, refl, sym, ap, ◌∙◌, subst, arith}
+use Rattle.std.proofs.Common.{◌≡◌, ◌≢◌, ℕ, ◌<◌, ◌≤◌, Bool, true, Some, None, List, [], ◌∷◌, ◌++◌, length, map, Vec, get_or, set, inl, inr, refl, sym, ap, ◌∙◌, subst, arith}
 use Rattle.std.specs.Prelude.{filter, slice_index}
 use Rattle.std.specs.Arc.{arc_value}
 use Rattle.std.specs.Vec.{with_item, with_items}
@@ -15,11 +15,12 @@ use Rattle.mcs_window.specs.Inbox.{inbox}
 use Rattle.mcs_window.specs.Stretch.{rows_between, NothingArrivesBefore}
 use Rattle.mcs_window.specs.stored.Cores.{AreSince}
 use Rattle.mcs_window.specs.stored.Delivery.{is_home, AreDelivered, AreSameMail}
-use Rattle.mcs_window.specs.stored.Slots.{slot_loan, table_of, IsPlaced, ArePlaced, IsKept, StandsIn, MayGo, HasGone}
+use Rattle.mcs_window.specs.stored.Slots.{slot_loan, table_of, IsPlaced, ArePlaced, IsKept, StandsIn, MayGo, HasGone, HasGoneAndTold, AreSameBut}
 use Rattle.mcs_window.specs.declared.slot.Loan.{Loan}
 use Rattle.mcs_window.specs.declared.slot.Slot.{Slot}
 use Rattle.mcs_window.specs.declared.slot.Slot.TheVariants.{Here, Away}
 use Rattle.mcs_window.specs.declared.desk.Desk.TheInside.{Inside}
+use Rattle.mcs_ticks.proofs.Givens.{held_more}
 use Rattle.mcs_window.proofs.Advances.{signals_own, here_own, since_later}
 use Rattle.mcs_window.proofs.Deliveries.{signals_from}
 use Rattle.mcs_window.proofs.Lending.{turns-fewer}
@@ -31,41 +32,37 @@ use Rattle.mcs_window.proofs.Skipping.{placed-parts, stands-loan}
 pub at_core : (u t : Table) (k n past : ℕ) → u ≡ t → k ≡ n → MayGoOn t n past → MayGoOn u k past
 at_core u t k n past e f may = rw (e, f) may
 
-pub same-mail : (boxes : List Content) → AreSameMail boxes boxes
-same-mail boxes = record { many = refl; each = λ c x l. refl }
-
--- another box takes the place of one
-pub same-respent : (boxes full : List Content) (k : ℕ) (left box : Content) → k < length boxes → AreSameMail (set boxes k left) full → AreSameMail (set boxes k box) (set full k box)
-same-respent boxes full k left box l same =
-    record { many = length-set full k box ∙ same.many ∙ length-set boxes k left ∙ sym (length-set boxes k box); each = each }
+-- another box takes the place of one, and the others have the mail that they had
+pub respent : (boxes full : List Content) (k : ℕ) (box : Content) → k < length boxes → AreSameBut k boxes full → AreSameMail (set boxes k box) (set full k box)
+respent boxes full k box l same =
+    record { many = length-set full k box ∙ same.many ∙ sym (length-set boxes k box); each = each }
   where
     in_full : k < length full
-    in_full = let many = same.many in let other = length-set boxes k left in omega arith
+    in_full = let many = same.many in omega arith
 
     each : (c : ℕ) (x : Content) → c < length (set boxes k box) → (get_or (set full k box) c x).mails ≡ (get_or (set boxes k box) c x).mails
     each c x m = elim (eqb_tells c k) [
       | inl e ↦ subst (λ d. (get_or (set full k box) d x).mails ≡ (get_or (set boxes k box) d x).mails) (sym e.1)
           (ap (λ (y : Content). y.mails) (get_or-set_same full k box x in_full ∙ sym (get_or-set_same boxes k box x l)))
       | inr e ↦ ap (λ (y : Content). y.mails) (get_or-set_other full k c box x e.1)
-          ∙ same.each c x (let one = length-set boxes k box in let other = length-set boxes k left in omega arith)
-          ∙ ap (λ (y : Content). y.mails) (get_or-set_other boxes k c left x e.1 ∙ sym (get_or-set_other boxes k c box x e.1))
+          ∙ same.each c x (let one = length-set boxes k box in omega arith) e.1
+          ∙ ap (λ (y : Content). y.mails) (sym (get_or-set_other boxes k c box x e.1))
     ]
 
-pub respent_are : (boxes : Vec Content Global) (full : List Content) (k : ℕ) (left box : Content) → k < length boxes.items → AreSameMail (set boxes.items k left) full →
-    AreSameMail (set boxes.items k box) (set (with_items (with_item boxes k left) full).items k box)
-respent_are boxes full k left box l same =
-    subst (λ xs. AreSameMail (set boxes.items k box) (set xs k box)) (sym (with_items_is (with_item boxes k left) full (let ok = (with_item boxes k left).ok.0 in let many = same.many in omega arith)))
-    (same-respent boxes.items full k left box l same)
+pub respent_are : (boxes : Vec Content Global) (full : List Content) (k : ℕ) (box : Content) → k < length boxes.items → AreSameBut k boxes.items full → AreSameMail (set boxes.items k box) (set (with_items boxes full).items k box)
+respent_are boxes full k box l same =
+    subst (λ xs. AreSameMail (set boxes.items k box) (set xs k box)) (sym (with_items_is boxes full (let ok = boxes.ok.0 in let many = same.many in omega arith)))
+    (respent boxes.items full k box l same)
 
--- the rows of a core are taken, or they are gone
-pub since_taken : (a : Inside) → IsKept a → (k clock : ℕ) (rows : List (Vec Row Global)) (none : Vec Row Global) → k < (arc_value a.system).cores → none.items ≡ [] → rows ≡ set a.rows.items k none → clock ≡ slice_index a.clocks k
-    → AreSince (arc_value a.system) a.horizon a.clocks (set a.taken k clock) rows
-since_taken a kept k clock rows none known none_is rows_are clock_is =
+-- what a core told is taken, or it is gone
+pub since_taken : {S : Type 0} {holds : S → List Row → Type 0} (a : Inside S) → IsKept holds a → (k clock : ℕ) (told : List S) (none : S) → k < (arc_value a.system).cores → holds none [] → told ≡ set a.told.items k none
+    → clock ≡ slice_index a.clocks k → AreSince holds (arc_value a.system) a.horizon a.clocks (set a.taken k clock) told
+since_taken {S} {holds} a kept k clock told none known none_is told_are clock_is =
     record {
-      rows_of = ap length rows_are ∙ length-set a.rows.items k none ∙ kept.since.rows_of;
+      told_of = ap length told_are ∙ length-set a.told.items k none ∙ kept.since.told_of;
       in_time = kept.since.in_time;
       in_order = in_order;
-      rows_are = λ c x p. ap (λ rs. (get_or rs c x).items) rows_are ∙ each c x p;
+      rows_are = λ c x p. subst (λ ts. holds (get_or ts c x) (rows_between (arc_value a.system) c (slice_index (set a.taken k clock) c) (slice_index a.clocks c))) (sym told_are) (each c x p);
     }
   where
     taken_same : slice_index (set a.taken k clock) k ≡ slice_index a.clocks k
@@ -78,17 +75,17 @@ since_taken a kept k clock rows none known none_is rows_are clock_is =
       | inr e ↦ (let f = get_or-set_other a.taken k c clock 0 e.1 in let g = kept.since.in_order c p in omega arith)
     ]
 
-    each : (c : ℕ) (x : Vec Row Global) → c < (arc_value a.system).cores → (get_or (set a.rows.items k none) c x).items ≡ rows_between (arc_value a.system) c (slice_index (set a.taken k clock) c) (slice_index a.clocks c)
+    each : (c : ℕ) (x : S) → c < (arc_value a.system).cores → holds (get_or (set a.told.items k none) c x) (rows_between (arc_value a.system) c (slice_index (set a.taken k clock) c) (slice_index a.clocks c))
     each c x p = elim (eqb_tells c k) [
-      | inl e ↦ subst (λ d. (get_or (set a.rows.items k none) d x).items ≡ rows_between (arc_value a.system) d (slice_index (set a.taken k clock) d) (slice_index a.clocks d)) (sym e.1)
-          (ap (λ (v : Vec Row Global). v.items) (get_or-set_same a.rows.items k none x (let all = kept.since.rows_of in omega arith)) ∙ none_is
-          ∙ sym (rows-none (arc_value a.system) k (slice_index a.clocks k)) ∙ ap (λ t. rows_between (arc_value a.system) k t (slice_index a.clocks k)) (sym taken_same))
-      | inr e ↦ ap (λ (v : Vec Row Global). v.items) (get_or-set_other a.rows.items k c none x e.1) ∙ kept.since.rows_are c x p
-          ∙ ap (λ t. rows_between (arc_value a.system) c t (slice_index a.clocks c)) (sym (get_or-set_other a.taken k c clock 0 e.1))
+      | inl e ↦ subst (λ d. holds (get_or (set a.told.items k none) d x) (rows_between (arc_value a.system) d (slice_index (set a.taken k clock) d) (slice_index a.clocks d))) (sym e.1)
+          (subst (λ t. holds t (rows_between (arc_value a.system) k (slice_index (set a.taken k clock) k) (slice_index a.clocks k))) (sym (get_or-set_same a.told.items k none x (let all = kept.since.told_of in omega arith)))
+          (subst (holds none) (sym (rows-none (arc_value a.system) k (slice_index a.clocks k)) ∙ ap (λ t. rows_between (arc_value a.system) k t (slice_index a.clocks k)) (sym taken_same)) none_is))
+      | inr e ↦ subst (λ t. holds t (rows_between (arc_value a.system) c (slice_index (set a.taken k clock) c) (slice_index a.clocks c))) (sym (get_or-set_other a.told.items k c none x e.1))
+          (subst (λ t. holds (get_or a.told.items c x) (rows_between (arc_value a.system) c t (slice_index a.clocks c))) (sym (get_or-set_other a.taken k c clock 0 e.1)) (kept.since.rows_are c x p))
     ]
 
-pub taken_kept : (a : Inside) → IsKept a → (k clock : ℕ) (none : Vec Row Global) → k < (arc_value a.system).cores → none.items ≡ [] → clock ≡ slice_index a.clocks k
-    → IsKept (record a { taken = set a.taken k clock; rows = with_item a.rows k none })
+pub taken_kept : {S : Type 0} {holds : S → List Row → Type 0} (a : Inside S) → IsKept holds a → (k clock : ℕ) (none : S) → k < (arc_value a.system).cores → holds none [] → clock ≡ slice_index a.clocks k
+    → IsKept holds (record a { taken = set a.taken k clock; told = with_item a.told k none })
 taken_kept a kept k clock none known none_is clock_is =
     record {
       horizon = kept.horizon;
@@ -101,11 +98,11 @@ taken_kept a kept k clock none known none_is clock_is =
       boxes_of = kept.boxes_of;
       delays_are = kept.delays_are;
       reaches_are = kept.reaches_are;
-      since = since_taken a kept k clock (set a.rows.items k none) none known none_is refl clock_is;
+      since = since_taken a kept k clock (set a.told.items k none) none known none_is refl clock_is;
       placed = kept.placed;
     }
 
-module _ (a : Inside) (kept : IsKept a) (k past : ℕ) (may : MayGoOn (table_of a) k past) where
+module _ {S : Type 0} {holds : S → List Row → Type 0} (a : Inside S) (kept : IsKept holds a) (k past : ℕ) (may : MayGoOn (table_of a) k past) where
   abbrev system : System
   system = arc_value a.system
 
@@ -118,12 +115,12 @@ module _ (a : Inside) (kept : IsKept a) (k past : ℕ) (may : MayGoOn (table_of 
   pub in_boxes : k < length a.boxes.items
   in_boxes = let all = kept.boxes_of in let h = may.known in omega arith
 
-  pub may_go : (slot : Slot) (box : Content) → slot ≡ get_or a.slots.items k slot → box ≡ get_or a.boxes.items k box → MayGo system k past a.clocks slot box.mails
-  may_go slot box at b_at =
+  pub may_go : (slot : Slot) → slot ≡ get_or a.slots.items k slot → (box : Content) → MayGo system k past a.clocks slot (get_or a.boxes.items k box).mails
+  may_go slot at box =
       record {
         known = may.known;
         stands = subst (StandsIn system k (slice_index a.clocks k)) (sym at) parts.0;
-        box_is = ap (λ (y : Content). y.mails) b_at ∙ parts.2;
+        box_is = parts.2;
         ahead = may.ahead;
         in_time = (let h = may.in_time in let horizon = kept.horizon in omega arith);
         reached = may.reached;
@@ -134,8 +131,17 @@ module _ (a : Inside) (kept : IsKept a) (k past : ℕ) (may : MayGoOn (table_of 
       parts = placed-parts system a.horizon k a.clocks _ (get_or a.slots.items k slot) (sym (loan_at a kept k slot may.known) ∙ may.here) (kept.placed k slot box may.known)
 
   -- the core has taken its turns
-  module _ (to : ℕ) (after : Slot) (left : Content) (full : List Content) (old new : Vec Row Global) (out : Vec Mail Global) (gone : HasGone system k past a.clocks old.items after left.mails new.items out.items to)
-      (delivered : AreDelivered system out.items (set a.boxes.items k left) full) (at : old ≡ get_or a.rows.items k old) where
+  module _ (takes : S → Row → Bool → S → Type 0) (holds_more : (s t : S) (held : List Row) (row : Row) → holds s held → takes s row true t → holds t (held ++ row ∷ [])) (to : ℕ) (after : Slot) (full : List Content) (old new : S)
+      (out : Vec Mail Global) (went : HasGoneAndTold takes system k past a.clocks old a.boxes.items after full new out.items to) (at : old ≡ get_or a.told.items k old) where
+    abbrev left : Content
+    left = went.left
+
+    gone : HasGone takes system k past a.clocks old after left.mails new out.items to
+    gone = went.gone
+
+    delivered : AreDelivered system out.items (set a.boxes.items k left) full
+    delivered = went.delivered
+
     forward : slice_index a.clocks k ≤ to
     forward = let l = gone.later in omega arith
 
@@ -174,14 +180,14 @@ module _ (a : Inside) (kept : IsKept a) (k past : ℕ) (may : MayGoOn (table_of 
       | inr e ↦ other b x y p e.1
     ]
 
-    boxes_are : (with_items (with_item a.boxes k left) full).items ≡ full
-    boxes_are = with_items_is (with_item a.boxes k left) full (let ok = (with_item a.boxes k left).ok.0 in let many = delivered.many in omega arith)
+    boxes_are : (with_items a.boxes full).items ≡ full
+    boxes_are = with_items_is a.boxes full (let ok = a.boxes.ok.0 in let many = delivered.many in let same = length-set a.boxes.items k left in omega arith)
 
-    pub gone_kept : IsKept (record a {
+    pub gone_kept : IsKept holds (record a {
       clocks = set a.clocks k to;
       slots = with_item a.slots k after;
-      boxes = with_items (with_item a.boxes k left) full;
-      rows = with_item a.rows k new;
+      boxes = with_items a.boxes full;
+      told = with_item a.told k new;
       signals = out;
     })
     gone_kept =
@@ -196,14 +202,15 @@ module _ (a : Inside) (kept : IsKept a) (k past : ℕ) (may : MayGoOn (table_of 
           boxes_of = ap length boxes_are ∙ delivered.many ∙ length-set a.boxes.items k left ∙ kept.boxes_of;
           delays_are = kept.delays_are;
           reaches_are = kept.reaches_are;
-          since = since_later system kept.well_formed a.clocks k to in_clocks a.horizon a.taken a.rows.items kept.since may.known forward (let h = gone.in_time in let l = may.in_time in omega arith) old new at gone.rows_are;
+          since = since_later system kept.well_formed a.clocks k to in_clocks a.horizon a.taken a.told.items kept.since may.known forward (let h = gone.in_time in let l = may.in_time in omega arith) old new at
+              (λ held h. held_more takes holds holds_more old new held _ h gone.told);
           placed = subst (λ boxes. ArePlaced system a.horizon (set a.clocks k to) (set a.slots.items k after) boxes) (sym boxes_are) placed;
         }
 
     loans_are : map slot_loan (set a.slots.items k after) ≡ set (map slot_loan a.slots.items) k None
     loans_are = map-set slot_loan a.slots.items k after ∙ ap (set (map slot_loan a.slots.items) k) (stands-loan system k to after gone.stands)
 
-    pub gone_shows : table_of (record a { clocks = set a.clocks k to; slots = with_item a.slots k after; boxes = with_items (with_item a.boxes k left) full; rows = with_item a.rows k new; signals = out }) ≡ settled_at (table_of a) k to
+    pub gone_shows : table_of (record a { clocks = set a.clocks k to; slots = with_item a.slots k after; boxes = with_items a.boxes full; told = with_item a.told k new; signals = out }) ≡ settled_at (table_of a) k to
     gone_shows = ap (λ loans. record (settled_at (table_of a) k to) { loans = loans }) loans_are
 
     pub gone_clock : slice_index (set a.clocks k to) k ≡ to
@@ -214,7 +221,7 @@ module _ (a : Inside) (kept : IsKept a) (k past : ℕ) (may : MayGoOn (table_of 
         turns-fewer (table_of a) k to may.known (let all = kept.clocks_of in let few = kept.few in omega arith) gone.later
         (let l = gone.in_time in let h = may.in_time in omega arith)
 
-  -- the desk shows a core that stays lent, and no rows of it that are not taken
+  -- the desk shows a core that stays lent, and nothing that it told
   pub spent_shows : (slots : List Slot) (loan : Loan) (clock : ℕ) → loan.past ≡ past → loan.front ≡ a.clocks → slots ≡ set a.slots.items k (Away loan) → clock ≡ slice_index a.clocks k →
       record (table_of a) { taken = set a.taken k clock; loans = map slot_loan slots } ≡ taken_at (lent_to (table_of a) k past) k
   spent_shows slots loan clock past_is front_is slots_are clock_is =
@@ -225,10 +232,10 @@ module _ (a : Inside) (kept : IsKept a) (k past : ℕ) (may : MayGoOn (table_of 
       one : loan ≡ record { past = past; front = a.clocks }
       one = rw (← past_is, ← front_is) refl
 
-  -- memory was refused: the core stays lent, without its mail and its rows
-  module _ (slots : Vec Slot Global) (boxes : Vec Content Global) (rows : Vec (Vec Row Global) Global) (signals : Vec Mail Global) (loan : Loan) (box : Content) (none : Vec Row Global) (past_is : loan.past ≡ past)
-      (front_is : loan.front ≡ a.clocks) (box_is : box.mails ≡ []) (none_is : none.items ≡ []) (slots_are : slots.items ≡ set a.slots.items k (Away loan)) (boxes_are : AreSameMail (set a.boxes.items k box) boxes.items)
-      (rows_are : rows.items ≡ set a.rows.items k none) (clock : ℕ) (clock_is : clock ≡ slice_index a.clocks k) where
+  -- memory was refused: the core stays lent, without its mail and what it told
+  module _ (slots : Vec Slot Global) (boxes : Vec Content Global) (told : Vec S Global) (signals : Vec Mail Global) (loan : Loan) (box : Content) (none : S) (past_is : loan.past ≡ past)
+      (front_is : loan.front ≡ a.clocks) (box_is : box.mails ≡ []) (none_is : holds none []) (slots_are : slots.items ≡ set a.slots.items k (Away loan)) (boxes_are : AreSameMail (set a.boxes.items k box) boxes.items)
+      (told_are : told.items ≡ set a.told.items k none) (clock : ℕ) (clock_is : clock ≡ slice_index a.clocks k) where
     placed_away : ArePlaced system a.horizon a.clocks slots.items boxes.items
     placed_away c x y p =
         subst (λ xs. IsPlaced system a.horizon c a.clocks (get_or boxes.items c y).mails (get_or xs c x)) (sym slots_are)
@@ -236,11 +243,11 @@ module _ (a : Inside) (kept : IsKept a) (k past : ℕ) (may : MayGoOn (table_of 
         (placed-set system a.horizon a.clocks a.slots.items a.boxes.items k (Away loan) box kept.placed in_slots (let all = kept.boxes_of in let h = may.known in omega arith)
         (away_at a kept k loan box.mails (subst (MayGoOn (table_of a) k) (sym past_is) may) front_is box_is) c x y p))
 
-    pub spent_kept : IsKept (record a {
+    pub spent_kept : IsKept holds (record a {
       taken = set a.taken k clock;
       slots = slots;
       boxes = boxes;
-      rows = rows;
+      told = told;
       signals = signals;
     })
     spent_kept =
@@ -255,6 +262,6 @@ module _ (a : Inside) (kept : IsKept a) (k past : ℕ) (may : MayGoOn (table_of 
           boxes_of = boxes_are.many ∙ length-set a.boxes.items k box ∙ kept.boxes_of;
           delays_are = kept.delays_are;
           reaches_are = kept.reaches_are;
-          since = since_taken a kept k clock rows.items none may.known none_is rows_are clock_is;
+          since = since_taken a kept k clock told.items none may.known none_is told_are clock_is;
           placed = placed_away;
         }

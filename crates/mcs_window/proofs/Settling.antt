@@ -27,12 +27,13 @@ use Rattle.mcs_window.specs.declared.slot.Slot.TheVariants.{Here, Away}
 use Rattle.mcs_window.specs.declared.desk.Desk.TheInside.{Inside}
 use Rattle.mcs_window.specs.stored.Cores.{IsHere}
 use Rattle.mcs_window.specs.stored.Delivery.{is_home, count_for, HaveRoom, AreSameMail, AreDelivered, IsJoined}
+use Rattle.mcs_window.specs.stored.Opening.{HasItems}
 use Rattle.mcs_window.specs.stored.Slots.{slot_loan, table_of, IsAway, IsPlaced, ArePlaced, IsKept}
 use Rattle.mcs_window.proofs.Boxes.{filter-flat_map-none, out_of_turn}
 use Rattle.mcs_window.proofs.Joins.{inbox-joined}
 use Rattle.mcs_window.proofs.News.{news-are, news-joined}
 use Rattle.mcs_window.proofs.Deliveries.{signals_from, home-news}
-use Rattle.mcs_window.proofs.Advances.{takes_time, rises, later_other, signals_own, here_own, here_other, since_later}
+use Rattle.mcs_window.proofs.Advances.{list-more, takes_time, rises, later_other, signals_own, here_own, here_other, since_later}
 
 -- of the first signals no more are for a core than there are
 pub count-fits : (system : System) (c i : ℕ) (signals : List Mail) → count_for system c (take i signals) ≤ i
@@ -198,7 +199,7 @@ pub joined_are : (boxes : Vec Content Global) (c : ℕ) (mailbox : Content) (ite
 joined_are boxes c mailbox items joined are is = with_items_is boxes joined (let ok = boxes.ok.0 in let many = is.many in let e = ap length are in omega arith)
 
 -- each box has more room
-pub boxes_roomy : (a : Inside) (full : List Content) → IsKept a → AreSameMail a.boxes.items full → IsKept (record a { boxes = with_items a.boxes full })
+pub boxes_roomy : {S : Type 0} {holds : S → List Row → Type 0} (a : Inside S) (full : List Content) → IsKept holds a → AreSameMail a.boxes.items full → IsKept holds (record a { boxes = with_items a.boxes full })
 boxes_roomy a full kept same =
     record {
       horizon = kept.horizon;
@@ -224,8 +225,8 @@ boxes_roomy a full kept same =
         subst (λ ms. IsPlaced (arc_value a.system) a.horizon b a.clocks ms (get_or a.slots.items b slot)) (sym (same.each b box (omega arith))) (kept.placed b slot box l)
 
 -- a list of rows has more room
-pub rows_roomy : (a : Inside) (k : ℕ) (old new : Vec Row Global) → IsKept a → k < (arc_value a.system).cores → old ≡ get_or a.rows.items k old → new.items ≡ old.items
-    → IsKept (record a { rows = with_item a.rows k new })
+pub rows_roomy : (a : Inside (Vec Row Global)) (k : ℕ) (old new : Vec Row Global) → IsKept HasItems a → k < (arc_value a.system).cores → old ≡ get_or a.told.items k old → new.items ≡ old.items
+    → IsKept HasItems (record a { told = with_item a.told k new })
 rows_roomy a k old new kept h at same =
     record {
       horizon = kept.horizon;
@@ -239,7 +240,7 @@ rows_roomy a k old new kept h at same =
       delays_are = kept.delays_are;
       reaches_are = kept.reaches_are;
       since = record {
-        rows_of = length-set a.rows.items k new ∙ kept.since.rows_of;
+        told_of = length-set a.told.items k new ∙ kept.since.told_of;
         in_time = kept.since.in_time;
         in_order = kept.since.in_order;
         rows_are = rows_same;
@@ -247,16 +248,16 @@ rows_roomy a k old new kept h at same =
       placed = kept.placed;
     }
   where
-    rows_same : (b : ℕ) (x : Vec Row Global) → b < (arc_value a.system).cores → (get_or (set a.rows.items k new) b x).items ≡ rows_between (arc_value a.system) b (slice_index a.taken b) (slice_index a.clocks b)
+    rows_same : (b : ℕ) (x : Vec Row Global) → b < (arc_value a.system).cores → (get_or (set a.told.items k new) b x).items ≡ rows_between (arc_value a.system) b (slice_index a.taken b) (slice_index a.clocks b)
     rows_same b x p = elim (eqb_tells b k) [
-      | inl e ↦ ap (λ d. (get_or (set a.rows.items k new) d x).items) e.1 ∙ ap (λ (v : Vec Row Global). v.items) (get_or-set_same a.rows.items k new x (let all = kept.since.rows_of in omega arith))
+      | inl e ↦ ap (λ d. (get_or (set a.told.items k new) d x).items) e.1 ∙ ap (λ (v : Vec Row Global). v.items) (get_or-set_same a.told.items k new x (let all = kept.since.told_of in omega arith))
           ∙ same ∙ ap (λ (v : Vec Row Global). v.items) at ∙ kept.since.rows_are k old h
           ∙ ap (λ d. rows_between (arc_value a.system) d (slice_index a.taken d) (slice_index a.clocks d)) (sym e.1)
-      | inr e ↦ ap (λ (v : Vec Row Global). v.items) (get_or-set_other a.rows.items k b new x e.1) ∙ kept.since.rows_are b x p
+      | inr e ↦ ap (λ (v : Vec Row Global). v.items) (get_or-set_other a.told.items k b new x e.1) ∙ kept.since.rows_are b x p
     ]
 
 -- a stretch that was lent
-module _ (a : Inside) (kept : IsKept a) (done : Outcome) (are : IsOutcome done) (same : done.system ≡ arc_value a.system) (loan : IsLoan (table_of a) done) where
+module _ (a : Inside (Vec Row Global)) (kept : IsKept HasItems a) (done : Outcome) (are : IsOutcome done) (same : done.system ≡ arc_value a.system) (loan : IsLoan (table_of a) done) where
   abbrev system : System
   system = arc_value a.system
 
@@ -271,7 +272,7 @@ module _ (a : Inside) (kept : IsKept a) (done : Outcome) (are : IsOutcome done) 
   out-none = ap (filter (is_home system k)) (rw same at are.out_is) ∙ own-none system k done.first done.past
 
   module _ (spare : Arc System Global) (mailbox : Content) (joined full : List Content) (old new : Vec Row Global) (copy : arc_value spare ≡ done.system) (mails_are : mailbox.mails ≡ done.mail)
-      (is_joined : IsJoined k mailbox a.boxes.items joined) (delivered : AreDelivered system done.out joined full) (at : old ≡ get_or a.rows.items k old) (more : new.items ≡ old.items ++ done.rows) where
+      (is_joined : IsJoined k mailbox a.boxes.items joined) (delivered : AreDelivered system done.out joined full) (at : old ≡ get_or a.told.items k old) (more : new.items ≡ old.items ++ done.rows) where
     abbrev back : Slot
     back = Here spare done.state
 
@@ -334,11 +335,11 @@ module _ (a : Inside) (kept : IsKept a) (done : Outcome) (are : IsOutcome done) 
     rows_more : new.items ≡ old.items ++ rows_between system k (slice_index a.clocks k) done.past
     rows_more = more ∙ ap (λ rows. old.items ++ rows) (rw same at are.rows_are ∙ ap (λ m. rows_between system k m done.past) loan.first)
 
-    pub settled_kept : IsKept (record a {
+    pub settled_kept : IsKept HasItems (record a {
       clocks = set a.clocks k done.past;
       slots = with_item a.slots k back;
       boxes = with_items (with_items a.boxes joined) full;
-      rows = with_item a.rows k new;
+      told = with_item a.told k new;
     })
     settled_kept =
         record {
@@ -352,10 +353,10 @@ module _ (a : Inside) (kept : IsKept a) (done : Outcome) (are : IsOutcome done) 
           boxes_of = ap length boxes_are ∙ delivered.many ∙ is_joined.many ∙ kept.boxes_of;
           delays_are = kept.delays_are;
           reaches_are = kept.reaches_are;
-          since = since_later system kept.well_formed a.clocks k done.past there a.horizon a.taken a.rows.items kept.since inside forward (away mailbox).in_time old new at rows_more;
+          since = since_later system kept.well_formed a.clocks k done.past there a.horizon a.taken a.told.items kept.since inside forward (away mailbox).in_time old new at (list-more old new _ rows_more);
           placed = subst (λ boxes. ArePlaced system a.horizon (set a.clocks k done.past) (set a.slots.items k back) boxes) (sym boxes_are) placed;
         }
 
 -- the desk shows it
-pub settled_view : (a : Inside) (k past : ℕ) (spare : Arc System Global) (state : State) → table_of (record a { clocks = set a.clocks k past; slots = with_item a.slots k (Here spare state) }) ≡ settled_at (table_of a) k past
+pub settled_view : {S : Type 0} (a : Inside S) (k past : ℕ) (spare : Arc System Global) (state : State) → table_of (record a { clocks = set a.clocks k past; slots = with_item a.slots k (Here spare state) }) ≡ settled_at (table_of a) k past
 settled_view a k past spare state = ap (λ loans. record (settled_at (table_of a) k past) { loans = loans }) (map-set slot_loan a.slots.items k (Here spare state))

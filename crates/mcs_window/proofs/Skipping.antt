@@ -5,6 +5,7 @@ use Rattle.std.specs.Arc.{arc_value}
 use Rattle.std.specs.Vec.{with_items}
 use Rattle.std.proofs.lemmas.Bool.Decides.{eqb_tells}
 use Rattle.std.proofs.lemmas.List.{get_or-set_same, get_or-set_other, length-set, with_items_is}
+use Rattle.mcs_ticks.specs.declared.row.Row.{Row}
 use Rattle.mcs_mail.specs.declared.mail.Mail.{Mail}
 use Rattle.mcs_mail.specs.Box.{Content}
 use Rattle.mcs_system.specs.System.{System, TakesTime}
@@ -81,7 +82,7 @@ pub stands-loan : (system : System) (c t : ℕ) (slot : Slot) → StandsIn syste
 stands-loan system c t (Here spare state) stands = refl
 stands-loan system c t (Away loan) stands = absurd stands
 
-module _ (a : Inside) (kept : IsKept a) (here : AllAreHere (table_of a)) where
+module _ {S : Type 0} {holds : S → List Row → Type 0} (a : Inside S) (kept : IsKept holds a) (here : AllAreHere (table_of a)) where
   abbrev system : System
   system = arc_value a.system
 
@@ -118,7 +119,7 @@ module _ (a : Inside) (kept : IsKept a) (here : AllAreHere (table_of a)) where
         ∙ ap (λ xs. rows_between system c (slice_index a.taken c) (slice_index a.clocks c) ++ xs) (sym (counts c p).no_rows)
         ∙ rows-join system c (slice_index a.taken c) (slice_index a.clocks c) (slice_index later c) (kept.since.in_order c p) (let now = all-set c p in omega arith)
 
-    pub skipped_desk : IsKept (record a { clocks = later; slots = with_items a.slots slots })
+    pub skipped_desk : IsKept holds (record a { clocks = later; slots = with_items a.slots slots })
     skipped_desk =
         record {
           horizon = kept.horizon;
@@ -132,10 +133,10 @@ module _ (a : Inside) (kept : IsKept a) (here : AllAreHere (table_of a)) where
           delays_are = kept.delays_are;
           reaches_are = kept.reaches_are;
           since = record {
-            rows_of = kept.since.rows_of;
+            told_of = kept.since.told_of;
             in_time = λ c p. (let l = kept.since.in_time c p in let now = all-set c p in omega arith);
             in_order = λ c p. (let l = kept.since.in_order c p in let now = all-set c p in omega arith);
-            rows_are = λ c x p. kept.since.rows_are c x p ∙ rows-on c p;
+            rows_are = λ c x p. subst (holds (get_or a.told.items c x)) (rows-on c p) (kept.since.rows_are c x p);
           };
           placed = subst (λ xs. ArePlaced system a.horizon later xs a.boxes.items) (sym slots-are) placed;
         }

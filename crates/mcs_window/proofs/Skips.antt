@@ -17,6 +17,7 @@ use Rattle.mcs_core.proofs.QuietAlike.{counted-times-shown, quiet-shown}
 use Rattle.mcs_core.proofs.Skips.{quiet-alone, quiet-to, quiet-at}
 use Rattle.mcs_window.specs.Idle.{IsIdle, AreIdle, AreReached, AreSet, IsIdleUntil, OnlyCounts}
 use Rattle.mcs_window.specs.Inbox.{inbox}
+use Rattle.mcs_window.specs.stored.Opening.{HasItems}
 use Rattle.mcs_window.specs.stored.Cores.{AreSince, AreAt, AreHere, AreIdleBelow, AreKept, AreSetBelow, AreSkipped, AreWhole, IsHere, IsKept}
 use Rattle.mcs_window.specs.Stretch.{StandsAt, rows_between}
 use Rattle.mcs_window.specs.declared.cores.Cores.TheInside.{Inside}
@@ -192,7 +193,7 @@ module _ (a : Inside) (kept : IsKept a) (unspent : a.failed ≡ false) where
   whole : AreWhole system a.clocks.items a.states.items a.boxes.items a.signals.items
   whole = kept.whole unspent
 
-  since : AreSince system a.horizon a.clocks.items a.taken.items a.rows.items
+  since : AreSince HasItems system a.horizon a.clocks.items a.taken.items a.rows.items
   since = kept.kept.since
 
   here : (c : ℕ) (x : State) → c < system.cores → IsHere system c (slice_index a.clocks.items c) a.clocks.items (get_or a.states.items c x) (get_or a.boxes.items c (record { mails = []; spare = 0 })).mails
@@ -218,7 +219,7 @@ module _ (a : Inside) (kept : IsKept a) (unspent : a.failed ≡ false) where
               clocks_of = many_are ∙ kept.kept.clocks_of;
               taken_of = kept.kept.taken_of;
               since = record {
-                rows_of = since.rows_of;
+                told_of = since.told_of;
                 in_time = λ c p. (let l = since.in_time c p in let now = there c p in omega arith);
                 in_order = λ c p. (let l = since.in_order c p in let now = there c p in omega arith);
                 rows_are = λ c x p. since.rows_are c x p ∙ rows-on c p;

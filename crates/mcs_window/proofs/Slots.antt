@@ -4,14 +4,15 @@ use Rattle.std.specs.Prelude.{nat_lt, slice_index}
 use Rattle.std.specs.Arc.{arc_value}
 use Rattle.std.proofs.lemmas.Bool.Decides.{nat_tests}
 use Rattle.std.proofs.lemmas.List.{get_or_append_left, get_or_push, length_push, length-replicate}
+use Rattle.mcs_ticks.specs.declared.row.Row.{Row}
 use Rattle.mcs_mail.specs.declared.mail.Mail.{Mail}
 use Rattle.mcs_system.specs.System.{System}
 use Rattle.mcs_system.specs.WellFormed.{IsWellFormed}
 use Rattle.mcs_window.specs.stored.Reaches.{AreReaches}
-use Rattle.mcs_window.specs.stored.Opening.{AreEmptyBoxes, AreEmptyRows, AreDelays}
+use Rattle.mcs_window.specs.stored.Opening.{AreEmptyBoxes, AreDelays}
 use Rattle.mcs_window.specs.stored.Slots.{slot_loan, IsPlaced, IsKept, IsFresh, AreFresh}
 use Rattle.mcs_window.specs.Stretch.{rows_between}
-use Rattle.mcs_window.specs.Desk.{Table, opening_table}
+use Rattle.mcs_window.specs.Desk.{Table, opening_table, AreEmpty}
 use Rattle.mcs_window.specs.declared.slot.Loan.{Loan}
 use Rattle.mcs_window.specs.declared.slot.Slot.{Slot}
 use Rattle.mcs_window.specs.declared.slot.Slot.TheVariants.{Here, Away}
@@ -54,10 +55,10 @@ fresh_placed system horizon c clocks box (Here spare state) l zeros none fresh =
 fresh_placed system horizon c clocks box (Away loan) l zeros none fresh = absurd fresh
 
 -- a desk at the beginning
-pub opened_desk : (a : Inside) → a.horizon ≤ 2 ^ 40 → IsWellFormed (arc_value a.system) → a.clocks ≡ replicate 64 0 → a.taken ≡ replicate 64 0 →
-    AreFresh (arc_value a.system) (arc_value a.system).cores a.slots.items → AreEmptyBoxes (arc_value a.system).cores a.boxes.items → AreEmptyRows (arc_value a.system).cores a.rows.items →
-    AreDelays (arc_value a.system) (arc_value a.system).cores a.delays.items → AreReaches (arc_value a.system) a.reaches.items → IsKept a
-opened_desk a in_time well clocks_are taken_are slots boxes rows delays reaches =
+pub opened_desk : {S : Type 0} (holds : S → List Row → Type 0) (a : Inside S) → a.horizon ≤ 2 ^ 40 → IsWellFormed (arc_value a.system) → a.clocks ≡ replicate 64 0 → a.taken ≡ replicate 64 0 →
+    AreFresh (arc_value a.system) (arc_value a.system).cores a.slots.items → AreEmptyBoxes (arc_value a.system).cores a.boxes.items → AreEmpty holds (arc_value a.system).cores a.told.items →
+    AreDelays (arc_value a.system) (arc_value a.system).cores a.delays.items → AreReaches (arc_value a.system) a.reaches.items → IsKept holds a
+opened_desk holds a in_time well clocks_are taken_are slots boxes told delays reaches =
     record {
       horizon = in_time;
       well_formed = well;
@@ -70,10 +71,10 @@ opened_desk a in_time well clocks_are taken_are slots boxes rows delays reaches 
       delays_are = delays;
       reaches_are = reaches;
       since = record {
-        rows_of = rows.many_are;
+        told_of = told.many_are;
         in_time = λ c _. let e = clock c in omega arith;
         in_order = λ c _. let e = clock c in let f = taken c in omega arith;
-        rows_are = λ c x l. rows.each c x l ∙ both c (sym (taken c)) (sym (clock c));
+        rows_are = λ c x l. subst (holds (get_or a.told.items c x)) (both c (sym (taken c)) (sym (clock c))) (told.each c x l);
       };
       placed = λ c slot box l. fresh_placed (arc_value a.system) a.horizon c a.clocks _ _ l clock (boxes.each c box l) (slots.each c slot l);
     }

@@ -1,6 +1,7 @@
 -- A desk: the cores of a system, of which some are lent, each for a stretch that the clocks of the others allow.
-use Rattle.std.specs.Prelude.{◌≡◌, ◌≢◌, ◌⊎◌, ℕ, ◌+◌, ◌-◌, ◌<◌, ◌≤◌, ◌==◌, min, if◌then◌else◌, Bool, true, false, Option, Some, None, List, fold, sum_by, length, get_or, replicate, slice_index, slice_set}
+use Rattle.std.specs.Prelude.{◌≡◌, ◌≢◌, ◌⊎◌, ℕ, ◌+◌, ◌-◌, ◌<◌, ◌≤◌, ◌==◌, min, if◌then◌else◌, Bool, true, false, Option, Some, None, List, [], fold, sum_by, length, get_or, replicate, slice_index, slice_index_or, slice_set}
 use Rattle.std.specs.List.{range_with_len}
+use Rattle.mcs_ticks.specs.declared.row.Row.{Row}
 use Rattle.mcs_system.specs.System.{System, delay_between}
 use Rattle.mcs_window.specs.ByScripts.{IsSafeByScripts, IsFarByScripts, clocks_after}
 use Rattle.mcs_window.specs.Idle.{AreSet, IsIdleUntil}
@@ -30,6 +31,11 @@ opening_table system horizon =
       taken = replicate 64 0;
       loans = replicate system.cores None;
     }
+
+-- a collector for each core, and each of them is empty
+pub record AreEmpty {S : Type 0} (holds : S → List Row → Type 0) (many : ℕ) (told : List S) : Type 0 where
+  pub many_are : length told ≡ many
+  pub each : (c : ℕ) (x : S) → c < many → holds (slice_index_or told c x) []
 
 abbrev pub clock_of : Table → ℕ → ℕ
 clock_of table c = slice_index table.clocks c
@@ -151,16 +157,6 @@ IsSettleFault table done NoMemory = (done.system ≡ table.system) × IsLoan tab
 abbrev pub IsFinished : Table → Type 0
 IsFinished table = (c : ℕ) → c < table.system.cores → clock_of table c ≡ table.horizon + 1
 
--- no rows were taken
-abbrev pub IsUntaken : Table → Type 0
-IsUntaken table = (c : ℕ) → c < table.system.cores → taken_of table c ≡ 0
-
--- nothing is away: no piece was lost, no core is lent and no rows were taken
-pub record IsWhole (table : Table) : Type 0 where
-  pub sound : table.lost ≡ false
-  pub here : AllAreHere table
-  pub untaken : IsUntaken table
-
 -- turns were taken on the desk, in an order that is safe by the scripts, and nothing else changed
 pub record WentByScripts (before after : Table) : Type 0 where
   pub turns : List ℕ
@@ -190,8 +186,8 @@ pub record IsSpent (before after : Table) : Type 0 where
 abbrev pub turns_left : Table → ℕ
 turns_left table = sum_by (λ c. table.horizon + 1 - clock_of table c) (range_with_len 0 table.system.cores)
 
--- how many rows the cores have made since they were last taken
-abbrev pub rows_kept : Table → ℕ
-rows_kept table =
-    sum_by (λ c. length (rows_between table.system c (taken_of table c) (clock_of table c)))
+-- how much the cores told since that was last taken, by a measure of rows
+abbrev pub amount_kept : (List Row → ℕ) → Table → ℕ
+amount_kept amount table =
+    sum_by (λ c. amount (rows_between table.system c (taken_of table c) (clock_of table c)))
     (range_with_len 0 table.system.cores)

@@ -8,9 +8,9 @@ ghost use Rattle.mcs_window.specs.stored.Reaches.{IsReach};
 ghost use Rattle.mcs_window.specs.Desk.{past_of};
 
 use crate::desk::Desk;
-use mcs_ticks::{CoreId, Tick};
+use mcs_ticks::{Collector, CoreId, Tick};
 
-impl Desk {
+impl<S: Collector> Desk<S> {
     // How long a signal of this core is under way to another.
     fn delay(&self, maker: CoreId, home: CoreId) -> u64
         requires maker { maker < self.now.system.cores }

@@ -4,9 +4,9 @@ ghost use Rattle.mcs_window.specs.stored.Slots.{IsEarliest};
 ghost use Rattle.mcs_window.specs.Desk.{MayLend, IsChosen, IsBest, AllAreHere, IsFinished};
 
 use crate::desk::Desk;
-use mcs_ticks::CoreId;
+use mcs_ticks::{Collector, CoreId};
 
-impl Desk {
+impl<S: Collector> Desk<S> {
     // Whether a core may be lent.
     fn may_lend(&self, core: CoreId) -> bool
         requires { core < self.now.system.cores }

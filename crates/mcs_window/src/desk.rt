@@ -1,6 +1,6 @@
 ghost use Rattle.std.specs.Prelude.{◌≡◌, ◌↔◌, ◌+◌, ◌≤◌, ◌<◌, ◌^◌, None, IfOk, IsTrue};
 ghost use Rattle.std.specs.Arc.{arc_value};
-ghost use Rattle.mcs_window.specs.Desk.{opening_table, clock_of, taken_of, loan_of, AllAreHere, IsFinished, IsUntaken, IsWhole};
+ghost use Rattle.mcs_window.specs.Desk.{opening_table, clock_of, taken_of, loan_of, AreEmpty, AllAreHere, IsFinished};
 
 use crate::Front;
 use crate::opening::{delay_rows, empty_boxes, empty_rows};
@@ -8,14 +8,15 @@ use crate::reach::{Reaches, reach_rows};
 use crate::slot::{Slot, opening_slots};
 use mcs_mail::{Mail, Mailbox};
 use mcs_system::System;
-use mcs_ticks::{CoreId, Limits, NoMemory, Row, Tick};
+use mcs_ticks::{Collector, CoreId, Limits, NoMemory, Row, Tick};
 use std::alloc::Global;
 use std::marker::Model;
 use std::sync::Arc;
 
 /// The cores of a system, up to a horizon. Those that lie on it are lent for stretches, and are taken back when these were run.
+/// Each core tells its rows to a collector of its own.
 #[derive(Drop)]
-pub struct Desk {
+pub struct Desk<S: Collector = Vec<Row>> {
     pub(crate) system: Arc<System>,
     pub(crate) horizon: Tick,
     pub(crate) lost: bool,
@@ -25,7 +26,8 @@ pub struct Desk {
     pub(crate) slots: Vec<Slot>,
     // The box of a lent core has what was made for it since.
     pub(crate) boxes: Vec<Mailbox>,
-    pub(crate) rows: Vec<Vec<Row>>,
+    // What each core told since that was last taken.
+    pub(crate) told: Vec<S>,
     // For each core the delays of the signals to it.
     pub(crate) delays: Vec<[u64; Limits::CORES]>,
     // For each core after how long a signal of it may reach the others.
@@ -35,7 +37,7 @@ pub struct Desk {
     pub(crate) alloc: Global,
 }
 
-impl Model for Desk {
+impl<S: Collector> Model for Desk<S> {
     ghost use Rattle.mcs_window.specs.Desk.{Table};
 
     ghost Value = { Table };
@@ -44,19 +46,34 @@ impl Model for Desk {
 
     ghost view = { table_of };
 
-    ghost invariant = { IsKept };
+    ghost invariant = { IsKept S.holds };
 }
 
-impl Desk {
+impl Desk<Vec<Row>> {
     /// All cores at moment 0, for a run up to this horizon. No core is lent.
     pub fn new(alloc: Global, system: Arc<System>, horizon: Tick) -> Result<Desk, NoMemory>
         requires { horizon ≤ 2 ^ 40 }
         ensures { IfOk result (λ desk. desk ≡ opening_table (arc_value system) horizon) }
     {
-        let cores = system.parts().cores;
+        let told = empty_rows(alloc, system.parts().cores)?;
+        Desk::opened(alloc, system, horizon, told)
+    }
+}
+
+impl<S: Collector + Drop> Desk<S> {
+    /// All cores at moment 0, for a run up to this horizon, with an empty collector for each. No core is lent.
+    pub fn opened(
+        alloc: Global,
+        system: Arc<System>,
+        horizon: Tick,
+        told: Vec<S>,
+    ) -> Result<Desk<S>, NoMemory>
+        requires in_range { horizon ≤ 2 ^ 40 }
+        requires empty { AreEmpty S.holds (arc_value system).cores told.items }
+        ensures { IfOk result (λ desk. desk ≡ opening_table (arc_value system) horizon) }
+    {
         let slots = opening_slots(alloc, &system)?;
-        let boxes = empty_boxes(alloc, cores)?;
-        let rows = empty_rows(alloc, cores)?;
+        let boxes = empty_boxes(alloc, system.parts().cores)?;
         let delays = delay_rows(alloc, &system)?;
         let reaches = reach_rows(alloc, &system)?;
         Ok(Desk {
@@ -67,14 +84,16 @@ impl Desk {
             taken: [Tick::ZERO; 64],
             slots,
             boxes,
-            rows,
+            told,
             delays,
             reaches,
             signals: Vec::new(alloc),
             alloc,
         })
     }
+}
 
+impl<S: Collector> Desk<S> {
     /// How many cores there are.
     pub fn cores(&self) -> usize
         ensures { result ≡ self.now.system.cores }
@@ -161,24 +180,5 @@ impl Desk {
             }
         }
         true
-    }
-
-    // Whether no rows were taken.
-    fn is_untaken(&self) -> bool
-        ensures { IsTrue result ↔ IsUntaken self.now }
-    {
-        for core in 0..self.cores() {
-            if self.taken[core] > Tick::ZERO {
-                return false;
-            }
-        }
-        true
-    }
-
-    /// Whether nothing is away: no piece was lost, no core is lent, and no rows were taken.
-    pub fn is_whole(&self) -> bool
-        ensures { IsTrue result ↔ IsWhole self.now }
-    {
-        !self.lost && self.all_are_here() && self.is_untaken()
     }
 }

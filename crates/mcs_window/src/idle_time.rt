@@ -11,9 +11,9 @@ use crate::calendar::Calendar;
 use crate::desk::Desk;
 use crate::skip::skip_slots;
 use crate::slot::Slot;
-use mcs_ticks::{CoreId, Tick};
+use mcs_ticks::{Collector, CoreId, Tick};
 
-impl Desk {
+impl<S: Collector> Desk<S> {
     // The next busy moment of a core that is not lent.
     fn next_busy(&self, core: CoreId) -> Option<Tick>
         requires known { core < self.now.system.cores }

@@ -2,17 +2,16 @@
 ghost use Rattle.std.specs.Prelude.{◌≡◌, ℕ, ◌≤◌, ◌<◌, max, ◌⊎◌, false, [], slice_index, IfOk, OnOk, OnErr, IsTrue, IsFalse};
 ghost use Rattle.mcs_window.specs.Inbox.{signals_between};
 ghost use Rattle.mcs_window.specs.stored.Slots.{HoldsAt};
-ghost use Rattle.mcs_window.specs.Desk.{clock_of, past_of, MayGoOn, lent_to, settled_at, taken_at, AllAreHere, IsFinished, WentByScripts, IsLater, IsSpent, rows_kept, turns_left};
+ghost use Rattle.mcs_window.specs.Desk.{clock_of, past_of, MayGoOn, lent_to, settled_at, taken_at, AllAreHere, IsFinished, WentByScripts, IsLater, IsSpent, amount_kept, turns_left};
 
 use crate::calendar::Calendar;
-use crate::delivery::deliver;
 use crate::desk::Desk;
-use crate::turns::{run_slot, spend};
-use mcs_ticks::{CoreId, NoMemory, Tick};
+use crate::turns::{Turns, spend};
+use mcs_ticks::{Collector, CoreId, NoMemory, Tick};
 
-impl Desk {
-    // Takes turns of a core that may go on, where it lies, until it comes to `past` or has that many rows on the desk: at least one.
-    // Answers whether it made a signal for another core. Where memory is refused the core stays lent, and its rows are gone.
+impl<S: Collector> Desk<S> {
+    // Takes turns of a core that may go on, where it lies, until it comes to `past` or its collector has that much: at least one. Answers
+    // whether it made a signal for another core. Where memory is refused the core stays lent, and what it told is gone.
     fn run_here(&mut self, core: CoreId, past: Tick, most: usize) -> Result<bool, NoMemory>
         requires may { MayGoOn self.old core past }
         ensures ok { OnOk result (self.new ≡ settled_at self.old core (clock_of self.new core)) }
@@ -25,32 +24,20 @@ impl Desk {
         ensures run { (self.new.system ≡ self.old.system) × (self.new.horizon ≡ self.old.horizon) }
     {
         let index = core.0;
-        let slot = &mut self.slots[index];
-        let mail = &mut self.boxes[index];
-        let rows = &mut self.rows[index];
-        let signals = &mut self.signals;
-        let ran = run_slot(
-            &self.system,
+        let turns = Turns {
+            system: &self.system,
             core,
-            &self.clocks,
-            slot,
-            mail,
+            front: &self.clocks,
             past,
             most,
-            rows,
-            signals,
-        );
-        let Ok(to) = ran else {
-            let (slot, mail) = (&mut self.slots[index], &mut self.boxes[index]);
-            let rows = &mut self.rows[index];
-            spend(past, &self.clocks, slot, mail, rows, self.alloc);
-            self.taken[index] = self.clocks[index];
-            return Err(NoMemory);
         };
-        let Ok(()) = deliver(&self.system, &mut self.boxes, &self.signals) else {
+        let slot = &mut self.slots[index];
+        let told = &mut self.told[index];
+        let signals = &mut self.signals;
+        let Ok(to) = turns.take_and_deliver(slot, &mut self.boxes, told, signals) else {
             let (slot, mail) = (&mut self.slots[index], &mut self.boxes[index]);
-            let rows = &mut self.rows[index];
-            spend(past, &self.clocks, slot, mail, rows, self.alloc);
+            let told = &mut self.told[index];
+            spend(past, &self.clocks, slot, mail, told, self.alloc);
             self.taken[index] = self.clocks[index];
             return Err(NoMemory);
         };
@@ -178,38 +165,24 @@ impl Desk {
         Ok(more)
     }
 
-    /// Takes turns in the caller's thread until at least this many rows lie on the desk, as `kept` counts them, or every core has taken
-    /// its turn at the horizon. Unless all have, it takes at least one turn or skips idle time, also where there are as many rows already.
-    /// After `NoMemory` one core stays lent for good, and its rows that were not taken are gone; nothing else is lent or lost.
-    pub fn go(&mut self, rows: usize) -> Result<(), NoMemory>
+    /// Takes turns in the caller's thread until at least this much lies on the desk, as `kept` counts it, or every core has taken its turn
+    /// at the horizon. Unless all have, it takes at least one turn or skips idle time, also where there is as much already. After
+    /// `NoMemory` one core stays lent for good, and what it told that was not taken is gone; nothing else is lent or lost.
+    pub fn go(&mut self, enough: usize) -> Result<(), NoMemory>
         requires sound { self.old.lost ≡ false }
         requires here { AllAreHere self.old }
         ensures later { OnOk result (IsLater self.old self.new) }
         ensures fewer { OnOk result (IsFinished self.new ⊎ (turns_left self.new < turns_left self.old)) }
-        ensures enough { OnOk result (IsFinished self.new ⊎ (rows ≤ rows_kept self.new)) }
+        ensures enough { OnOk result (IsFinished self.new ⊎ (enough ≤ amount_kept S.amount self.new)) }
         ensures spent { OnErr result (IsSpent self.old self.new) }
         ensures run { (self.new.system ≡ self.old.system) × (self.new.horizon ≡ self.old.horizon) }
     {
         let mut calendar = Calendar::new();
-        'rounds: while self.round(rows, &mut calendar)? {
-            if self.kept() >= rows {
+        'rounds: while self.round(enough, &mut calendar)? {
+            if self.kept() >= enough {
                 return Ok(());
             }
         }
-        Ok(())
-    }
-
-    /// Takes all turns that are left, in the caller's thread. After `NoMemory` one core stays lent for good, and its rows that were not taken
-    /// are gone; nothing else is lent or lost.
-    pub fn finish(&mut self) -> Result<(), NoMemory>
-        requires sound { self.old.lost ≡ false }
-        requires here { AllAreHere self.old }
-        ensures later { OnOk result (IsLater self.old self.new) }
-        ensures finished { OnOk result (IsFinished self.new) }
-        ensures spent { OnErr result (IsSpent self.old self.new) }
-    {
-        let mut calendar = Calendar::new();
-        while self.round(usize::MAX, &mut calendar)? {}
         Ok(())
     }
 }

@@ -8,9 +8,10 @@ use crate::settle::{make_own_room, put_box, put_rows, same_front};
 use crate::slot::{Loan, Slot};
 use crate::{Done, Lost, Piece, SettleFault};
 use mcs_mail::Mailbox;
+use mcs_ticks::Row;
 use std::mem;
 
-impl Desk {
+impl Desk<Vec<Row>> {
     /// Whether a core may be lent now.
     pub fn can_lend(&self) -> bool
         ensures some { IsTrue result → (self.now.lost ≡ false) × (c : ℕ) × MayLend self.now c }
@@ -132,7 +133,7 @@ impl Desk {
         if make_room(&self.system, &mut self.boxes, &done.out).is_err() {
             return Err((SettleFault::NoMemory, done));
         }
-        let (collected, rows) = (&self.boxes[core], &mut self.rows[core]);
+        let (collected, rows) = (&self.boxes[core], &mut self.told[core]);
         if make_own_room(&mut done.mail, collected, rows, done.rows.len()).is_err() {
             return Err((SettleFault::NoMemory, done));
         }
@@ -147,7 +148,7 @@ impl Desk {
         } = done;
         put_box(&mut self.boxes, core, mail);
         deliver_reserved(&self.system, &mut self.boxes, &out);
-        put_rows(&mut self.rows[core], rows);
+        put_rows(&mut self.told[core], rows);
         self.clocks[core] = past;
         self.slots[core] = Slot::Here {
             spare: system,

@@ -1,56 +1,90 @@
-ghost use Rattle.std.specs.Prelude.{◌≡◌, [], IfOk};
+//! Turns of a core where it lies.
+ghost use Rattle.std.specs.Prelude.{◌≡◌, [], length, slice_index_or, IfOk, OnErr};
+ghost use Rattle.mcs_mail.specs.Box.{Content};
 ghost use Rattle.mcs_system.specs.WellFormed.{IsWellFormed};
 ghost use Rattle.mcs_window.specs.declared.slot.Slot.TheVariants.{Away};
-ghost use Rattle.mcs_window.specs.stored.Slots.{MayGo, HasGone};
+ghost use Rattle.mcs_window.specs.stored.Slots.{MayGo, HasGone, HasGoneAndTold, AreSameBut};
 
 use crate::Front;
+use crate::delivery::deliver;
 use crate::slot::{Loan, Slot};
 use mcs_mail::{Mail, Mailbox};
 use mcs_system::System;
-use mcs_ticks::{CoreId, NoMemory, Row, Tick};
+use mcs_ticks::{Collector, CoreId, NoMemory, Tick};
 use std::alloc::Global;
 
-// Takes turns of a core that is here, where it lies, from its clock in `front` up to before `past`, or until there are that many rows.
-// Answers its new clock. The rows are put behind those that there are; the signals take the place of those that there were.
-pub(crate) fn run_slot(
-    system: &System,
-    core: CoreId,
-    front: &Front,
-    slot: &mut Slot,
-    mail: &mut Mailbox,
-    past: Tick,
-    most: usize,
-    rows: &mut Vec<Row>,
-    signals: &mut Vec<Mail>,
-) -> Result<Tick, NoMemory>
-    requires well_formed { IsWellFormed system.now }
-    requires may { MayGo system.now core past front.now slot.old mail.old.mails }
-    ensures { IfOk result
-        (HasGone system.now core past front.now rows.old.items slot.new mail.new.mails rows.new.items signals.new.items) }
-{
-    signals.clear();
-    if let Slot::Here { state, .. } = slot {
-        state.run_some(system, mail, past, most, rows, signals)?;
-        return Ok(state.clock());
-    }
-    Err(NoMemory)
+// Turns that a core is to take, from its clock in `front` up to before `past`, or until its collector has that much.
+#[derive(Clone, Copy)]
+pub(crate) struct Turns<'a> {
+    pub(crate) system: &'a System,
+    pub(crate) core: CoreId,
+    pub(crate) front: &'a Front,
+    pub(crate) past: Tick,
+    pub(crate) most: usize,
 }
 
-// A core whose turns were refused memory stays lent. Its mail is gone, and so are its rows.
-pub(crate) fn spend(
+impl Turns<'_> {
+    // The core, which is here, takes them where it lies. Answers its new clock. The signals take the place of those that there were.
+    fn take<S: Collector>(
+        &self,
+        slot: &mut Slot,
+        mail: &mut Mailbox,
+        told: &mut S,
+        signals: &mut Vec<Mail>,
+    ) -> Result<Tick, NoMemory>
+        requires well_formed { IsWellFormed self.now.system.now }
+        requires may { MayGo self.now.system.now self.now.core self.now.past self.now.front.now slot.old mail.old.mails }
+        ensures { IfOk result (HasGone S.takes self.now.system.now self.now.core self.now.past self.now.front.now told.old
+            slot.new mail.new.mails told.new signals.new.items) }
+    {
+        signals.clear();
+        if let Slot::Here { state, .. } = slot {
+            let (past, most) = (self.past, self.most);
+            let Ok(()) = state.run_some_to(self.system, mail, past, most, told, signals) else {
+                return Err(NoMemory);
+            };
+            return Ok(state.clock());
+        }
+        Err(NoMemory)
+    }
+
+    // The same, and each signal goes to its home. Where memory is refused the mail of the other cores is as it was.
+    pub(crate) fn take_and_deliver<S: Collector>(
+        &self,
+        slot: &mut Slot,
+        boxes: &mut [Mailbox],
+        told: &mut S,
+        signals: &mut Vec<Mail>,
+    ) -> Result<Tick, NoMemory>
+        requires well_formed { IsWellFormed self.now.system.now }
+        requires many { length boxes.old ≡ self.now.system.now.cores }
+        requires may { (x : Content) → MayGo self.now.system.now self.now.core self.now.past self.now.front.now slot.old
+            (slice_index_or boxes.old self.now.core x).mails }
+        ensures ok { IfOk result (HasGoneAndTold S.takes self.now.system.now self.now.core self.now.past self.now.front.now
+            told.old boxes.old slot.new boxes.new told.new signals.new.items) }
+        ensures err { OnErr result (AreSameBut self.now.core boxes.old boxes.new) }
+    {
+        let to = self.take(slot, &mut boxes[self.core.0], told, signals)?;
+        deliver(self.system, boxes, signals)?;
+        Ok(to)
+    }
+}
+
+// A core whose turns were refused memory stays lent. Its mail is gone, and so is what it told.
+pub(crate) fn spend<S: Collector>(
     past: Tick,
     front: &Front,
     slot: &mut Slot,
     mail: &mut Mailbox,
-    rows: &mut Vec<Row>,
+    told: &mut S,
     alloc: Global,
 )
     ensures slot { slot.new ≡ Away (record { past = past; front = front.now }) }
     ensures mail { mail.new.mails ≡ [] }
-    ensures rows { rows.new.items ≡ [] }
+    ensures told { S.holds told.new [] }
 {
     let front = *front;
     *slot = Slot::Away(Loan { past, front });
     *mail = Mailbox::new(alloc);
-    *rows = Vec::new(alloc);
+    told.clear();
 }

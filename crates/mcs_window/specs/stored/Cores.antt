@@ -12,7 +12,7 @@ use Rattle.mcs_window.specs.Inbox.{inbox}
 use Rattle.mcs_window.specs.Idle.{IsIdle}
 use Rattle.mcs_window.specs.Stretch.{StandsAt, rows_between, NothingArrivesBefore}
 use Rattle.mcs_window.specs.Progress.{Progress}
-use Rattle.mcs_window.specs.stored.Opening.{AreDelays}
+use Rattle.mcs_window.specs.stored.Opening.{HasItems, AreDelays}
 use Rattle.mcs_window.specs.declared.cores.Cores.TheInside.{Inside}
 
 abbrev pub progress_of : Inside → Progress
@@ -70,19 +70,20 @@ pub record AreWhole (system : System) (clocks : List ℕ) (states : List State) 
   pub here : AreHere system clocks states boxes
   pub no_signals : signals ≡ []
 
--- no clock is later than one past the horizon, and the rows are those since the last taking
-pub record AreSince (system : System) (horizon : ℕ) (clocks taken : List ℕ) (rows : List (Vec Row Global)) : Type 0 where
-  pub rows_of : length rows ≡ system.cores
+-- no clock is later than one past the horizon, and what each core told are the rows since the last taking
+pub record AreSince {S : Type 0} (holds : S → List Row → Type 0) (system : System) (horizon : ℕ) (clocks taken : List ℕ)
+    (told : List S) : Type 0 where
+  pub told_of : length told ≡ system.cores
   pub in_time : (c : ℕ) → c < system.cores → slice_index clocks c ≤ horizon + 1
   pub in_order : (c : ℕ) → c < system.cores → slice_index taken c ≤ slice_index clocks c
-  pub rows_are : (c : ℕ) (x : Vec Row Global) → c < system.cores → (slice_index_or rows c x).items
-      ≡ rows_between system c (slice_index taken c) (slice_index clocks c)
+  pub rows_are : (c : ℕ) (x : S) → c < system.cores →
+      holds (slice_index_or told c x) (rows_between system c (slice_index taken c) (slice_index clocks c))
 
 -- the clocks, and the rows since the last taking
 pub record AreKept (system : System) (horizon : ℕ) (clocks taken : List ℕ) (rows : List (Vec Row Global)) : Type 0 where
   pub clocks_of : length clocks ≡ system.cores
   pub taken_of : length taken ≡ system.cores
-  pub since : AreSince system horizon clocks taken rows
+  pub since : AreSince HasItems system horizon clocks taken rows
 
 pub record IsKept (a : Inside) : Type 0 where
   pub horizon : a.horizon ≤ 2 ^ 40

@@ -1,6 +1,6 @@
 -- What a desk keeps between its calls: each core that is not lent stands as the clock has it, and for each that is lent there lie the
 -- signals that were made for it since.
-use Rattle.std.specs.Prelude.{◌≡◌, ◌≢◌, ℕ, ◌+◌, ◌-◌, ◌<◌, ◌≤◌, ◌^◌, false, Option, Some, None, List, [], ◌++◌, map, length, slice_index, slice_index_or}
+use Rattle.std.specs.Prelude.{◌≡◌, ◌≢◌, ℕ, ◌+◌, ◌-◌, ◌<◌, ◌≤◌, ◌^◌, false, Bool, Option, Some, None, List, [], map, length, slice_index, slice_index_or, slice_set}
 use Rattle.std.specs.Arc.{arc_value}
 use Rattle.mcs_mail.specs.declared.mail.Mail.{Mail}
 use Rattle.mcs_mail.specs.Box.{Content}
@@ -8,12 +8,14 @@ use Rattle.mcs_system.specs.System.{System}
 use Rattle.mcs_system.specs.WellFormed.{IsWellFormed}
 use Rattle.mcs_core.specs.Quiet.{AreQuietWith, counted_times}
 use Rattle.mcs_core.specs.State.{Fits, opening_state}
+use Rattle.mcs_ticks.specs.Given.{Given}
 use Rattle.mcs_ticks.specs.Queue.{by_priority}
 use Rattle.mcs_ticks.specs.declared.row.Row.{Row}
 use Rattle.mcs_window.specs.Idle.{IsIdle}
 use Rattle.mcs_window.specs.Inbox.{AreNews, Rises, inbox, signals_between}
 use Rattle.mcs_window.specs.Stretch.{StandsAt, NothingArrivesBefore, rows_between}
 use Rattle.mcs_window.specs.stored.Cores.{IsHere, AreSince, AreSetBelow}
+use Rattle.mcs_window.specs.stored.Delivery.{AreDelivered}
 use Rattle.mcs_window.specs.stored.Opening.{AreDelays}
 use Rattle.mcs_window.specs.stored.Reaches.{AreReaches}
 use Rattle.mcs_window.specs.Desk.{Table, clock_of, loan_of}
@@ -27,7 +29,7 @@ abbrev pub slot_loan : Slot → Option Loan
 slot_loan (Here spare state) = None
 slot_loan (Away loan) = Some loan
 
-abbrev pub table_of : Inside → Table
+abbrev pub table_of : {S : Type 0} → Inside S → Table
 table_of a =
     record {
       system = arc_value a.system;
@@ -58,7 +60,7 @@ ArePlaced system horizon clocks slots boxes =
     (core : ℕ) (slot : Slot) (box : Content) → core < system.cores →
     IsPlaced system horizon core clocks (slice_index_or boxes core box).mails (slice_index_or slots core slot)
 
-pub record IsKept (a : Inside) : Type 0 where
+pub record IsKept {S : Type 0} (holds : S → List Row → Type 0) (a : Inside S) : Type 0 where
   pub horizon : a.horizon ≤ 2 ^ 40
   pub well_formed : IsWellFormed (arc_value a.system)
   pub few : (arc_value a.system).cores ≤ 64
@@ -69,7 +71,7 @@ pub record IsKept (a : Inside) : Type 0 where
   pub boxes_of : length a.boxes.items ≡ (arc_value a.system).cores
   pub delays_are : AreDelays (arc_value a.system) (arc_value a.system).cores a.delays.items
   pub reaches_are : AreReaches (arc_value a.system) a.reaches.items
-  pub since : AreSince (arc_value a.system) a.horizon a.clocks a.taken a.rows.items
+  pub since : AreSince holds (arc_value a.system) a.horizon a.clocks a.taken a.told.items
   pub placed : ArePlaced (arc_value a.system) a.horizon a.clocks a.slots.items a.boxes.items
 
 -- the slot of core c at the beginning
@@ -127,15 +129,29 @@ pub record MayGo (system : System) (c past : ℕ) (front : List ℕ) (slot : Slo
   pub in_time : past ≤ 2 ^ 40 + 1
   pub reached : NothingArrivesBefore system c past front
 
--- it has taken those up to before `to`, and its rows stand behind those that there were
-pub record HasGone (system : System) (c past : ℕ) (front : List ℕ) (before : List Row) (slot : Slot) (box : List Mail)
-    (rows : List Row) (signals : List Mail) (to : ℕ) : Type 0 where
+-- it has taken those up to before `to`, and told their rows
+pub record HasGone {S : Type 0} (takes : S → Row → Bool → S → Type 0) (system : System) (c past : ℕ) (front : List ℕ)
+    (before : S) (slot : Slot) (box : List Mail) (after : S) (signals : List Mail) (to : ℕ) : Type 0 where
   pub later : slice_index front c < to
   pub in_time : to ≤ past
   pub stands : StandsIn system c to slot
   pub box_is : box ≡ inbox system c to front
-  pub rows_are : rows ≡ before ++ rows_between system c (slice_index front c) to
+  pub told : Given takes before (rows_between system c (slice_index front c) to) after
   pub signals_are : signals ≡ signals_between system c (slice_index front c) to
+
+-- and its signals went to their homes
+pub record HasGoneAndTold {S : Type 0} (takes : S → Row → Bool → S → Type 0) (system : System) (c past : ℕ)
+    (front : List ℕ) (before : S) (boxes : List Content) (slot : Slot) (full : List Content) (after : S)
+    (signals : List Mail) (to : ℕ) : Type 0 where
+  pub left : Content
+  pub gone : HasGone takes system c past front before slot left.mails after signals to
+  pub delivered : AreDelivered system signals (slice_set boxes c left) full
+
+-- the mail of the other cores is as it was
+pub record AreSameBut (c : ℕ) (before after : List Content) : Type 0 where
+  pub many : length after ≡ length before
+  pub each : (b : ℕ) (x : Content) → b < length before → b ≢ c
+      → (slice_index_or after b x).mails ≡ (slice_index_or before b x).mails
 
 -- of the cores below number n that are not lent core c has the least clock, and of those with that clock the least number
 pub record IsEarliestBelow (table : Table) (n c : ℕ) : Type 0 where

@@ -8,7 +8,7 @@ use Rattle.mcs_window.proofs.desk.Desk.farthest.Goals as goal
 use Rattle.mcs_window.proofs.desk.Desk.farthest.Goals.{then-other-core, else-other-core}
 
 pub loop-other-preserved : goal.loop-other-preserved
-loop-other-preserved c =
+loop-other-preserved g c =
     let table = c.args.self.now in
     let n = c.loop-other.other in
     let next : suc n ≡ n + 1 = omega arith in
@@ -26,7 +26,7 @@ loop-other-preserved c =
     ])
 
 pub returns-clause-reached : goal.returns-clause-reached
-returns-clause-reached c =
+returns-clause-reached g c =
     let table = c.args.self.now in
     let well = subst (λ (t : Table). IsWellFormed t.system) c.self.view_is c.self.invariant.well_formed in
     let all : c.loop-other.other ≡ table.system.cores = omega arith in
@@ -35,7 +35,7 @@ returns-clause-reached c =
     (subst (λ n. IsFarBy table c.args.core n c.unwrap.result) all (subst (IsFarBy table c.args.core c.loop-other.other) (sym is) c.loop-other.invariant))
 
 pub returns-clause-far : goal.returns-clause-far
-returns-clause-far c =
+returns-clause-far g c =
     let table = c.args.self.now in
     let all : c.loop-other.other ≡ table.system.cores = omega arith in
     let is : c.unwrap.result ≡ c.loop-other.past = search rules in

@@ -5,7 +5,7 @@ use Rattle.mcs_window.proofs.desk.Desk.idle_until.Goals as goal
 use Rattle.mcs_window.proofs.desk.Desk.idle_until.Goals.{in-Some+then-get, in-Some+else-get, in_default}
 
 pub loop-core-preserved : goal.loop-core-preserved
-loop-core-preserved c =
+loop-core-preserved g c =
     let t = c.args.self.now in
     let k = c.loop-core.core in
     let next = c.next_busy.ensures in

@@ -4,7 +4,7 @@ use Rattle.mcs_window.specs.Idle.{IsIdle}
 use Rattle.mcs_window.proofs.desk.Desk.look_ahead.Given as goal
 
 abbrev pub invariant-loop-core : goal.invariant-loop-core
-invariant-loop-core l = record {
+invariant-loop-core g l = record {
   in_time : l.moment ≤ l.self.horizon + 1;
   stale : l.calendar.stale ≡ l.initial.calendar.stale;
   done : (c : ℕ) → c < l.core → IsIdle l.self.system l.self.clocks (slice_index l.calendar.until c) c;

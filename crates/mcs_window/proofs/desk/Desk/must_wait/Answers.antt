@@ -6,14 +6,14 @@ use Rattle.mcs_window.proofs.desk.Desk.must_wait.Goals as goal
 use Rattle.mcs_window.proofs.desk.Desk.must_wait.Goals.{then-other-core+else-get-delay, else-other-core}
 
 pub returns-then-gt : goal.returns-then-gt
-returns-then-gt c =
+returns-then-gt g c =
     let t = c.args.self.now in
     let most = past_by-in_time t c.args.core t.system.cores in
     let late : t.horizon < c.args.moment = search rules in
     (λ e. omega arith, λ l. search rules)
 
 pub returns-then-get-delay : goal.returns-then-get-delay
-returns-then-get-delay c =
+returns-then-get-delay g c =
     let t = c.args.self.now in
     let n = c.loop-other.other in
     let known : n < t.system.cores = search rules in
@@ -23,7 +23,7 @@ returns-then-get-delay c =
     (λ e. omega arith, λ l. search rules)
 
 pub loop-other-preserved : goal.loop-other-preserved
-loop-other-preserved c =
+loop-other-preserved g c =
     let t = c.args.self.now in
     let n = c.loop-other.other in
     let next : n + 1 ≡ suc n = omega arith in
@@ -41,7 +41,7 @@ loop-other-preserved c =
     ]
 
 pub returns : goal.returns
-returns c =
+returns g c =
     let t = c.args.self.now in
     let all : c.loop-other.other ≡ t.system.cores = search rules in
     let after : c.args.moment < past_by t c.args.core t.system.cores = subst (λ n. c.args.moment < past_by t c.args.core n) all c.loop-other.invariant in

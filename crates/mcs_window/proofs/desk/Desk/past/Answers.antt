@@ -6,7 +6,7 @@ use Rattle.mcs_window.proofs.desk.Desk.past.Goals as goal
 use Rattle.mcs_window.proofs.desk.Desk.past.Goals.{then-other-core, else-other-core}
 
 pub loop-other-preserved : goal.loop-other-preserved
-loop-other-preserved c =
+loop-other-preserved g c =
     let table = c.args.self.now in
     let n = c.loop-other.other in
     let next : suc n ≡ n + 1 = omega arith in
@@ -22,7 +22,7 @@ loop-other-preserved c =
     ]
 
 pub unwrap-requires : goal.unwrap-requires
-unwrap-requires c =
+unwrap-requires g c =
     let most = past_by-in_time c.args.self.now c.args.core c.loop-other.other in
     let horizon : c.args.self.now.horizon ≤ 2 ^ 40 = search rules in
     let is = c.loop-other.invariant in

@@ -8,7 +8,7 @@ use Rattle.mcs_window.proofs.Reaching.{reach-said}
 use Rattle.mcs_window.proofs.desk.Desk.reach.Goals as goal
 
 pub returns : goal.returns
-returns c =
+returns g c =
     let a = c.self.inside in
     let maker = c.maker.inside.0 in
     let home = c.home.inside.0 in

@@ -5,7 +5,7 @@ use Rattle.mcs_window.proofs.desk.Desk.run_noted.Goals as goal
 use Rattle.mcs_window.proofs.desk.Desk.run_noted.Goals.{then-calendar, else-calendar}
 
 pub returns-clause-holds : goal.returns-clause-holds
-returns-clause-holds c =
+returns-clause-holds g c =
     holds-noted c.self.inside c.self.invariant c.args.self.now c.self.view_is c.requires.here c.core.inside.0 c.args.core c.core.view_is c.run_here.new.self c.args.calendar.now
     (record { until = slice_set c.args.calendar.now.until c.core.inside.0 0; stale = c.if-calendar.calendar })
     c.requires.may.known c.requires.holds c.in_ok-signals.ensures.moved.0 c.in_ok-signals.ensures.ok refl

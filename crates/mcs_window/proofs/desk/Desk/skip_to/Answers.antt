@@ -10,20 +10,20 @@ use Rattle.mcs_window.proofs.Skipping.{all-stand, all-reached, counts, skipped_d
 use Rattle.mcs_window.proofs.desk.Desk.skip_to.Goals as goal
 
 pub skip_slots-requires-clause-stand : goal.skip_slots-requires-clause-stand
-skip_slots-requires-clause-stand c =
+skip_slots-requires-clause-stand g c =
     rw (c.deref.ensures, c.deref_mut.ensures.value) (all-stand c.self.inside c.self.invariant (subst AllAreHere (sym c.self.view_is) c.requires.here))
 
 pub skip_slots-requires-clause-reached : goal.skip_slots-requires-clause-reached
-skip_slots-requires-clause-reached c =
+skip_slots-requires-clause-reached g c =
     subst (λ system. AreReached system c.self.inside.clocks) (sym c.deref.ensures) (all-reached c.self.inside c.self.invariant (subst AllAreHere (sym c.self.view_is) c.requires.here))
 
 pub skip_slots-requires-clause-idle : goal.skip_slots-requires-clause-idle
-skip_slots-requires-clause-idle c =
+skip_slots-requires-clause-idle g c =
     let P : Table → Type 0 = λ t. AreIdle t.system t.clocks c.args.moment in
     subst (λ system. AreIdle system c.self.inside.clocks c.args.moment) (sym c.deref.ensures) (subst P (sym c.self.view_is) c.requires.idle)
 
 pub invariant_of-self : goal.invariant_of-self
-invariant_of-self c =
+invariant_of-self g c =
     let P : Table → Type 0 = λ t. AreIdle t.system t.clocks c.args.moment in
     let Q : Table → Type 0 = λ t. c.args.moment ≤ t.horizon + 1 in
     skipped_desk c.self.inside c.self.invariant (subst AllAreHere (sym c.self.view_is) c.requires.here) c.args.moment c.skip_slots.new.clocks c.skip_slots.new.slots
@@ -31,7 +31,7 @@ invariant_of-self c =
     (rw c.deref.ensures at c.skip_slots.ensures)
 
 pub returns-clause-rest : goal.returns-clause-rest
-returns-clause-rest c =
+returns-clause-rest g c =
     let P : Table → Type 0 = λ t. AreIdle t.system t.clocks c.args.moment in
     let Q : Table → Type 0 = λ t. c.args.moment ≤ t.horizon + 1 in
     let skipped : HaveSkipped (arc_value c.self.inside.system) c.self.inside.clocks c.args.moment (arc_value c.self.inside.system).cores c.skip_slots.new.clocks c.skip_slots.new.slots =
@@ -41,7 +41,7 @@ returns-clause-rest c =
     ∙ ap (λ (t : Table). record t { clocks = c.skip_slots.new.clocks }) c.self.view_is
 
 pub returns-clause-count : goal.returns-clause-count
-returns-clause-count c =
+returns-clause-count g c =
     let P : Table → Type 0 = λ t. AreIdle t.system t.clocks c.args.moment in
     let Q : Table → Type 0 = λ t. c.args.moment ≤ t.horizon + 1 in
     let R : Table → Type 0 = λ t. (k : ℕ) → k < t.system.cores → OnlyCounts t.system t.clocks c.skip_slots.new.clocks k in
@@ -52,7 +52,7 @@ returns-clause-count c =
     (subst Q (sym c.self.view_is) c.requires.in_time) (subst P (sym c.self.view_is) c.requires.idle) skipped)
 
 pub returns-clause-went : goal.returns-clause-went
-returns-clause-went c =
+returns-clause-went g c =
     let a = c.self.inside in
     let P : Table → Type 0 = λ t. AreIdle t.system t.clocks c.args.moment in
     let Q : Table → Type 0 = λ t. c.args.moment ≤ t.horizon + 1 in

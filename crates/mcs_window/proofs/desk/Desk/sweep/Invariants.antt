@@ -5,7 +5,7 @@ use Rattle.mcs_window.specs.stored.Slots.{HoldsAt}
 use Rattle.mcs_window.proofs.desk.Desk.sweep.Given as goal
 
 abbrev pub invariant-loop-core : goal.invariant-loop-core
-invariant-loop-core l = record {
+invariant-loop-core g l = record {
   later : IsLater l.initial.self l.self;
   holds : HoldsAt l.self l.calendar;
   same : IsFalse l.moved → (l.self ≡ l.initial.self) × (l.calendar ≡ l.initial.calendar);

@@ -3,7 +3,7 @@ use Rattle.mcs_mail.specs.Box.{Content}
 use Rattle.mcs_window.specs.Desk.{Table, AllAreHere, IsFinished, MayLend, lent_at}
 use Rattle.mcs_window.specs.stored.Slots.{table_of}
 use Rattle.mcs_window.proofs.Lends.{here_at, lent_work, lent_kept, lent_shows, all_done}
-use Rattle.mcs_window.proofs.desk.Desk.lend_now.Goals as goal
+use Rattle.mcs_window.proofs.loans.Desk+Vec+Row.lend_now.Goals as goal
 
 pub returns-in_err-core-clause-goes_on : goal.returns-in_err-core-clause-goes_on
 returns-in_err-core-clause-goes_on c =

@@ -1,6 +1,8 @@
-use Rattle.std.proofs.Common.{◌≡◌, ◌<◌, ℕ, refl, rules, ap, sym, ◌∙◌, subst}
+use Rattle.std.proofs.Common.{◌≡◌, ◌<◌, ℕ, refl, rules, ap, sym, ◌∙◌, subst, Vec}
 use Rattle.std.specs.Arc.{arc_value}
 use Rattle.std.specs.Vec.{with_items, with_item}
+use Rattle.std.specs.declared.alloc.Global.{Global}
+use Rattle.mcs_ticks.specs.declared.row.Row.{Row}
 use Rattle.mcs_window.specs.Desk.{Table, IsLoan, settled_at}
 use Rattle.mcs_window.specs.Pieces.{Outcome, IsOutcome}
 use Rattle.mcs_window.specs.stored.Delivery.{HaveRoom, AreSameMail, AreDelivered, IsJoined}
@@ -8,7 +10,7 @@ use Rattle.mcs_window.specs.stored.Slots.{table_of}
 use Rattle.mcs_window.specs.declared.desk.Desk.TheInside as desks
 use Rattle.mcs_window.specs.declared.piece.Done.TheInside as pieces
 use Rattle.mcs_window.proofs.Settling.{when_not_err, roomy_are, joined_are, boxes_roomy, rows_roomy, room-joined, inside, out-none, settled_kept, settled_view}
-use Rattle.mcs_window.proofs.desk.Desk.take_back.Goals as goal
+use Rattle.mcs_window.proofs.loans.Desk+Vec+Row.take_back.Goals as goal
 
 -- what comes back, at this core
 abbrev back_at : ℕ → pieces.Inside → Outcome
@@ -26,7 +28,7 @@ back_at k d =
     }
 
 -- it is what its core is lent for
-is_back : (a : desks.Inside) (t : Table) (d : pieces.Inside) (o : Outcome) (k : ℕ) → table_of a ≡ t → back_at d.core d ≡ o → k ≡ o.core → IsLoan t o → IsOutcome (back_at d.core d) → o.system ≡ t.system
+is_back : (a : desks.Inside (Vec Row Global)) (t : Table) (d : pieces.Inside) (o : Outcome) (k : ℕ) → table_of a ≡ t → back_at d.core d ≡ o → k ≡ o.core → IsLoan t o → IsOutcome (back_at d.core d) → o.system ≡ t.system
     → IsOutcome (back_at k d) × ((back_at k d).system ≡ arc_value a.system) × IsLoan (table_of a) (back_at k d)
 is_back a t d o k shows same core loan are system =
     let whole : back_at k d ≡ o = ap (λ n. back_at n d) (core ∙ sym (ap (λ (p : Outcome). p.core) same)) ∙ same in (
@@ -42,7 +44,7 @@ invariant_of-self c =
 pub invariant_of-self-then-is_err-2 : goal.invariant_of-self-then-is_err-2
 invariant_of-self-then-is_err-2 c =
     let a = c.self.inside in
-    let b : desks.Inside = record a { boxes = with_items a.boxes c.make_room.new.boxes } in
+    let b : desks.Inside (Vec Row Global) = record a { boxes = with_items a.boxes c.make_room.new.boxes } in
     let k = c.done-inside.inside.0.1.0.0 in
     let h : k < (arc_value a.system).cores = search rules in
     rows_roomy b k c.index_mut.result.now c.make_own_room.new.rows (boxes_roomy a c.make_room.new.boxes c.self.invariant (rw c.deref_mut.ensures.value at c.make_room.ensures.mails)) h
@@ -75,9 +77,9 @@ invariant_of-self-2 c =
     (ap (λ (i : pieces.Inside). i.core) c.done-inside.view_is ∙ ap (λ (o : Outcome). o.core) c.done.view_is) c.in_default.ensures.none c.done-2.invariant c.requires in
     let mails : AreSameMail a.boxes.items boxes = rw c.deref_mut.ensures.value at c.make_room.ensures.mails in
     let first = roomy_are a.boxes boxes mails in
-    let b : desks.Inside = record a { boxes = with_items a.boxes boxes } in
+    let b : desks.Inside (Vec Row Global) = record a { boxes = with_items a.boxes boxes } in
     let roomy = boxes_roomy a boxes c.self.invariant mails in
-    let ready : desks.Inside = record b { rows = with_item a.rows k c.make_own_room.new.rows } in
+    let ready : desks.Inside (Vec Row Global) = record b { told = with_item a.told k c.make_own_room.new.rows } in
     let kept = rows_roomy b k c.index_mut.result.now c.make_own_room.new.rows roomy (inside a c.self.invariant (back_at k d) back.0 back.1 back.2) c.index_mut.ensures.value c.make_own_room.ensures.rows in
     let joined : IsJoined k c.make_own_room.new.mailbox (with_items a.boxes boxes).items c.put_box.new.boxes = rw c.deref_mut-2.ensures.value at c.put_box.ensures in
     let second = joined_are (with_items a.boxes boxes) k c.make_own_room.new.mailbox _ c.put_box.new.boxes refl joined in

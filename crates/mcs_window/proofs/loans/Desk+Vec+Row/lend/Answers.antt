@@ -1,7 +1,7 @@
 use Rattle.std.proofs.Common.{rules}
 use Rattle.mcs_window.specs.Desk.{IsAwake}
 use Rattle.mcs_window.proofs.Waking.{lent-some, lent-piece}
-use Rattle.mcs_window.proofs.desk.Desk.lend.Goals as goal
+use Rattle.mcs_window.proofs.loans.Desk+Vec+Row.lend.Goals as goal
 
 -- what is there before the core is lent
 awake : (c : goal.After-lend_now) → IsAwake c.args.self.now c.if-not-self.self
