@@ -10,7 +10,7 @@ use Rattle.mcs_ticks.specs.declared.row.Row.{Row}
 use Rattle.mcs_mail.specs.declared.mail.Mail.{Mail}
 use Rattle.mcs_mail.specs.Box.{Content, put_all}
 use Rattle.mcs_system.specs.System.{System}
-use Rattle.mcs_window.specs.Desk.{Table, MayGoOn, settled_at, lent_to, taken_at, turns_left}
+use Rattle.mcs_window.specs.Desk.{Table, MayGoOn, settled_at, lent_to, taken_at, with_lost, turns_left}
 use Rattle.mcs_window.specs.Inbox.{inbox}
 use Rattle.mcs_window.specs.Stretch.{rows_between, NothingArrivesBefore}
 use Rattle.mcs_window.specs.stored.Cores.{AreSince}
@@ -223,11 +223,11 @@ module _ {S : Type 0} {holds : S → List Row → Type 0} (a : Inside S) (kept :
 
   -- the desk shows a core that stays lent, and nothing that it told
   pub spent_shows : (slots : List Slot) (loan : Loan) (clock : ℕ) → loan.past ≡ past → loan.front ≡ a.clocks → slots ≡ set a.slots.items k (Away loan) → clock ≡ slice_index a.clocks k →
-      record (table_of a) { taken = set a.taken k clock; loans = map slot_loan slots } ≡ taken_at (lent_to (table_of a) k past) k
+      record (table_of a) { lost = true; taken = set a.taken k clock; loans = map slot_loan slots } ≡ taken_at (with_lost (lent_to (table_of a) k past)) k
   spent_shows slots loan clock past_is front_is slots_are clock_is =
-      ap (λ loans. record (table_of a) { taken = set a.taken k clock; loans = loans })
+      ap (λ loans. record (table_of a) { lost = true; taken = set a.taken k clock; loans = loans })
       (ap (map slot_loan) slots_are ∙ map-set slot_loan a.slots.items k (Away loan) ∙ ap (λ l. set (map slot_loan a.slots.items) k (Some l)) one)
-      ∙ ap (λ t. record (lent_to (table_of a) k past) { taken = set a.taken k t }) clock_is
+      ∙ ap (λ t. record (with_lost (lent_to (table_of a) k past)) { taken = set a.taken k t }) clock_is
     where
       one : loan ≡ record { past = past; front = a.clocks }
       one = rw (← past_is, ← front_is) refl
@@ -244,6 +244,7 @@ module _ {S : Type 0} {holds : S → List Row → Type 0} (a : Inside S) (kept :
         (away_at a kept k loan box.mails (subst (MayGoOn (table_of a) k) (sym past_is) may) front_is box_is) c x y p))
 
     pub spent_kept : IsKept holds (record a {
+      lost = true;
       taken = set a.taken k clock;
       slots = slots;
       boxes = boxes;

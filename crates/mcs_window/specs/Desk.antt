@@ -12,7 +12,7 @@ use Rattle.mcs_window.specs.declared.fault.SettleFault.{SettleFault}
 use Rattle.mcs_window.specs.declared.fault.SettleFault.TheVariants.{Foreign, NotLent, OtherLoan, NoMemory}
 
 -- the clocks and the clocks at the last taking of each core's rows, both 0 past the last core; what each core is lent for, if it is
--- lent; and whether a piece was lost
+-- lent; and whether a piece was lost, or a core on the desk itself
 pub record Table : Type 0 where
   pub system : System
   pub horizon : ℕ
@@ -136,7 +136,7 @@ pub record IsSameRun (before after : Table) : Type 0 where
   pub lost_is : after.lost ≡ before.lost
   pub taken_are : after.taken ≡ before.taken
 
--- a piece was lost
+-- a piece or a core was lost
 abbrev pub with_lost : Table → Table
 with_lost table = record table { lost = true }
 
@@ -172,15 +172,15 @@ pub record IsLater (before after : Table) : Type 0 where
   pub here : AllAreHere after
   pub went : WentByScripts before after
 
--- where memory was refused: the cores went on, and then core `core`, which was to go on up to before `past`, stays lent for good, and its
--- rows that were not taken are gone
+-- where memory was refused: the cores went on, and then core `core`, which was to go on up to before `past`, is lost as a piece can be:
+-- it stays lent for good, and what it told that was not taken is gone
 pub record IsSpent (before after : Table) : Type 0 where
   pub table : Table
   pub core : ℕ
   pub past : ℕ
   pub later : IsLater before table
   pub may : MayGoOn table core past
-  pub spent : after ≡ taken_at (lent_to table core past) core
+  pub spent : after ≡ taken_at (with_lost (lent_to table core past)) core
 
 -- how many turns there are still to be taken
 abbrev pub turns_left : Table → ℕ

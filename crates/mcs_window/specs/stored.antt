@@ -4,3 +4,4 @@ pub mod Opening
 pub mod Delivery
 pub mod Reaches
 pub mod Slots
+pub mod Rounds

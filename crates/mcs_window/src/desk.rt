@@ -143,7 +143,7 @@ impl<S: Collector> Desk<S> {
         taken[core.0]
     }
 
-    /// Whether a piece was lost.
+    /// Whether a piece was lost, or a core that was refused memory for turns on the desk itself.
     pub fn lost(&self) -> bool
         ensures { result ≡ self.now.lost }
     {

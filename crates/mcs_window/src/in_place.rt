@@ -1,8 +1,9 @@
 //! Turns in the caller's thread: of cores that take them where they lie.
 ghost use Rattle.std.specs.Prelude.{◌≡◌, ℕ, ◌≤◌, ◌<◌, max, ◌⊎◌, false, [], slice_index, IfOk, OnOk, OnErr, IsTrue, IsFalse};
 ghost use Rattle.mcs_window.specs.Inbox.{signals_between};
+ghost use Rattle.mcs_window.specs.stored.Rounds.{AreReady};
 ghost use Rattle.mcs_window.specs.stored.Slots.{HoldsAt};
-ghost use Rattle.mcs_window.specs.Desk.{clock_of, past_of, MayGoOn, lent_to, settled_at, taken_at, AllAreHere, IsFinished, WentByScripts, IsLater, IsSpent, amount_kept, turns_left};
+ghost use Rattle.mcs_window.specs.Desk.{clock_of, past_of, MayGoOn, lent_to, settled_at, taken_at, with_lost, AllAreHere, IsFinished, WentByScripts, IsLater, IsSpent, amount_kept, turns_left};
 
 use crate::calendar::Calendar;
 use crate::desk::Desk;
@@ -11,14 +12,14 @@ use mcs_ticks::{Collector, CoreId, NoMemory, Tick};
 
 impl<S: Collector> Desk<S> {
     // Takes turns of a core that may go on, where it lies, until it comes to `past` or its collector has that much: at least one. Answers
-    // whether it made a signal for another core. Where memory is refused the core stays lent, and what it told is gone.
+    // whether it made a signal for another core. Where memory is refused the core is lost: it stays lent, and what it told is gone.
     fn run_here(&mut self, core: CoreId, past: Tick, most: usize) -> Result<bool, NoMemory>
         requires may { MayGoOn self.old core past }
         ensures ok { OnOk result (self.new ≡ settled_at self.old core (clock_of self.new core)) }
         ensures moved { OnOk result ((clock_of self.old core < clock_of self.new core) × (clock_of self.new core ≤ past)) }
         ensures went { OnOk result (WentByScripts self.old self.new) }
         ensures fewer { OnOk result (turns_left self.new < turns_left self.old) }
-        ensures err { OnErr result (self.new ≡ taken_at (lent_to self.old core past) core) }
+        ensures err { OnErr result (self.new ≡ taken_at (with_lost (lent_to self.old core past)) core) }
         ensures silent { IfOk result (λ signals. IsFalse signals →
             signals_between self.old.system core (clock_of self.old core) (clock_of self.new core) ≡ []) }
         ensures run { (self.new.system ≡ self.old.system) × (self.new.horizon ≡ self.old.horizon) }
@@ -39,6 +40,7 @@ impl<S: Collector> Desk<S> {
             let told = &mut self.told[index];
             spend(past, &self.clocks, slot, mail, told, self.alloc);
             self.taken[index] = self.clocks[index];
+            self.lost = true;
             return Err(NoMemory);
         };
         self.clocks[index] = to;
@@ -60,7 +62,7 @@ impl<S: Collector> Desk<S> {
         ensures went { OnOk result (WentByScripts self.old self.new) }
         ensures fewer { OnOk result (turns_left self.new < turns_left self.old) }
         ensures holds { OnOk result (HoldsAt self.new calendar.new) }
-        ensures err { OnErr result (self.new ≡ taken_at (lent_to self.old core past) core) }
+        ensures err { OnErr result (self.new ≡ taken_at (with_lost (lent_to self.old core past)) core) }
     {
         let _lost = self.lost;
         let signals = self.run_here(core, past, most)?;
@@ -78,9 +80,7 @@ impl<S: Collector> Desk<S> {
         calendar: &mut Calendar,
     ) -> Result<bool, NoMemory>
         requires known { core < self.old.system.cores }
-        requires sound { self.old.lost ≡ false }
-        requires here { AllAreHere self.old }
-        requires holds { HoldsAt self.old calendar.old }
+        requires ready { AreReady self.old calendar.old }
         ensures later { OnOk result (IsLater self.old self.new) }
         ensures holds { OnOk result (HoldsAt self.new calendar.new) }
         ensures same { IfOk result (λ moved. IsFalse moved → (self.new ≡ self.old) × (calendar.new ≡ calendar.old)) }
@@ -103,9 +103,7 @@ impl<S: Collector> Desk<S> {
 
     // Takes turns of each core that is busy before it waits for another one. Answers whether some core took any.
     fn sweep(&mut self, most: usize, calendar: &mut Calendar) -> Result<bool, NoMemory>
-        requires sound { self.old.lost ≡ false }
-        requires here { AllAreHere self.old }
-        requires holds { HoldsAt self.old calendar.old }
+        requires { AreReady self.old calendar.old }
         ensures later { OnOk result (IsLater self.old self.new) }
         ensures holds { OnOk result (HoldsAt self.new calendar.new) }
         ensures same { IfOk result (λ moved. IsFalse moved → (self.new ≡ self.old) × (calendar.new ≡ calendar.old)) }
@@ -125,9 +123,7 @@ impl<S: Collector> Desk<S> {
 
     // Takes turns of the core that would be lent. Answers whether there is one.
     fn run_first(&mut self, most: usize, calendar: &mut Calendar) -> Result<bool, NoMemory>
-        requires sound { self.old.lost ≡ false }
-        requires here { AllAreHere self.old }
-        requires holds { HoldsAt self.old calendar.old }
+        requires { AreReady self.old calendar.old }
         ensures holds { OnOk result (HoldsAt self.new calendar.new) }
         ensures later { OnOk result (IsLater self.old self.new) }
         ensures more { IfOk result (λ more. IsTrue more → turns_left self.new < turns_left self.old) }
@@ -146,9 +142,7 @@ impl<S: Collector> Desk<S> {
 
     // Skips idle time, and then takes turns of the cores that are busy, as the calendar has it. Answers whether there were turns to take.
     fn round(&mut self, most: usize, calendar: &mut Calendar) -> Result<bool, NoMemory>
-        requires sound { self.old.lost ≡ false }
-        requires here { AllAreHere self.old }
-        requires holds { HoldsAt self.old calendar.old }
+        requires { AreReady self.old calendar.old }
         ensures holds { OnOk result (HoldsAt self.new calendar.new) }
         ensures later { OnOk result (IsLater self.old self.new) }
         ensures more { IfOk result (λ more. IsTrue more → turns_left self.new < turns_left self.old) }
@@ -167,7 +161,8 @@ impl<S: Collector> Desk<S> {
 
     /// Takes turns in the caller's thread until at least this much lies on the desk, as `kept` counts it, or every core has taken its turn
     /// at the horizon. Unless all have, it takes at least one turn or skips idle time, also where there is as much already. After
-    /// `NoMemory` one core stays lent for good, and what it told that was not taken is gone; nothing else is lent or lost.
+    /// `NoMemory` one core is lost as a piece can be: it stays lent for good, what it told that was not taken is gone, and nothing is lent
+    /// from then on. Nothing else is lent.
     pub fn go(&mut self, enough: usize) -> Result<(), NoMemory>
         requires sound { self.old.lost ≡ false }
         requires here { AllAreHere self.old }

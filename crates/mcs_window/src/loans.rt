@@ -22,7 +22,7 @@ impl Desk<Vec<Row>> {
 
     /// Lends the core with the least clock, and of those the one with the least number, of those that are not lent and may take a turn,
     /// for as long as the clocks of the others allow. Where nothing is lent and nothing was lost, all cores skip idle time first, as
-    /// `skip_idle` does. None where there is no such core, or a piece was lost; where nothing is lent and nothing was lost, that is only
+    /// `skip_idle` does. None where there is no such core, or a piece or core was lost; where nothing is lent and nothing was lost, that is only
     /// where every core has taken its turn at the horizon, or skipped it.
     pub fn lend(&mut self) -> Option<Piece>
         ensures some { IfSome result (λ piece. IsLent self.old piece.core self.new) }

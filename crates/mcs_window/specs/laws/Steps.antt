@@ -9,8 +9,8 @@ use Rattle.mcs_window.specs.Desk.{Table, clock_of, past_of, loan_of, opening_tab
 use Rattle.mcs_window.specs.declared.slot.Loan.{Loan}
 
 -- a step of the desk: a core is lent up to before a moment, what it is lent for is settled, a piece is lost, rows of a core are taken, all
--- clocks before a moment are set to it, a core takes its turns on the desk itself, up to before a moment, or it is refused memory there,
--- stays lent for good, and its rows are gone
+-- clocks before a moment are set to it, a core takes its turns on the desk itself, up to before a moment, or it is refused memory there
+-- and is lost: it stays lent for good, and what it told is gone
 pub data Step : Type 0 where
   Lend : (core past : ℕ) → Step
   Settle : (core : ℕ) → Step
@@ -33,7 +33,7 @@ after_step table Forfeit = with_lost table
 after_step table (TakeRows c) = taken_at table c
 after_step table (Skip moment later) = record table { clocks = later }
 after_step table (Go c past) = settled_at table c past
-after_step table (Spend c past) = taken_at (lent_to table c past) c
+after_step table (Spend c past) = taken_at (with_lost (lent_to table c past)) c
 
 abbrev pub after_steps : Table → List Step → Table
 after_steps table [] = table

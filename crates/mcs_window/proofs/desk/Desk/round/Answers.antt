@@ -4,11 +4,13 @@ use Rattle.mcs_window.proofs.Holding.{holds-on}
 use Rattle.mcs_window.proofs.Rounds.{skipped-turns}
 use Rattle.mcs_window.proofs.desk.Desk.round.Goals as goal
 
-pub sweep-requires-clause-holds : goal.sweep-requires-clause-holds
-sweep-requires-clause-holds g c =
-    holds-on c.args.self.now c.skip_to.new.self c.look_ahead-moment.new.calendar c.skip_to.ensures.rest
+pub sweep-requires : goal.sweep-requires
+sweep-requires g c =
+    let first = skipped-later c.args.self.now c.skip_to.new.self c.requires.sound c.requires.here c.skip_to.ensures.rest c.skip_to.ensures.went in
+    let holds = holds-on c.args.self.now c.skip_to.new.self c.look_ahead-moment.new.calendar c.skip_to.ensures.rest
     (λ k l. let at = c.skip_to.ensures.clocks k l in omega arith)
-    c.skip_to.ensures.count c.look_ahead-moment.ensures.holds
+    c.skip_to.ensures.count c.look_ahead-moment.ensures.holds in
+    record { sound = first.sound; here = first.here; holds = holds }
 
 pub returns-then-moved-clause-more : goal.returns-then-moved-clause-more
 returns-then-moved-clause-more g c = λ e.

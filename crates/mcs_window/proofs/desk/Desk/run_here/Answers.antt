@@ -2,7 +2,7 @@ use Rattle.std.proofs.Common.{◌≡◌, ◌<◌, ◌∙◌, get_or, set, refl, 
 use Rattle.std.specs.Prelude.{slice_index}
 use Rattle.std.specs.Arc.{arc_value}
 use Rattle.std.proofs.lemmas.List.{set-set, get_or_default}
-use Rattle.mcs_window.specs.Desk.{lent_to, settled_at, taken_at, turns_left}
+use Rattle.mcs_window.specs.Desk.{lent_to, settled_at, taken_at, with_lost, turns_left}
 use Rattle.mcs_window.specs.stored.Slots.{table_of, HasGoneAndTold, AreSameBut}
 use Rattle.mcs_window.proofs.Going.{settled-went, went-seen}
 use Rattle.mcs_window.proofs.Running.{at_core, may_go, in_clocks, in_boxes, gone_kept, gone_shows, gone_clock, gone_fewer, spent_kept, spent_shows, respent_are}
@@ -38,7 +38,7 @@ returns-in_default-clause-err g c =
     spent_shows a c.self.invariant k c.args.past at (set (set a.slots.items k ran) k spent) (record { past = c.args.past; front = a.clocks }) (get_or a.clocks k c.index-self-index.result) refl refl
     (set-set a.slots.items k ran spent ∙ ap (set a.slots.items k) c.spend.ensures.slot)
     (get_or_default a.clocks k c.index-self-index.result 0 (in_clocks a c.self.invariant k c.args.past at))
-    ∙ ap (λ t. taken_at (lent_to t k c.args.past) k) c.self.view_is ∙ ap (λ n. taken_at (lent_to c.args.self.now n c.args.past) n) c.core.view_is
+    ∙ ap (λ t. taken_at (with_lost (lent_to t k c.args.past)) k) c.self.view_is ∙ ap (λ n. taken_at (with_lost (lent_to c.args.self.now n c.args.past)) n) c.core.view_is
 
 pub invariant_of-self-2 : goal.invariant_of-self-2
 invariant_of-self-2 g c =
