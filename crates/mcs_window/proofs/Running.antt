@@ -15,7 +15,7 @@ use Rattle.mcs_window.specs.Inbox.{inbox}
 use Rattle.mcs_window.specs.Stretch.{rows_between, NothingArrivesBefore}
 use Rattle.mcs_window.specs.stored.Cores.{AreSince}
 use Rattle.mcs_window.specs.stored.Delivery.{is_home, AreDelivered, AreSameMail}
-use Rattle.mcs_window.specs.stored.Slots.{slot_loan, table_of, IsPlaced, ArePlaced, IsKept, StandsIn, MayGo, HasGone, HasGoneAndTold, AreSameBut}
+use Rattle.mcs_window.specs.stored.Slots.{slot_loan, table_of, IsPlaced, ArePlaced, IsKept, StandsIn, MayGo, HasGone, HasGoneAndSent, AreSameBut}
 use Rattle.mcs_window.specs.declared.slot.Loan.{Loan}
 use Rattle.mcs_window.specs.declared.slot.Slot.{Slot}
 use Rattle.mcs_window.specs.declared.slot.Slot.TheVariants.{Here, Away}
@@ -132,7 +132,7 @@ module _ {S : Type 0} {holds : S → List Row → Type 0} (a : Inside S) (kept :
 
   -- the core has taken its turns
   module _ (takes : S → Row → Bool → S → Type 0) (holds_more : (s t : S) (held : List Row) (row : Row) → holds s held → takes s row true t → holds t (held ++ row ∷ [])) (to : ℕ) (after : Slot) (full : List Content) (old new : S)
-      (out : Vec Mail Global) (went : HasGoneAndTold takes system k past a.clocks old a.boxes.items after full new out.items to) (at : old ≡ get_or a.told.items k old) where
+      (out : Vec Mail Global) (went : HasGoneAndSent takes system k past a.clocks old a.boxes.items after full new out.items to) (at : old ≡ get_or a.told.items k old) where
     abbrev left : Content
     left = went.left
 

@@ -3,7 +3,7 @@ ghost use Rattle.std.specs.Prelude.{◌≡◌, [], length, slice_index_or, IfOk,
 ghost use Rattle.mcs_mail.specs.Box.{Content};
 ghost use Rattle.mcs_system.specs.WellFormed.{IsWellFormed};
 ghost use Rattle.mcs_window.specs.declared.slot.Slot.TheVariants.{Away};
-ghost use Rattle.mcs_window.specs.stored.Slots.{MayGo, HasGone, HasGoneAndTold, AreSameBut};
+ghost use Rattle.mcs_window.specs.stored.Slots.{MayGo, HasGone, HasGoneAndSent, AreSameBut};
 
 use crate::Front;
 use crate::delivery::deliver;
@@ -60,7 +60,7 @@ impl Turns<'_> {
         requires many { length boxes.old ≡ self.now.system.now.cores }
         requires may { (x : Content) → MayGo self.now.system.now self.now.core self.now.past self.now.front.now slot.old
             (slice_index_or boxes.old self.now.core x).mails }
-        ensures ok { IfOk result (HasGoneAndTold S.takes self.now.system.now self.now.core self.now.past self.now.front.now
+        ensures ok { IfOk result (HasGoneAndSent S.takes self.now.system.now self.now.core self.now.past self.now.front.now
             told.old boxes.old slot.new boxes.new told.new signals.new.items) }
         ensures err { OnErr result (AreSameBut self.now.core boxes.old boxes.new) }
     {

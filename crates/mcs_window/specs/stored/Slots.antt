@@ -140,7 +140,7 @@ pub record HasGone {S : Type 0} (takes : S → Row → Bool → S → Type 0) (s
   pub signals_are : signals ≡ signals_between system c (slice_index front c) to
 
 -- and its signals went to their homes
-pub record HasGoneAndTold {S : Type 0} (takes : S → Row → Bool → S → Type 0) (system : System) (c past : ℕ)
+pub record HasGoneAndSent {S : Type 0} (takes : S → Row → Bool → S → Type 0) (system : System) (c past : ℕ)
     (front : List ℕ) (before : S) (boxes : List Content) (slot : Slot) (full : List Content) (after : S)
     (signals : List Mail) (to : ℕ) : Type 0 where
   pub left : Content

@@ -3,7 +3,7 @@ use Rattle.std.specs.Prelude.{slice_index}
 use Rattle.std.specs.Arc.{arc_value}
 use Rattle.std.proofs.lemmas.List.{set-set, get_or_default}
 use Rattle.mcs_window.specs.Desk.{lent_to, settled_at, taken_at, with_lost, turns_left}
-use Rattle.mcs_window.specs.stored.Slots.{table_of, HasGoneAndTold, AreSameBut}
+use Rattle.mcs_window.specs.stored.Slots.{table_of, HasGoneAndSent, AreSameBut}
 use Rattle.mcs_window.proofs.Going.{settled-went, went-seen}
 use Rattle.mcs_window.proofs.Running.{at_core, may_go, in_clocks, in_boxes, gone_kept, gone_shows, gone_clock, gone_fewer, spent_kept, spent_shows, respent_are}
 use Rattle.mcs_window.proofs.desk.Desk.run_here.Goals as goal
@@ -48,7 +48,7 @@ invariant_of-self-2 g c =
     let to = c.in-Ok.to in
     let told = c.index_mut-told.result.now in
     let at = at_core (table_of a) c.args.self.now k c.args.core c.args.past c.self.view_is c.core.view_is c.requires.may in
-    let went : HasGoneAndTold g.S.Sink.takes (arc_value a.system) k c.args.past a.clocks told a.boxes.items run.slot run.boxes run.told run.signals.items to =
+    let went : HasGoneAndSent g.S.Sink.takes (arc_value a.system) k c.args.past a.clocks told a.boxes.items run.slot run.boxes run.told run.signals.items to =
     rw (c.deref.ensures, c.deref_mut.ensures.value, ← c.core.view_is) at c.in-Ok.ensures.ok in
     gone_kept a c.self.invariant k c.args.past at g.S.Sink.takes g.met.S.Collector.holds_more to run.slot run.boxes told run.told run.signals went c.index_mut-told.ensures.value
 
@@ -60,7 +60,7 @@ returns-clause-ok g c =
     let to = c.in-Ok.to in
     let told = c.index_mut-told.result.now in
     let at = at_core (table_of a) c.args.self.now k c.args.core c.args.past c.self.view_is c.core.view_is c.requires.may in
-    let went : HasGoneAndTold g.S.Sink.takes (arc_value a.system) k c.args.past a.clocks told a.boxes.items run.slot run.boxes run.told run.signals.items to =
+    let went : HasGoneAndSent g.S.Sink.takes (arc_value a.system) k c.args.past a.clocks told a.boxes.items run.slot run.boxes run.told run.signals.items to =
     rw (c.deref.ensures, c.deref_mut.ensures.value, ← c.core.view_is) at c.in-Ok.ensures.ok in
     let clock : slice_index (set a.clocks k to) k ≡ to =
     gone_clock a c.self.invariant k c.args.past at g.S.Sink.takes g.met.S.Collector.holds_more to run.slot run.boxes told run.told run.signals went c.index_mut-told.ensures.value in
@@ -76,7 +76,7 @@ returns-clause-fewer g c =
     let to = c.in-Ok.to in
     let told = c.index_mut-told.result.now in
     let at = at_core (table_of a) c.args.self.now k c.args.core c.args.past c.self.view_is c.core.view_is c.requires.may in
-    let went : HasGoneAndTold g.S.Sink.takes (arc_value a.system) k c.args.past a.clocks told a.boxes.items run.slot run.boxes run.told run.signals.items to =
+    let went : HasGoneAndSent g.S.Sink.takes (arc_value a.system) k c.args.past a.clocks told a.boxes.items run.slot run.boxes run.told run.signals.items to =
     rw (c.deref.ensures, c.deref_mut.ensures.value, ← c.core.view_is) at c.in-Ok.ensures.ok in
     let fewer = gone_fewer a c.self.invariant k c.args.past at g.S.Sink.takes g.met.S.Collector.holds_more to run.slot run.boxes told run.told run.signals went c.index_mut-told.ensures.value in
     let shows = gone_shows a c.self.invariant k c.args.past at g.S.Sink.takes g.met.S.Collector.holds_more to run.slot run.boxes told run.told run.signals went c.index_mut-told.ensures.value in
@@ -90,7 +90,7 @@ returns-clause-went g c =
     let to = c.in-Ok.to in
     let told = c.index_mut-told.result.now in
     let at = at_core (table_of a) c.args.self.now k c.args.core c.args.past c.self.view_is c.core.view_is c.requires.may in
-    let went : HasGoneAndTold g.S.Sink.takes (arc_value a.system) k c.args.past a.clocks told a.boxes.items run.slot run.boxes run.told run.signals.items to =
+    let went : HasGoneAndSent g.S.Sink.takes (arc_value a.system) k c.args.past a.clocks told a.boxes.items run.slot run.boxes run.told run.signals.items to =
     rw (c.deref.ensures, c.deref_mut.ensures.value, ← c.core.view_is) at c.in-Ok.ensures.ok in
     went-seen (table_of a) c.args.self.now _ c.self.view_is
     (settled-went (table_of a) _ k c.args.past to at (let few = c.self.invariant.few in let all = c.self.invariant.clocks_of in omega arith) went.gone.later went.gone.in_time
