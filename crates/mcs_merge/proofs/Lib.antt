@@ -6,6 +6,9 @@ pub mod Passing
 pub mod Kept
 pub mod Helds
 pub mod Pops
+pub mod Parts
+pub mod Nexts
+pub mod Pouring
 pub mod Lone
 pub mod Calls
 mod Worked

@@ -1,7 +1,8 @@
-ghost use Rattle.std.specs.Prelude.{◌≡◌, ◌<◌, ◌≤◌, ℕ, nat_lt, drop, length, slice_set, replicate, Contains, IfOk, IsTrue};
+ghost use Rattle.std.specs.Prelude.{◌≡◌, ◌<◌, ◌≤◌, ◌*◌, ◌^◌, ℕ, nat_lt, drop, length, slice_set, replicate, Contains, IfOk, IsTrue};
+ghost use Rattle.mcs_merge.specs.stored.Parts.{head_of_next};
 ghost use Rattle.mcs_merge.specs.stored.Heads.{at_clock, at_row, blank, core_of, has_row, head_at, lesser, IsTree};
 
-use mcs_ticks::{Limits, NoMemory, Tick};
+use mcs_ticks::{Limits, NoMemory, Soonest, Tick};
 use std::alloc::Global;
 use std::marker::Model;
 
@@ -57,6 +58,27 @@ impl Head {
         Head {
             rank: RANKS * moment.get() + CORES + core as u64,
         }
+    }
+
+    /// That of a core of which this moment is next, or none.
+    pub(crate) fn of_next(core: usize, next: Soonest) -> Self
+        requires { core < 64 }
+        ensures { result ≡ head_of_next core next }
+    {
+        match next.moment() {
+            Some(moment) => Head::at_row(core, moment),
+            None => Head {
+                rank: RANKS * Limits::TICK + core as u64,
+            },
+        }
+    }
+
+    /// Whether the core has a row before this moment.
+    pub(crate) fn is_before(&self, until: Tick) -> bool
+        ensures before { result ≡ nat_lt self.now.rank (128 * until) }
+        ensures in_range { until ≤ 2 ^ 42 }
+    {
+        self.rank < RANKS * until.get()
     }
 
     /// Whether the core has a row.

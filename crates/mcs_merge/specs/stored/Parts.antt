@@ -1,0 +1,84 @@
+-- How parts lie, which one is next, and what is given of them.
+use Rattle.std.specs.Prelude.{◌≡◌, ◌⊎◌, ℕ, Bool, ◌+◌, ◌*◌, ◌^◌, ◌<◌, ◌≤◌, List, [], ◌∷◌, ◌++◌, length, All, Option, Some, None, IfSome, IsSome}
+use Rattle.mcs_ticks.specs.declared.row.Row.{Row}
+use Rattle.mcs_ticks.specs.Given.{Given, GivenUntil}
+use Rattle.mcs_merge.specs.Parts.{first_of, parts_of, Hold}
+use Rattle.mcs_merge.specs.declared.heads.Head.{Head}
+use Rattle.mcs_merge.specs.stored.Heads.{at_clock, at_row, head_at}
+
+-- all rows are of this moment
+abbrev pub AreAt : ℕ → List Row → Type 0
+AreAt t [] = Unit {0}
+AreAt t (row ∷ rows) = (row.moment ≡ t) × AreAt t rows
+
+-- the head of a core of which this moment is next, or none
+abbrev pub head_of_next : ℕ → Option ℕ → Head
+head_of_next core None = at_clock core (2 ^ 42)
+head_of_next core (Some moment) = at_row core moment
+
+module _ {P : Type 0} where
+  -- how many moments are left of all parts
+  abbrev pub left_of : (P → ℕ) → List P → ℕ
+  left_of left [] = 0
+  left_of left (part ∷ parts) = left part + left_of left parts
+
+  abbrev pub left_of_all : (P → ℕ) → List (List P) → ℕ
+  left_of_all left [] = 0
+  left_of_all left (parts ∷ cores) = left_of left parts + left_of_all left cores
+
+module _ {P : Type 0} (first : P → Option ℕ) where
+  -- no part stands behind an empty one at the front
+  abbrev pub IsInLine : List P → Type 0
+  IsInLine [] = Unit {0}
+  IsInLine (front ∷ later) = first front ≡ None → later ≡ []
+
+  -- none of the parts behind the front is empty, and none is there where the front is
+  pub record AreInLine (front : P) (later : List P) (spare : Option P) : Type 0 where
+    pub behind : All (λ part. IsSome (first part)) later
+    pub in_line : IsInLine (front ∷ later)
+    pub unused : IfSome spare (λ part. first part ≡ None)
+
+  -- all parts are as they were, or the first one was empty and is gone
+  abbrev pub GoesOn : List P → List P → Type 0
+  GoesOn [] after = after ≡ []
+  GoesOn (front ∷ later) after = (after ≡ front ∷ later) ⊎ ((first front ≡ None) × (after ≡ later))
+
+  -- the head of each core is of the first moment of its parts, of which none stands behind an empty one
+  pub record AreNext (cores : List (List P)) (heads : List Head) : Type 0 where
+    pub some : 1 ≤ length cores
+    pub few : length cores ≤ 64
+    pub same : length heads ≡ length cores
+    pub each : (core : ℕ) → core < length cores → head_at core heads ≡ head_of_next core (first_of first (parts_of core cores))
+    pub in_line : (core : ℕ) → core < length cores → IsInLine (parts_of core cores)
+
+  -- the first moment of this core is before this one, no later than that of any core, and earlier than those of lower cores
+  pub record IsNextCore (cores : List (List P)) (until core : ℕ) : Type 0 where
+    pub within : core < length cores
+    pub moment : ℕ
+    pub is : first_of first (parts_of core cores) ≡ Some moment
+    pub before : moment < until
+    pub least : (d : ℕ) → d < length cores → IfSome (first_of first (parts_of d cores)) (λ other. moment ≤ other)
+    pub lower : (d : ℕ) → d < core → IfSome (first_of first (parts_of d cores)) (λ other. moment < other)
+
+  -- no core has a moment before this one
+  abbrev pub NoneBefore : List (List P) → ℕ → Type 0
+  NoneBefore cores until =
+      (d : ℕ) → d < length cores → IfSome (first_of first (parts_of d cores)) (λ other. until ≤ other)
+
+module _ {O : Type 0} {P : Type 0} (takes : O → Row → Bool → O → Type 0) (holds : O → P → List Row → Type 0) where
+  -- of these rows those at the front, all of this moment, were given, and the parts hold the others
+  pub record Pours (t : ℕ) (rows : List Row) (before after : O) (parts : List P) : Type 0 where
+    pub now : List Row
+    pub rest : List Row
+    pub split : rows ≡ now ++ rest
+    pub at : AreAt t now
+    pub given : Given takes before now after
+    pub left : Hold holds after parts rest
+
+  -- of those at the front, all of this moment, one was refused
+  pub record IsRefused (t : ℕ) (rows : List Row) (before after : O) : Type 0 where
+    pub now : List Row
+    pub rest : List Row
+    pub split : rows ≡ now ++ rest
+    pub at : AreAt t now
+    pub given : GivenUntil takes before now after

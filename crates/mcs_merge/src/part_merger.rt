@@ -1,0 +1,189 @@
+ghost use Rattle.std.specs.Prelude.{◌≡◌, ◌<◌, ◌≤◌, ◌∷◌, ◌++◌, ℕ, [], All, List, None, length, map, slice_set, IfErr, IfNone, IfOk, IfSome, IsOk, IsSome, OnErr, OnOk};
+ghost use Rattle.mcs_ticks.specs.declared.row.Row.{Row};
+ghost use Rattle.mcs_ticks.specs.Given.{Given, GivenUntil};
+ghost use Rattle.mcs_merge.specs.Merge.{merged_before, DoNotFall};
+ghost use Rattle.mcs_merge.specs.Merging.{list_of, with_rows};
+ghost use Rattle.mcs_merge.specs.Parts.{all_from, first_of, parts_of, AreHeld, Hold};
+ghost use Rattle.mcs_merge.specs.stored.Parts.{head_of_next, left_of_all, AreNext, IsInLine, IsNextCore, IsRefused, NoneBefore, Pours};
+
+use crate::Part;
+use crate::heads::{Head, Heads};
+use crate::waiting::Waiting;
+use mcs_ticks::{CoreId, NoMemory, Refused, Tick};
+use std::alloc::Global;
+use std::marker::Model;
+
+/// A merge of parts, of which more are added while others are given out: by moment, then core, then place. Contracts see the parts of each
+/// core, one behind another.
+#[derive(Drop)]
+pub struct PartMerger<P: Part> {
+    cores: Vec<Waiting<P>>,
+    // the first moment of each core
+    heads: Heads,
+}
+
+impl<P: Part> Model for PartMerger<P> {
+    ghost use Rattle.std.specs.Prelude.{List};
+    ghost use Rattle.mcs_merge.specs.stored.Parts.{AreNext};
+
+    ghost Value = { List (List P) };
+
+    ghost view = { λ a. a.cores.items };
+
+    ghost invariant = { λ a. AreNext P.first a.cores.items a.heads };
+}
+
+impl<P: Part> PartMerger<P> {
+    /// A part for each core, of 1 to 64 cores.
+    pub fn new(alloc: Global, parts: Vec<P>) -> Result<Self, NoMemory>
+        requires some { 1 ≤ length parts.items }
+        requires few { length parts.items ≤ 64 }
+        ensures { IfOk result (λ merger. merger ≡ map (λ part. part ∷ []) parts.items) }
+    {
+        let cores = waiting_of(alloc, parts)?;
+        let heads = heads_of(alloc, cores.as_slice())?;
+        Ok(PartMerger { cores, heads })
+    }
+
+    /// Adds a part of a core behind those that it has, and gives one back of which all was given out, where there is one. It takes memory only
+    /// where something of the core waits; where there is none the part is handed back and the merger is as it was. Nothing is copied.
+    pub fn add(&mut self, core: CoreId, part: P) -> Result<Option<P>, (P, NoMemory)>
+        requires { core < length self.old }
+        ensures added { (out : P.Out) (lists : List (List Row)) (rows : List Row) → AreHeld P.holds out self.old lists → P.holds out part rows
+            → OnOk result (AreHeld P.holds out self.new (with_rows core rows lists)) }
+        ensures empty { IfOk result (λ room. IfSome room (λ part. P.first part ≡ None)) }
+        ensures handed_back { IfErr result (λ back. back.0 ≡ part) }
+        ensures unchanged { OnErr result (self.new ≡ self.old) }
+        ensures moved { first_of P.first (parts_of core self.old) ≡ None → IsOk result }
+        ensures none { P.first part ≡ None → IsOk result }
+        ensures cores { length self.new ≡ length self.old }
+    {
+        let cores = self.cores.as_mut_slice();
+        let room = add_to(cores, core.0, part)?;
+        let head = head_at(cores, core.0);
+        self.heads.set(core.0, head);
+        Ok(room)
+    }
+
+    /// Gives out all rows before a moment, by moment, then core, then place.
+    pub fn pour_before(&mut self, until: Tick, out: &mut P::Out) -> Result<(), Refused>
+        ensures given { (lists : List (List Row)) → All DoNotFall lists → AreHeld P.holds out.old self.old lists
+            → OnOk result (Given P.Out.takes out.old (merged_before until lists) out.new × AreHeld P.holds out.new self.new (all_from until lists)) }
+        ensures refused { (lists : List (List Row)) → All DoNotFall lists → AreHeld P.holds out.old self.old lists
+            → OnErr result (GivenUntil P.Out.takes out.old (merged_before until lists) out.new) }
+        ensures cores { length self.new ≡ length self.old }
+    {
+        'moments: while let Some(core) = self.next_before(until) {
+            self.pour(core, out)?;
+        }
+        Ok(())
+    }
+
+    // The core whose first moment comes first, where that is before this moment.
+    fn next_before(&self, until: Tick) -> Option<usize>
+        ensures next { IfSome result (λ core. IsNextCore P.first self.now until core) }
+        ensures none { IfNone result (NoneBefore P.first self.now until) }
+        ensures in_line { (core : ℕ) → core < length self.now → IsInLine P.first (parts_of core self.now) }
+    {
+        let first = self.heads.first();
+        if first.is_before(until) {
+            Some(first.core())
+        } else {
+            None
+        }
+    }
+
+    // Gives out all rows of the first moment that the first part of this core has.
+    fn pour(&mut self, core: usize, out: &mut P::Out) -> Result<(), Refused>
+        requires within { core < length self.old }
+        requires some { IsSome (first_of P.first (parts_of core self.old)) }
+        ensures fewer { OnOk result (left_of_all P.left self.new < left_of_all P.left self.old) }
+        ensures given { (rows : List Row) → DoNotFall rows → Hold P.holds out.old (parts_of core self.old) rows → OnOk result
+            (IfSome (first_of P.first (parts_of core self.old)) (λ t. Pours P.Out.takes P.holds t rows out.old out.new (parts_of core self.new))) }
+        ensures refused { (rows : List Row) → DoNotFall rows → Hold P.holds out.old (parts_of core self.old) rows → OnErr result
+            (IfSome (first_of P.first (parts_of core self.old)) (λ t. IsRefused P.Out.takes P.holds t rows out.old out.new)) }
+        ensures others { self.new ≡ slice_set self.old core (parts_of core self.new) }
+    {
+        let cores = self.cores.as_mut_slice();
+        let poured = pour_of(cores, core, out);
+        let head = head_at(cores, core);
+        self.heads.set(core, head);
+        poured
+    }
+}
+
+// Each part alone.
+fn waiting_of<P: Part>(alloc: Global, parts: Vec<P>) -> Result<Vec<Waiting<P>>, NoMemory>
+    ensures { IfOk result (λ cores. cores.items ≡ map (λ part. part ∷ []) parts.items) }
+{
+    let mut cores = Vec::with_capacity(alloc, parts.len())?;
+    for part in parts {
+        cores.push(Waiting::new(alloc, part))?;
+    }
+    Ok(cores)
+}
+
+// The heads of all cores.
+fn heads_of<P: Part>(alloc: Global, cores: &[Waiting<P>]) -> Result<Heads, NoMemory>
+    requires some { 1 ≤ length cores.now }
+    requires few { length cores.now ≤ 64 }
+    requires in_line { (core : ℕ) → core < length cores.now → IsInLine P.first (parts_of core cores.now) }
+    ensures { IfOk result (λ heads. AreNext P.first cores.now heads) }
+{
+    let mut heads = Heads::new(alloc, cores.len())?;
+    for core in 0..cores.len() {
+        let head = head_at(cores, core);
+        heads.set(core, head);
+    }
+    Ok(heads)
+}
+
+// What comes next of a core.
+fn head_at<P: Part>(cores: &[Waiting<P>], core: usize) -> Head
+    requires within { core < length cores.now }
+    requires few { core < 64 }
+    ensures { result ≡ head_of_next core (first_of P.first (parts_of core cores.now)) }
+{
+    Head::of_next(core, cores[core].next())
+}
+
+// Adds a part of a core.
+fn add_to<P: Part>(
+    cores: &mut [Waiting<P>],
+    core: usize,
+    part: P,
+) -> Result<Option<P>, (P, NoMemory)>
+    requires { core < length cores.old }
+    ensures added { (out : P.Out) (rows more : List Row) → Hold P.holds out (parts_of core cores.old) rows → P.holds out part more
+        → OnOk result (Hold P.holds out (parts_of core cores.new) (rows ++ more)) }
+    ensures empty { IfOk result (λ room. IfSome room (λ part. P.first part ≡ None)) }
+    ensures handed_back { IfErr result (λ back. back.0 ≡ part) }
+    ensures unchanged { OnErr result (cores.new ≡ cores.old) }
+    ensures moved { first_of P.first (parts_of core cores.old) ≡ None → IsOk result }
+    ensures none { P.first part ≡ None → IsOk result }
+    ensures others { cores.new ≡ slice_set cores.old core (parts_of core cores.new) }
+    ensures in_line { IsInLine P.first (parts_of core cores.new) }
+{
+    let waiting = &mut cores[core];
+    waiting.add(part)
+}
+
+// Gives out all rows of the first moment that the first part of a core has.
+fn pour_of<P: Part>(
+    cores: &mut [Waiting<P>],
+    core: usize,
+    out: &mut P::Out,
+) -> Result<(), Refused>
+    requires within { core < length cores.old }
+    requires some { IsSome (first_of P.first (parts_of core cores.old)) }
+    ensures fewer { OnOk result (left_of_all P.left cores.new < left_of_all P.left cores.old) }
+    ensures given { (rows : List Row) → DoNotFall rows → Hold P.holds out.old (parts_of core cores.old) rows → OnOk result
+        (IfSome (first_of P.first (parts_of core cores.old)) (λ t. Pours P.Out.takes P.holds t rows out.old out.new (parts_of core cores.new))) }
+    ensures refused { (rows : List Row) → DoNotFall rows → Hold P.holds out.old (parts_of core cores.old) rows → OnErr result
+        (IfSome (first_of P.first (parts_of core cores.old)) (λ t. IsRefused P.Out.takes P.holds t rows out.old out.new)) }
+    ensures others { cores.new ≡ slice_set cores.old core (parts_of core cores.new) }
+    ensures in_line { IsInLine P.first (parts_of core cores.new) }
+{
+    let waiting = &mut cores[core];
+    waiting.pour(out)
+}
