@@ -24,14 +24,14 @@ flat_map-split f (suc n) k a (suc m) b e i =
     ap (λ xs. f a ++ xs) (flat_map-split f n k (a + 1) m b (omega arith) (omega arith)) ∙ sym (append_assoc (f a) (flat_map f (range_with_len (a + 1) n)) (flat_map f (range_with_len b k)))
 
 -- the merged rows from a moment to before another
-abbrev between : ℕ → ℕ → List (List Row) → List Row
+abbrev pub between : ℕ → ℕ → List (List Row) → List Row
 between t u lists = flat_map (λ i. flat_map (rows_at i) lists) (range_with_len t (u - t))
 
-merged-more : (t u : ℕ) (lists : List (List Row)) → t ≤ u → merged_before u lists ≡ merged_before t lists ++ between t u lists
+pub merged-more : (t u : ℕ) (lists : List (List Row)) → t ≤ u → merged_before u lists ≡ merged_before t lists ++ between t u lists
 merged-more t u lists l = flat_map-split (λ i. flat_map (rows_at i) lists) t (u - t) 0 u t (omega arith) (omega arith)
 
 -- lists that have the same rows of a moment
-same-at : (t : ℕ) (a b : List (List Row)) → length a ≡ length b → ((d : ℕ) → d < length a → rows_at t (list_of d a) ≡ rows_at t (list_of d b)) → flat_map (rows_at t) a ≡ flat_map (rows_at t) b
+pub same-at : (t : ℕ) (a b : List (List Row)) → length a ≡ length b → ((d : ℕ) → d < length a → rows_at t (list_of d a) ≡ rows_at t (list_of d b)) → flat_map (rows_at t) a ≡ flat_map (rows_at t) b
 same-at t [] [] e h = refl
 same-at t [] (ys ∷ b) e h = absurd (omega arith)
 same-at t (xs ∷ a) [] e h = absurd (omega arith)

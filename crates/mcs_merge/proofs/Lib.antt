@@ -9,6 +9,8 @@ pub mod Pops
 pub mod Parts
 pub mod Nexts
 pub mod Pouring
+pub mod Rows
 pub mod Lone
 pub mod Calls
+pub mod Pours
 mod Worked

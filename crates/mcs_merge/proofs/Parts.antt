@@ -52,6 +52,42 @@ from-none t row rows l = by (nat_le t row.moment) refl
     by true e = absurd (grind (arith, nat_tests))
     by false e = refl
 
+-- they stay in order
+pub from-AreFrom : (t u : ℕ) (rows : List Row) → AreFrom t rows → AreFrom t (rows_from u rows)
+from-AreFrom t u [] h = tt
+from-AreFrom t u (row ∷ rows) h = by (nat_le u row.moment) (from-AreFrom t u rows h.1)
+  where
+    by : (b : Bool) → AreFrom t (rows_from u rows) → AreFrom t (cond b (row ∷ rows_from u rows) (rows_from u rows))
+    by true i = (h.0, i)
+    by false i = i
+
+pub from-in-order : (u : ℕ) (rows : List Row) → DoNotFall rows → DoNotFall (rows_from u rows)
+from-in-order u [] h = tt
+from-in-order u (row ∷ rows) h = by (nat_le u row.moment) (from-in-order u rows h.1)
+  where
+    by : (b : Bool) → DoNotFall (rows_from u rows) → DoNotFall (cond b (row ∷ rows_from u rows) (rows_from u rows))
+    by true i = (from-AreFrom row.moment u rows h.0, i)
+    by false i = i
+
+pub from-is : (u : ℕ) (rows : List Row) → AreFrom u (rows_from u rows)
+from-is u [] = tt
+from-is u (row ∷ rows) = by (nat_le u row.moment) refl (from-is u rows)
+  where
+    by : (b : Bool) → nat_le u row.moment ≡ b → AreFrom u (rows_from u rows) → AreFrom u (cond b (row ∷ rows_from u rows) (rows_from u rows))
+    by true e i = (grind (arith, nat_tests), i)
+    by false e i = i
+
+pub at-from : (t u : ℕ) (rows : List Row) → u ≤ t → rows_at t (rows_from u rows) ≡ rows_at t rows
+at-from t u [] l = refl
+at-from t u (row ∷ rows) l = by (nat_le u row.moment) (row.moment == t) refl refl (at-from t u rows l)
+  where
+    by : (a b : Bool) → nat_le u row.moment ≡ a → (row.moment == t) ≡ b → rows_at t (rows_from u rows) ≡ rows_at t rows →
+        rows_at t (cond a (row ∷ rows_from u rows) (rows_from u rows)) ≡ cond b (row ∷ rows_at t rows) (rows_at t rows)
+    by true true e f i = ap (λ c. cond c (row ∷ rows_at t (rows_from u rows)) (rows_at t (rows_from u rows))) f ∙ ap (λ (xs : List Row). row ∷ xs) i
+    by true false e f i = ap (λ c. cond c (row ∷ rows_at t (rows_from u rows)) (rows_at t (rows_from u rows))) f ∙ i
+    by false true e f i = absurd (grind (arith, nat_tests))
+    by false false e f i = i
+
 -- rows from a moment on are those of the moment, and then the later ones
 pub at-and-from : (t : ℕ) (rows : List Row) → DoNotFall rows → AreFrom t rows → rows ≡ rows_at t rows ++ rows_from (suc t) rows
 at-and-from t [] o h = refl

@@ -37,7 +37,7 @@ all-from-all until (rows ∷ lists) h = both _ _ _ _ (from-all until rows (h 0 (
     both : (xs ys : List Row) (us vs : List (List Row)) → xs ≡ ys → us ≡ vs → xs ∷ us ≡ ys ∷ vs
     both xs ys us vs e f = cc
 
-merged-none : (until : ℕ) (lists : List (List Row)) → ((d : ℕ) → d < length lists → AreFrom until (list_of d lists)) → merged_before until lists ≡ []
+pub merged-none : (until : ℕ) (lists : List (List Row)) → ((d : ℕ) → d < length lists → AreFrom until (list_of d lists)) → merged_before until lists ≡ []
 merged-none until lists h =
     flat_map-none (λ t. flat_map (rows_at t) lists) until 0 (λ t p q. none-at t lists (λ d l. rows_at-later t until (list_of d lists) (omega arith) (h d l)))
 

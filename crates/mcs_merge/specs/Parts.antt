@@ -1,9 +1,7 @@
 -- What lies of each core and waits to be given out, a moment at a time.
-use Rattle.std.specs.Prelude.{◌≡◌, ℕ, suc, ◌<◌, ◌++◌, nat_le, List, [], ◌∷◌, filter, length, map, Option, None, option_map, slice_get, slice_index_or}
+use Rattle.std.specs.Prelude.{◌≡◌, ℕ, ◌<◌, ◌++◌, nat_le, List, [], ◌∷◌, filter, length, map, Option, None, option_map, slice_get, slice_index_or}
 use Rattle.mcs_ticks.specs.declared.row.Row.{Row}
-use Rattle.mcs_ticks.specs.Given.{Given, GivenUntil}
-use Rattle.mcs_merge.specs.Merge.{rows_at, merged_before}
-use Rattle.mcs_merge.specs.Merging.{list_of}
+use Rattle.mcs_merge.specs.Merging.{Merging, list_of}
 
 -- the moment of the first row
 abbrev pub first_moment : List Row → Option ℕ
@@ -16,6 +14,10 @@ rows_from t rows = filter (λ row. nat_le t row.moment) rows
 -- those of each list
 abbrev pub all_from : ℕ → List (List Row) → List (List Row)
 all_from t lists = map (rows_from t) lists
+
+-- what is left after all rows before a moment were given
+abbrev pub poured : ℕ → Merging → Merging
+poured until m = record m { left = all_from until m.left }
 
 -- the first moment of parts that lie behind one another: that of the first part, since none stands behind an empty one
 abbrev pub first_of : {P : Type 0} → (P → Option ℕ) → List P → Option ℕ

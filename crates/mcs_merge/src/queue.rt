@@ -42,6 +42,19 @@ impl RowQueue {
         }
     }
 
+    /// These rows, in this order. The list is moved in.
+    pub(crate) fn of_rows(rows: Vec<Row>) -> Self
+        ensures { result.items ≡ rows.items }
+    {
+        let rows = VecDeque::from_vec(rows);
+        let moments = moments_of(&rows);
+        RowQueue {
+            rows,
+            moments,
+            at: 0,
+        }
+    }
+
     /// The moment of the first row.
     pub(crate) fn first_moment(&self) -> Option<Tick>
         ensures { result ≡ option_map (λ row. row.moment) (slice_get self.now.items 0) }

@@ -4,6 +4,7 @@ use Rattle.mcs_ticks.specs.declared.row.Row.{Row}
 use Rattle.mcs_merge.specs.Merge.{rows_at, merged_before, merged, last_of_all}
 use Rattle.mcs_merge.specs.Merging.{Merging, starting, list_of, least_clock, passed, next_row}
 use Rattle.mcs_merge.specs.Merging.{without_row, with_rows, after_add, emptied, CanAdd, IsInOrder}
+use Rattle.mcs_merge.specs.Parts.{poured}
 
 -- these rows were taken, of all these lists: with those that all clocks have passed they are all rows before the least
 -- clock, merged; and the rows of each core from the least clock on are left
@@ -54,3 +55,16 @@ abbrev pub EndsMerged : Type 0
 EndsMerged =
     (m : Merging) (all : List (List Row)) (taken : List Row) →
     HasTaken all taken m → next_row m ≡ None → last_of_all all < least_clock m.clocks → taken ≡ merged all
+
+-- all rows before a moment that all clocks have passed are taken behind it ..
+abbrev pub PoursMerged : Type 0
+PoursMerged =
+    (m : Merging) (all : List (List Row)) (taken : List Row) (until : ℕ) →
+    IsInOrder m → HasTaken all taken m → until ≤ least_clock m.clocks →
+    IsInOrder (poured until m) × HasTaken all (taken ++ merged_before until m.left) (poured until m)
+
+-- .. and where it is the least clock, what was taken is all rows before it, merged
+abbrev pub PoursAll : Type 0
+PoursAll =
+    (m : Merging) (all : List (List Row)) (taken : List Row) →
+    HasTaken all taken m → taken ++ merged_before (least_clock m.clocks) m.left ≡ merged_before (least_clock m.clocks) all
