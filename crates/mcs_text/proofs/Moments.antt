@@ -9,11 +9,14 @@ use Rattle.std.proofs.lemmas.List.Elements.{filter-append}
 use Rattle.std.proofs.lemmas.List.Concat.{flat_map-append}
 use Rattle.std.proofs.Math.Seq.{get_or-append_seam, take-append_seam, take-length}
 use Rattle.mcs_ticks.specs.declared.row.Row.{Row}
+use Rattle.mcs_merge.specs.Merge.{rows_at}
 use Rattle.mcs_system.specs.System.{System}
 use Rattle.mcs_text.specs.declared.mark.Mark.{Mark}
 use Rattle.mcs_text.specs.Text.{row_text, schedule_text}
-use Rattle.mcs_text.specs.Lines.{Lines, is_of, marked, with_row, start_of, end_of, text_at, ComeInTime, rows_at, moment_of, TextsAreOfMoments}
+use Rattle.mcs_text.specs.Lines.{Lines, is_of, marked, with_row, start_of, end_of, text_at, ComeInTime, moment_of, TextsAreOfMoments}
+use Rattle.mcs_text.specs.Parts.{HoldsRows, LinesHoldRows}
 use Rattle.mcs_text.specs.stored.Lines.{AreInOrder}
+use Rattle.mcs_text.proofs.Parts.{come-all, is-first}
 use Rattle.mcs_text.proofs.Places.{mark_at, same_part, last-append, end_known, end_last, order_more, start-append, start-last, order_marked, end_marked}
 
 -- a part of the bytes stays where more are appended
@@ -93,6 +96,9 @@ record Holds (system : System) (bytes : List ℕ) (marks : List Mark) (last : Op
   in_order : AreInOrder (length bytes) marks
   none_after : (moment : ℕ) → IsAfter moment last → rows_at moment seen ≡ []
   earlier : (place : ℕ) → place + 1 < length marks → IsBefore (moment_of marks place) last
+  rising : (place : ℕ) → place + 1 < length marks → moment_of marks place < moment_of marks (place + 1)
+  some : (place : ℕ) → place < length marks → rows_at (moment_of marks place) seen ≢ []
+  all : (t : ℕ) → ((place : ℕ) → place < length marks → moment_of marks place ≢ t) → rows_at t seen ≡ []
   texts : (place : ℕ) → place < length marks →
       text_at (record { system = system; bytes = bytes; marks = marks }) place ≡ schedule_text system (rows_at (moment_of marks place) seen)
 
@@ -116,6 +122,28 @@ before-it system bytes marks (Some mark) now moment seen h after place lt =
           omega arith
     ]
 
+-- rows of a moment, and one more
+more-rows : (moment : ℕ) (seen : List Row) (r : Row) → rows_at moment seen ≢ [] → rows_at moment (seen ++ r ∷ []) ≢ []
+more-rows moment seen r h e = by (rows_at moment seen) h (sym (filter-append (λ (r : Row). eqb r.moment moment) seen (r ∷ [])) ∙ e)
+  where
+    by : (rows : List Row) → rows ≢ [] → rows ++ rows_at moment (r ∷ []) ≡ [] → ⊥
+    by [] n f = n refl
+    by (row ∷ rows) n f = cc
+
+row-more : (moment : ℕ) (seen : List Row) (r : Row) → r.moment ≡ moment → rows_at moment (seen ++ r ∷ []) ≢ []
+row-more moment seen r same e =
+    let yes : eqb r.moment moment ≡ true = grind (arith, nat_tests) in
+    by (rows_at moment seen)
+    (sym (filter-append (λ (r : Row). eqb r.moment moment) seen (r ∷ []) ∙ ap (λ b. rows_at moment seen ++ cond b (r ∷ []) []) yes) ∙ e)
+  where
+    by : (rows : List Row) → rows ++ r ∷ [] ≡ [] → ⊥
+    by [] f = cc
+    by (row ∷ rows) f = cc
+
+last-place : (marks : List Mark) (mark : Mark) → last_or None marks ≡ Some mark → 1 ≤ length marks
+last-place [] mark e = cc
+last-place (x ∷ marks) mark e = omega arith
+
 -- a row more at the moment of the last mark
 holds-same : (system : System) (bytes : List ℕ) (marks : List Mark) (mark : Mark) (now : ℕ) (seen : List Row) (r : Row) →
     Holds system bytes marks (Some mark) now seen → mark.moment ≡ r.moment →
@@ -131,6 +159,14 @@ holds-same system bytes marks mark now seen r h same =
           let other : r.moment ≢ moment = omega arith in
           rows-other moment seen r other ∙ h.none_after moment after;
       earlier = h.earlier;
+      rising = h.rising;
+      some = λ place lt. more-rows (moment_of marks place) seen r (h.some place lt);
+      all = λ t none.
+          let long = last-place marks mark h.last_is in
+          let last : moment_of marks (length marks - 1) ≡ mark.moment = ap (λ (m : Mark). m.moment) (last-at None marks mark no_mark (length marks - 1) h.last_is (omega arith)) in
+          let apart = none (length marks - 1) (omega arith) in
+          let other : r.moment ≢ t = λ e. apart (last ∙ same ∙ e) in
+          rows-other t seen r other ∙ h.all t none;
       texts = λ place lt.
           let o = h.in_order place lt in
           let s = start_of marks place in
@@ -170,6 +206,9 @@ holds-new system bytes marks last now seen r h after =
     let same : (place : ℕ) → place < length marks → moment_of all place ≡ moment_of marks place =
     λ place known. ap (λ (m : Mark). m.moment) (get_or_append_left marks (mark_at r.moment (length bytes) ∷ []) no_mark place known)
     in
+    let is_new : moment_of all (length marks) ≡ r.moment =
+    ap (λ (m : Mark). m.moment) (get_or-append_seam marks (mark_at r.moment (length bytes)) [] no_mark)
+    in
     record {
       last_is = last-append None marks (mark_at r.moment (length bytes));
       up_to = omega arith;
@@ -180,6 +219,27 @@ holds-new system bytes marks last now seen r h after =
       earlier = λ place lt.
           let known : place < length marks = omega arith in
           subst (λ m. m < r.moment) (sym (same place known)) (before-it system bytes marks last now r.moment seen h after place known);
+      rising = λ place lt.
+          let known : place < length marks = omega arith in
+          elim (cases_lt (place + 1) (length marks)) [
+            | inl next ↦ subst (λ m. m < moment_of all (place + 1)) (sym (same place known)) (subst (λ m. moment_of marks place < m) (sym (same (place + 1) next)) (h.rising place next))
+            | inr past ↦
+                let seam : place + 1 ≡ length marks = omega arith in
+                subst (λ m. m < moment_of all (place + 1)) (sym (same place known))
+                (subst (λ n. moment_of marks place < moment_of all n) (sym seam)
+                (subst (λ m. moment_of marks place < m) (sym is_new) (before-it system bytes marks last now r.moment seen h after place known)))
+          ];
+      some = λ place lt.
+          elim (cases_lt place (length marks)) [
+            | inl known ↦ subst (λ m. rows_at m (seen ++ r ∷ []) ≢ []) (sym (same place known)) (more-rows (moment_of marks place) seen r (h.some place known))
+            | inr new ↦
+                let seam : place ≡ length marks = omega arith in
+                subst (λ n. rows_at (moment_of all n) (seen ++ r ∷ []) ≢ []) (sym seam) (row-more (moment_of all (length marks)) seen r (sym is_new))
+          ];
+      all = λ t none.
+          let apart = none (length marks) (omega arith) in
+          let other : r.moment ≢ t = λ e. apart (is_new ∙ e) in
+          rows-other t seen r other ∙ h.all t (λ place known e. none place (omega arith) (same place known ∙ e));
       texts = λ place lt.
           elim (cases_lt place (length marks)) [
             | inl known ↦
@@ -200,9 +260,6 @@ holds-new system bytes marks last now seen r h after =
                 in
                 let start = start-last marks r.moment (length bytes) in
                 let end : end_of more all (length marks) ≡ more = end_last more all (length marks) (omega arith) in
-                let is : moment_of all (length marks) ≡ r.moment =
-                ap (λ (m : Mark). m.moment) (get_or-append_seam marks (mark_at r.moment (length bytes)) [] no_mark)
-                in
                 let none : length bytes - length bytes ≡ 0 = omega arith in
                 subst P (sym seam)
                 (ap (λ e. take (e - start_of all (length marks)) (drop (start_of all (length marks)) (bytes ++ text))) end
@@ -210,7 +267,7 @@ holds-new system bytes marks last now seen r h after =
                 ∙ slice_grown bytes text (length bytes) (omega arith)
                 ∙ ap (λ n. take n (drop (length bytes) bytes) ++ text) none
                 ∙ sym (text-here system r.moment seen r refl ∙ ap (λ rows. schedule_text system rows ++ text) (h.none_after r.moment after))
-                ∙ ap (λ m. schedule_text system (rows_at m (seen ++ r ∷ []))) (sym is))
+                ∙ ap (λ m. schedule_text system (rows_at m (seen ++ r ∷ []))) (sym is_new))
           ];
     }
 
@@ -232,28 +289,59 @@ abbrev lines_of : System → List ℕ → List Mark → Lines
 lines_of system bytes marks = record { system = system; bytes = bytes; marks = marks }
 
 holds-all : (system : System) (rows : List Row) (bytes : List ℕ) (marks : List Mark) (last : Option Mark) (now : ℕ) (seen : List Row) →
-    Holds system bytes marks last now seen → ComeInTime now rows → (place : ℕ) →
-    place < length (fold with_row (lines_of system bytes marks) rows).marks →
-    text_at (fold with_row (lines_of system bytes marks) rows) place
-    ≡ schedule_text system (rows_at (moment_of (fold with_row (lines_of system bytes marks) rows).marks place) (seen ++ rows))
-holds-all system [] bytes marks last now seen h come place lt =
-    h.texts place lt ∙ ap (λ rows. schedule_text system (rows_at (moment_of marks place) rows)) (sym (append-nil seen))
-holds-all system (r ∷ rows) bytes marks last now seen h come place lt =
+    Holds system bytes marks last now seen → ComeInTime now rows →
+    (last' : Option Mark) × ((now' : ℕ) × Holds system (fold with_row (lines_of system bytes marks) rows).bytes (fold with_row (lines_of system bytes marks) rows).marks last' now' (seen ++ rows))
+holds-all system [] bytes marks last now seen h come = (last, (now, subst (Holds system bytes marks last now) (sym (append-nil seen)) h))
+holds-all system (r ∷ rows) bytes marks last now seen h come =
     let next = holds-more system bytes marks last now seen r h come.0 (is_of r.moment (last_or None marks)) (sym (ap (is_of r.moment) h.last_is)) in
     let after = fold with_row (with_row (lines_of system bytes marks) r) rows in
-    holds-all system rows (bytes ++ row_text system r) (marked r.moment (length bytes) marks) next.0 r.moment (seen ++ r ∷ []) next.1 come.1 place lt
-    ∙ ap (λ rows. schedule_text system (rows_at (moment_of after.marks place) rows)) (append_assoc seen (r ∷ []) rows)
+    let all = holds-all system rows (bytes ++ row_text system r) (marked r.moment (length bytes) marks) next.0 r.moment (seen ++ r ∷ []) next.1 come.1 in
+    (all.0, (all.1.0, subst (Holds system after.bytes after.marks all.0 all.1.0) (append_assoc seen (r ∷ []) rows) all.1.1))
 
-pub texts_of_moments : TextsAreOfMoments
-texts_of_moments system rows lines is come =
-    subst (λ (lines : Lines). (place : ℕ) → place < length lines.marks → text_at lines place ≡ schedule_text system (rows_at (moment_of lines.marks place) rows))
-    (sym is)
-    (holds-all system rows [] [] None 0 []
+-- all rows, told to lines that had none
+told : (system : System) (rows : List Row) → ComeInTime 0 rows →
+    (last : Option Mark) × ((now : ℕ) × Holds system (fold with_row (lines_of system [] []) rows).bytes (fold with_row (lines_of system [] []) rows).marks last now rows)
+told system rows come =
+    holds-all system rows [] [] None 0 []
     (record {
       last_is = refl;
       up_to = tt;
       in_order = λ place lt. absurd (omega arith);
       none_after = λ moment after. refl;
       earlier = λ place lt. absurd (omega arith);
+      rising = λ place lt. absurd (omega arith);
+      some = λ place lt. absurd (omega arith);
+      all = λ t none. refl;
       texts = λ place lt. absurd (omega arith);
-    }) come)
+    }) come
+
+system-kept : (lines : Lines) (rows : List Row) → (fold with_row lines rows).system ≡ lines.system
+system-kept lines [] = refl
+system-kept lines (row ∷ rows) = system-kept (with_row lines row) rows
+
+-- their texts
+told-texts : (system : System) (rows : List Row) → ComeInTime 0 rows → (place : ℕ) → place < length (fold with_row (lines_of system [] []) rows).marks →
+    text_at (fold with_row (lines_of system [] []) rows) place ≡ schedule_text system (rows_at (moment_of (fold with_row (lines_of system [] []) rows).marks place) rows)
+told-texts system rows come place lt = (told system rows come).1.1.texts place lt
+
+pub texts_of_moments : TextsAreOfMoments
+texts_of_moments system rows lines is come =
+    subst (λ (lines : Lines). (place : ℕ) → place < length lines.marks → text_at lines place ≡ schedule_text system (rows_at (moment_of lines.marks place) rows))
+    (sym is) (told-texts system rows come)
+
+pub lines-hold : LinesHoldRows
+lines-hold system rows lines is o =
+    let all = told system rows (come-all rows o) in
+    let h = all.1.1 in
+    let lines' = fold with_row (lines_of system [] []) rows in
+    let none : (t : ℕ) → ((k : ℕ) → 0 ≤ k → k < length lines'.marks → moment_of lines'.marks k ≢ t) → rows_at t rows ≡ [] = λ t none. h.all t (λ k lt. none k (omega arith) lt) in
+    subst (λ (lines : Lines). HoldsRows system (record { lines = lines; place = 0 }) rows) (sym is)
+    (record {
+      of_system = system-kept (lines_of system [] []) rows;
+      in_order = o;
+      first = is-first lines'.marks 0 (λ k p lt. h.rising k lt) rows o (λ k p lt. h.some k lt) none lines' refl;
+      rising = λ k p lt. h.rising k lt;
+      texts = λ k p lt. told-texts system rows (come-all rows o) k lt;
+      some = λ k p lt. h.some k lt;
+      all = none;
+    })

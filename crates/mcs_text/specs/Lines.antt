@@ -1,8 +1,9 @@
 -- Lines of rows, with the places at which moments begin among them.
-use Rattle.std.specs.Prelude.{◌≡◌, ℕ, ◌+◌, ◌==◌, Bool, false, ◌<◌, ◌≤◌, filter, if◌then◌else◌, List, [], ◌∷◌, ◌++◌, length, get_or, slice_range, fold, Option, Some, None}
+use Rattle.std.specs.Prelude.{◌≡◌, ℕ, ◌+◌, ◌==◌, Bool, false, ◌<◌, ◌≤◌, if◌then◌else◌, List, [], ◌∷◌, ◌++◌, length, get_or, slice_range, fold, Option, Some, None}
 use Rattle.std.specs.List.{last_or}
 use Rattle.mcs_ticks.specs.declared.row.Row.{Row}
 use Rattle.mcs_ticks.specs.Given.{Given}
+use Rattle.mcs_merge.specs.Merge.{rows_at}
 use Rattle.mcs_system.specs.System.{System}
 use Rattle.mcs_text.specs.declared.mark.Mark.{Mark}
 use Rattle.mcs_text.specs.Text.{row_text, schedule_text}
@@ -61,9 +62,6 @@ GivenAreLines =
 abbrev pub ComeInTime : ℕ → List Row → Type 0
 ComeInTime moment [] = Unit {0}
 ComeInTime moment (r ∷ rows) = (moment ≤ r.moment) × ComeInTime r.moment rows
-
-abbrev pub rows_at : ℕ → List Row → List Row
-rows_at moment rows = filter (λ (r : Row). r.moment == moment) rows
 
 -- the moment of this mark
 abbrev pub moment_of : List Mark → ℕ → ℕ

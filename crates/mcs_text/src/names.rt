@@ -100,6 +100,15 @@ impl<'a> Names<'a> {
     }
 }
 
+impl Names<'_> {
+    /// The system that has the names.
+    pub(crate) fn system(&self) -> &System
+        ensures { result.now ≡ self.now }
+    {
+        self.system
+    }
+}
+
 impl Naming for Names<'_> {
     ghost system = { λ names. names };
 

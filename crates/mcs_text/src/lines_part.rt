@@ -1,0 +1,80 @@
+ghost use Rattle.std.specs.Prelude.{◌≡◌};
+ghost use Rattle.mcs_text.specs.Lines.{no_lines};
+
+use crate::lines::Lines;
+use crate::text::Text;
+use mcs_merge::Part;
+use mcs_ticks::{Refused, Soonest};
+use std::marker::Model;
+
+/// Lines of the rows of one core, in order of their moments, which wait to be given to a text, those of a moment at once. Contracts see the
+/// lines, and the place of the first mark at which they wait.
+#[derive(Drop)]
+pub struct LinesPart<'a> {
+    lines: Lines<'a>,
+    place: usize,
+}
+
+impl<'a> Model for LinesPart<'a> {
+    ghost use Rattle.mcs_text.specs.Parts.{LinesPart};
+
+    ghost Value = { LinesPart };
+
+    ghost view = { λ a. record { lines = a.lines; place = a.place } };
+}
+
+impl<'a> LinesPart<'a> {
+    /// All of these lines wait.
+    pub fn new(lines: Lines<'a>) -> LinesPart<'a>
+        ensures { result ≡ record { lines = lines.entry; place = 0 } }
+    {
+        LinesPart { lines, place: 0 }
+    }
+
+    /// The room of the lines, without lines.
+    pub fn into_room(self) -> Lines<'a>
+        ensures { result ≡ no_lines self.entry.lines.system }
+    {
+        let LinesPart {
+            mut lines,
+            place: _,
+        } = self;
+        lines.clear();
+        lines
+    }
+}
+
+/// It holds rows where what waits are their lines, with a mark at each of their moments.
+impl<'a> Part for LinesPart<'a> {
+    ghost use Rattle.mcs_text.specs.Parts.{left_of, next_of, HoldsRows};
+
+    type Out = Text<'a>;
+
+    ghost holds = { λ text part rows. HoldsRows text.system part rows };
+
+    ghost first = { next_of };
+
+    ghost left = { left_of };
+
+    #[inline(always)]
+    fn next(&self) -> Soonest {
+        match self.lines.marks().get(self.place) {
+            Some(mark) => Soonest::at(mark.moment),
+            None => Soonest::never(),
+        }
+    }
+
+    fn pour(&mut self, out: &mut Text<'a>) -> Result<(), Refused> {
+        // the place is before the number of the marks, so there is a next one
+        let _marks = self.lines.marks().len();
+        out.append(self.lines.text_at(self.place))?;
+        self.place += 1;
+        Ok(())
+    }
+
+    ghost use Rattle.std.proofs.Common.{subst, sym};
+
+    ghost is_first = { λ text part rows held. held.first };
+
+    ghost holds_on = { λ before after part rows row held taken. subst (λ text. HoldsRows text.system part rows) (sym taken) held };
+}
