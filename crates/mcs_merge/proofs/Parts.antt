@@ -1,15 +1,13 @@
 -- Parts that lie behind one another, and what is given of the first.
-use Rattle.std.proofs.Common.{◌≡◌, ◌≢◌, ℕ, suc, ◌<◌, ◌≤◌, ◌⊎◌, inl, inr, Bool, true, false, cond, List, [], ◌∷◌, ◌++◌, Option, Some, None, Result, Ok, Err, OnOk, OnErr, refl, sym, ap, ◌∙◌, subst, append-nil, append_assoc, arith}
+use Rattle.std.proofs.Common.{◌≡◌, ℕ, suc, ◌<◌, ◌≤◌, inl, inr, Bool, true, false, cond, List, [], ◌∷◌, ◌++◌, Option, Some, None, Result, Ok, Err, OnOk, OnErr, refl, sym, ap, ◌∙◌, subst, append-nil, append_assoc, arith}
 use Rattle.std.specs.Prelude.{All, IfSome, IsSome, nat_le, ◌==◌}
 use Rattle.std.proofs.lemmas.Bool.Decides.{nat_tests}
 use Rattle.mcs_ticks.specs.declared.row.Row.{Row}
 use Rattle.mcs_ticks.specs.Given.{Given, GivenUntil}
 use Rattle.mcs_merge.specs.Merge.{rows_at, AreFrom, DoNotFall}
-use Rattle.mcs_merge.specs.Parts.{first_moment, rows_from, first_of, Hold}
+use Rattle.mcs_merge.specs.Parts.{first_moment, rows_from, Hold}
 use Rattle.mcs_merge.specs.stored.Parts.{AreAt, AreInLine, GoesOn, Pours, IsRefused}
 use Rattle.mcs_merge.proofs.Joins.{AreFrom-earlier, rows_at-later}
-use Rattle.mcs_merge.proofs.Merges.{head_other}
-use Rattle.mcs_merge.proofs.Passing.{head_same}
 
 pub no-moment : (rows : List Row) → first_moment rows ≡ None → rows ≡ []
 no-moment [] e = refl

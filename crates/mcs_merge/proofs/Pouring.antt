@@ -1,19 +1,18 @@
 -- Parts of many cores, given out a moment of a core at a time.
-use Rattle.std.proofs.Common.{◌≡◌, ◌≢◌, ℕ, zero, suc, ◌<◌, ◌≤◌, inl, inr, Bool, true, false, List, [], ◌∷◌, ◌++◌, length, get_or, set, Option, Some, None, Result, Ok, Err, OnOk, OnErr, refl, sym, ap, ◌∙◌, subst, arith, get_or-set_same, get_or-set_other}
+use Rattle.std.proofs.Common.{◌≡◌, ℕ, zero, suc, ◌<◌, ◌≤◌, inl, inr, Bool, true, List, [], ◌∷◌, ◌++◌, length, get_or, set, Option, refl, sym, ap, ◌∙◌, subst, append-nil, arith, get_or-set_same, get_or-set_other}
 use Rattle.std.specs.Prelude.{All, IfSome, flat_map, map}
 use Rattle.std.proofs.lemmas.Bool.{cases_eq}
-use Rattle.std.proofs.lemmas.List.{length-set, length-map, map-set, set-get_or, get_or_default}
-use Rattle.std.proofs.lemmas.List.Elements.{filter-append}
+use Rattle.std.proofs.lemmas.List.{length-set, length-map, map-set, set-get_or}
 use Rattle.mcs_ticks.specs.declared.row.Row.{Row}
 use Rattle.mcs_ticks.specs.Given.{Given, GivenUntil}
 use Rattle.mcs_ticks.proofs.Givens.{given-append, until-append}
 use Rattle.mcs_merge.specs.Merge.{rows_at, merged_before, AreFrom, DoNotFall}
 use Rattle.mcs_merge.specs.Merging.{list_of}
-use Rattle.mcs_merge.specs.Parts.{first_moment, rows_from, all_from, first_of, parts_of, Hold, AreHeld}
+use Rattle.mcs_merge.specs.Parts.{first_moment, rows_from, all_from, first_of, parts_of, Hold, HoldEach, AreHeld}
 use Rattle.mcs_merge.specs.stored.Parts.{AreAt, IsInLine, IsNextCore, NoneBefore, Pours, IsRefused}
 use Rattle.mcs_merge.proofs.Joins.{AreFrom-earlier, rows_at-later}
 use Rattle.mcs_merge.proofs.Passing.{flat_map-none, none-at, merged-part}
-use Rattle.mcs_merge.proofs.Parts.{from-all, from-none, empty-held, held-on}
+use Rattle.mcs_merge.proofs.Parts.{from-all, from-none, held-on}
 
 -- the rest of rows that do not fall
 DoNotFall-rest : (rows more : List Row) → DoNotFall (rows ++ more) → DoNotFall more
@@ -40,6 +39,25 @@ all-from-all until (rows ∷ lists) h = both _ _ _ _ (from-all until rows (h 0 (
 pub merged-none : (until : ℕ) (lists : List (List Row)) → ((d : ℕ) → d < length lists → AreFrom until (list_of d lists)) → merged_before until lists ≡ []
 merged-none until lists h =
     flat_map-none (λ t. flat_map (rows_at t) lists) until 0 (λ t p q. none-at t lists (λ d l. rows_at-later t until (list_of d lists) (omega arith) (h d l)))
+
+-- parts that are alone
+module _ {O P : Type 0} (holds : O → P → List Row → Type 0) (out : O) where
+  each-long : (parts : List P) (lists : List (List Row)) → HoldEach holds out parts lists → length parts ≡ length lists
+  each-long [] [] h = refl
+  each-long [] (rows ∷ lists) h = absurd h
+  each-long (part ∷ parts) [] h = absurd h
+  each-long (part ∷ parts) (rows ∷ lists) h = ap suc (each-long parts lists h.1)
+
+  each-alone : (parts : List P) (lists : List (List Row)) → HoldEach holds out parts lists → (core : ℕ) → core < length lists →
+      Hold holds out (parts_of core (map (λ part. part ∷ []) parts)) (list_of core lists)
+  each-alone [] [] h core l = absurd (omega arith)
+  each-alone [] (rows ∷ lists) h core l = absurd h
+  each-alone (part ∷ parts) [] h core l = absurd h
+  each-alone (part ∷ parts) (rows ∷ lists) h zero l = (rows, [], sym (append-nil rows), h.0, refl)
+  each-alone (part ∷ parts) (rows ∷ lists) h (suc core) l = each-alone parts lists h.1 core (omega arith)
+
+  pub alone-held : (parts : List P) (lists : List (List Row)) → HoldEach holds out parts lists → AreHeld holds out (map (λ part. part ∷ []) parts) lists
+  alone-held parts lists h = record { same = length-map parts (λ part. part ∷ []) ∙ each-long parts lists h; each = each-alone parts lists h }
 
 -- other parts of a core, which hold other rows
 pub AreHeld-set : {O P : Type 0} {holds : O → P → List Row → Type 0} (out : O) (cores : List (List P)) (lists : List (List Row)) (core : ℕ) (parts : List P) (rows : List Row) → AreHeld holds out cores lists →

@@ -1,12 +1,12 @@
 -- What was given of all rows, where those before a moment are given at once.
-use Rattle.std.proofs.Common.{◌≡◌, ℕ, suc, ◌-◌, ◌<◌, ◌≤◌, Bool, true, false, cond, List, [], ◌∷◌, ◌++◌, length, get_or, slice_index, refl, sym, ap, ◌∙◌, subst, arith, append_assoc}
-use Rattle.std.specs.Prelude.{flat_map, map, nat_le}
+use Rattle.std.proofs.Common.{◌≡◌, ℕ, ◌-◌, ◌<◌, ◌≤◌, Bool, true, false, cond, List, [], ◌∷◌, ◌++◌, length, slice_index, sym, ap, ◌∙◌, subst, arith, append_assoc}
+use Rattle.std.specs.Prelude.{flat_map, nat_le}
 use Rattle.std.proofs.lemmas.List.{length-map, get_or-map}
 use Rattle.mcs_ticks.specs.declared.row.Row.{Row}
 use Rattle.mcs_merge.specs.Merge.{rows_at, merged_before, AreFrom}
 use Rattle.mcs_merge.specs.Merging.{Merging, list_of, least_clock, passed, AreOf, AreBefore, IsListOf, IsInOrder}
 use Rattle.mcs_merge.specs.Parts.{rows_from, all_from, poured}
-use Rattle.mcs_merge.specs.laws.Steps.{HasTaken, PoursMerged, PoursAll}
+use Rattle.mcs_merge.specs.laws.Steps.{PoursMerged, PoursAll}
 use Rattle.mcs_merge.proofs.Merges.{flat_map-same}
 use Rattle.mcs_merge.proofs.Calls.{between, merged-more, same-at}
 use Rattle.mcs_merge.proofs.Parts.{from-in-order, from-is, at-from}

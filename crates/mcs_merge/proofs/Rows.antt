@@ -1,7 +1,5 @@
 -- Rows that are given one by one, as far as they are of one moment.
-use Rattle.std.proofs.Common.{◌≡◌, ◌≢◌, ℕ, suc, ◌<◌, ◌≤◌, ◌⊎◌, inl, inr, Bool, true, false, cond, List, [], ◌∷◌, ◌++◌, length, Option, Some, None, refl, sym, ap, ◌∙◌, subst, arith}
-use Rattle.std.specs.Prelude.{IfSome}
-use Rattle.std.proofs.lemmas.Bool.Decides.{nat_tests}
+use Rattle.std.proofs.Common.{◌≡◌, ◌≢◌, ℕ, suc, ◌<◌, ◌⊎◌, inl, inr, Bool, true, false, List, [], ◌∷◌, length, Some, refl, sym, ap, ◌∙◌, subst, arith}
 use Rattle.mcs_ticks.specs.declared.row.Row.{Row}
 use Rattle.mcs_ticks.specs.Given.{Given, GivenUntil}
 use Rattle.mcs_merge.specs.Merge.{rows_at, AreFrom, DoNotFall}
@@ -60,7 +58,3 @@ module _ {O : Type 0} (takes : O → Row → Bool → O → Type 0) where
         h.goes_on out (subst (λ xs. Given takes out xs out) (sym (rows_at-later t (suc t) rows (omega arith) later)) refl),
         sym (from-all (suc t) rows later) ∙ h.later,
       )
-
-  pub giving-fewer : (t : ℕ) (all rows : List Row) (before out : O) → AreGiving t all rows before out → first_moment rows ≢ Some t → first_moment all ≡ Some t → length rows < length all
-  giving-fewer t all rows before out h n e =
-      elim h.fewer [ inl i ↦ absurd (n (ap first_moment i ∙ e)) | inr l ↦ l ]

@@ -2,8 +2,9 @@
 use Rattle.std.proofs.Common.{◌≡◌, ℕ, List, [], ◌∷◌, ◌++◌, Some, None, ◌<◌, ◌≤◌, length, slice_index, lit<, lit≤, refl}
 use Rattle.mcs_ticks.specs.declared.row.Row.{Row}
 use Rattle.mcs_ticks.specs.declared.row.What.TheVariants as row
-use Rattle.mcs_merge.specs.Merge.{merged, AreFrom}
+use Rattle.mcs_merge.specs.Merge.{merged, merged_before, AreFrom}
 use Rattle.mcs_merge.specs.Merging.{Merging, starting, next_row, CanAdd, IsListOf}
+use Rattle.mcs_merge.specs.Parts.{first_moment, all_from, first_of, poured, Hold}
 use Rattle.mcs_merge.specs.laws.Calls.{Call, Add, Pop, ClearLone, after, taken, MayBeMade}
 
 -- a row of this core at this moment
@@ -47,6 +48,30 @@ none_is_left = refl
 -- of one core alone all rows that are left are taken at once
 taken_at_once : taken (Add 0 (at 1 0 1 ∷ at 3 0 2 ∷ []) 4 ∷ Pop ∷ Add 0 (at 4 0 3 ∷ []) 5 ∷ ClearLone ∷ Pop ∷ []) (starting 1) ≡ at 1 0 1 ∷ at 3 0 2 ∷ at 4 0 3 ∷ []
 taken_at_once = refl
+
+-- of two cores all rows before moment 3 are given at once ..
+abbrev two_lists : List (List Row)
+two_lists = (at 1 0 1 ∷ at 3 0 2 ∷ []) ∷ (at 1 1 3 ∷ at 2 1 4 ∷ at 4 1 5 ∷ []) ∷ []
+
+given_at_once : merged_before 3 two_lists ≡ at 1 0 1 ∷ at 1 1 3 ∷ at 2 1 4 ∷ []
+given_at_once = refl
+
+-- .. and those from it on are left
+left_then : all_from 3 two_lists ≡ (at 3 0 2 ∷ []) ∷ (at 4 1 5 ∷ []) ∷ []
+left_then = refl
+
+none_is_next : next_row (poured 3 (record { left = two_lists; clocks = 3 ∷ 5 ∷ [] })) ≡ None
+none_is_next = refl
+
+-- rows of a core that lie in two parts, each of them a list
+abbrev two_parts : List (List Row)
+two_parts = (at 1 0 1 ∷ at 3 0 2 ∷ []) ∷ (at 4 0 3 ∷ []) ∷ []
+
+they_hold : Hold (λ (out : ℕ) (part : List Row) (rows : List Row). part ≡ rows) 0 two_parts (at 1 0 1 ∷ at 3 0 2 ∷ at 4 0 3 ∷ [])
+they_hold = (at 1 0 1 ∷ at 3 0 2 ∷ [], at 4 0 3 ∷ [], refl, refl, (at 4 0 3 ∷ [], [], refl, refl, refl))
+
+first_comes_first : first_of first_moment two_parts ≡ Some 1
+first_comes_first = refl
 
 -- all of these calls may be made
 they_may_be_made : MayBeMade third_calls (starting 2)

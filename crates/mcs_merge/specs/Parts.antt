@@ -36,6 +36,13 @@ module _ {O : Type 0} {P : Type 0} (holds : O → P → List Row → Type 0) whe
   Hold out (part ∷ parts) rows =
       (first : List Row) × (rest : List Row) × (rows ≡ first ++ rest) × holds out part first × Hold out parts rest
 
+  -- each list lies in a part of its own
+  abbrev pub HoldEach : O → List P → List (List Row) → Type 0
+  HoldEach out [] [] = Unit {0}
+  HoldEach out [] (rows ∷ lists) = ⊥
+  HoldEach out (part ∷ parts) [] = ⊥
+  HoldEach out (part ∷ parts) (rows ∷ lists) = holds out part rows × HoldEach out parts lists
+
   -- each list lies in the parts of its core
   pub record AreHeld (out : O) (cores : List (List P)) (lists : List (List Row)) : Type 0 where
     pub same : length cores ≡ length lists

@@ -3,7 +3,7 @@ ghost use Rattle.mcs_ticks.specs.declared.row.Row.{Row};
 ghost use Rattle.mcs_ticks.specs.Given.{Given, GivenUntil};
 ghost use Rattle.mcs_merge.specs.Merge.{merged_before, DoNotFall};
 ghost use Rattle.mcs_merge.specs.Merging.{list_of, with_rows};
-ghost use Rattle.mcs_merge.specs.Parts.{all_from, first_of, parts_of, AreHeld, Hold};
+ghost use Rattle.mcs_merge.specs.Parts.{all_from, first_of, parts_of, AreHeld, Hold, HoldEach};
 ghost use Rattle.mcs_merge.specs.stored.Parts.{head_of_next, left_of_all, AreNext, IsInLine, IsNextCore, IsRefused, NoneBefore, Pours};
 
 use crate::Part;
@@ -38,7 +38,9 @@ impl<P: Part> PartMerger<P> {
     pub fn new(alloc: Global, parts: Vec<P>) -> Result<Self, NoMemory>
         requires some { 1 ≤ length parts.items }
         requires few { length parts.items ≤ 64 }
-        ensures { IfOk result (λ merger. merger ≡ map (λ part. part ∷ []) parts.items) }
+        ensures parts { IfOk result (λ merger. merger ≡ map (λ part. part ∷ []) parts.items) }
+        ensures held { (out : P.Out) (lists : List (List Row)) → HoldEach P.holds out parts.items lists
+            → IfOk result (λ merger. AreHeld P.holds out merger lists) }
     {
         let cores = waiting_of(alloc, parts)?;
         let heads = heads_of(alloc, cores.as_slice())?;
@@ -159,8 +161,7 @@ fn add_to<P: Part>(
     ensures empty { IfOk result (λ room. IfSome room (λ part. P.first part ≡ None)) }
     ensures handed_back { IfErr result (λ back. back.0 ≡ part) }
     ensures unchanged { OnErr result (cores.new ≡ cores.old) }
-    ensures moved { first_of P.first (parts_of core cores.old) ≡ None → IsOk result }
-    ensures none { P.first part ≡ None → IsOk result }
+    ensures no_room { (first_of P.first (parts_of core cores.old) ≡ None → IsOk result) × (P.first part ≡ None → IsOk result) }
     ensures others { cores.new ≡ slice_set cores.old core (parts_of core cores.new) }
     ensures in_line { IsInLine P.first (parts_of core cores.new) }
 {
@@ -169,11 +170,7 @@ fn add_to<P: Part>(
 }
 
 // Gives out all rows of the first moment that the first part of a core has.
-fn pour_of<P: Part>(
-    cores: &mut [Waiting<P>],
-    core: usize,
-    out: &mut P::Out,
-) -> Result<(), Refused>
+fn pour_of<P: Part>(cores: &mut [Waiting<P>], core: usize, out: &mut P::Out) -> Result<(), Refused>
     requires within { core < length cores.old }
     requires some { IsSome (first_of P.first (parts_of core cores.old)) }
     ensures fewer { OnOk result (left_of_all P.left cores.new < left_of_all P.left cores.old) }

@@ -1,17 +1,15 @@
 -- Lines that are given to a text, those of a moment at once.
-use Rattle.std.proofs.Common.{◌≡◌, ◌≢◌, ℕ, zero, suc, ◌+◌, ◌-◌, ◌<◌, ◌≤◌, ◌⊎◌, inl, inr, Bool, true, false, cond, List, [], ◌∷◌, ◌++◌, length, get_or, refl, sym, ap, subst, ◌∙◌, append-nil, append_assoc, arith}
-use Rattle.std.specs.Prelude.{Option, Some, None, IfSome, IsSome, option_map, slice_get}
+use Rattle.std.proofs.Common.{◌≡◌, ◌≢◌, ℕ, zero, suc, ◌+◌, ◌-◌, ◌<◌, ◌≤◌, inl, inr, List, [], ◌∷◌, length, refl, sym, ap, subst, ◌∙◌, append-nil, append_assoc, arith}
+use Rattle.std.specs.Prelude.{Some, None, IfSome, IsSome, option_map, slice_get}
 use Rattle.std.proofs.lemmas.Bool.{cases_lt, cases_eq}
-use Rattle.std.proofs.lemmas.Bool.Decides.{nat_tests}
 use Rattle.mcs_ticks.specs.declared.row.Row.{Row}
 use Rattle.mcs_ticks.specs.Given.{Given, GivenUntil}
 use Rattle.mcs_merge.specs.Merge.{rows_at, AreFrom, DoNotFall}
 use Rattle.mcs_merge.specs.Parts.{first_moment, rows_from}
-use Rattle.mcs_merge.proofs.Joins.{AreFrom-earlier, rows_at-later}
+use Rattle.mcs_merge.proofs.Joins.{rows_at-later}
 use Rattle.mcs_merge.proofs.Merges.{AreFrom-zero}
 use Rattle.mcs_merge.proofs.Passing.{head_same}
 use Rattle.mcs_merge.proofs.Parts.{none-is-some, from-in-order, from-is, at-from}
-use Rattle.mcs_system.specs.System.{System}
 use Rattle.mcs_text.specs.declared.mark.Mark.{Mark}
 use Rattle.mcs_text.specs.Text.{row_text, schedule_text}
 use Rattle.mcs_text.specs.Lines.{Lines, text_at, moment_of, ComeInTime}

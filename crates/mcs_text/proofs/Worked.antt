@@ -1,5 +1,5 @@
 -- Lines of rows, evaluated.
-use Rattle.std.proofs.Common.{◌≡◌, ℕ, refl, codes, [], ◌∷◌, Some}
+use Rattle.std.proofs.Common.{◌≡◌, ℕ, refl, codes, [], ◌∷◌, Some, None}
 use Rattle.mcs_script.specs.declared.item.Item.TheVariants.{Compute}
 use Rattle.mcs_ticks.specs.declared.row.What.TheVariants as row
 use Rattle.mcs_ticks.specs.declared.row.Why.TheVariants as why
@@ -10,6 +10,7 @@ use Rattle.std.specs.Prelude.{fold}
 use Rattle.mcs_ticks.specs.declared.row.Row.{Row}
 use Rattle.mcs_text.specs.Text.{row_text}
 use Rattle.mcs_text.specs.Lines.{Lines, no_lines, with_row, text_at}
+use Rattle.mcs_text.specs.Parts.{LinesPart, no_text, with_bytes, next_of, left_of}
 
 one_thread : System
 one_thread =
@@ -58,3 +59,28 @@ first_text = refl
 second_text : text_at three_lines 1 ≡ codes "5 0 release A\n"
 unfolding three_lines one_thread digits
 second_text = refl
+
+-- all of these lines wait, then those of the second moment, and then none
+abbrev from_mark : ℕ → LinesPart
+from_mark place = record { lines = three_lines; place = place }
+
+first_waits : next_of (from_mark 0) ≡ Some 0
+unfolding three_lines one_thread digits
+first_waits = refl
+
+second_waits : next_of (from_mark 1) ≡ Some 5
+unfolding three_lines one_thread digits
+second_waits = refl
+
+none_waits : next_of (from_mark 2) ≡ None
+unfolding three_lines one_thread digits
+none_waits = refl
+
+one_is_left : left_of (from_mark 1) ≡ 1
+unfolding three_lines one_thread digits
+one_is_left = refl
+
+-- what is given of the second moment
+text_is : (with_bytes (no_text one_thread) (text_at three_lines 1)).bytes ≡ codes "5 0 release A\n"
+unfolding three_lines one_thread digits
+text_is = refl

@@ -3,7 +3,7 @@ use Rattle.std.specs.Prelude.{◌≡◌, ◌≢◌, ℕ, ◌+◌, ◌-◌, ◌<�
 use Rattle.mcs_ticks.specs.declared.row.Row.{Row}
 use Rattle.mcs_ticks.specs.Given.{Given}
 use Rattle.mcs_merge.specs.Merge.{rows_at, DoNotFall}
-use Rattle.mcs_merge.specs.Parts.{first_moment}
+use Rattle.mcs_merge.specs.Parts.{first_moment, AreHeld}
 use Rattle.mcs_system.specs.System.{System}
 use Rattle.mcs_text.specs.Text.{row_text, schedule_text}
 use Rattle.mcs_text.specs.Lines.{Lines, no_lines, with_row, text_at, moment_of}
@@ -46,6 +46,10 @@ pub record HoldsRows (system : System) (part : LinesPart) (rows : List Row) : Ty
       text_at part.lines k ≡ schedule_text system (rows_at (moment_of part.lines.marks k) rows)
   pub some : (k : ℕ) → part.place ≤ k → k < length part.lines.marks → rows_at (moment_of part.lines.marks k) rows ≢ []
   pub all : (t : ℕ) → ((k : ℕ) → part.place ≤ k → k < length part.lines.marks → moment_of part.lines.marks k ≢ t) → rows_at t rows ≡ []
+
+-- each list lies in the parts of its core, one part behind another
+abbrev pub HoldLines : System → List (List LinesPart) → List (List Row) → Type 0
+HoldLines system cores lists = AreHeld (λ (text : Text) part rows. HoldsRows text.system part rows) (no_text system) cores lists
 
 -- lines that had none and were given rows in the order of their moments hold these rows
 abbrev pub LinesHoldRows : Type 0

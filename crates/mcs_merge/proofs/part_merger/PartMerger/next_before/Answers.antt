@@ -1,7 +1,6 @@
-use Rattle.std.proofs.Common.{rules, ◌≡◌, ◌^◌, ◌*◌, ◌≤◌, ◌∙◌, subst, sym, true}
-use Rattle.std.specs.Prelude.{nat_lt}
+use Rattle.std.proofs.Common.{◌∙◌, subst, sym}
 use Rattle.mcs_merge.specs.stored.Parts.{IsNextCore}
-use Rattle.mcs_merge.proofs.Nexts.{next-core, none-before}
+use Rattle.mcs_merge.proofs.Nexts.{next-core}
 use Rattle.mcs_merge.proofs.part_merger.PartMerger.next_before.Goals as goal
 
 pub returns-then-is_before-clause-next : goal.returns-then-is_before-clause-next

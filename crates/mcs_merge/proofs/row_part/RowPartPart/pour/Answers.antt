@@ -18,8 +18,7 @@ returns-clause-given g c = λ rows o e.
     let is : all ≡ rows = c.self.view_is ∙ e in
     let first : first_moment c.args.self.now ≡ Some moment = ap first_moment (sym c.self.view_is) ∙ sym c.first_moment.ensures ∙ c.in-Some.is in
     let ends = giving-ends takes moment all c.rows.self-inside.rows.items c.args.out.now c.rows.out c.rows.invariant c.in_default-pop_at.ensures.none.1 (subst DoNotFall (sym is) o) in
-    subst (λ next. IfSome next (λ t. Given takes c.args.out.now (rows_at t rows) c.rows.out × (c.pop_at.new.rows.items ≡ rows_from (suc t) rows))) (sym first)
-    (
+    subst (λ next. IfSome next (λ t. Given takes c.args.out.now (rows_at t rows) c.rows.out × (c.pop_at.new.rows.items ≡ rows_from (suc t) rows))) (sym first) (
       subst (λ (xs : List Row). Given takes c.args.out.now (rows_at moment xs) c.rows.out) is ends.0,
       c.in_default-pop_at.ensures.none.0 ∙ ends.1 ∙ ap (rows_from (suc moment)) is,
     )
