@@ -15,6 +15,7 @@ mod pour;
 mod report;
 mod row;
 mod text;
+mod told;
 
 pub use laws::{
     given_rows_are_lines, given_rows_are_text, lines_hold_their_rows, texts_are_of_moments,
@@ -29,3 +30,4 @@ pub use pour::pour_lines;
 pub use report::{append_counts, put_reports};
 pub use row::put_row;
 pub use text::Text;
+pub use told::ToldLines;

@@ -1,0 +1,101 @@
+ghost use Rattle.std.specs.Prelude.{◌≡◌};
+ghost use Rattle.mcs_text.specs.Lines.{no_lines};
+ghost use Rattle.mcs_text.specs.Told.{nothing_told};
+
+use crate::lines::Lines;
+use crate::names::Names;
+use mcs_ticks::{Collector, Measured, Refused, Row, Sink};
+use std::alloc::Global;
+use std::marker::Model;
+
+/// The lines that a core's turns tell, and the number of their rows, by which a run can end where enough text lies there: a line has at most
+/// 135 bytes. Contracts see both.
+#[derive(Drop)]
+pub struct ToldLines<'a> {
+    lines: Lines<'a>,
+    rows: usize,
+}
+
+impl<'a> Model for ToldLines<'a> {
+    ghost use Rattle.std.specs.Prelude.{◌≤◌, length};
+    ghost use Rattle.mcs_text.specs.Told.{ToldLines};
+
+    ghost Value = { ToldLines };
+
+    ghost view = { λ a. record { lines = a.lines; rows = a.rows } };
+
+    ghost invariant = { λ a. a.rows ≤ length a.lines.bytes };
+}
+
+impl<'a> ToldLines<'a> {
+    /// No lines yet, of rows of the system with these names.
+    pub fn new(alloc: Global, names: &'a Names<'a>) -> ToldLines<'a>
+        ensures { result ≡ nothing_told names.now }
+    {
+        ToldLines {
+            lines: Lines::new(alloc, names),
+            rows: 0,
+        }
+    }
+
+    /// No lines, in the room of these.
+    pub fn in_room_of(mut lines: Lines<'a>) -> ToldLines<'a>
+        ensures { result ≡ nothing_told lines.entry.system }
+    {
+        lines.clear();
+        ToldLines { lines, rows: 0 }
+    }
+
+    /// The lines alone.
+    pub fn into_lines(self) -> Lines<'a>
+        ensures { result ≡ self.entry.lines }
+    {
+        self.lines
+    }
+}
+
+/// A row becomes a line. It is refused only where there is no memory, and all then stays as it was.
+impl Sink for ToldLines<'_> {
+    ghost use Rattle.mcs_text.specs.Told.{TakesTold};
+
+    ghost takes = { TakesTold };
+
+    #[inline(always)]
+    fn row(&mut self, row: &Row) -> Result<(), Refused> {
+        self.lines.row(row)?;
+        // there are no more rows than bytes, so there is a next number
+        let _bytes = self.lines.as_slice().len();
+        self.rows += 1;
+        Ok(())
+    }
+}
+
+/// The size is how many rows they are of.
+impl Measured for ToldLines<'_> {
+    ghost size = { λ told. told.rows };
+
+    #[inline(always)]
+    fn size(&self) -> usize {
+        self.rows
+    }
+}
+
+/// They hold the rows whose lines they are, with their marks.
+impl Collector for ToldLines<'_> {
+    ghost use Rattle.std.specs.Prelude.{length};
+    ghost use Rattle.mcs_text.specs.Told.{HoldsTold};
+    ghost use Rattle.mcs_text.specs.stored.Told.{told_more};
+
+    ghost holds = { HoldsTold };
+
+    ghost amount = { length };
+
+    fn clear(&mut self) {
+        self.lines.clear();
+        self.rows = 0;
+    }
+
+    ghost holds_more = { told_more };
+
+    ghost is_measured = { λ told held holds. holds.many };
+}
