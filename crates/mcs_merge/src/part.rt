@@ -2,8 +2,9 @@ ghost use Rattle.std.specs.Prelude.{◌≡◌};
 
 use mcs_ticks::{Refused, Sink, Soonest};
 
-/// What lies of one core, in order of its moments, and waits to be given out, a moment at a time. What it gives to an output
-/// is as if the output had been given the rows one by one.
+/// What lies of one core, in order of its moments, and waits to be given out, a moment at a time. Each part says by `holds` which rows it
+/// holds for an output, by `first` the moment of the first of them, and by `left` a number that falls with each moment that is given. What
+/// it gives to an output is as if the output had been given the rows one by one.
 pub trait Part: Drop {
     ghost use Rattle.std.specs.Prelude.{◌≡◌, ◌<◌, ℕ, suc, List, Option, true, IfSome, IsSome, OnErr, OnOk};
     ghost use Rattle.mcs_ticks.specs.declared.row.Row.{Row};
