@@ -5,9 +5,8 @@ use Rattle.std.specs.List.{range_with_len}
 use Rattle.std.specs.declared.alloc.Global.{Global}
 use Rattle.std.specs.declared.collections.VecDeque.{VecDeque}
 use Rattle.std.proofs.lemmas.Bool.Decides.{eqb_tells, nat_tests}
-use Rattle.std.proofs.lemmas.List.{get_or-set_same, get_or-set_other, get_or_default, get_or_append_left, get_or_push, length-set, length_push}
+use Rattle.std.proofs.lemmas.List.{get_or-set_same, get_or-set_other, get_or_default, get_or_append_left, get_or_push, get_or-map, length-map, length-set, length_push}
 use Rattle.std.proofs.lemmas.List.FromFn.{map-range_with_len_more}
-use Rattle.mcs_mail.specs.Box.{Content}
 use Rattle.mcs_control.specs.declared.view.ContextView.{ContextView}
 use Rattle.mcs_control.specs.Context.{Context, view_of}
 use Rattle.mcs_core.specs.declared.standing.Chosen.{Chosen}
@@ -19,15 +18,28 @@ use Rattle.mcs_core.specs.Core.{Core, context_of}
 use Rattle.mcs_core.specs.Clock.{world, core_shown}
 use Rattle.mcs_core.specs.Contexts.{is_some, no_server}
 use Rattle.mcs_core.specs.stored.Sound.{has_context}
-use Rattle.mcs_core.specs.State.{State}
+use Rattle.mcs_core.specs.State.{State, Fits, opening_state}
 use Rattle.mcs_core.specs.Views.{using_of, own_view, views_from, views_of}
 use Rattle.mcs_window.specs.stored.Views.{AreQueued, AreBegun}
-use Rattle.mcs_window.specs.stored.Cores.{AreHere}
+use Rattle.mcs_window.specs.stored.Cores.{AreAt}
 use Rattle.mcs_window.specs.Stretch.{StandsAt}
-use Rattle.mcs_window.specs.Views.{view_in, views_in, views_at, views_before, AreStates}
+use Rattle.mcs_window.specs.stored.Slots.{StandsIn, AllStand}
+use Rattle.mcs_window.specs.stored.Views.{state_in}
+use Rattle.mcs_window.specs.declared.slot.Slot.{Slot}
+use Rattle.mcs_window.specs.declared.slot.Slot.TheVariants.{Here, Away}
+use Rattle.mcs_window.specs.Views.{view_in, views_in, views_at, views_before, AreShownAt, AreStates}
+use Rattle.mcs_window.proofs.Shown.{views-shown}
 
 abbrev Queue : Type 0
 Queue = VecDeque ContextView Global
+
+-- the state of the core at this number, which is in `place`
+pub state-at : {T : Type 0} (state : T → State) (places : List T) (n : ℕ) (place : T) (d : State) → n < length places → place ≡ get_or places n place → get_or (map state places) n d ≡ state place
+state-at state places n place d l at = get_or-map state places n place d l ∙ ap state (sym at)
+
+pub state-fits : {T : Type 0} (system : System) (state : T → State) (places : List T) (n : ℕ) (place : T) → AreStates system (map state places) → n < length places → place ≡ get_or places n place → Fits system (state place)
+state-fits system state places n place are l at =
+    subst (Fits system) (state-at state places n place (state place) l at) (are.fit n (state place) (let many = are.many in let same = length-map places state in omega arith))
 
 pub begun-more : (system : System) (states : List State) (n : ℕ) (queues more : List Queue) (state : State) (queue : Queue) → AreBegun system states n queues → n < length states →
     state ≡ get_or states n state → queue.items ≡ views_of system state.core → more ≡ queues ++ queue ∷ [] → AreBegun system states (n + 1) more
@@ -159,17 +171,14 @@ pub core-known : (system : System) → IsWellFormed system → (x : ℕ) → x <
 core-known system well x l = (well.contexts x no_context l).core
 
 -- cores that are here have states
-pub states-here : (system : System) (clocks : List ℕ) (states : List State) (boxes : List Content) → length states ≡ system.cores → AreHere system clocks states boxes → AreStates system states
-states-here system clocks states boxes many here =
+pub states-here : (system : System) (clocks : List ℕ) (states : List State) → length states ≡ system.cores → AreAt system clocks states → AreStates system states
+states-here system clocks states many stand =
     record {
       many = many;
-      number_is = λ c x l. (stands c x l).number_is;
-      whole = λ c x l. (stands c x l).whole;
-      fit = λ c x l. (stands c x l).fits;
+      number_is = λ c x l. (stand c x l).number_is;
+      whole = λ c x l. (stand c x l).whole;
+      fit = λ c x l. (stand c x l).fits;
     }
-  where
-    stands : (c : ℕ) (x : State) → c < system.cores → StandsAt system c (slice_index clocks c) (get_or states c x)
-    stands c x l = (here c x (record { mails = []; spare = 0 }) l).state_is
 
 map-same : (f g : ℕ → ContextView) (n a : ℕ) → ((i : ℕ) → a ≤ i → i < a + n → f i ≡ g i) → map f (range_with_len a n) ≡ map g (range_with_len a n)
 map-same f g zero a h = refl
@@ -178,14 +187,39 @@ map-same f g (suc n) a h = both _ _ _ _ (h a (omega arith) (omega arith)) (map-s
     both : (x y : ContextView) (xs ys : List ContextView) → x ≡ y → xs ≡ ys → x ∷ xs ≡ y ∷ ys
     both x y xs ys e k = cc
 
+-- the states of a list are those of its items
+pub own-states : (states : List State) → map (λ (state : State). state) states ≡ states
+own-states [] = refl
+own-states (state ∷ states) = ap (λ xs. state ∷ xs) (own-states states)
+
+-- the states in slots whose cores are all here
+pub slots-at : (system : System) (clocks : List ℕ) (slots : List Slot) → length slots ≡ system.cores → AllStand system clocks slots → AreAt system clocks (map state_in slots)
+slots-at system clocks slots many stand c x l =
+    subst (StandsAt system c (slice_index clocks c)) (sym (get_or-map state_in slots c some_slot x (omega arith))) (stands-in (get_or slots c some_slot) (stand c some_slot l))
+  where
+    some_slot : Slot
+    some_slot = Away (record { past = 0; front = [] })
+
+    stands-in : (slot : Slot) → StandsIn system c (slice_index clocks c) slot → StandsAt system c (slice_index clocks c) (state_in slot)
+    stands-in (Here spare state) stands = stands.1
+    stands-in (Away loan) stands = absurd stands
+
 -- the views of states that stand as the clock has them are those of the clock
-pub views-here : (system : System) → IsWellFormed system → (clocks : List ℕ) (states : List State) (boxes : List Content) → AreHere system clocks states boxes → (d : State) →
-    views_in system (λ c. (get_or states c d).core) ≡ views_at system clocks
-views-here system well clocks states boxes here d =
-    map-same (view_in system (λ c. (get_or states c d).core)) (view_in system (λ c. core_shown system (world system (slice_index clocks c)) c)) (length system.contexts) 0
+pub views-here : (system : System) → IsWellFormed system → (clocks : List ℕ) (states : List State) → AreAt system clocks states → (views : List ContextView) → ((d : State) → views ≡ views_in system (λ c. (get_or states c d).core)) →
+    views ≡ views_at system clocks
+views-here system well clocks states stand views are =
+    are d
+    ∙ map-same (view_in system (λ c. (get_or states c d).core)) (view_in system (λ c. core_shown system (world system (slice_index clocks c)) c)) (length system.contexts) 0
     (λ x _ l.
     let k = core-known system well x (omega arith) in
-    ap (λ (core : Core). view_of x (using_of system x core.running) (context_of core x)) (here (context_part system x).core d (record { mails = []; spare = 0 }) k).state_is.core_is)
+    ap (λ (core : Core). view_of x (using_of system x core.running) (context_of core x)) (stand (context_part system x).core d k).core_is)
+  where
+    d : State
+    d = opening_state system 0
+
+-- and they show the whole budgets
+pub shown-here : (system : System) → IsWellFormed system → (clocks : List ℕ) (views : List ContextView) → views ≡ views_at system clocks → AreShownAt system clocks views
+shown-here system well clocks views e = subst (AreShownAt system clocks) (sym e) (views-shown system well (slice_index clocks))
 
 -- where all clocks are at one moment, the views are those before it
 pub views-at_one : (system : System) → IsWellFormed system → (clocks : List ℕ) (t : ℕ) → ((c : ℕ) → c < system.cores → slice_index clocks c ≡ t) → views_at system clocks ≡ views_before system t

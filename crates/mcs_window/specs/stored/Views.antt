@@ -1,5 +1,5 @@
 -- The views of each core, of which those of the first contexts were dealt out.
-use Rattle.std.specs.Prelude.{◌≡◌, ℕ, ◌<◌, List, drop, map, length, slice_index_or}
+use Rattle.std.specs.Prelude.{◌≡◌, ℕ, ◌<◌, true, None, List, [], drop, map, length, slice_index_or}
 use Rattle.std.specs.List.{range_with_len}
 use Rattle.std.specs.declared.alloc.Global.{Global}
 use Rattle.std.specs.declared.collections.VecDeque.{VecDeque}
@@ -8,6 +8,25 @@ use Rattle.mcs_system.specs.System.{System}
 use Rattle.mcs_core.specs.State.{State}
 use Rattle.mcs_core.specs.Views.{views_from, views_of}
 use Rattle.mcs_window.specs.Views.{view_in}
+use Rattle.mcs_window.specs.declared.slot.Slot.{Slot}
+use Rattle.mcs_window.specs.declared.slot.Slot.TheVariants.{Here, Away}
+
+-- one that stands where a state must be named and none is meant
+abbrev pub no_state : State
+no_state =
+    record {
+      number = 0;
+      clock = 0;
+      core = record { running = None; threads = []; ready = []; releases = []; contexts = []; notes = [] };
+      orders = [];
+      delays = [];
+      failed = true;
+    }
+
+-- the state of the core in a slot
+abbrev pub state_in : Slot → State
+state_in (Here spare state) = state
+state_in (Away loan) = no_state
 
 pub record AreQueued (system : System) (states : List State) (dealt : ℕ)
     (queues : List (VecDeque ContextView Global)) : Type 0 where
