@@ -1,4 +1,3 @@
-pub mod Turns
 mod Headlines
 mod Giving
 mod Flowing

@@ -18,7 +18,7 @@ use Rattle.mcs_team.specs.Flow.{AreAtClocks, AreTakenTo, IsAt}
 abbrev pub rounds_left : Table → ℕ → ℕ → ℕ
 rounds_left desk reached end = turns_left desk + cond (reached == end) 0 1
 
-sum-none : (f : ℕ → ℕ) (n a acc : ℕ) → ((c : ℕ) → c < a + n → f c ≡ 0) → fold (λ s x. s + f x) acc (range_with_len a n) ≡ acc
+pub sum-none : (f : ℕ → ℕ) (n a acc : ℕ) → ((c : ℕ) → c < a + n → f c ≡ 0) → fold (λ s x. s + f x) acc (range_with_len a n) ≡ acc
 sum-none f zero a acc h = refl
 sum-none f (suc n) a acc h = sum-none f n (a + 1) (acc + f a) (λ c l. h c (omega arith)) ∙ (let e = h a (omega arith) in omega arith)
 

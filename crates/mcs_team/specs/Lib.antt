@@ -2,4 +2,3 @@ pub mod Counts
 pub mod Flow
 pub mod Headline
 pub mod NoSystem
-pub mod Windows

@@ -19,7 +19,6 @@ mod stream;
 mod to_sink;
 mod together;
 mod whole;
-mod windows;
 
 pub use alone::simulate_alone;
 pub use fault::SimFault;

@@ -4,11 +4,10 @@ ghost use Rattle.mcs_team.specs.Headline.{BudgetsStand};
 ghost use Rattle.mcs_window.specs.Views.{views_before};
 
 use crate::SimFault;
-use crate::windows::Windows;
 use mcs_control::ContextView;
 use mcs_system::System;
-use mcs_ticks::Tick;
-use mcs_window::Cores;
+use mcs_ticks::{Nothing, Tick};
+use mcs_window::Desk;
 use std::alloc::Global;
 use std::sync::Arc;
 
@@ -21,9 +20,11 @@ pub fn probe(alloc: Global, system: Arc<System>, t: Tick) -> Result<Vec<ContextV
     ensures views { IfOk result (λ views. views.items ≡ views_before (arc_value system) (t + 1)) }
     ensures budgets { IfOk result (λ views. BudgetsStand (arc_value system) t views.items) }
 {
-    let windows = Windows::of(&system, t);
-    let mut cores = Cores::new(alloc, system, t)?;
-    windows.pass_all(&mut cores)?;
-    let views = cores.contexts(alloc)?;
+    let Ok(told) = vec![in alloc; Nothing; system.parts().cores] else {
+        return Err(SimFault::NoMemory);
+    };
+    let mut desk = Desk::opened(alloc, system, t, told)?;
+    desk.go(usize::MAX)?;
+    let views = desk.contexts(alloc)?;
     Ok(views)
 }

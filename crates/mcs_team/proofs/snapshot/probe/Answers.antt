@@ -1,15 +1,32 @@
-use Rattle.std.proofs.Common.{ℕ, suc, ◌≡◌, ◌+◌, ◌∙◌, List, ap, sym, subst, arith}
+use Rattle.std.proofs.Common.{ℕ, suc, ◌≡◌, ◌⊎◌, inl, inr, ◌+◌, ◌<◌, ◌≤◌, ◌∙◌, List, refl, ap, sym, subst, arith}
 use Rattle.std.specs.Arc.{arc_value}
 use Rattle.mcs_control.specs.declared.view.ContextView.{ContextView}
 use Rattle.mcs_system.specs.System.{System}
 use Rattle.mcs_system.specs.WellFormed.{IsWellFormed}
-use Rattle.mcs_window.specs.Progress.{Progress}
+use Rattle.mcs_window.specs.Desk.{Table, opening_table, amount_kept, IsFinished, IsLater}
 use Rattle.mcs_window.specs.Views.{views_at, views_before}
 use Rattle.mcs_window.proofs.Dealing.{views-at_one}
 use Rattle.mcs_window.proofs.Shown.{views-shown}
 use Rattle.mcs_team.specs.Headline.{BudgetsStand}
-use Rattle.mcs_team.specs.Windows.{AllAt}
+use Rattle.mcs_team.proofs.Rounds.{sum-none}
 use Rattle.mcs_team.proofs.snapshot.probe.Goals as goal
+
+-- where nothing is kept there is never enough
+ends : (enough : ℕ) (desk : Table) → 0 < enough → IsFinished desk ⊎ (enough ≤ amount_kept (λ _. 0) desk) → IsFinished desk
+ends enough desk some (inl finished) = finished
+ends enough desk some (inr much) = absurd (let none = sum-none (λ _. 0) desk.system.cores 0 0 (λ c l. refl) in omega arith)
+
+at-end : (system : System) (t : ℕ) (start desk : Table) (views : List ContextView) → IsWellFormed system → start ≡ opening_table system t → IsLater start desk → IsFinished desk →
+    views ≡ views_at desk.system desk.clocks → views ≡ views_before system (t + 1)
+at-end system t start desk views well opened later finished are =
+    are ∙ ap (λ s. views_at s desk.clocks) same
+    ∙ views-at_one system well desk.clocks (t + 1) (λ c l. finished c (subst (λ (s : System). c < s.cores) (sym same) l) ∙ ap (λ n. n + 1) end)
+  where
+    same : desk.system ≡ system
+    same = later.system_is ∙ ap (λ (table : Table). table.system) opened
+
+    end : desk.horizon ≡ t
+    end = later.horizon_is ∙ ap (λ (table : Table). table.horizon) opened
 
 stand : (system : System) (t : ℕ) (views : List ContextView) → IsWellFormed system → views ≡ views_before system (t + 1) → BudgetsStand system t views
 stand system t views well e =
@@ -18,17 +35,8 @@ stand system t views well e =
 
 pub returns-clause-views : goal.returns-clause-views
 returns-clause-views c =
-    let s = arc_value c.args.system in
-    let p = c.pass_all.new.cores in
-    let at : AllAt s c.args.t (c.args.t + 1) p = rw c.of-windows.ensures.windows.end_is at (subst (λ (q : Progress). AllAt q.system q.horizon c.of-windows.result.end p) c.in_ok-cores.ensures c.in_ok-pass_all.ensures.at_end) in
-    c.in_ok-views.ensures.views ∙ ap (λ (system : System). views_at system p.clocks) at.system_is
-    ∙ views-at_one s (rw c.deref.ensures at c.of-windows.ensures.well_formed) p.clocks (c.args.t + 1) at.clocks_are
+    at-end (arc_value c.args.system) c.args.t c.in_ok-desk.desk c.go.new.self c.in_ok-views.views.items (rw c.deref.ensures at c.parts.ensures.well_formed) c.in_ok-desk.ensures c.in_ok-go.ensures.later
+    (ends 18446744073709551615 c.go.new.self (omega arith) c.in_ok-go.ensures.enough) c.in_ok-views.ensures.views
 
 pub returns-clause-budgets : goal.returns-clause-budgets
-returns-clause-budgets c =
-    let s = arc_value c.args.system in
-    let p = c.pass_all.new.cores in
-    let at : AllAt s c.args.t (c.args.t + 1) p = rw c.of-windows.ensures.windows.end_is at (subst (λ (q : Progress). AllAt q.system q.horizon c.of-windows.result.end p) c.in_ok-cores.ensures c.in_ok-pass_all.ensures.at_end) in
-    let well = (rw c.deref.ensures at c.of-windows.ensures.well_formed) in
-    stand s c.args.t c.in_ok-views.views.items well
-    (c.in_ok-views.ensures.views ∙ ap (λ (system : System). views_at system p.clocks) at.system_is ∙ views-at_one s well p.clocks (c.args.t + 1) at.clocks_are)
+returns-clause-budgets c = stand (arc_value c.args.system) c.args.t c.in_ok-views.views.items (rw c.deref.ensures at c.parts.ensures.well_formed) (returns-clause-views c)
