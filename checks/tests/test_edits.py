@@ -28,11 +28,11 @@ ALWAYS_TRIED = (
     'mcs_mail/mailbox_put_takes_arrivals_in_settling_order',
     'mcs_window/delivery_deliver_reserved_drops_signals',
     # stretches that are lent and come back
-    'mcs_window/desk_past_lends_one_moment_too_far',
-    'mcs_window/desk_lend_now_lends_one_piece_at_a_time',
-    'mcs_window/desk_fault_of_takes_a_stretch_twice',
-    'mcs_window/desk_take_back_keeps_the_opening_state',
-    'mcs_window/desk_settle_calls_every_stretch_foreign',
+    'mcs_window/bounds_past_lends_one_moment_too_far',
+    'mcs_window/loans_lend_now_lends_one_piece_at_a_time',
+    'mcs_window/loans_fault_of_takes_a_stretch_twice',
+    'mcs_window/loans_take_back_keeps_the_opening_state',
+    'mcs_window/loans_settle_calls_every_stretch_foreign',
     'mcs_window/cores_first_behind_always_not_safe',
     # what is given
     'mcs_merge/lists_join_merges_by_core_first',

@@ -10,9 +10,9 @@ use Rattle.mcs_core.proofs.Clock.{rows-clock}
 use Rattle.mcs_window.specs.Idle.{AreReached, AreSet, IsIdleUntil}
 use Rattle.mcs_window.specs.Progress.{Progress, clock_of, taken_of, skipped}
 use Rattle.mcs_window.specs.Stretch.{rows_between}
-use Rattle.mcs_window.proofs.Idle.{idle-passes}
-use Rattle.mcs_window.proofs.Ranges.{rows-join}
-use Rattle.mcs_window.proofs.Reaches.{by-delays}
+use Rattle.mcs_stretch.proofs.Idle.{idle-passes}
+use Rattle.mcs_stretch.proofs.Ranges.{rows-join}
+use Rattle.mcs_stretch.proofs.Reaches.{by-delays}
 use Rattle.mcs_lockstep.specs.Together.{rows_at, rows_before}
 use Rattle.mcs_lockstep.specs.stored.Kept.{AreBefore}
 

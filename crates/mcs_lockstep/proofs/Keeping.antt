@@ -4,7 +4,7 @@ use Rattle.std.specs.Arc.{arc_value}
 use Rattle.mcs_system.specs.System.{System}
 use Rattle.mcs_window.specs.Idle.{IsIdleUntil}
 use Rattle.mcs_window.specs.Progress.{Progress, skipped}
-use Rattle.mcs_window.proofs.Advances.{takes_time}
+use Rattle.mcs_stretch.proofs.Later.{takes_time}
 use Rattle.mcs_lockstep.specs.Together.{clocks_at, rows_before}
 use Rattle.mcs_lockstep.specs.stored.Kept.{AreBefore, IsKept}
 use Rattle.mcs_lockstep.specs.declared.lockstep.Lockstep.TheInside.{Inside}

@@ -10,8 +10,8 @@ use Rattle.mcs_core.specs.Clock.{rows_of}
 use Rattle.mcs_core.proofs.Clock.{rows-clock}
 use Rattle.mcs_window.specs.Progress.{Progress, clock_of, taken_of, advanced, with_taken}
 use Rattle.mcs_window.specs.Stretch.{NothingArrivesBefore, rows_between}
-use Rattle.mcs_window.proofs.Ranges.{flat_map-join, rows-join, rows-none}
-use Rattle.mcs_window.proofs.Reaches.{by-delays}
+use Rattle.mcs_stretch.proofs.Ranges.{flat_map-join, rows-join, rows-none}
+use Rattle.mcs_stretch.proofs.Reaches.{by-delays}
 use Rattle.mcs_lockstep.specs.Together.{rows_at, rows_before}
 use Rattle.mcs_lockstep.specs.stored.Kept.{IsBefore, AreBefore, HaveTurned}
 

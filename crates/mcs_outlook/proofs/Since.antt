@@ -3,7 +3,7 @@ use Rattle.std.proofs.Common.{◌≡◌, ℕ, zero, suc, ◌+◌, ◌-◌, ◌�
 use Rattle.std.specs.List.{range_with_len}
 use Rattle.std.proofs.lemmas.List.FromFn.{fill_by_all, length-map-range_with_len}
 use Rattle.mcs_ticks.specs.declared.row.What.{What}
-use Rattle.mcs_system.specs.System.{System}
+use Rattle.mcs_system.specs.System.{System, TakesTime}
 use Rattle.mcs_core.specs.Clock.{schedule}
 use Rattle.mcs_verdict.specs.Findings.{past_of}
 use Rattle.mcs_verdict.specs.Watch.{Watch, watch_of}
@@ -13,9 +13,8 @@ use Rattle.mcs_recurs.specs.declared.shifts.Shifts.{Shifts}
 use Rattle.mcs_forever.specs.Closed.{has}
 use Rattle.mcs_ticks.specs.declared.row.Row.{Row}
 use Rattle.mcs_system.specs.WellFormed.{IsWellFormed}
-use Rattle.mcs_system.specs.System.{TakesTime}
 use Rattle.mcs_recurs.specs.Schedule.{RowsTellTurns}
-use Rattle.mcs_window.proofs.Advances.{takes_time}
+use Rattle.mcs_stretch.proofs.Later.{takes_time}
 use Rattle.mcs_lockstep.specs.Together.{rows_at, rows_before}
 use Rattle.mcs_lockstep.proofs.Turning.{rows-after}
 use Rattle.mcs_forever.specs.Recurs.{Recurs}

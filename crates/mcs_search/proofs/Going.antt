@@ -12,7 +12,7 @@ use Rattle.mcs_recurs.specs.Period.{told_at, told_between}
 use Rattle.mcs_recurs.specs.Schedule.{whats, RowsTellTurns}
 use Rattle.mcs_verdict.specs.Findings.{UpTo, past_of}
 use Rattle.mcs_verdict_laws.specs.laws.Order.{SchedulesAreInOrder}
-use Rattle.mcs_window.proofs.Ranges.{flat_map-join}
+use Rattle.mcs_stretch.proofs.Ranges.{flat_map-join}
 use Rattle.mcs_lockstep.specs.Together.{rows_at, rows_before}
 use Rattle.mcs_search.specs.stored.Seen.{IsOfRows, HasSeen}
 use Rattle.mcs_search.specs.declared.seen.Seen.{Seen}

@@ -12,8 +12,8 @@ use Rattle.mcs_merge.proofs.Kept.{IsInOrder-added}
 use Rattle.mcs_system.specs.System.{System}
 use Rattle.mcs_window.specs.Stretch.{rows_between}
 use Rattle.mcs_window.specs.laws.Merging.{rows_until}
-use Rattle.mcs_window.proofs.Merging.{list-between, from-between}
-use Rattle.mcs_window.proofs.Ranges.{rows-join}
+use Rattle.mcs_stretch.proofs.Merging.{list-between, from-between}
+use Rattle.mcs_stretch.proofs.Ranges.{rows-join}
 use Rattle.mcs_team.specs.Flow.{pasts_of, AreBatches, IsBatch, GoesOn}
 use Rattle.mcs_team.specs.declared.batch.Batch.{Batch}
 use Rattle.mcs_team.proofs.Batches.{past-of}

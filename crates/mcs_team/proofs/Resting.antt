@@ -9,7 +9,7 @@ use Rattle.mcs_merge.specs.Merge.{AreFrom}
 use Rattle.mcs_merge.specs.Merging.{AreBefore}
 use Rattle.mcs_system.specs.System.{System, TakesTime}
 use Rattle.mcs_core.specs.Clock.{clock, schedule}
-use Rattle.mcs_window.proofs.Merging.{clock-later, clock-before, later-from, rows-later}
+use Rattle.mcs_stretch.proofs.Merging.{clock-later, clock-before, later-from, rows-later}
 use Rattle.mcs_ticks.specs.Given.{Given, GivenUntil}
 use Rattle.mcs_team.specs.Flow.{rows_from, IsFlowFault, IsRestFault}
 use Rattle.mcs_ticks.specs.declared.sink.FlowFault.{FlowFault}

@@ -10,7 +10,7 @@ use Rattle.mcs_system.specs.System.{System}
 use Rattle.mcs_system.specs.WellFormed.{IsWellFormed}
 use Rattle.mcs_core.specs.Clock.{clock}
 use Rattle.mcs_window.specs.Desk.{Table, clock_of, turns_left, opening_table, AllAreHere, IsFinished, IsLater}
-use Rattle.mcs_window.proofs.Openings.{zero_at}
+use Rattle.mcs_stretch.proofs.Openings.{zero_at}
 use Rattle.mcs_ticks.specs.Given.{Given}
 use Rattle.mcs_team.specs.Flow.{AreAtClocks, AreTakenTo, IsAt}
 

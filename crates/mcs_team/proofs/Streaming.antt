@@ -1,6 +1,5 @@
 -- One round of a flow: rows are taken from the desk, added to the merger, and poured into the sink.
-use Rattle.std.proofs.Common.{◌≡◌, ℕ, zero, suc, ◌+◌, ◌<◌, ◌≤◌, Bool, List, [], ◌∷◌, ◌++◌, length, map, replicate, min, refl, sym, ap, ◌∙◌, subst, append-nil, arith}
-use Rattle.std.proofs.Common.{None, Err, ◌⊎◌, inl, inr}
+use Rattle.std.proofs.Common.{◌≡◌, ℕ, zero, suc, ◌+◌, ◌<◌, ◌≤◌, Bool, List, [], ◌∷◌, ◌++◌, length, map, replicate, min, refl, sym, ap, ◌∙◌, subst, append-nil, arith, None, Err, ◌⊎◌, inl, inr}
 use Rattle.std.specs.Prelude.{fold, slice_get, slice_index, slice_index_or}
 use Rattle.std.specs.List.{range_with_len}
 use Rattle.std.proofs.lemmas.List.{length-map}
@@ -13,8 +12,8 @@ use Rattle.mcs_system.specs.System.{System, TakesTime}
 use Rattle.mcs_core.specs.Clock.{clock, schedule}
 use Rattle.mcs_window.specs.Stretch.{rows_between}
 use Rattle.mcs_window.specs.laws.Merging.{rows_until}
-use Rattle.mcs_window.proofs.Merging.{rows-so_far, clock-later, rows-later}
-use Rattle.mcs_window.proofs.Ranges.{rows-none}
+use Rattle.mcs_stretch.proofs.Merging.{rows-so_far, clock-later, rows-later}
+use Rattle.mcs_stretch.proofs.Ranges.{rows-none}
 use Rattle.mcs_ticks.specs.Given.{Given, GivenUntil, GivenSome}
 use Rattle.mcs_team.specs.Flow.{GivesOn, FailsFrom, Flows, pasts_of, AreBatches, GoesOn, IsAt}
 use Rattle.mcs_ticks.specs.declared.sink.FlowFault.TheVariants as fault

@@ -1,7 +1,5 @@
 -- Rows that go to a sink as soon as the clocks of all cores have passed them.
-use Rattle.std.specs.Prelude.{◌≡◌, ℕ, ◌+◌, ◌<◌, ◌≤◌, ◌⊎◌, nat_le, Bool, true, false}
-use Rattle.std.specs.Prelude.{List, [], ◌∷◌, ◌++◌, length, map, filter}
-use Rattle.std.specs.Prelude.{Result, Ok, Err, slice_index, slice_index_or}
+use Rattle.std.specs.Prelude.{◌≡◌, ℕ, ◌+◌, ◌<◌, ◌≤◌, ◌⊎◌, nat_le, Bool, true, false, List, [], ◌∷◌, ◌++◌, length, map, filter, Result, Ok, Err, slice_index, slice_index_or}
 use Rattle.mcs_ticks.specs.declared.row.Row.{Row}
 use Rattle.mcs_ticks.specs.Given.{Given, GivenUntil, GivenSome}
 use Rattle.mcs_merge.specs.Merging.{Merging, IsInOrder}

@@ -1,5 +1,5 @@
 -- A core that takes its turns as far as the other cores' clocks allow stands again as the clock has it.
-use Rattle.std.proofs.Common.{◌≡◌, ◌≢◌, ℕ, ◌+◌, ◌-◌, ◌<◌, ◌≤◌, List, [], ◌∷◌, ◌++◌, length, Vec, get_or, set, inl, inr, refl, sym, ap, ◌∙◌, subst, arith}
+use Rattle.std.proofs.Common.{◌≡◌, ◌≢◌, ℕ, ◌+◌, ◌<◌, ◌≤◌, List, [], ◌∷◌, ◌++◌, length, Vec, get_or, set, inl, inr, refl, sym, ap, ◌∙◌, subst, arith}
 use Rattle.std.specs.Prelude.{All, filter, slice_index}
 use Rattle.std.proofs.lemmas.Bool.Decides.{eqb_tells}
 use Rattle.std.proofs.lemmas.List.{get_or-set_same, get_or-set_other, length-set}
@@ -8,21 +8,21 @@ use Rattle.std.specs.declared.alloc.Global.{Global}
 use Rattle.mcs_ticks.specs.declared.row.Row.{Row}
 use Rattle.mcs_mail.specs.declared.mail.Mail.{Mail}
 use Rattle.mcs_mail.specs.Box.{Content, IsIn, put_all}
-use Rattle.mcs_system.specs.System.{System, TakesTime}
+use Rattle.mcs_system.specs.System.{System}
 use Rattle.mcs_system.specs.WellFormed.{IsWellFormed}
 use Rattle.mcs_core.specs.Run.{Ran}
 use Rattle.mcs_core.specs.State.{State, Fits, IsExpected, made_by, state_after}
-use Rattle.mcs_window.specs.stored.Delivery.{is_home, AreDelivered}
+use Rattle.mcs_stretch.specs.Inbox.{is_home, inbox, IsMade, IsFor}
+use Rattle.mcs_window.specs.stored.Delivery.{AreDelivered}
 use Rattle.mcs_window.specs.stored.Opening.{HasItems}
-use Rattle.mcs_window.specs.Inbox.{inbox, signals_between, IsMade, IsFor, Rises}
 use Rattle.mcs_window.specs.stored.Cores.{IsHere, AreHere, AreSince}
-use Rattle.mcs_window.specs.Stretch.{StandsAt, rows_between, NothingArrivesBefore, IsAfter}
-use Rattle.mcs_window.proofs.Deliveries.{signals_from, flat_map-one, inbox-delivered}
-use Rattle.mcs_window.proofs.Inboxes.{from_inbox, of_turn}
-use Rattle.mcs_system.proofs.Linked.{delays_within}
+use Rattle.mcs_stretch.specs.Stretch.{StandsAt, rows_between, NothingArrivesBefore, IsAfter}
+use Rattle.mcs_stretch.proofs.Deliveries.{signals_from, inbox-delivered}
+use Rattle.mcs_stretch.proofs.Inboxes.{from_inbox, of_turn}
 use Rattle.mcs_core.proofs.Known.{known-said}
-use Rattle.mcs_window.proofs.Ranges.{rows-join}
-use Rattle.mcs_window.proofs.Stretches.{stretches}
+use Rattle.mcs_stretch.proofs.Ranges.{rows-join}
+use Rattle.mcs_stretch.proofs.Stretches.{stretches}
+use Rattle.mcs_stretch.proofs.Later.{takes_time, later_same, later_other, rises}
 
 -- a list with more rows behind those that it had
 pub list-more : (old new : Vec Row Global) (rows : List Row) → new.items ≡ old.items ++ rows → (held : List Row) → HasItems old held → HasItems new (held ++ rows)
@@ -32,13 +32,7 @@ all_in : (P : Mail → Type 0) (mails : List Mail) → ((mail : Mail) → IsIn m
 all_in P [] h = All-nil P
 all_in P (mail ∷ mails) h = All-cons P mail mails (h mail (inl refl)) (all_in P mails (λ next k. h next (inr k)))
 
-takes_time_of : (system : System) → IsWellFormed system → TakesTime system
-takes_time_of system well maker home = (delays_within system well maker home).0
-
 module _ (system : System) (well : IsWellFormed system) where
-  pub takes_time : TakesTime system
-  takes_time = takes_time_of system well
-
   -- an inbox has mail for its core that arrives at its clock or later
   pub expected : (c t : ℕ) (front : List ℕ) (state : State) (mails : List Mail) → StandsAt system c t state → mails ≡ inbox system c t front → All (IsExpected system state) mails
   expected c t front state mails stands e =
@@ -57,7 +51,7 @@ module _ (system : System) (well : IsWellFormed system) where
       NothingArrivesBefore system c to front → IsAfter system c t to front (made_by system state to mails)
   ran_here c t to front state mails stands e known l reached =
       rw (stands.number_is, stands.clock_is)
-      (stretches system takes_time c t to front state.core mails known l reached (record { state_is = stands.core_is; mail_is = e }))
+      (stretches system (takes_time system well) c t to front state.core mails known l reached (record { state_is = stands.core_is; mail_is = e }))
 
   pub state_here : (c t to : ℕ) (front : List ℕ) (state after : State) (made : Ran) → StandsAt system c t state → t ≤ to → Fits system after → after ≡ state_after state to made →
       IsAfter system c t to front made → StandsAt system c to after
@@ -74,27 +68,6 @@ module _ (system : System) (well : IsWellFormed system) where
     abbrev later : List ℕ
     later = set front c to
 
-    pub later_same : slice_index later c ≡ to
-    later_same = get_or-set_same front c to 0 known
-
-    pub later_other : (b : ℕ) → b ≢ c → slice_index later b ≡ slice_index front b
-    later_other b h = get_or-set_other front c b to 0 h
-
-    pub rises : slice_index front c ≤ to → Rises system front later
-    rises l b h = elim (eqb_tells b c) [
-      | inl p ↦ (let e : slice_index later b ≡ to = ap (slice_index later) p.1 ∙ later_same in let f : slice_index front b ≡ slice_index front c = ap (slice_index front) p.1 in omega arith)
-      | inr p ↦ (let e = later_other b p.1 in omega arith)
-    ]
-
-    none_between : (b n m : ℕ) → n ≡ m → signals_between system b m n ≡ []
-    none_between b n m e = let f : n - m ≡ 0 = omega arith in rw f refl
-
-    -- the signals made meanwhile are the core's own
-    pub signals_own : c < system.cores → signals_between system c (slice_index front c) to ≡ signals_from system front later
-    signals_own h =
-        ap (λ past. signals_between system c (slice_index front c) past) (sym later_same)
-        ∙ sym (flat_map-one (λ b. signals_between system b (slice_index front b) (slice_index later b)) c system.cores 0 (omega arith) (omega arith) (λ b k. none_between b (slice_index later b) (slice_index front b) (later_other b k)))
-
     -- what is delivered to a core
     abbrev with_delivered : ℕ → List Mail → List Mail
     with_delivered b box = put_all (filter (is_home system b) (signals_from system front later)) box
@@ -103,22 +76,22 @@ module _ (system : System) (well : IsWellFormed system) where
     pub here_own : (state : State) (box : List Mail) → slice_index front c ≤ to → NothingArrivesBefore system c to front → StandsAt system c to state → box ≡ inbox system c to front →
         IsHere system c (slice_index later c) later state (with_delivered c box)
     here_own state box l reached stands box_is =
-        rw later_same
+        rw (later_same system front c to known)
         (record {
-          reached = λ d m x q k i e. reached d m x q (let up = rises l d q in omega arith) i e;
+          reached = λ d m x q k i e. reached d m x q (let up = rises system front c to known l d q in omega arith) i e;
           state_is = stands;
-          box_is = ap (with_delivered c) box_is ∙ inbox-delivered system takes_time c to front later (rises l) reached;
+          box_is = ap (with_delivered c) box_is ∙ inbox-delivered system (takes_time system well) c to front later (rises system front c to known l) reached;
         })
 
     -- and so is each other one that was here, at its own clock
     pub here_other : (b : ℕ) (state : State) (box : List Mail) → b ≢ c → slice_index front c ≤ to → IsHere system b (slice_index front b) front state box →
         IsHere system b (slice_index later b) later state (with_delivered b box)
     here_other b state box other l here =
-        rw (later_other b other)
+        rw (later_other system front c to known b other)
         (record {
-          reached = λ d m x q k i e. here.reached d m x q (let up = rises l d q in omega arith) i e;
+          reached = λ d m x q k i e. here.reached d m x q (let up = rises system front c to known l d q in omega arith) i e;
           state_is = here.state_is;
-          box_is = ap (with_delivered b) here.box_is ∙ inbox-delivered system takes_time b (slice_index front b) front later (rises l) here.reached;
+          box_is = ap (with_delivered b) here.box_is ∙ inbox-delivered system (takes_time system well) b (slice_index front b) front later (rises system front c to known l) here.reached;
         })
 
     -- the states, and the boxes with what was delivered
@@ -159,19 +132,19 @@ module _ (system : System) (well : IsWellFormed system) where
       rows_later b x p = elim (eqb_tells b c) [
         | inl e ↦ subst (λ d. holds (get_or (set told c new) d x) (rows_between system d (slice_index taken d) (slice_index later d))) (sym e.1)
             (subst (λ s. holds s (rows_between system c (slice_index taken c) (slice_index later c))) (sym (get_or-set_same told c new x (let many = kept.told_of in omega arith)))
-            (subst (λ t. holds new (rows_between system c (slice_index taken c) t)) (sym later_same) rows_own))
+            (subst (λ t. holds new (rows_between system c (slice_index taken c) t)) (sym (later_same system front c to known)) rows_own))
         | inr e ↦ subst (λ s. holds s (rows_between system b (slice_index taken b) (slice_index later b))) (sym (get_or-set_other told c b new x e.1))
-            (subst (λ t. holds (get_or told b x) (rows_between system b (slice_index taken b) t)) (sym (later_other b e.1)) (kept.rows_are b x p))
+            (subst (λ t. holds (get_or told b x) (rows_between system b (slice_index taken b) t)) (sym (later_other system front c to known b e.1)) (kept.rows_are b x p))
       ]
 
       in_time_later : (b : ℕ) → b < system.cores → slice_index later b ≤ horizon + 1
       in_time_later b p = elim (eqb_tells b c) [
-        | inl e ↦ (let f : slice_index later b ≡ to = ap (slice_index later) e.1 ∙ later_same in omega arith)
-        | inr e ↦ (let f = later_other b e.1 in let g = kept.in_time b p in omega arith)
+        | inl e ↦ (let f : slice_index later b ≡ to = ap (slice_index later) e.1 ∙ later_same system front c to known in omega arith)
+        | inr e ↦ (let f = later_other system front c to known b e.1 in let g = kept.in_time b p in omega arith)
       ]
 
       in_order_later : (b : ℕ) → b < system.cores → slice_index taken b ≤ slice_index later b
-      in_order_later b p = let f = rises l b p in let g = kept.in_order b p in omega arith
+      in_order_later b p = let f = rises system front c to known l b p in let g = kept.in_order b p in omega arith
 
       pub since_later : AreSince holds system horizon later taken (set told c new)
       since_later =

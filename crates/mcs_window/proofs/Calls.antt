@@ -1,7 +1,7 @@
 -- A desk's calls are steps.
 use Rattle.std.proofs.Common.{◌≡◌, ℕ, suc, ◌-◌, ◌<◌, ◌≤◌, false, Some, None, List, [], ◌∷◌, ◌++◌, length, set, replicate, inl, inr, refl, sym, ap, ◌∙◌, subst, arith, append_assoc}
 use Rattle.std.proofs.lemmas.List.{set-get_or}
-use Rattle.mcs_window.specs.ByScripts.{IsSafeByScripts, clocks_after}
+use Rattle.mcs_stretch.specs.ByScripts.{IsSafeByScripts, clocks_after}
 use Rattle.mcs_window.specs.Desk.{Table, AllAreHere, IsSkipped, IsAwake, MayLend, IsLent, IsLoan, IsSpent, WentByScripts, clock_of, past_of, loan_of, lent_at, settled_at}
 use Rattle.mcs_window.specs.Pieces.{Outcome}
 use Rattle.mcs_window.specs.declared.slot.Loan.{Loan}

@@ -5,7 +5,7 @@ use Rattle.std.specs.List.{range_with_len}
 use Rattle.std.specs.Arc.{arc_value}
 use Rattle.mcs_ticks.specs.declared.row.Row.{Row}
 use Rattle.mcs_window.specs.Desk.{Table, clock_of, taken_of}
-use Rattle.mcs_window.specs.Stretch.{rows_between}
+use Rattle.mcs_stretch.specs.Stretch.{rows_between}
 use Rattle.mcs_window.specs.stored.Slots.{table_of, IsKept}
 use Rattle.mcs_window.specs.declared.desk.Desk.TheInside.{Inside}
 use Rattle.mcs_window.proofs.Lending.{sum-more}

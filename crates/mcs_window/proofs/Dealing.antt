@@ -20,11 +20,10 @@ use Rattle.mcs_core.specs.Contexts.{is_some, no_server}
 use Rattle.mcs_core.specs.stored.Sound.{has_context}
 use Rattle.mcs_core.specs.State.{State, Fits, opening_state}
 use Rattle.mcs_core.specs.Views.{using_of, own_view, views_from, views_of}
-use Rattle.mcs_window.specs.stored.Views.{AreQueued, AreBegun}
+use Rattle.mcs_window.specs.stored.Views.{AreQueued, AreBegun, state_in}
 use Rattle.mcs_window.specs.stored.Cores.{AreAt}
-use Rattle.mcs_window.specs.Stretch.{StandsAt}
+use Rattle.mcs_stretch.specs.Stretch.{StandsAt}
 use Rattle.mcs_window.specs.stored.Slots.{StandsIn, AllStand}
-use Rattle.mcs_window.specs.stored.Views.{state_in}
 use Rattle.mcs_window.specs.declared.slot.Slot.{Slot}
 use Rattle.mcs_window.specs.declared.slot.Slot.TheVariants.{Here, Away}
 use Rattle.mcs_window.specs.Views.{view_in, views_in, views_at, views_before, AreShownAt, AreStates}

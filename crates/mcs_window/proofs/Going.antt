@@ -6,11 +6,11 @@ use Rattle.std.proofs.lemmas.Bool.{cases_lt}
 use Rattle.std.proofs.lemmas.List.{get_or-set_same, get_or-set_other, length-set, set-set, set-get_or, ext_get_or}
 use Rattle.mcs_system.specs.System.{System, TakesTime}
 use Rattle.mcs_laws.specs.Links.{Signals}
-use Rattle.mcs_window.specs.ByScripts.{IsSafeByScripts, clocks_after}
+use Rattle.mcs_stretch.specs.ByScripts.{IsSafeByScripts, clocks_after}
 use Rattle.mcs_window.specs.Desk.{Table, AllAreHere, clock_of, settled_at, MayGoOn, WentByScripts, IsLater, IsSpent}
 use Rattle.mcs_window.specs.stored.Cores.{AreSetBelow}
-use Rattle.mcs_window.proofs.Leading.{IsSafeBy, leads-stretch, leads-idle}
-use Rattle.mcs_window.proofs.Steps.{by-scripts}
+use Rattle.mcs_stretch.proofs.Leading.{IsSafeBy, leads-stretch, leads-idle}
+use Rattle.mcs_stretch.proofs.Safe.{by-scripts}
 
 pub safe-append : (system : System) (horizon : ℕ) (clocks xs ys : List ℕ) → IsSafeByScripts system horizon clocks xs → IsSafeByScripts system horizon (clocks_after clocks xs) ys → IsSafeByScripts system horizon clocks (xs ++ ys)
 safe-append system horizon clocks [] ys p q = q

@@ -13,15 +13,14 @@ use Rattle.mcs_core.specs.Clock.{world, core_at}
 use Rattle.mcs_core.specs.Core.{Core}
 use Rattle.mcs_core.specs.Quiet.{AreQuiet, IsQuiet, counted, counted_times}
 use Rattle.mcs_window.specs.Desk.{Table, AllAreHere, clock_of, settled_at}
-use Rattle.mcs_window.specs.Idle.{IsIdle, OnlyCounts}
-use Rattle.mcs_window.specs.Inbox.{inbox, signals_between}
-use Rattle.mcs_window.specs.Stretch.{NothingArrivesBefore}
-use Rattle.mcs_window.specs.stored.Delivery.{is_home}
+use Rattle.mcs_stretch.specs.Idle.{IsIdle, OnlyCounts}
+use Rattle.mcs_stretch.specs.Inbox.{inbox, signals_between, is_home}
+use Rattle.mcs_stretch.specs.Stretch.{NothingArrivesBefore}
 use Rattle.mcs_window.specs.stored.Slots.{HoldsAt, IsKept, table_of}
 use Rattle.mcs_window.specs.declared.calendar.Calendar.{Calendar}
 use Rattle.mcs_window.specs.declared.desk.Desk.TheInside.{Inside}
-use Rattle.mcs_window.proofs.Advances.{rises, signals_own, takes_time}
-use Rattle.mcs_window.proofs.Deliveries.{inbox-delivered}
+use Rattle.mcs_stretch.proofs.Later.{rises, signals_own, takes_time}
+use Rattle.mcs_stretch.proofs.Deliveries.{inbox-delivered}
 use Rattle.mcs_window.proofs.Skipping.{all-reached}
 
 module _ (system : System) (c : ℕ) where
@@ -60,8 +59,8 @@ module _ (system : System) (well : IsWellFormed system) (clocks : List ℕ) (k t
 
   same-inbox : (c t : ℕ) → NothingArrivesBefore system c t clocks → inbox system c t clocks ≡ inbox system c t later
   same-inbox c t reached =
-      ap (λ ms. put_all (filter (is_home system c) ms) (inbox system c t clocks)) (sym silent ∙ signals_own system well clocks k to in_clocks known)
-      ∙ inbox-delivered system (takes_time system well) c t clocks later (rises system well clocks k to in_clocks forward) reached
+      ap (λ ms. put_all (filter (is_home system c) ms) (inbox system c t clocks)) (sym silent ∙ signals_own system clocks k to in_clocks known)
+      ∙ inbox-delivered system (takes_time system well) c t clocks later (rises system clocks k to in_clocks forward) reached
 
   idle-beside : (c b : ℕ) → c ≢ k → NothingArrivesBefore system c (slice_index clocks c) clocks → IsIdle system clocks b c → IsIdle system later b c
   idle-beside c b other reached idle =

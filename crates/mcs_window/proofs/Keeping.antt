@@ -13,10 +13,11 @@ use Rattle.mcs_system.specs.System.{System}
 use Rattle.mcs_core.specs.State.{State, Fits, made_by, state_after}
 use Rattle.mcs_window.specs.stored.Delivery.{AreDelivered}
 use Rattle.mcs_window.specs.stored.Cores.{AreHere, AreWhole, IsKept}
-use Rattle.mcs_window.specs.Stretch.{StandsAt, rows_between, NothingArrivesBefore, IsAfter}
+use Rattle.mcs_stretch.specs.Stretch.{StandsAt, rows_between, NothingArrivesBefore, IsAfter}
 use Rattle.mcs_window.specs.declared.cores.Cores.TheInside.{Inside}
-use Rattle.mcs_window.proofs.Deliveries.{signals_from}
-use Rattle.mcs_window.proofs.Advances.{list-more, ran_here, state_here, signals_own, here_later, since_later}
+use Rattle.mcs_stretch.proofs.Deliveries.{signals_from}
+use Rattle.mcs_window.proofs.Advances.{list-more, ran_here, state_here, here_later, since_later}
+use Rattle.mcs_stretch.proofs.Later.{signals_own}
 
 -- what a core has made, its turns taken
 pub record HasRun (system : System) (to : ℕ) (state after : State) (box left : Content) (rows : List Row) (signals made : List Mail) : Type 0 where
@@ -113,7 +114,7 @@ module _ (a : Inside) (kept : IsKept a) where
       signals_are : signals.items ≡ signals_from system a.clocks.items (set a.clocks.items k to)
       signals_are =
           run.signals_are ∙ ap (λ xs. xs ++ (made_by system state to box.mails).mails) whole.no_signals ∙ ran.out_is
-          ∙ signals_own system kept.well_formed a.clocks.items k to there h
+          ∙ signals_own system a.clocks.items k to there h
 
       rows_more : new.items ≡ old.items ++ rows_between system k (slice_index a.clocks.items k) to
       rows_more = more ∙ ap (λ xs. old.items ++ xs) fresh_is

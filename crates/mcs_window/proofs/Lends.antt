@@ -14,17 +14,17 @@ use Rattle.mcs_system.specs.System.{System}
 use Rattle.mcs_core.specs.State.{State}
 use Rattle.mcs_window.specs.Desk.{past_of, loan_of, MayGoOn, MayLend, lent_at, IsFinished, AllAreHere}
 use Rattle.mcs_window.specs.Pieces.{IsWork}
-use Rattle.mcs_window.specs.Stretch.{NothingArrivesBefore}
+use Rattle.mcs_stretch.specs.Stretch.{NothingArrivesBefore}
 use Rattle.mcs_window.specs.stored.Cores.{IsHere}
 use Rattle.mcs_window.specs.stored.Slots.{slot_loan, table_of, IsAway, IsPlaced, ArePlaced, IsKept}
 use Rattle.mcs_window.specs.declared.slot.Loan.{Loan}
 use Rattle.mcs_window.specs.declared.slot.Slot.{Slot}
 use Rattle.mcs_window.specs.declared.slot.Slot.TheVariants.{Here, Away}
 use Rattle.mcs_window.specs.declared.desk.Desk.TheInside.{Inside}
-use Rattle.mcs_window.proofs.Advances.{takes_time}
+use Rattle.mcs_stretch.proofs.Later.{takes_time}
 use Rattle.mcs_window.proofs.Lending.{past_by-in_time, past_by-reached, goes_on}
-use Rattle.mcs_window.proofs.News.{news-joined}
-use Rattle.mcs_window.proofs.Reaches.{by-delays}
+use Rattle.mcs_stretch.proofs.News.{news-joined}
+use Rattle.mcs_stretch.proofs.Reaches.{by-delays}
 
 -- a slot and its box are written, and the others stay
 pub placed-set : (system : System) (horizon : ℕ) (clocks : List ℕ) (slots : List Slot) (boxes : List Content) (k : ℕ) (slot : Slot) (box : Content) → ArePlaced system horizon clocks slots boxes →

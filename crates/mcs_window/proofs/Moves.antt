@@ -6,19 +6,19 @@ use Rattle.std.proofs.lemmas.Bool.Decides.{eqb_tells}
 use Rattle.std.proofs.lemmas.List.{ext_get_or, get_or-map, get_or-set_same, get_or-set_other, length-map, length-set, length-replicate}
 use Rattle.mcs_system.specs.System.{System, TakesTime, delay_between}
 use Rattle.mcs_laws.specs.Links.{Signals}
-use Rattle.mcs_window.specs.Safe.{IsSafe}
-use Rattle.mcs_window.specs.ByScripts.{IsSafeByScripts, clocks_after}
+use Rattle.mcs_stretch.specs.Safe.{IsSafe}
+use Rattle.mcs_stretch.specs.ByScripts.{IsSafeByScripts, clocks_after}
 use Rattle.mcs_window.specs.Progress.{Progress, clock_of, opening_progress, after_fault}
-use Rattle.mcs_window.specs.Stretch.{NothingArrivesBefore}
+use Rattle.mcs_stretch.specs.Stretch.{NothingArrivesBefore}
 use Rattle.mcs_window.specs.declared.fault.StepFault.{StepFault}
 use Rattle.mcs_window.specs.declared.fault.StepFault.TheVariants.{Ended, NotSafe, NoMemory}
-use Rattle.mcs_window.specs.laws.BySignals.{IsSafeBySignals}
+use Rattle.mcs_stretch.specs.laws.BySignals.{IsSafeBySignals}
 use Rattle.mcs_window.specs.laws.Moves as moves
 use Rattle.mcs_window.specs.laws.Moves.{Move, Step, Advance, Skip, TakeRows, Fail, after_move, after_moves, turns_of, turns_in, MayMove, IsByDelays, IsByScripts, Each, AreMade, IsBy}
 use Rattle.mcs_window.proofs.Going.{safe-append, after-append, stretch-after, past-same}
-use Rattle.mcs_window.proofs.Leading.{IsSafeBy, Leads, leads-idle, leads-stretch}
-use Rattle.mcs_window.proofs.Reaches.{by-delays, reached-later}
-use Rattle.mcs_window.proofs.Steps.{safe-by, by-scripts, safe-by_scripts}
+use Rattle.mcs_stretch.proofs.Leading.{IsSafeBy, Leads, leads-idle, leads-stretch}
+use Rattle.mcs_stretch.proofs.Reaches.{by-delays, reached-later}
+use Rattle.mcs_stretch.proofs.Safe.{safe-by, by-scripts, safe-by_scripts}
 
 -- a safe order is safe by the signals
 safe-signals : (system : System) (horizon : ℕ) (clocks cs : List ℕ) → IsSafe system horizon clocks cs → IsSafeBySignals system horizon clocks cs

@@ -1,22 +1,19 @@
--- At the beginning each core stands as the clock has it.
-use Rattle.std.proofs.Common.{◌≡◌, ℕ, zero, suc, ◌+◌, ◌<◌, ◌≤◌, ◌^◌, Bool, true, false, List, [], ◌∷◌, ◌++◌, length, replicate, get_or, inl, refl, sym, ap, ◌∙◌, subst, arith}
+-- What cores are made with stands as the clock has it.
+use Rattle.std.proofs.Common.{◌≡◌, ℕ, ◌+◌, ◌<◌, ◌≤◌, ◌^◌, Bool, true, false, List, [], ◌∷◌, ◌++◌, length, replicate, get_or, refl, sym, ap, ◌∙◌, subst, arith}
 use Rattle.std.specs.Prelude.{nat_lt, slice_index}
 use Rattle.std.specs.Arc.{arc_value}
 use Rattle.std.proofs.lemmas.Bool.Decides.{nat_tests}
 use Rattle.std.proofs.lemmas.List.{get_or_append_left, get_or_push, length_push, length-replicate}
-use Rattle.mcs_mail.specs.declared.mail.Mail.{Mail}
-use Rattle.mcs_mail.specs.Box.{Content, IsIn}
+use Rattle.mcs_mail.specs.Box.{Content}
 use Rattle.mcs_system.specs.System.{System, delay_between}
 use Rattle.mcs_system.specs.WellFormed.{IsWellFormed}
 use Rattle.mcs_core.specs.State.{State, Fits, opening_state}
-use Rattle.mcs_core.proofs.Clock.{core_shown-first}
-use Rattle.mcs_window.specs.Inbox.{inbox}
 use Rattle.mcs_window.specs.stored.Cores.{IsKept}
 use Rattle.mcs_window.specs.stored.Opening.{AreOpening, AreEmptyBoxes, AreEmptyRows, AreDelays}
-use Rattle.mcs_window.specs.Stretch.{StandsAt, rows_between}
+use Rattle.mcs_stretch.specs.Stretch.{rows_between}
 use Rattle.mcs_window.specs.declared.cores.Cores.TheInside.{Inside}
-use Rattle.mcs_window.proofs.Inboxes.{from_inbox}
-use Rattle.mcs_window.proofs.Ranges.{rows-none}
+use Rattle.mcs_stretch.proofs.Ranges.{rows-none}
+use Rattle.mcs_stretch.proofs.Openings.{zero_at, opening_stands, inbox-opening}
 
 pub empty_boxes-more : (many : ℕ) (boxes more : List Content) (box : Content) → AreEmptyBoxes many boxes → box.mails ≡ [] → more ≡ boxes ++ box ∷ [] → AreEmptyBoxes (many + 1) more
 empty_boxes-more many boxes more box h empty e =
@@ -76,34 +73,6 @@ opening-more system many states more state h is fits e =
     fit_by c x l false f =
         let k : c ≡ many = grind (arith, nat_tests) in
         subst (Fits system) (sym (last c x k)) fits
-
-none_in : (mails : List Mail) → ((mail : Mail) → IsIn mail mails → ⊥) → mails ≡ []
-none_in [] h = refl
-none_in (mail ∷ mails) h = absurd (h mail (inl refl))
-
-module _ (system : System) where
-  pub opening_stands : (c : ℕ) (state : State) → c < system.cores → state ≡ opening_state system c → Fits system state → StandsAt system c 0 state
-  opening_stands c state l e fits =
-      record {
-        number_is = ap (λ (s : State). s.number) e;
-        clock_is = ap (λ (s : State). s.clock) e;
-        core_is = ap (λ (s : State). s.core) e ∙ sym (core_shown-first system c l);
-        whole = ap (λ (s : State). s.failed) e;
-        fits = fits;
-      }
-
-  -- nothing is made before moment 0
-  pub inbox-opening : (c from : ℕ) (front : List ℕ) → ((b : ℕ) → b < system.cores → slice_index front b ≡ 0) → inbox system c from front ≡ []
-  inbox-opening c from front zeros =
-      none_in (inbox system c from front) (λ mail k.
-      let made = (from_inbox system c front from mail k).0 in
-      let never = zeros made.maker made.known in
-      omega (arith, made.before))
-
-pub zero_at : (n c : ℕ) → slice_index (replicate n 0) c ≡ 0
-zero_at zero c = refl
-zero_at (suc n) zero = refl
-zero_at (suc n) (suc c) = zero_at n c
 
 pub opened_kept : (a : Inside) → a.horizon ≤ 2 ^ 40 → IsWellFormed (arc_value a.system) → a.clocks.items ≡ replicate (arc_value a.system).cores 0 → a.taken.items ≡ replicate (arc_value a.system).cores 0 →
     AreOpening (arc_value a.system) (arc_value a.system).cores a.states.items → AreEmptyBoxes (arc_value a.system).cores a.boxes.items → AreEmptyRows (arc_value a.system).cores a.rows.items →

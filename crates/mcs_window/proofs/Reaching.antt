@@ -13,11 +13,11 @@ use Rattle.mcs_system.specs.WellFormed.{IsWellFormed}
 use Rattle.mcs_laws.specs.Links.{Signals}
 use Rattle.mcs_laws.proofs.Links.{signals-said}
 use Rattle.mcs_window.specs.Desk.{Table, clock_of}
-use Rattle.mcs_window.specs.Stretch.{NothingArrivesBefore}
+use Rattle.mcs_stretch.specs.Stretch.{NothingArrivesBefore}
 use Rattle.mcs_window.specs.declared.desk.Desk.TheInside.{Inside}
 use Rattle.mcs_window.specs.stored.Slots.{IsKept}
 use Rattle.mcs_window.specs.stored.Reaches.{home_signalled, IsReach, SignalsUntil, AreReachesOf, AreReachesUntil, AreDelaysFrom}
-use Rattle.mcs_window.proofs.Inboxes.{of_turn}
+use Rattle.mcs_stretch.proofs.Inboxes.{of_turn}
 use Rattle.mcs_window.proofs.Lending.{past_by, past_by-own, past_by-other}
 
 -- where the scripts say no more

@@ -11,21 +11,22 @@ use Rattle.mcs_mail.specs.declared.mail.Mail.{Mail}
 use Rattle.mcs_mail.specs.Box.{Content, put_all}
 use Rattle.mcs_system.specs.System.{System}
 use Rattle.mcs_window.specs.Desk.{Table, MayGoOn, settled_at, lent_to, taken_at, with_lost, turns_left}
-use Rattle.mcs_window.specs.Inbox.{inbox}
-use Rattle.mcs_window.specs.Stretch.{rows_between, NothingArrivesBefore}
+use Rattle.mcs_stretch.specs.Inbox.{inbox, is_home}
+use Rattle.mcs_stretch.specs.Stretch.{rows_between, NothingArrivesBefore}
 use Rattle.mcs_window.specs.stored.Cores.{AreSince}
-use Rattle.mcs_window.specs.stored.Delivery.{is_home, AreDelivered, AreSameMail}
+use Rattle.mcs_window.specs.stored.Delivery.{AreDelivered, AreSameMail}
 use Rattle.mcs_window.specs.stored.Slots.{slot_loan, table_of, IsPlaced, ArePlaced, IsKept, StandsIn, MayGo, HasGone, HasGoneAndSent, AreSameBut}
 use Rattle.mcs_window.specs.declared.slot.Loan.{Loan}
 use Rattle.mcs_window.specs.declared.slot.Slot.{Slot}
 use Rattle.mcs_window.specs.declared.slot.Slot.TheVariants.{Here, Away}
 use Rattle.mcs_window.specs.declared.desk.Desk.TheInside.{Inside}
 use Rattle.mcs_ticks.proofs.Givens.{held_more}
-use Rattle.mcs_window.proofs.Advances.{signals_own, here_own, since_later}
-use Rattle.mcs_window.proofs.Deliveries.{signals_from}
+use Rattle.mcs_stretch.proofs.Later.{signals_own}
+use Rattle.mcs_window.proofs.Advances.{here_own, since_later}
+use Rattle.mcs_stretch.proofs.Deliveries.{signals_from}
 use Rattle.mcs_window.proofs.Lending.{turns-fewer}
 use Rattle.mcs_window.proofs.Lends.{away_at, loan_at, placed-set}
-use Rattle.mcs_window.proofs.Ranges.{rows-none}
+use Rattle.mcs_stretch.proofs.Ranges.{rows-none}
 use Rattle.mcs_window.proofs.Settling.{placed_other}
 use Rattle.mcs_window.proofs.Skipping.{placed-parts, stands-loan}
 
@@ -149,7 +150,7 @@ module _ {S : Type 0} {holds : S → List Row → Type 0} (a : Inside S) (kept :
     so_far b m x l j i e = let reach = may.reached b m x l j i e in let h = gone.in_time in omega arith
 
     signals_are : out.items ≡ signals_from system a.clocks (set a.clocks k to)
-    signals_are = gone.signals_are ∙ signals_own system kept.well_formed a.clocks k to in_clocks may.known
+    signals_are = gone.signals_are ∙ signals_own system a.clocks k to in_clocks may.known
 
     box_later : (b : ℕ) (y : Content) (ms : List Mail) → b < system.cores → (get_or (set a.boxes.items k left) b y).mails ≡ ms
         → (get_or full b y).mails ≡ put_all (filter (is_home system b) (signals_from system a.clocks (set a.clocks k to))) ms

@@ -18,22 +18,23 @@ use Rattle.mcs_core.specs.Clock as clocks
 use Rattle.mcs_core.specs.State.{State}
 use Rattle.mcs_core.proofs.Mails as mails
 use Rattle.mcs_window.specs.Desk.{settled_at, IsLoan}
-use Rattle.mcs_window.specs.Inbox.{inbox, signals_between, AreNews, Rises}
+use Rattle.mcs_stretch.specs.Inbox.{inbox, signals_between, AreNews, Rises, is_home}
 use Rattle.mcs_window.specs.Pieces.{Outcome, IsOutcome}
-use Rattle.mcs_window.specs.Stretch.{StandsAt, rows_between, NothingArrivesBefore}
+use Rattle.mcs_stretch.specs.Stretch.{StandsAt, rows_between, NothingArrivesBefore}
 use Rattle.mcs_window.specs.declared.slot.Loan.{Loan}
 use Rattle.mcs_window.specs.declared.slot.Slot.{Slot}
 use Rattle.mcs_window.specs.declared.slot.Slot.TheVariants.{Here, Away}
 use Rattle.mcs_window.specs.declared.desk.Desk.TheInside.{Inside}
 use Rattle.mcs_window.specs.stored.Cores.{IsHere}
-use Rattle.mcs_window.specs.stored.Delivery.{is_home, count_for, HaveRoom, AreSameMail, AreDelivered, IsJoined}
+use Rattle.mcs_window.specs.stored.Delivery.{count_for, HaveRoom, AreSameMail, AreDelivered, IsJoined}
 use Rattle.mcs_window.specs.stored.Opening.{HasItems}
 use Rattle.mcs_window.specs.stored.Slots.{slot_loan, table_of, IsAway, IsPlaced, ArePlaced, IsKept}
-use Rattle.mcs_window.proofs.Boxes.{filter-flat_map-none, out_of_turn}
-use Rattle.mcs_window.proofs.Joins.{inbox-joined}
-use Rattle.mcs_window.proofs.News.{news-are, news-joined}
-use Rattle.mcs_window.proofs.Deliveries.{signals_from, home-news}
-use Rattle.mcs_window.proofs.Advances.{list-more, takes_time, rises, later_other, signals_own, here_own, here_other, since_later}
+use Rattle.mcs_stretch.proofs.Boxes.{filter-flat_map-none, out_of_turn}
+use Rattle.mcs_stretch.proofs.Joins.{inbox-joined}
+use Rattle.mcs_stretch.proofs.News.{news-are, news-joined}
+use Rattle.mcs_stretch.proofs.Deliveries.{signals_from, home-news}
+use Rattle.mcs_window.proofs.Advances.{list-more, here_own, here_other, since_later}
+use Rattle.mcs_stretch.proofs.Later.{takes_time, rises, later_other, signals_own}
 
 -- of the first signals no more are for a core than there are
 pub count-fits : (system : System) (c i : ℕ) (signals : List Mail) → count_for system c (take i signals) ≤ i
@@ -155,7 +156,7 @@ module _ (system : System) (well : IsWellFormed system) (front : List ℕ) (c to
   with_delivered b box = put_all (filter (is_home system b) (signals_from system front later)) box
 
   up : Rises system front later
-  up = rises system well front c to known forward
+  up = rises system front c to known forward
 
   -- what the loan allows, the clocks allow
   still : (b past : ℕ) (before : List ℕ) → NothingArrivesBefore system b past before → Rises system before front → NothingArrivesBefore system b past front
@@ -164,7 +165,7 @@ module _ (system : System) (well : IsWellFormed system) (front : List ℕ) (c to
   away_later : (horizon b : ℕ) (loan : Loan) (box : List Mail) → b ≢ c → IsAway system horizon b front loan box → IsAway system horizon b later loan (with_delivered b box)
   away_later horizon b loan box other away =
       record {
-        in_order = (let same = later_other system well front c to known b other in let f = away.in_order in omega arith);
+        in_order = (let same = later_other system front c to known b other in let f = away.in_order in omega arith);
         in_time = away.in_time;
         reached = away.reached;
         rises = λ d q. (let f = away.rises d q in let g = up d q in omega arith);
@@ -296,7 +297,7 @@ module _ (a : Inside (Vec Row Global)) (kept : IsKept HasItems a) (done : Outcom
     signals_are : done.out ≡ signals_from system a.clocks (set a.clocks k done.past)
     signals_are =
         rw same at are.out_is ∙ ap (λ m. signals_between system k m done.past) loan.first
-        ∙ signals_own system kept.well_formed a.clocks k done.past there inside
+        ∙ signals_own system a.clocks k done.past there inside
 
     box_later : (b : ℕ) (y : Content) (ms : List Mail) → b < system.cores → (get_or joined b y).mails ≡ ms
         → (get_or full b y).mails ≡ put_all (filter (is_home system b) (signals_from system a.clocks (set a.clocks k done.past))) ms

@@ -9,18 +9,18 @@ use Rattle.mcs_ticks.specs.declared.row.Row.{Row}
 use Rattle.mcs_mail.specs.declared.mail.Mail.{Mail}
 use Rattle.mcs_mail.specs.Box.{Content}
 use Rattle.mcs_system.specs.System.{System, TakesTime}
-use Rattle.mcs_window.specs.Idle.{AreIdle, AreReached, AreSet, OnlyCounts}
-use Rattle.mcs_window.specs.Inbox.{inbox}
+use Rattle.mcs_stretch.specs.Idle.{AreIdle, AreReached, AreSet, OnlyCounts}
+use Rattle.mcs_stretch.specs.Inbox.{inbox}
 use Rattle.mcs_window.specs.stored.Slots.{slot_loan, table_of, IsPlaced, ArePlaced, IsKept, StandsIn, AllStand, MaySkip, HasSkipped, HaveSkipped}
-use Rattle.mcs_window.specs.Stretch.{NothingArrivesBefore, rows_between}
+use Rattle.mcs_stretch.specs.Stretch.{NothingArrivesBefore, rows_between}
 use Rattle.mcs_window.specs.Desk.{AllAreHere}
 use Rattle.mcs_window.specs.declared.slot.Slot.{Slot}
 use Rattle.mcs_window.specs.declared.slot.Slot.TheVariants.{Here, Away}
 use Rattle.mcs_window.specs.declared.desk.Desk.TheInside.{Inside}
-use Rattle.mcs_window.proofs.Advances.{takes_time}
-use Rattle.mcs_window.proofs.Idle.{idle-passes}
+use Rattle.mcs_stretch.proofs.Later.{takes_time}
+use Rattle.mcs_stretch.proofs.Idle.{idle-passes}
 use Rattle.mcs_window.proofs.Lends.{loan_at}
-use Rattle.mcs_window.proofs.Ranges.{rows-join}
+use Rattle.mcs_stretch.proofs.Ranges.{rows-join}
 use Rattle.mcs_window.proofs.Skips.{set-more, set-same, skip-quiet, skip-stands}
 use Rattle.mcs_window.proofs.Slots.{no_loans}
 

@@ -15,15 +15,15 @@ use Rattle.mcs_core.specs.Quiet.{AreQuietWith, IsQuiet, IsNextBusy, counted_time
 use Rattle.mcs_core.specs.State.{State, Fits, opening_state}
 use Rattle.mcs_core.proofs.QuietAlike.{counted-times-shown, quiet-shown}
 use Rattle.mcs_core.proofs.Skips.{quiet-alone, quiet-to, quiet-at}
-use Rattle.mcs_window.specs.Idle.{IsIdle, AreIdle, AreReached, AreSet, IsIdleUntil, OnlyCounts}
-use Rattle.mcs_window.specs.Inbox.{inbox}
+use Rattle.mcs_stretch.specs.Idle.{IsIdle, AreIdle, AreReached, AreSet, IsIdleUntil, OnlyCounts}
+use Rattle.mcs_stretch.specs.Inbox.{inbox}
 use Rattle.mcs_window.specs.stored.Opening.{HasItems}
 use Rattle.mcs_window.specs.stored.Cores.{AreSince, AreAt, AreHere, AreIdleBelow, AreKept, AreSetBelow, AreSkipped, AreWhole, IsHere, IsKept}
-use Rattle.mcs_window.specs.Stretch.{StandsAt, rows_between}
+use Rattle.mcs_stretch.specs.Stretch.{StandsAt, rows_between}
 use Rattle.mcs_window.specs.declared.cores.Cores.TheInside.{Inside}
-use Rattle.mcs_window.proofs.Advances.{takes_time}
-use Rattle.mcs_window.proofs.Idle.{idle-passes}
-use Rattle.mcs_window.proofs.Ranges.{rows-join}
+use Rattle.mcs_stretch.proofs.Later.{takes_time}
+use Rattle.mcs_stretch.proofs.Idle.{idle-passes}
+use Rattle.mcs_stretch.proofs.Ranges.{rows-join}
 
 -- the one next moment is not before another
 pub not-before : (next : Option ℕ) (moment until : ℕ) → next ≡ Some moment → until ≤ moment → (m : ℕ) → next ≡ Some m → until ≤ m

@@ -11,14 +11,14 @@ use Rattle.mcs_system.specs.WellFormed.{IsWellFormed}
 use Rattle.mcs_window.specs.stored.Reaches.{AreReaches}
 use Rattle.mcs_window.specs.stored.Opening.{AreEmptyBoxes, AreDelays}
 use Rattle.mcs_window.specs.stored.Slots.{slot_loan, IsPlaced, IsKept, IsFresh, AreFresh}
-use Rattle.mcs_window.specs.Stretch.{rows_between}
+use Rattle.mcs_stretch.specs.Stretch.{rows_between}
 use Rattle.mcs_window.specs.Desk.{Table, opening_table, AreEmpty}
 use Rattle.mcs_window.specs.declared.slot.Loan.{Loan}
 use Rattle.mcs_window.specs.declared.slot.Slot.{Slot}
 use Rattle.mcs_window.specs.declared.slot.Slot.TheVariants.{Here, Away}
 use Rattle.mcs_window.specs.declared.desk.Desk.TheInside.{Inside}
-use Rattle.mcs_window.proofs.Openings.{zero_at, opening_stands, inbox-opening}
-use Rattle.mcs_window.proofs.Ranges.{rows-none}
+use Rattle.mcs_stretch.proofs.Openings.{zero_at, opening_stands, inbox-opening}
+use Rattle.mcs_stretch.proofs.Ranges.{rows-none}
 
 pub fresh-more : (system : System) (many : ℕ) (slots more : List Slot) (slot : Slot) → AreFresh system many slots → IsFresh system many slot → more ≡ slots ++ slot ∷ [] → AreFresh system (many + 1) more
 fresh-more system many slots more slot h fresh e =

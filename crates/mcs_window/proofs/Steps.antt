@@ -5,15 +5,16 @@ use Rattle.std.proofs.lemmas.Bool.Decides.{eqb_tells}
 use Rattle.std.proofs.lemmas.List.{get_or-set_same, get_or-set_other, length-set, length-replicate}
 use Rattle.mcs_system.specs.System.{System, delay_between, TakesTime}
 use Rattle.mcs_laws.specs.Links.{Signals}
-use Rattle.mcs_window.specs.Safe.{IsSafe}
-use Rattle.mcs_window.specs.ByScripts.{IsSafeByScripts, SafeOrdersAreByScripts, clocks_after}
+use Rattle.mcs_stretch.specs.Safe.{IsSafe}
+use Rattle.mcs_stretch.specs.ByScripts.{clocks_after}
 use Rattle.mcs_window.specs.Desk.{Table, clock_of, loan_of, opening_table, lent_to, settled_at}
 use Rattle.mcs_window.specs.laws.Steps as steps
-use Rattle.mcs_window.specs.laws.Steps.{Step, Lend, Settle, Forfeit, TakeRows, Skip, Go, Spend, settled_loan, after_step, after_steps, turns_until, turns_of_loan, turns_of, turns_in, MayTake, MayLendTo, AreTaken, IsNoGo, NoneGoes, IsNoLoss, NoneIsSpent, AreClocksAfter}
+use Rattle.mcs_window.specs.laws.Steps.{Step, Lend, Settle, Forfeit, TakeRows, Skip, Go, Spend, settled_loan, after_step, after_steps, turns_until, turns_of_loan, turns_of, turns_in, MayTake, MayLendTo, AreTaken, IsNoGo, NoneGoes, IsNoLoss, NoneIsSpent}
 use Rattle.mcs_window.specs.declared.slot.Loan.{Loan}
 use Rattle.mcs_window.proofs.Lending.{past_by-in_time, past_by-reached}
-use Rattle.mcs_window.proofs.Openings.{zero_at}
-use Rattle.mcs_window.proofs.Leading.{IsSafeBy, Leads, leads-none, leads-append, leads-stretch, leads-idle}
+use Rattle.mcs_stretch.proofs.Openings.{zero_at}
+use Rattle.mcs_stretch.proofs.Leading.{IsSafeBy, Leads, leads-none, leads-append, leads-stretch, leads-idle}
+use Rattle.mcs_stretch.proofs.Safe.{safe-by, by-scripts}
 
 module _ (R : ℕ → ℕ → Type 0) where
   -- the clocks allow core c to come up to before `past`
@@ -222,13 +223,6 @@ none-fine table (step ∷ steps) h = (one step h.0, none-fine (after_step table 
     one (Go c past) g = absurd g
     one (Spend c past) g = absurd g
 
-pub safe-by : (system : System) (horizon : ℕ) (clocks cs : List ℕ) → IsSafeBy system horizon (λ b c. Unit {0}) clocks cs → IsSafe system horizon clocks cs
-safe-by system horizon clocks [] h = tt
-safe-by system horizon clocks (c ∷ cs) h = (
-  record { known = h.0.known; in_time = h.0.in_time; safe = λ b l other. h.0.safe b l other tt },
-  safe-by system horizon (set clocks c (suc (slice_index clocks c))) cs h.1,
-)
-
 pub safe-order : steps.DeskStepsAreASafeOrder
 safe-order system horizon ss takes_time few taken none =
     let R : ℕ → ℕ → Type 0 = λ b c. Unit {0} in
@@ -251,13 +245,6 @@ said-fine system table (step ∷ steps) is h = (one step h.0, said-fine system (
     one (Go c past) g = λ b l other r. g.far b l other (subst (λ s. Signals s b c) (sym is) r)
     one (Spend c past) g = λ b l other r. g.far b l other (subst (λ s. Signals s b c) (sym is) r)
 
-pub by-scripts : (system : System) (horizon : ℕ) (clocks cs : List ℕ) → IsSafeBy system horizon (Signals system) clocks cs → IsSafeByScripts system horizon clocks cs
-by-scripts system horizon clocks [] h = tt
-by-scripts system horizon clocks (c ∷ cs) h = (
-  record { known = h.0.known; in_time = h.0.in_time; safe = h.0.safe },
-  by-scripts system horizon (set clocks c (suc (slice_index clocks c))) cs h.1,
-)
-
 pub scripts-order : steps.DeskStepsAreSafeByScripts
 scripts-order system horizon ss takes_time few taken =
     let opening = opening_table system horizon in
@@ -266,13 +253,6 @@ scripts-order system horizon ss takes_time few taken =
       by-scripts system horizon (replicate system.cores 0) (turns_in opening ss) all.0,
       subst (λ n. (c : ℕ) → c < n.cores → clock_of (after_steps opening ss) c ≡ slice_index (clocks_after (replicate n.cores 0) (turns_in opening ss)) c) (sym (same-system (Signals system) opening ss)) all.1,
     )
-
-pub safe-by_scripts : SafeOrdersAreByScripts
-safe-by_scripts system horizon clocks [] h = tt
-safe-by_scripts system horizon clocks (c ∷ cs) h = (
-  record { known = h.0.known; in_time = h.0.in_time; safe = λ b l other r. h.0.safe b l other },
-  safe-by_scripts system horizon (set clocks c (suc (slice_index clocks c))) cs h.1,
-)
 
 -- loans stay safe in the first sense while other cores go on
 sound-step : (table : Table) (step : Step) → TakesTime table.system → IsSound (λ b c. Unit {0}) table → MayTake table step → IsNoLoss step → IsSound (λ b c. Unit {0}) (after_step table step)

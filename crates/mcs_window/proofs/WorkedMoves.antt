@@ -1,18 +1,10 @@
 -- The turns of a few moves of cores, worked by hand.
 use native.Mathlib.Omega.{arith}
 use Rattle.std.specs.Prelude.{◌≡◌, ◌≢◌, ℕ, zero, suc, ◌+◌, ◌<◌, ◌≤◌, List, [], ◌∷◌, true, slice_index, refl}
-use Rattle.mcs_control.specs.declared.config.Mode.TheVariants as mode
-use Rattle.mcs_script.specs.declared.item.Item.TheVariants.{Signal}
 use Rattle.mcs_system.specs.System.{System}
-use Rattle.mcs_core.specs.Clock.{turn_of}
-use Rattle.mcs_laws.specs.Links.{Signals}
-use Rattle.mcs_window.specs.ByScripts.{IsSafeByScripts}
 use Rattle.mcs_window.specs.Progress.{Progress, opening_progress}
-use Rattle.mcs_window.specs.Stretch.{NothingArrivesBefore}
-use Rattle.mcs_window.specs.laws.BySignals.{IsSafeBySignals}
 use Rattle.mcs_window.specs.laws.Moves.{Move, Step, Advance, Skip, TakeRows, Fail, after_moves, turns_in, IsByDelays, Each, AreMade}
-use Rattle.mcs_window.proofs.Inboxes.{of_turn}
-use Rattle.mcs_window.proofs.Reaches.{by-delays}
+use Rattle.mcs_stretch.proofs.Reaches.{by-delays}
 
 -- two cores without a thread, two ticks apart
 abbrev two : System
@@ -61,41 +53,6 @@ six_are_made = (
 six_by_delays : Each IsByDelays opening six
 six_by_delays = (tt, (allows_3, (tt, (tt, (tt, (tt, tt))))))
 
--- Core 1 has a thread that starts at moment 3 and signals a notification of core 0.
-abbrev bell : System
-bell =
-    record {
-      cores = 2;
-      delay = 1;
-      call = 1;
-      min_budget = 1;
-      contexts = record { name = []; core = 1; config = record { budget = 2; period = 4; extra = 0 }; mode = mode.Sporadic } ∷ [];
-      notes = record { name = []; core = 0 } ∷ [];
-      threads = record { name = []; context = 0; priority = 5; start = 3; rounds = 1; deadline = 0; script = Signal 0 1 ∷ [] } ∷ [];
-      orders = [];
-      links = [];
-    }
-
--- at moment 0 no signal is made, and one that is made later arrives at 2 or later
-none_at_0 : (turn_of bell 1 0).mails ≡ []
-none_at_0 = refl
-
-none_by_2 : NothingArrivesBefore bell 0 2 (1 ∷ 0 ∷ [])
-none_by_2 zero m mail known l made home = absurd ((of_turn bell 0 m mail made).away home)
-none_by_2 (suc zero) zero mail known l made home = absurd made
-none_by_2 (suc zero) (suc m) mail known l made home = let now = (of_turn bell 1 (suc m) mail made).arrives in omega arith
-none_by_2 (suc (suc b)) m mail known l made home = absurd (omega arith)
-
--- so core 0 may go on to 2 by the signals ..
-goes_to_2 : IsSafeBySignals bell 1 (0 ∷ 0 ∷ []) (turns_in (opening_progress bell 1) (Advance 0 2 ∷ []))
-goes_to_2 = (
-  record { known = omega arith; in_time = omega arith; safe = by-delays bell 0 1 (0 ∷ 0 ∷ []) (λ b l other. omega arith) },
-  (record { known = omega arith; in_time = omega arith; safe = none_by_2 }, tt),
-)
-
-signals_0 : Signals bell 1 0
-signals_0 = record { thread = 0; place = 0; note = 0; badge = 1; known = omega arith; maker = refl; item = refl; home = refl }
-
--- .. and not by the scripts
-not_by_scripts : IsSafeByScripts bell 1 (0 ∷ 0 ∷ []) (turns_in (opening_progress bell 1) (Advance 0 2 ∷ [])) → ⊥
-not_by_scripts h = let one : (let a : ℕ = 1 in a) ≢ 0 = omega arith in let late = h.1.0.safe 1 (omega arith) one signals_0 in omega arith
+-- an advance is turns of its core; where such an order is safe by the signals and not by the scripts `WorkedOrders` of mcs_stretch shows
+turns_of_advance : turns_in opening (Advance 0 2 ∷ []) ≡ 0 ∷ 0 ∷ []
+turns_of_advance = refl

@@ -1,10 +1,6 @@
 -- The turns of a small desk's steps, worked by hand.
-use native.Mathlib.Omega.{arith}
-use Rattle.std.specs.Prelude.{◌≡◌, ◌≢◌, ℕ, [], ◌∷◌, refl}
+use Rattle.std.specs.Prelude.{◌≡◌, ℕ, [], ◌∷◌, refl}
 use Rattle.mcs_system.specs.System.{System}
-use Rattle.mcs_laws.specs.Links.{Signals}
-use Rattle.mcs_window.specs.Safe.{IsSafe}
-use Rattle.mcs_window.specs.ByScripts.{IsSafeByScripts}
 use Rattle.mcs_window.specs.Desk.{opening_table}
 use Rattle.mcs_window.specs.laws.Steps.{Lend, Settle, Forfeit, TakeRows, Skip, Go, turns_in}
 
@@ -19,17 +15,3 @@ turns_by_settling :
     (Lend 0 2 ∷ Lend 1 2 ∷ Settle 1 ∷ TakeRows 1 ∷ Settle 0 ∷ Skip 4 (4 ∷ 4 ∷ []) ∷ Go 1 6 ∷ Forfeit ∷ [])
     ≡ 1 ∷ 1 ∷ 0 ∷ 0 ∷ 0 ∷ 1 ∷ 0 ∷ 1 ∷ 1 ∷ 1 ∷ []
 turns_by_settling = refl
-
-no_signals : (b c : ℕ) → Signals (two 1) b c → ⊥
-no_signals b c s = omega (arith, s.known)
-
--- core 0 goes to the end by itself: that is safe by the scripts
-goes_on : IsSafeByScripts (two 1) 1 (0 ∷ 0 ∷ []) (0 ∷ 0 ∷ [])
-goes_on = (
-  record { known = omega arith; in_time = omega arith; safe = λ b l other s. absurd (no_signals b 0 s) },
-  (record { known = omega arith; in_time = omega arith; safe = λ b l other s. absurd (no_signals b 0 s) }, tt),
-)
-
--- and not in the first sense
-goes_too_far : IsSafe (two 1) 1 (0 ∷ 0 ∷ []) (0 ∷ 0 ∷ []) → ⊥
-goes_too_far h = let one : (let a : ℕ = 1 in a) ≢ 0 = omega arith in let late = h.1.0.safe 1 (omega arith) one in omega arith

@@ -3,10 +3,10 @@ use Rattle.std.specs.Prelude.{◌≡◌, ◌≢◌, ◌⊎◌, ℕ, ◌+◌, ◌
 use Rattle.std.specs.List.{range_with_len}
 use Rattle.mcs_ticks.specs.declared.row.Row.{Row}
 use Rattle.mcs_system.specs.System.{System, delay_between}
-use Rattle.mcs_window.specs.ByScripts.{IsSafeByScripts, IsFarByScripts, clocks_after}
-use Rattle.mcs_window.specs.Idle.{AreSet, IsIdleUntil}
+use Rattle.mcs_stretch.specs.ByScripts.{IsSafeByScripts, IsFarByScripts, clocks_after}
+use Rattle.mcs_stretch.specs.Idle.{AreSet, IsIdleUntil}
 use Rattle.mcs_window.specs.Pieces.{Outcome}
-use Rattle.mcs_window.specs.Stretch.{rows_between, NothingArrivesBefore}
+use Rattle.mcs_stretch.specs.Stretch.{rows_between, NothingArrivesBefore}
 use Rattle.mcs_window.specs.declared.slot.Loan.{Loan}
 use Rattle.mcs_window.specs.declared.fault.SettleFault.{SettleFault}
 use Rattle.mcs_window.specs.declared.fault.SettleFault.TheVariants.{Foreign, NotLent, OtherLoan, NoMemory}

@@ -4,8 +4,8 @@ use Rattle.mcs_ticks.specs.declared.row.Row.{Row}
 use Rattle.mcs_mail.specs.declared.mail.Mail.{Mail}
 use Rattle.mcs_system.specs.System.{System}
 use Rattle.mcs_core.specs.State.{State}
-use Rattle.mcs_window.specs.Inbox.{inbox, signals_between}
-use Rattle.mcs_window.specs.Stretch.{rows_between, NothingArrivesBefore, StandsAt}
+use Rattle.mcs_stretch.specs.Inbox.{inbox, signals_between}
+use Rattle.mcs_stretch.specs.Stretch.{rows_between, NothingArrivesBefore, StandsAt}
 
 pub record Work : Type 0 where
   pub system : System

@@ -3,7 +3,7 @@ use Rattle.std.specs.Prelude.{◌≡◌, ◌≢◌, ◌⊎◌, ℕ, suc, ◌+◌
 use Rattle.mcs_system.specs.System.{System, delay_between}
 use Rattle.mcs_window.specs.declared.fault.StepFault.{StepFault}
 use Rattle.mcs_window.specs.declared.fault.StepFault.TheVariants.{Ended, NotSafe, NoMemory}
-use Rattle.mcs_window.specs.Safe.{MayStep, IsSafe}
+use Rattle.mcs_stretch.specs.Safe.{MayStep, IsSafe}
 
 -- the clocks, the clocks at the last taking of each core's rows, and whether there was no memory for a step
 pub record Progress : Type 0 where

@@ -1,6 +1,6 @@
-pub mod Merging
+pub use Rattle.mcs_stretch.specs.laws.Merging
 pub mod Steps
-pub mod Orders
-pub mod BySignals
+pub use Rattle.mcs_stretch.specs.laws.Orders
+pub use Rattle.mcs_stretch.specs.laws.BySignals
 pub mod Calls
 pub mod Moves

@@ -1,9 +1,9 @@
 //! How far each core may go, by the clocks of the others.
 ghost use Rattle.std.specs.Prelude.{◌≡◌, ◌↔◌, ◌+◌, ◌≤◌, ◌<◌, ◌^◌, IsTrue};
 ghost use Rattle.mcs_system.specs.System.{delay_between};
-ghost use Rattle.mcs_window.specs.ByScripts.{IsFarByScripts};
+ghost use Rattle.mcs_stretch.specs.ByScripts.{IsFarByScripts};
 ghost use Rattle.mcs_laws.specs.Links.{Signals};
-ghost use Rattle.mcs_window.specs.Stretch.{NothingArrivesBefore};
+ghost use Rattle.mcs_stretch.specs.Stretch.{NothingArrivesBefore};
 ghost use Rattle.mcs_window.specs.stored.Reaches.{IsReach};
 ghost use Rattle.mcs_window.specs.Desk.{past_of};
 

@@ -1,8 +1,8 @@
 ghost use Rattle.std.specs.Prelude.{◌≡◌, ◌≤◌, ◌<◌, ◌^◌, ◌+◌, ◌++◌, ℕ, true, false, IfOk, OnOk, OnErr, IfErr, IfSome, IfNone, IsErr, IsTrue};
 ghost use Rattle.std.specs.Arc.{arc_value};
 ghost use Rattle.mcs_system.specs.System.{delay_between};
-ghost use Rattle.mcs_window.specs.Idle.{IsIdleUntil};
-ghost use Rattle.mcs_window.specs.Stretch.{rows_between, NothingArrivesBefore, StandsAt};
+ghost use Rattle.mcs_stretch.specs.Idle.{IsIdleUntil};
+ghost use Rattle.mcs_stretch.specs.Stretch.{rows_between, NothingArrivesBefore, StandsAt};
 ghost use Rattle.mcs_window.specs.Views.{views_at, AreShownAt};
 ghost use Rattle.mcs_window.specs.Progress.{Progress, opening_progress, clock_of, taken_of, advanced, stepped, skipped, with_taken, with_failed, after_fault, IsReady, IsFault, IsBehind, IsFirstBehind};
 

@@ -2,8 +2,8 @@
 ghost use Rattle.std.specs.Prelude.{◌≡◌, ℕ, ◌+◌, ◌≤◌, ◌<◌, false, None, length};
 ghost use Rattle.mcs_core.specs.Clock.{world, core_at};
 ghost use Rattle.mcs_core.specs.Quiet.{IsNextBusy};
-ghost use Rattle.mcs_window.specs.Idle.{IsIdle, AreIdle, AreSet, IsIdleUntil, OnlyCounts};
-ghost use Rattle.mcs_window.specs.Inbox.{inbox};
+ghost use Rattle.mcs_stretch.specs.Idle.{IsIdle, AreIdle, AreSet, IsIdleUntil, OnlyCounts};
+ghost use Rattle.mcs_stretch.specs.Inbox.{inbox};
 ghost use Rattle.mcs_window.specs.stored.Slots.{HoldsAt};
 ghost use Rattle.mcs_window.specs.Desk.{clock_of, loan_of, IsSkipped, AllAreHere, WentByScripts};
 

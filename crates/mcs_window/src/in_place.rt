@@ -1,6 +1,6 @@
 //! Turns in the caller's thread: of cores that take them where they lie.
 ghost use Rattle.std.specs.Prelude.{◌≡◌, ℕ, ◌≤◌, ◌<◌, max, ◌⊎◌, false, [], slice_index, IfOk, OnOk, OnErr, IsTrue, IsFalse};
-ghost use Rattle.mcs_window.specs.Inbox.{signals_between};
+ghost use Rattle.mcs_stretch.specs.Inbox.{signals_between};
 ghost use Rattle.mcs_window.specs.stored.Rounds.{AreReady};
 ghost use Rattle.mcs_window.specs.stored.Slots.{HoldsAt};
 ghost use Rattle.mcs_window.specs.Desk.{clock_of, past_of, MayGoOn, lent_to, settled_at, taken_at, with_lost, AllAreHere, IsFinished, WentByScripts, IsLater, IsSpent, amount_kept, turns_left};

@@ -1,6 +1,6 @@
 //! What the cores of a desk told, of which each has its own collector.
 ghost use Rattle.std.specs.Prelude.{◌≡◌, ◌-◌, ◌<◌, ◌^◌, [], min};
-ghost use Rattle.mcs_window.specs.Stretch.{rows_between};
+ghost use Rattle.mcs_stretch.specs.Stretch.{rows_between};
 ghost use Rattle.mcs_window.specs.Desk.{clock_of, taken_of, taken_at, amount_kept};
 
 use crate::desk::Desk;

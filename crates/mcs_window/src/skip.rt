@@ -1,6 +1,6 @@
 ghost use Rattle.std.specs.Prelude.{◌≡◌, ◌≤◌, ◌+◌, ◌^◌, length, map, max};
 ghost use Rattle.mcs_system.specs.WellFormed.{IsWellFormed};
-ghost use Rattle.mcs_window.specs.Idle.{AreIdle, AreReached};
+ghost use Rattle.mcs_stretch.specs.Idle.{AreIdle, AreReached};
 ghost use Rattle.mcs_window.specs.stored.Cores.{AreAt};
 ghost use Rattle.mcs_window.specs.stored.Slots.{AllStand, MaySkip, HasSkipped, HaveSkipped};
 

@@ -2,13 +2,13 @@
 use Rattle.std.specs.Prelude.{◌≡◌, ◌≢◌, ℕ, ◌+◌, ◌-◌, ◌<◌, ◌≤◌, nat_le, false, List, [], ◌∷◌, ◌++◌, filter, flat_map, replicate}
 use Rattle.std.specs.List.{range_with_len}
 use Rattle.mcs_system.specs.System.{System, TakesTime, delay_between}
-use Rattle.mcs_window.specs.Safe.{IsSafe}
-use Rattle.mcs_window.specs.ByScripts.{IsSafeByScripts, IsFarByScripts, clocks_after}
-use Rattle.mcs_window.specs.Idle.{IsIdleUntil}
-use Rattle.mcs_window.specs.Stretch.{NothingArrivesBefore}
+use Rattle.mcs_stretch.specs.Safe.{IsSafe}
+use Rattle.mcs_stretch.specs.ByScripts.{IsSafeByScripts, IsFarByScripts, clocks_after}
+use Rattle.mcs_stretch.specs.Idle.{IsIdleUntil}
+use Rattle.mcs_stretch.specs.Stretch.{NothingArrivesBefore}
 use Rattle.mcs_window.specs.Progress.{Progress, clock_of, opening_progress, advanced, stepped, skipped, with_taken, with_failed, after_fault, IsReady}
 use Rattle.mcs_window.specs.declared.fault.StepFault.{StepFault}
-use Rattle.mcs_window.specs.laws.BySignals.{IsSafeBySignals}
+use Rattle.mcs_stretch.specs.laws.BySignals.{IsSafeBySignals}
 
 -- a move of cores: a core takes the turn at its clock, or those up to before a moment, all clocks before a moment are set to it, rows of a
 -- core are taken, or memory is refused

@@ -2,9 +2,9 @@
 use Rattle.std.specs.Prelude.{◌≡◌, ◌≢◌, ℕ, ◌+◌, ◌-◌, ◌<◌, ◌≤◌, nat_le, false, Option, Some, None, List, [], ◌∷◌, ◌++◌, filter, flat_map, length, replicate, slice_index}
 use Rattle.std.specs.List.{range_with_len}
 use Rattle.mcs_system.specs.System.{System, TakesTime}
-use Rattle.mcs_window.specs.Safe.{IsSafe}
-use Rattle.mcs_window.specs.ByScripts.{IsSafeByScripts, IsFarByScripts, clocks_after}
-use Rattle.mcs_window.specs.Idle.{AreSet}
+use Rattle.mcs_stretch.specs.Safe.{IsSafe}
+use Rattle.mcs_stretch.specs.ByScripts.{IsSafeByScripts, IsFarByScripts, clocks_after}
+use Rattle.mcs_stretch.specs.Idle.{AreSet}
 use Rattle.mcs_window.specs.Desk.{Table, clock_of, past_of, loan_of, opening_table, MayLend, AllAreHere, lent_to, settled_at, taken_at, with_lost}
 use Rattle.mcs_window.specs.declared.slot.Loan.{Loan}
 

@@ -8,9 +8,9 @@ use Rattle.mcs_mail.specs.Box.{Content}
 use Rattle.mcs_system.specs.System.{System}
 use Rattle.mcs_system.specs.WellFormed.{IsWellFormed}
 use Rattle.mcs_core.specs.State.{State}
-use Rattle.mcs_window.specs.Inbox.{inbox}
-use Rattle.mcs_window.specs.Idle.{IsIdle}
-use Rattle.mcs_window.specs.Stretch.{StandsAt, rows_between, NothingArrivesBefore}
+use Rattle.mcs_stretch.specs.Inbox.{inbox}
+use Rattle.mcs_stretch.specs.Idle.{IsIdle}
+use Rattle.mcs_stretch.specs.Stretch.{StandsAt, rows_between, NothingArrivesBefore}
 use Rattle.mcs_window.specs.Progress.{Progress}
 use Rattle.mcs_window.specs.stored.Opening.{HasItems, AreDelays}
 use Rattle.mcs_window.specs.declared.cores.Cores.TheInside.{Inside}

@@ -11,9 +11,9 @@ use Rattle.mcs_core.specs.State.{Fits, opening_state}
 use Rattle.mcs_ticks.specs.Given.{Given}
 use Rattle.mcs_ticks.specs.Queue.{by_priority}
 use Rattle.mcs_ticks.specs.declared.row.Row.{Row}
-use Rattle.mcs_window.specs.Idle.{IsIdle}
-use Rattle.mcs_window.specs.Inbox.{AreNews, Rises, inbox, signals_between}
-use Rattle.mcs_window.specs.Stretch.{StandsAt, NothingArrivesBefore, rows_between}
+use Rattle.mcs_stretch.specs.Idle.{IsIdle}
+use Rattle.mcs_stretch.specs.Inbox.{AreNews, Rises, inbox, signals_between}
+use Rattle.mcs_stretch.specs.Stretch.{StandsAt, NothingArrivesBefore, rows_between}
 use Rattle.mcs_window.specs.stored.Cores.{IsHere, AreSince, AreSetBelow}
 use Rattle.mcs_window.specs.stored.Delivery.{AreDelivered}
 use Rattle.mcs_window.specs.stored.Opening.{AreDelays}

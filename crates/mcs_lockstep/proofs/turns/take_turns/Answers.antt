@@ -5,7 +5,7 @@ use Rattle.mcs_system.specs.System.{System}
 use Rattle.mcs_core.specs.Clock.{rows_of}
 use Rattle.mcs_window.specs.Progress.{Progress, advanced, with_taken}
 use Rattle.mcs_window.specs.Stretch.{NothingArrivesBefore}
-use Rattle.mcs_window.proofs.Advances.{takes_time}
+use Rattle.mcs_stretch.proofs.Later.{takes_time}
 use Rattle.mcs_lockstep.specs.stored.Kept.{HaveTurned}
 use Rattle.mcs_lockstep.proofs.Turning.{turned-none, turned-more, turned-all, reached-now, rows-next}
 use Rattle.mcs_lockstep.proofs.turns.take_turns.Goals as goal

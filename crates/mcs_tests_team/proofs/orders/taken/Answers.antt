@@ -2,7 +2,7 @@ use Rattle.std.proofs.Common.{◌∙◌, ap, subst, sym, All}
 use Rattle.std.proofs.lemmas.List.Elements.{All-push}
 use Rattle.mcs_merge.specs.Merge.{DoNotFall}
 use Rattle.mcs_window.specs.Progress.{Progress, clock_of, taken_of}
-use Rattle.mcs_window.proofs.Merging.{order-between}
+use Rattle.mcs_stretch.proofs.Merging.{order-between}
 use Rattle.mcs_tests_team.proofs.orders.taken.Goals as goal
 
 pub loop-number-preserved : goal.loop-number-preserved

@@ -2,7 +2,7 @@ use Rattle.std.proofs.Common.{◌≡◌, ℕ, ◌<◌, ◌≤◌, length, get_or
 use Rattle.std.specs.Prelude.{slice_index}
 use Rattle.std.proofs.lemmas.Grind.{get_or_default_zero}
 use Rattle.mcs_window.specs.stored.Cores.{AreSkipped}
-use Rattle.mcs_window.proofs.Advances.{takes_time}
+use Rattle.mcs_stretch.proofs.Later.{takes_time}
 use Rattle.mcs_window.proofs.Skips.{enough, set-all, skip-quiet, stands-now, skipped-more, skipped-same}
 use Rattle.mcs_window.proofs.skip.skip_all.Goals as goal
 use Rattle.mcs_window.proofs.skip.skip_all.Goals.{then-get, else-get}

@@ -1,7 +1,7 @@
 use Rattle.std.proofs.Common.{◌<◌, ◌≤◌, ◌∙◌, length, get_or, arith}
 use Rattle.std.specs.Prelude.{slice_index}
 use Rattle.std.proofs.lemmas.Grind.{get_or_default_zero}
-use Rattle.mcs_window.proofs.Advances.{takes_time}
+use Rattle.mcs_stretch.proofs.Later.{takes_time}
 use Rattle.mcs_window.proofs.Skipping.{may-skip, stands-still, slots-more, slots-same}
 use Rattle.mcs_window.proofs.skip.skip_slots.Goals as goal
 use Rattle.mcs_window.proofs.skip.skip_slots.Goals.{then-get, else-get}

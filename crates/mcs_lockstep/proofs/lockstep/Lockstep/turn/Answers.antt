@@ -1,6 +1,6 @@
 use Rattle.std.proofs.Common.{◌≡◌, ◌+◌, ◌++◌, subst}
 use Rattle.std.specs.Arc.{arc_value}
-use Rattle.mcs_window.proofs.Advances.{takes_time}
+use Rattle.mcs_stretch.proofs.Later.{takes_time}
 use Rattle.mcs_lockstep.specs.Together.{Together, rows_at, rows_before}
 use Rattle.mcs_lockstep.proofs.Turning.{rows-after}
 use Rattle.mcs_lockstep.proofs.lockstep.Lockstep.turn.Goals as goal

@@ -2,7 +2,7 @@ use Rattle.std.proofs.Common.{◌≡◌, ◌<◌, ◌≤◌, ◌+◌, length, se
 use Rattle.std.specs.Prelude.{slice_index}
 use Rattle.std.specs.Arc.{arc_value}
 use Rattle.mcs_mail.specs.Box.{Content}
-use Rattle.mcs_window.specs.Stretch.{NothingArrivesBefore, StandsAt}
+use Rattle.mcs_stretch.specs.Stretch.{NothingArrivesBefore, StandsAt}
 use Rattle.mcs_window.proofs.Advances.{expected}
 use Rattle.mcs_window.proofs.Keeping.{spent_kept, advanced_kept}
 use Rattle.mcs_window.proofs.cores.Cores.advance.Goals as goal

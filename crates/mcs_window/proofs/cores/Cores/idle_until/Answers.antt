@@ -2,10 +2,10 @@ use Rattle.std.proofs.Common.{◌≡◌, ℕ, ◌+◌, ◌<◌, ◌≤◌, ◌^�
 use Rattle.std.specs.Prelude.{slice_index, slice_index_or}
 use Rattle.std.specs.Arc.{arc_value}
 use Rattle.mcs_mail.specs.Box.{Content}
-use Rattle.mcs_window.specs.Idle.{IsIdleUntil}
+use Rattle.mcs_stretch.specs.Idle.{IsIdleUntil}
 use Rattle.mcs_window.specs.Progress.{Progress}
 use Rattle.mcs_window.specs.stored.Cores.{AreIdleBelow}
-use Rattle.mcs_window.specs.Stretch.{StandsAt}
+use Rattle.mcs_stretch.specs.Stretch.{StandsAt}
 use Rattle.mcs_window.proofs.Advances.{expected}
 use Rattle.mcs_window.proofs.Skips.{next-here, below-all, below-same, below-sooner, not-before, never-before}
 use Rattle.mcs_window.proofs.cores.Cores.idle_until.Goals as goal

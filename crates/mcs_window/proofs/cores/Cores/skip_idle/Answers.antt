@@ -1,6 +1,6 @@
 use Rattle.std.proofs.Common.{◌+◌, ◌∙◌, length, ap, sym, subst}
 use Rattle.std.specs.Arc.{arc_value}
-use Rattle.mcs_window.specs.Idle.{AreReached, IsIdleUntil}
+use Rattle.mcs_stretch.specs.Idle.{AreReached, IsIdleUntil}
 use Rattle.mcs_window.specs.Progress.{Progress}
 use Rattle.mcs_window.proofs.Skips.{at-clocks, all-reached, skipped_kept}
 use Rattle.mcs_window.proofs.cores.Cores.skip_idle.Goals as goal

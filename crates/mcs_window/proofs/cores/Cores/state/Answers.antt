@@ -3,7 +3,7 @@ use Rattle.std.specs.Prelude.{slice_index}
 use Rattle.std.specs.Arc.{arc_value}
 use Rattle.mcs_core.specs.State.{State}
 use Rattle.mcs_window.specs.Progress.{Progress, clock_of}
-use Rattle.mcs_window.specs.Stretch.{StandsAt}
+use Rattle.mcs_stretch.specs.Stretch.{StandsAt}
 use Rattle.mcs_window.proofs.Skips.{at-clocks}
 use Rattle.mcs_window.proofs.cores.Cores.state.Goals as goal
 

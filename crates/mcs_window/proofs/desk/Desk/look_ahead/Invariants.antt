@@ -1,6 +1,6 @@
 use Rattle.std.proofs.Common.{◌≡◌, ◌<◌, ◌≤◌, ◌+◌, ℕ}
 use Rattle.std.specs.Prelude.{slice_index}
-use Rattle.mcs_window.specs.Idle.{IsIdle}
+use Rattle.mcs_stretch.specs.Idle.{IsIdle}
 use Rattle.mcs_window.proofs.desk.Desk.look_ahead.Given as goal
 
 abbrev pub invariant-loop-core : goal.invariant-loop-core

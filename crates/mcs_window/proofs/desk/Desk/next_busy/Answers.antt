@@ -4,7 +4,7 @@ use Rattle.std.specs.Arc.{arc_value}
 use Rattle.mcs_core.specs.Clock.{world, core_at}
 use Rattle.mcs_core.specs.Quiet.{IsNextBusy}
 use Rattle.mcs_window.specs.Desk.{Table, clock_of}
-use Rattle.mcs_window.specs.Inbox.{inbox}
+use Rattle.mcs_stretch.specs.Inbox.{inbox}
 use Rattle.mcs_window.specs.stored.Cores.{IsHere}
 use Rattle.mcs_window.proofs.Advances.{expected}
 use Rattle.mcs_window.proofs.Lends.{here_at}

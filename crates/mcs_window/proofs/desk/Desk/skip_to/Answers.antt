@@ -1,11 +1,10 @@
 use Rattle.std.proofs.Common.{arith, ◌∙◌, ◌≤◌, ◌<◌, ◌+◌, ℕ, ap, sym, subst}
 use Rattle.std.specs.Arc.{arc_value}
 use Rattle.mcs_window.specs.Desk.{Table, AllAreHere, WentByScripts}
-use Rattle.mcs_window.specs.Idle.{AreIdle, AreReached, OnlyCounts}
-use Rattle.mcs_window.specs.stored.Slots.{HaveSkipped}
-use Rattle.mcs_window.proofs.Advances.{takes_time}
+use Rattle.mcs_stretch.specs.Idle.{AreIdle, AreReached, OnlyCounts}
+use Rattle.mcs_window.specs.stored.Slots.{HaveSkipped, table_of}
+use Rattle.mcs_stretch.proofs.Later.{takes_time}
 use Rattle.mcs_window.proofs.Going.{skipped-went}
-use Rattle.mcs_window.specs.stored.Slots.{table_of}
 use Rattle.mcs_window.proofs.Skipping.{all-stand, all-reached, counts, skipped_desk, skipped_shows}
 use Rattle.mcs_window.proofs.desk.Desk.skip_to.Goals as goal
 

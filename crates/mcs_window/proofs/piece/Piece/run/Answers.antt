@@ -1,7 +1,7 @@
 use Rattle.std.proofs.Common.{◌∙◌}
 use Rattle.std.specs.Arc.{arc_value}
 use Rattle.mcs_core.specs.State.{made_by}
-use Rattle.mcs_window.specs.Stretch.{IsAfter}
+use Rattle.mcs_stretch.specs.Stretch.{IsAfter}
 use Rattle.mcs_window.proofs.Advances.{expected, ran_here, state_here}
 use Rattle.mcs_window.proofs.piece.Piece.run.Goals as goal
 

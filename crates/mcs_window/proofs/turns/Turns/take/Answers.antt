@@ -3,7 +3,7 @@ use Rattle.std.specs.Prelude.{slice_index}
 use Rattle.std.specs.Arc.{arc_value}
 use Rattle.mcs_ticks.specs.Given.{Given}
 use Rattle.mcs_core.specs.State.{made_by}
-use Rattle.mcs_window.specs.Stretch.{StandsAt, NothingArrivesBefore, IsAfter}
+use Rattle.mcs_stretch.specs.Stretch.{StandsAt, NothingArrivesBefore, IsAfter}
 use Rattle.mcs_window.specs.stored.Slots.{StandsIn}
 use Rattle.mcs_window.proofs.Advances.{expected, ran_here, state_here}
 use Rattle.mcs_window.proofs.turns.Turns.take.Goals as goal

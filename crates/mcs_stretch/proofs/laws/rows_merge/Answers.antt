@@ -1,0 +1,5 @@
+use Rattle.mcs_stretch.proofs.Merging as merging
+use Rattle.mcs_stretch.proofs.laws.rows_merge.Goals as goal
+
+pub returns : goal.returns
+returns c = merging.rows_merge

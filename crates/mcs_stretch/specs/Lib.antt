@@ -1,0 +1,6 @@
+pub mod Inbox
+pub mod Stretch
+pub mod Safe
+pub mod ByScripts
+pub mod Idle
+pub mod laws

@@ -1,5 +1,0 @@
-use Rattle.mcs_window.proofs.Idle.{idle-passes}
-use Rattle.mcs_window.proofs.laws.idle_time_passes.Goals as goal
-
-pub returns : goal.returns
-returns c = idle-passes

@@ -1,5 +1,0 @@
-use Rattle.mcs_window.proofs.Apart.{orders-give}
-use Rattle.mcs_window.proofs.laws.orders_give_the_schedule.Goals as goal
-
-pub returns : goal.returns
-returns c = orders-give
