@@ -54,7 +54,7 @@ fn flow_rounds<B: Run, S: Sink>(
     Ok(())
 }
 
-// The same for a desk on which nothing has happened yet.
+// Takes the turns in rounds at a desk on which nothing has happened yet.
 fn flow_desk<B: Run, S: Sink>(
     alloc: Global,
     desk: Desk,

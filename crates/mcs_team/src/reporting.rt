@@ -25,7 +25,7 @@ use std::thread::{Threads, join_mut};
 const ROWS: usize = 2048;
 
 /// The reports of the whole simulation up to the horizon, at most 2^40, of which nobody wants the rows: those of the schedule, for every
-/// number of workers. The rows of each core are counted by themselves, some thousand at a time, and none is merged or kept. Threads work at
+/// number of workers. The rows of each core are counted by themselves, a few thousand at a time, and none is merged or kept. Threads work at
 /// one desk, as many as the lesser of `workers` and the number of cores, beside this one, which counts the rows; where that number is less
 /// than two this one takes all turns, and where pieces of work have few rows it takes those that are left after a while, as `simulate_to` says.
 /// The reports are those that `simulate_to` gives. `NoMemory` is answered only where a growth was refused. The gate is told of each piece of

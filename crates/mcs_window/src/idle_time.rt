@@ -90,7 +90,8 @@ impl<S: Collector> Desk<S> {
         if moment < end { moment } else { end }
     }
 
-    // The same where it is known until when the core was idle at least, unless that is stale: it is looked up where its clock has come to it.
+    // Until when a core only counts ticks, where it is known until when it did at least, unless that is stale: it is looked up where its clock
+    // has come to it.
     fn idle_since(&self, core: CoreId, until: Tick, stale: bool) -> Tick
         requires known { core < self.now.system.cores }
         requires here { loan_of self.now core ≡ None }

@@ -47,7 +47,8 @@ impl<S: Collector> Desk<S> {
         Ok(!self.signals.is_empty())
     }
 
-    // The same with a calendar, in which nothing is known of the core from then on, and of no core where a signal was made.
+    // Takes turns of a core as `run_here` does, by a calendar, in which nothing is known of the core from then on, and of no core where a signal
+    // was made.
     fn run_noted(
         &mut self,
         core: CoreId,
@@ -71,7 +72,7 @@ impl<S: Collector> Desk<S> {
         Ok(())
     }
 
-    // The same where the core is busy, as the calendar has it, before the moment up to which it may be lent: then it goes on as far as it
+    // Takes turns of a core where it is busy, as the calendar has it, before the moment up to which it may be lent: then it goes on as far as it
     // may, so that cores which others never signal need not wait for them. Answers whether it took turns.
     fn run_busy(
         &mut self,

@@ -41,7 +41,7 @@ impl Desk<Vec<Row>> {
         self.lend_now()
     }
 
-    // The same without the skip.
+    // Lends the core that may go and is earliest, where it lies. No idle time is skipped.
     fn lend_now(&mut self) -> Option<Piece>
         ensures some { IfSome result (λ piece. (self.old.lost ≡ false)
             × IsChosen self.old piece.core
@@ -117,7 +117,7 @@ impl Desk<Vec<Row>> {
         self.take_back(done)
     }
 
-    /// The same for a stretch of the desk's system. It compares no systems, so that its cost does not grow with the system's size.
+    /// Takes a stretch of the desk's system back, as `settle` does. It compares no systems, so that its cost does not grow with the system's size.
     pub fn take_back(&mut self, done: Done) -> Result<(), (SettleFault, Done)>
         requires { done.system ≡ self.old.system }
         ensures ok { OnOk result (IsLoan self.old done × (self.new ≡ settled_at self.old done.core done.past)) }

@@ -48,7 +48,7 @@ impl Turns<'_> {
         Err(NoMemory)
     }
 
-    // The same, and each signal goes to its home. Where memory is refused the mail of the other cores is as it was.
+    // Takes the turns, and each signal goes to its home. Where memory is refused the mail of the other cores is as it was.
     pub(crate) fn take_and_deliver<S: Collector>(
         &self,
         slot: &mut Slot,
