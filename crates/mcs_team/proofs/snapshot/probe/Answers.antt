@@ -12,9 +12,9 @@ use Rattle.mcs_team.proofs.Rounds.{sum-none}
 use Rattle.mcs_team.proofs.snapshot.probe.Goals as goal
 
 -- where nothing is kept there is never enough
-ends : (enough : ℕ) (desk : Table) → 0 < enough → IsFinished desk ⊎ (enough ≤ amount_kept (λ _. 0) desk) → IsFinished desk
-ends enough desk some (inl finished) = finished
-ends enough desk some (inr much) = absurd (let none = sum-none (λ _. 0) desk.system.cores 0 0 (λ c l. refl) in omega arith)
+ends : {enough : ℕ} (desk : Table) → IsFinished desk ⊎ (enough ≤ amount_kept (λ _. 0) desk) → 0 < enough → IsFinished desk
+ends desk (inl finished) some = finished
+ends desk (inr much) some = absurd (let none = sum-none (λ _. 0) desk.system.cores 0 0 (λ c l. refl) in omega arith)
 
 at-end : (system : System) (t : ℕ) (start desk : Table) (views : List ContextView) → IsWellFormed system → start ≡ opening_table system t → IsLater start desk → IsFinished desk →
     views ≡ views_at desk.system desk.clocks → views ≡ views_before system (t + 1)
@@ -36,7 +36,7 @@ stand system t views well e =
 pub returns-clause-views : goal.returns-clause-views
 returns-clause-views c =
     at-end (arc_value c.args.system) c.args.t c.in_ok-desk.desk c.go.new.self c.in_ok-views.views.items (rw c.deref.ensures at c.parts.ensures.well_formed) c.in_ok-desk.ensures c.in_ok-go.ensures.later
-    (ends 18446744073709551615 c.go.new.self (omega arith) c.in_ok-go.ensures.enough) c.in_ok-views.ensures.views
+    (ends c.go.new.self c.in_ok-go.ensures.enough (omega arith)) c.in_ok-views.ensures.views
 
 pub returns-clause-budgets : goal.returns-clause-budgets
 returns-clause-budgets c = stand (arc_value c.args.system) c.args.t c.in_ok-views.views.items (rw c.deref.ensures at c.parts.ensures.well_formed) (returns-clause-views c)
