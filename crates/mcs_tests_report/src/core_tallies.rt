@@ -68,16 +68,20 @@ fn counted_apart(alloc: Global, system: Arc<System>) -> Result<Reports, Fail> {
     let horizon = tick(6)?;
     let room = Tally::new(alloc, &system, horizon)?;
     let places = Arc::new(alloc, Places::new(alloc, system)?)?;
-    let mut tallies = CoreTally::of_all_cores(alloc, &places, horizon)?;
+    let mut first = CoreTally::new(alloc, Arc::try_clone(&places)?, CoreId(0), horizon)?;
+    let mut second = CoreTally::new(alloc, Arc::try_clone(&places)?, CoreId(1), horizon)?;
     let rows = rows(alloc)?;
     for row in &rows {
-        let _ = tallies[0].row(row);
+        first.add(row);
     }
-    tallies[0].clear();
+    first.clear();
     for row in &rows {
-        let _ = tallies[0].row(row);
-        let _ = tallies[1].row(row);
+        let _ = first.row(row);
+        let _ = second.row(row);
     }
+    let mut tallies = Vec::new(alloc);
+    tallies.push(first)?;
+    tallies.push(second)?;
     Ok(room.together(&places, tallies.as_slice()))
 }
 
