@@ -115,13 +115,13 @@ pub record IsSkipped (before after : Table) : Type 0 where
   pub many : length after.clocks ≡ length before.clocks
   pub rest : after ≡ record before { clocks = after.clocks }
 
--- what is there before a core is lent: where no core is lent and no piece was lost idle time was skipped, and else nothing changed
+-- what happens before a core is lent: where no core is lent and nothing was lost, idle time is skipped, and else nothing changes
 abbrev pub IsAwake : Table → Table → Type 0
 IsAwake before after =
     ((before.lost ≡ false) × AllAreHere before × IsSkipped before after)
     ⊎ ((before.lost ≡ false → ¬ AllAreHere before) × (after ≡ before))
 
--- then core c is lent
+-- core c is lent: first that happens (`IsAwake`), and then the core that is chosen is core c
 pub record IsLent (before : Table) (c : ℕ) (after : Table) : Type 0 where
   pub table : Table
   pub awake : IsAwake before table

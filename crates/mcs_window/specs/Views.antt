@@ -12,7 +12,7 @@ use Rattle.mcs_laws.specs.Histories.{home_of}
 use Rattle.mcs_laws.specs.Shown.{IsShown}
 
 module _ (system : System) where
-  -- context x as its core has it, where the cores are these
+  -- the view of context x, where its core is one of these
   abbrev pub view_in : (ℕ → Core) → ℕ → ContextView
   view_in cores x =
       let core = cores (context_part system x).core in

@@ -41,7 +41,7 @@ impl Desk<Vec<Row>> {
         self.lend_now()
     }
 
-    // Lends the core that may go and is earliest, where it lies. No idle time is skipped.
+    // Of the cores that may be lent, lends the earliest. No idle time is skipped.
     fn lend_now(&mut self) -> Option<Piece>
         ensures some { IfSome result (λ piece. (self.old.lost ≡ false)
             × IsChosen self.old piece.core

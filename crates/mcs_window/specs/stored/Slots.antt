@@ -113,7 +113,7 @@ HasSkipped system moment (Here spare state) (Here other after) =
 HasSkipped system moment (Here spare state) (Away loan) = ⊥
 HasSkipped system moment (Away loan) slot = ⊥
 
--- the cores below this number have gone there, where their clocks were before it
+-- the cores below number `many` have gone to the moment, where their clocks were before it
 pub record HaveSkipped (system : System) (clocks : List ℕ) (moment many : ℕ) (later : List ℕ) (slots : List Slot) :
     Type 0 where
   pub clocks_are : AreSetBelow clocks moment many later
@@ -129,7 +129,7 @@ pub record MayGo (system : System) (c past : ℕ) (front : List ℕ) (slot : Slo
   pub in_time : past ≤ 2 ^ 40 + 1
   pub reached : NothingArrivesBefore system c past front
 
--- it has taken those up to before `to`, and told their rows
+-- such a core has taken its turns up to before `to`, and told their rows
 pub record HasGone {S : Type 0} (takes : S → Row → Bool → S → Type 0) (system : System) (c past : ℕ) (front : List ℕ)
     (before : S) (slot : Slot) (box : List Mail) (after : S) (signals : List Mail) (to : ℕ) : Type 0 where
   pub later : slice_index front c < to
@@ -139,7 +139,7 @@ pub record HasGone {S : Type 0} (takes : S → Row → Bool → S → Type 0) (s
   pub told : Given takes before (rows_between system c (slice_index front c) to) after
   pub signals_are : signals ≡ signals_between system c (slice_index front c) to
 
--- and its signals went to their homes
+-- such a core has taken its turns (`HasGone`), and its signals went to their homes
 pub record HasGoneAndSent {S : Type 0} (takes : S → Row → Bool → S → Type 0) (system : System) (c past : ℕ)
     (front : List ℕ) (before : S) (boxes : List Content) (slot : Slot) (full : List Content) (after : S)
     (signals : List Mail) (to : ℕ) : Type 0 where
@@ -160,7 +160,7 @@ pub record IsEarliestBelow (table : Table) (n c : ℕ) : Type 0 where
   pub least : (k : ℕ) → k < n → loan_of table k ≡ None → clock_of table c ≤ clock_of table k
   pub first : (k : ℕ) → k < c → loan_of table k ≡ None → clock_of table c < clock_of table k
 
--- and none where all of them are lent
+-- the earliest of the cores below number n that are not lent, or None where all of them are lent
 abbrev pub IsEarliest : Table → ℕ → Option ℕ → Type 0
 IsEarliest table n None = (k : ℕ) → k < n → loan_of table k ≢ None
 IsEarliest table n (Some c) = IsEarliestBelow table n c
