@@ -126,15 +126,15 @@ module _ (system : System) (well : IsWellFormed system) where
       rows_own : holds new (rows_between system c (slice_index taken c) to)
       rows_own =
           subst (holds new) (rows-join system c (slice_index taken c) (slice_index front c) to (kept.in_order c h) l)
-          (more (rows_between system c (slice_index taken c) (slice_index front c)) (subst (λ s. holds s (rows_between system c (slice_index taken c) (slice_index front c))) (sym at) (kept.rows_are c old h)))
+          (more (rows_between system c (slice_index taken c) (slice_index front c)) (subst (λ s. holds s (rows_between system c (slice_index taken c) (slice_index front c))) (sym at) (kept.told_are.each c old h)))
 
       rows_later : (b : ℕ) (x : S) → b < system.cores → holds (get_or (set told c new) b x) (rows_between system b (slice_index taken b) (slice_index later b))
       rows_later b x p = elim (eqb_tells b c) [
         | inl e ↦ subst (λ d. holds (get_or (set told c new) d x) (rows_between system d (slice_index taken d) (slice_index later d))) (sym e.1)
-            (subst (λ s. holds s (rows_between system c (slice_index taken c) (slice_index later c))) (sym (get_or-set_same told c new x (let many = kept.told_of in omega arith)))
+            (subst (λ s. holds s (rows_between system c (slice_index taken c) (slice_index later c))) (sym (get_or-set_same told c new x (let many = kept.told_are.many_are in omega arith)))
             (subst (λ t. holds new (rows_between system c (slice_index taken c) t)) (sym (later_same system front c to known)) rows_own))
         | inr e ↦ subst (λ s. holds s (rows_between system b (slice_index taken b) (slice_index later b))) (sym (get_or-set_other told c b new x e.1))
-            (subst (λ t. holds (get_or told b x) (rows_between system b (slice_index taken b) t)) (sym (later_other system front c to known b e.1)) (kept.rows_are b x p))
+            (subst (λ t. holds (get_or told b x) (rows_between system b (slice_index taken b) t)) (sym (later_other system front c to known b e.1)) (kept.told_are.each b x p))
       ]
 
       in_time_later : (b : ℕ) → b < system.cores → slice_index later b ≤ horizon + 1
@@ -149,8 +149,7 @@ module _ (system : System) (well : IsWellFormed system) where
       pub since_later : AreSince holds system horizon later taken (set told c new)
       since_later =
           record {
-            told_of = length-set told c new ∙ kept.told_of;
             in_time = in_time_later;
             in_order = in_order_later;
-            rows_are = rows_later;
+            told_are = record { many_are = length-set told c new ∙ kept.told_are.many_are; each = rows_later };
           }

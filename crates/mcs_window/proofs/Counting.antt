@@ -28,4 +28,4 @@ module _ (amount : List Row → ℕ) where
 -- a collector's size is that of what its core told
 pub size_at : {S : Type 0} {holds : S → List Row → Type 0} (size : S → ℕ) (amount : List Row → ℕ) → ((s : S) (held : List Row) → holds s held → size s ≡ amount held)
     → (a : Inside S) → IsKept holds a → (k : ℕ) (x : S) → k < (arc_value a.system).cores → x ≡ get_or a.told.items k x → size x ≡ kept_of amount (table_of a) k
-size_at size amount is_measured a kept k x known at = ap size at ∙ is_measured (get_or a.told.items k x) _ (kept.since.rows_are k x known)
+size_at size amount is_measured a kept k x known at = ap size at ∙ is_measured (get_or a.told.items k x) _ (kept.since.told_are.each k x known)

@@ -49,10 +49,9 @@ module _ (a : Inside) (kept : IsKept a) where
           clocks_of = kept.kept.clocks_of;
           taken_of = kept.kept.taken_of;
           since = record {
-            told_of = length-set a.rows.items k new ∙ kept.kept.since.told_of;
             in_time = kept.kept.since.in_time;
             in_order = kept.kept.since.in_order;
-            rows_are = rows_same;
+            told_are = record { many_are = length-set a.rows.items k new ∙ kept.kept.since.told_are.many_are; each = rows_same };
           };
         };
         whole = λ e. cc;
@@ -60,10 +59,10 @@ module _ (a : Inside) (kept : IsKept a) where
     where
       rows_same : (b : ℕ) (x : Vec Row Global) → b < system.cores → (get_or (set a.rows.items k new) b x).items ≡ rows_between system b (slice_index a.taken.items b) (slice_index a.clocks.items b)
       rows_same b x p = elim (eqb_tells b k) [
-        | inl e ↦ ap (λ d. (get_or (set a.rows.items k new) d x).items) e.1 ∙ ap (λ (v : Vec Row Global). v.items) (get_or-set_same a.rows.items k new x (let all = kept.kept.since.told_of in omega arith))
-            ∙ same ∙ ap (λ (v : Vec Row Global). v.items) at ∙ kept.kept.since.rows_are k old h
+        | inl e ↦ ap (λ d. (get_or (set a.rows.items k new) d x).items) e.1 ∙ ap (λ (v : Vec Row Global). v.items) (get_or-set_same a.rows.items k new x (let all = kept.kept.since.told_are.many_are in omega arith))
+            ∙ same ∙ ap (λ (v : Vec Row Global). v.items) at ∙ kept.kept.since.told_are.each k old h
             ∙ ap (λ d. rows_between system d (slice_index a.taken.items d) (slice_index a.clocks.items d)) (sym e.1)
-        | inr e ↦ ap (λ (v : Vec Row Global). v.items) (get_or-set_other a.rows.items k b new x e.1) ∙ kept.kept.since.rows_are b x p
+        | inr e ↦ ap (λ (v : Vec Row Global). v.items) (get_or-set_other a.rows.items k b new x e.1) ∙ kept.kept.since.told_are.each b x p
       ]
 
   -- the core has taken its turns

@@ -88,10 +88,9 @@ opened_kept a in_time well clocks_are taken_are states boxes rows delays no_sign
         clocks_of = ap length clocks_are ∙ length-replicate (arc_value a.system).cores 0;
         taken_of = ap length taken_are ∙ length-replicate (arc_value a.system).cores 0;
         since = record {
-          told_of = rows.many_are;
           in_time = λ c l. let e = clock c l in omega arith;
           in_order = λ c l. let e = clock c l in let f = taken c l in omega arith;
-          rows_are = λ c x l. rows.each c x l ∙ sym (rows-none (arc_value a.system) c 0) ∙ both c (sym (taken c l)) (sym (clock c l));
+          told_are = record { many_are = rows.many_are; each = λ c x l. rows.each c x l ∙ sym (rows-none (arc_value a.system) c 0) ∙ both c (sym (taken c l)) (sym (clock c l)) };
         };
       };
       whole = λ _. record {

@@ -60,10 +60,9 @@ pub since_taken : {S : Type 0} {holds : S → List Row → Type 0} (a : Inside S
     → clock ≡ slice_index a.clocks k → AreSince holds (arc_value a.system) a.horizon a.clocks (set a.taken k clock) told
 since_taken {S} {holds} a kept k clock told none known none_is told_are clock_is =
     record {
-      told_of = ap length told_are ∙ length-set a.told.items k none ∙ kept.since.told_of;
       in_time = kept.since.in_time;
       in_order = in_order;
-      rows_are = λ c x p. subst (λ ts. holds (get_or ts c x) (rows_between (arc_value a.system) c (slice_index (set a.taken k clock) c) (slice_index a.clocks c))) (sym told_are) (each c x p);
+      told_are = record { many_are = ap length told_are ∙ length-set a.told.items k none ∙ kept.since.told_are.many_are; each = λ c x p. subst (λ ts. holds (get_or ts c x) (rows_between (arc_value a.system) c (slice_index (set a.taken k clock) c) (slice_index a.clocks c))) (sym told_are) (each c x p) };
     }
   where
     taken_same : slice_index (set a.taken k clock) k ≡ slice_index a.clocks k
@@ -79,10 +78,10 @@ since_taken {S} {holds} a kept k clock told none known none_is told_are clock_is
     each : (c : ℕ) (x : S) → c < (arc_value a.system).cores → holds (get_or (set a.told.items k none) c x) (rows_between (arc_value a.system) c (slice_index (set a.taken k clock) c) (slice_index a.clocks c))
     each c x p = elim (eqb_tells c k) [
       | inl e ↦ subst (λ d. holds (get_or (set a.told.items k none) d x) (rows_between (arc_value a.system) d (slice_index (set a.taken k clock) d) (slice_index a.clocks d))) (sym e.1)
-          (subst (λ t. holds t (rows_between (arc_value a.system) k (slice_index (set a.taken k clock) k) (slice_index a.clocks k))) (sym (get_or-set_same a.told.items k none x (let all = kept.since.told_of in omega arith)))
+          (subst (λ t. holds t (rows_between (arc_value a.system) k (slice_index (set a.taken k clock) k) (slice_index a.clocks k))) (sym (get_or-set_same a.told.items k none x (let all = kept.since.told_are.many_are in omega arith)))
           (subst (holds none) (sym (rows-none (arc_value a.system) k (slice_index a.clocks k)) ∙ ap (λ t. rows_between (arc_value a.system) k t (slice_index a.clocks k)) (sym taken_same)) none_is))
       | inr e ↦ subst (λ t. holds t (rows_between (arc_value a.system) c (slice_index (set a.taken k clock) c) (slice_index a.clocks c))) (sym (get_or-set_other a.told.items k c none x e.1))
-          (subst (λ t. holds (get_or a.told.items c x) (rows_between (arc_value a.system) c t (slice_index a.clocks c))) (sym (get_or-set_other a.taken k c clock 0 e.1)) (kept.since.rows_are c x p))
+          (subst (λ t. holds (get_or a.told.items c x) (rows_between (arc_value a.system) c t (slice_index a.clocks c))) (sym (get_or-set_other a.taken k c clock 0 e.1)) (kept.since.told_are.each c x p))
     ]
 
 pub taken_kept : {S : Type 0} {holds : S → List Row → Type 0} (a : Inside S) → IsKept holds a → (k clock : ℕ) (none : S) → k < (arc_value a.system).cores → holds none [] → clock ≡ slice_index a.clocks k

@@ -241,20 +241,19 @@ rows_roomy a k old new kept h at same =
       delays_are = kept.delays_are;
       reaches_are = kept.reaches_are;
       since = record {
-        told_of = length-set a.told.items k new ∙ kept.since.told_of;
         in_time = kept.since.in_time;
         in_order = kept.since.in_order;
-        rows_are = rows_same;
+        told_are = record { many_are = length-set a.told.items k new ∙ kept.since.told_are.many_are; each = rows_same };
       };
       placed = kept.placed;
     }
   where
     rows_same : (b : ℕ) (x : Vec Row Global) → b < (arc_value a.system).cores → (get_or (set a.told.items k new) b x).items ≡ rows_between (arc_value a.system) b (slice_index a.taken b) (slice_index a.clocks b)
     rows_same b x p = elim (eqb_tells b k) [
-      | inl e ↦ ap (λ d. (get_or (set a.told.items k new) d x).items) e.1 ∙ ap (λ (v : Vec Row Global). v.items) (get_or-set_same a.told.items k new x (let all = kept.since.told_of in omega arith))
-          ∙ same ∙ ap (λ (v : Vec Row Global). v.items) at ∙ kept.since.rows_are k old h
+      | inl e ↦ ap (λ d. (get_or (set a.told.items k new) d x).items) e.1 ∙ ap (λ (v : Vec Row Global). v.items) (get_or-set_same a.told.items k new x (let all = kept.since.told_are.many_are in omega arith))
+          ∙ same ∙ ap (λ (v : Vec Row Global). v.items) at ∙ kept.since.told_are.each k old h
           ∙ ap (λ d. rows_between (arc_value a.system) d (slice_index a.taken d) (slice_index a.clocks d)) (sym e.1)
-      | inr e ↦ ap (λ (v : Vec Row Global). v.items) (get_or-set_other a.told.items k b new x e.1) ∙ kept.since.rows_are b x p
+      | inr e ↦ ap (λ (v : Vec Row Global). v.items) (get_or-set_other a.told.items k b new x e.1) ∙ kept.since.told_are.each b x p
     ]
 
 -- a stretch that was lent

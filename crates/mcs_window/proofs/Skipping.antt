@@ -133,10 +133,9 @@ module _ {S : Type 0} {holds : S → List Row → Type 0} (a : Inside S) (kept :
           delays_are = kept.delays_are;
           reaches_are = kept.reaches_are;
           since = record {
-            told_of = kept.since.told_of;
             in_time = λ c p. (let l = kept.since.in_time c p in let now = all-set c p in omega arith);
             in_order = λ c p. (let l = kept.since.in_order c p in let now = all-set c p in omega arith);
-            rows_are = λ c x p. subst (holds (get_or a.told.items c x)) (rows-on c p) (kept.since.rows_are c x p);
+            told_are = record { many_are = kept.since.told_are.many_are; each = λ c x p. subst (holds (get_or a.told.items c x)) (rows-on c p) (kept.since.told_are.each c x p) };
           };
           placed = subst (λ xs. ArePlaced system a.horizon later xs a.boxes.items) (sym slots-are) placed;
         }

@@ -219,10 +219,9 @@ module _ (a : Inside) (kept : IsKept a) (unspent : a.failed ≡ false) where
               clocks_of = many_are ∙ kept.kept.clocks_of;
               taken_of = kept.kept.taken_of;
               since = record {
-                told_of = since.told_of;
                 in_time = λ c p. (let l = since.in_time c p in let now = there c p in omega arith);
                 in_order = λ c p. (let l = since.in_order c p in let now = there c p in omega arith);
-                rows_are = λ c x p. since.rows_are c x p ∙ rows-on c p;
+                told_are = record { many_are = since.told_are.many_are; each = λ c x p. since.told_are.each c x p ∙ rows-on c p };
               };
             });
         whole = λ f. record {

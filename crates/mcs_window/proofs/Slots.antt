@@ -71,10 +71,9 @@ opened_desk holds a in_time well clocks_are taken_are slots boxes told delays re
       delays_are = delays;
       reaches_are = reaches;
       since = record {
-        told_of = told.many_are;
         in_time = λ c _. let e = clock c in omega arith;
         in_order = λ c _. let e = clock c in let f = taken c in omega arith;
-        rows_are = λ c x l. subst (holds (get_or a.told.items c x)) (both c (sym (taken c)) (sym (clock c))) (told.each c x l);
+        told_are = record { many_are = told.many_are; each = λ c x l. subst (holds (get_or a.told.items c x)) (both c (sym (taken c)) (sym (clock c))) (told.each c x l) };
       };
       placed = λ c slot box l. fresh_placed (arc_value a.system) a.horizon c a.clocks _ _ l clock (boxes.each c box l) (slots.each c slot l);
     }

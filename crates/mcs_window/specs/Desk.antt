@@ -11,8 +11,8 @@ use Rattle.mcs_window.specs.declared.slot.Loan.{Loan}
 use Rattle.mcs_window.specs.declared.fault.SettleFault.{SettleFault}
 use Rattle.mcs_window.specs.declared.fault.SettleFault.TheVariants.{Foreign, NotLent, OtherLoan, NoMemory}
 
--- the clocks and the clocks at the last taking of each core's rows, both 0 past the last core; what each core is lent for, if it is
--- lent; and whether a piece was lost, or a core on the desk itself
+-- the clocks, 0 past the last core; the clock of each core when its rows were last taken; what each core is lent for, if it is lent;
+-- and whether a piece was lost, or a core on the desk itself
 pub record Table : Type 0 where
   pub system : System
   pub horizon : ℕ
@@ -36,6 +36,17 @@ opening_table system horizon =
 pub record AreEmpty {S : Type 0} (holds : S → List Row → Type 0) (many : ℕ) (told : List S) : Type 0 where
   pub many_are : length told ≡ many
   pub each : (c : ℕ) (x : S) → c < many → holds (slice_index_or told c x) []
+
+-- a collector for each core, and each holds the rows of its core from its moment in `taken` to before its moment in `clocks`
+pub record AreToldBetween {S : Type 0} (holds : S → List Row → Type 0) (system : System) (taken clocks : List ℕ)
+    (told : List S) : Type 0 where
+  pub many_are : length told ≡ system.cores
+  pub each : (c : ℕ) (x : S) → c < system.cores
+      → holds (slice_index_or told c x) (rows_between system c (slice_index taken c) (slice_index clocks c))
+
+-- a collector for each core, and each holds what its core told since that was last taken
+abbrev pub AreTold : {S : Type 0} → (S → List Row → Type 0) → Table → List S → Type 0
+AreTold holds table told = AreToldBetween holds table.system table.taken table.clocks told
 
 abbrev pub clock_of : Table → ℕ → ℕ
 clock_of table c = slice_index table.clocks c

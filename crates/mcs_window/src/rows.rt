@@ -1,8 +1,9 @@
 //! What the cores of a desk told, of which each has its own collector.
-ghost use Rattle.std.specs.Prelude.{◌≡◌, ◌-◌, ◌<◌, ◌^◌, [], min};
+ghost use Rattle.std.specs.Prelude.{◌≡◌, ℕ, ◌-◌, ◌<◌, ◌≤◌, ◌^◌, [], min, slice_index};
 ghost use Rattle.mcs_stretch.specs.Stretch.{rows_between};
-ghost use Rattle.mcs_window.specs.Desk.{clock_of, taken_of, taken_at, amount_kept};
+ghost use Rattle.mcs_window.specs.Desk.{clock_of, taken_of, taken_at, amount_kept, AreTold};
 
+use crate::Front;
 use crate::desk::Desk;
 use mcs_ticks::{Collector, CoreId, Row};
 use std::mem;
@@ -29,6 +30,52 @@ impl<S: Collector> Desk<S> {
             kept = kept.saturating_add(self.told[core].size());
         }
         kept
+    }
+}
+
+impl<S: Collector + Drop> Desk<S> {
+    /// What each core told since that was last taken, from core 0 on. The desk is given up.
+    pub fn into_told(self) -> Vec<S>
+        ensures { AreTold S.holds self result.items }
+    {
+        let Desk { told, .. } = self;
+        told
+    }
+
+    /// The same cores at the same clocks, with their loans, which tell to other collectors from now on. Each of these holds what its core told
+    /// since its moment in `taken`, which is at most the core's clock. Those that they told to before are dropped, and no memory is taken.
+    pub fn retold<T: Collector + Drop>(self, taken: Front, told: Vec<T>) -> Desk<T>
+        requires in_order { (c : ℕ) → c < self.system.cores → slice_index taken c ≤ clock_of self c }
+        requires told { AreTold T.holds (record self { taken = taken }) told.items }
+        ensures { result ≡ record self { taken = taken } }
+    {
+        let Desk {
+            system,
+            horizon,
+            lost,
+            clocks,
+            slots,
+            boxes,
+            delays,
+            reaches,
+            signals,
+            alloc,
+            ..
+        } = self;
+        Desk {
+            system,
+            horizon,
+            lost,
+            clocks,
+            taken,
+            slots,
+            boxes,
+            told,
+            delays,
+            reaches,
+            signals,
+            alloc,
+        }
     }
 }
 

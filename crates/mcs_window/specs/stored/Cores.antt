@@ -10,7 +10,8 @@ use Rattle.mcs_system.specs.WellFormed.{IsWellFormed}
 use Rattle.mcs_core.specs.State.{State}
 use Rattle.mcs_stretch.specs.Inbox.{inbox}
 use Rattle.mcs_stretch.specs.Idle.{IsIdle}
-use Rattle.mcs_stretch.specs.Stretch.{StandsAt, rows_between, NothingArrivesBefore}
+use Rattle.mcs_stretch.specs.Stretch.{StandsAt, NothingArrivesBefore}
+use Rattle.mcs_window.specs.Desk.{AreToldBetween}
 use Rattle.mcs_window.specs.Progress.{Progress}
 use Rattle.mcs_window.specs.stored.Opening.{HasItems, AreDelays}
 use Rattle.mcs_window.specs.declared.cores.Cores.TheInside.{Inside}
@@ -73,11 +74,9 @@ pub record AreWhole (system : System) (clocks : List ℕ) (states : List State) 
 -- no clock is later than one past the horizon, and what each core told are the rows since the last taking
 pub record AreSince {S : Type 0} (holds : S → List Row → Type 0) (system : System) (horizon : ℕ) (clocks taken : List ℕ)
     (told : List S) : Type 0 where
-  pub told_of : length told ≡ system.cores
   pub in_time : (c : ℕ) → c < system.cores → slice_index clocks c ≤ horizon + 1
   pub in_order : (c : ℕ) → c < system.cores → slice_index taken c ≤ slice_index clocks c
-  pub rows_are : (c : ℕ) (x : S) → c < system.cores →
-      holds (slice_index_or told c x) (rows_between system c (slice_index taken c) (slice_index clocks c))
+  pub told_are : AreToldBetween holds system taken clocks told
 
 -- the clocks, and the rows since the last taking
 pub record AreKept (system : System) (horizon : ℕ) (clocks taken : List ℕ) (rows : List (Vec Row Global)) : Type 0 where
