@@ -8,7 +8,7 @@ use Rattle.mcs_system.specs.System.{System}
 use Rattle.mcs_text.specs.declared.mark.Mark.{Mark}
 use Rattle.mcs_text.specs.Text.{row_text, schedule_text}
 
--- the bytes, and a mark where the lines of each moment begin
+-- lines of rows of a system: their bytes, and a mark where those of each moment begin
 pub record Lines : Type 0 where
   pub system : System
   pub bytes : List ℕ
@@ -21,12 +21,12 @@ abbrev pub is_of : ℕ → Option Mark → Bool
 is_of moment None = false
 is_of moment (Some mark) = mark.moment == moment
 
--- a mark more, unless the last one is of the same moment
+-- the marks after a line of this moment begins here: one more, unless the last one is of that moment
 abbrev pub marked : ℕ → ℕ → List Mark → List Mark
 marked moment start marks =
     if is_of moment (last_or None marks) then marks else marks ++ (record { moment = moment; start = start }) ∷ []
 
--- one row more
+-- with the line of one row more
 abbrev pub with_row : Lines → Row → Lines
 with_row lines r =
     record lines {
@@ -42,15 +42,15 @@ TakesLine before row taken after = after ≡ (if taken then with_row before row 
 abbrev pub start_of : List Mark → ℕ → ℕ
 start_of marks place = (get_or marks place (record { moment = 0; start = 0 })).start
 
--- where they end: at the next mark, or where all lines end
+-- where the lines of this mark end: at the next one, or where all lines end
 abbrev pub end_of : ℕ → List Mark → ℕ → ℕ
 end_of end marks place = (get_or marks (place + 1) (record { moment = 0; start = end })).start
 
--- the bytes from this mark on
+-- the bytes from this mark up to the next one, or to where all lines end
 abbrev pub text_at : Lines → ℕ → List ℕ
 text_at lines place = slice_range lines.bytes (start_of lines.marks place) (end_of (length lines.bytes) lines.marks place)
 
--- after rows were given, their lines stand behind the others, in the order of the rows
+-- after rows were given to lines, theirs stand behind the others, in the order of the rows
 abbrev pub GivenAreLines : Type 0
 GivenAreLines =
     (before after : Lines) (rows : List Row) → Given TakesLine before rows after →

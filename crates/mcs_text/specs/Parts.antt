@@ -8,7 +8,7 @@ use Rattle.mcs_system.specs.System.{System}
 use Rattle.mcs_text.specs.Text.{row_text, schedule_text}
 use Rattle.mcs_text.specs.Lines.{Lines, no_lines, with_row, text_at, moment_of}
 
--- the bytes of lines, of which nothing else is known
+-- a text of a system: the bytes of lines, of which nothing else is known
 pub record Text : Type 0 where
   pub system : System
   pub bytes : List ℕ
@@ -23,19 +23,24 @@ with_bytes text more = record text { bytes = text.bytes ++ more }
 abbrev pub TakesText : Text → Row → Bool → Text → Type 0
 TakesText before row taken after = after ≡ (if taken then with_bytes before (row_text before.system row) else before)
 
--- lines, of which those at the marks from this place on wait
+-- a part: lines, of which those at the marks from this place on wait
 pub record LinesPart : Type 0 where
   pub lines : Lines
   pub place : ℕ
 
--- the moment of the first mark that waits
+-- the moment of the first mark at which lines wait
 abbrev pub next_of : LinesPart → Option ℕ
 next_of part = option_map (λ mark. mark.moment) (slice_get part.lines.marks part.place)
 
+-- at how many marks lines wait
 abbrev pub left_of : LinesPart → ℕ
 left_of part = length part.lines.marks - part.place
 
--- what waits are the lines of these rows, with a mark at each of their moments and at no other
+-- without the lines at the first mark at which any wait
+abbrev pub passed : LinesPart → LinesPart
+passed part = record part { place = part.place + 1 }
+
+-- what waits of a part are the lines of these rows, with a mark at each of their moments and at no other
 pub record HoldsRows (system : System) (part : LinesPart) (rows : List Row) : Type 0 where
   pub of_system : part.lines.system ≡ system
   pub in_order : DoNotFall rows
@@ -47,11 +52,11 @@ pub record HoldsRows (system : System) (part : LinesPart) (rows : List Row) : Ty
   pub some : (k : ℕ) → part.place ≤ k → k < length part.lines.marks → rows_at (moment_of part.lines.marks k) rows ≢ []
   pub all : (t : ℕ) → ((k : ℕ) → part.place ≤ k → k < length part.lines.marks → moment_of part.lines.marks k ≢ t) → rows_at t rows ≡ []
 
--- each list lies in the parts of its core, one part behind another
+-- each list of rows lies in the parts of its core, one part behind another
 abbrev pub HoldLines : System → List (List LinesPart) → List (List Row) → Type 0
 HoldLines system cores lists = AreHeld (λ (text : Text) part rows. HoldsRows text.system part rows) (no_text system) cores lists
 
--- lines that had none and were given rows in the order of their moments hold these rows
+-- lines that were given rows when there were none yet, in the order of their moments, hold these rows
 abbrev pub LinesHoldRows : Type 0
 LinesHoldRows =
     (system : System) (rows : List Row) (lines : Lines) → lines ≡ fold with_row (no_lines system) rows → DoNotFall rows →

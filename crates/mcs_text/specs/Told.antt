@@ -4,6 +4,7 @@ use Rattle.mcs_ticks.specs.declared.row.Row.{Row}
 use Rattle.mcs_system.specs.System.{System}
 use Rattle.mcs_text.specs.Lines.{Lines, no_lines, with_row}
 
+-- lines, and the number of their rows
 pub record ToldLines : Type 0 where
   pub lines : Lines
   pub rows : ℕ
@@ -14,11 +15,11 @@ nothing_told system = record { lines = no_lines system; rows = 0 }
 abbrev pub one_more : ToldLines → Row → ToldLines
 one_more told r = record { lines = with_row told.lines r; rows = told.rows + 1 }
 
--- how they take a row; where they refuse it they stay as they were
+-- how told lines take a row; where they refuse it they stay as they were
 abbrev pub TakesTold : ToldLines → Row → Bool → ToldLines → Type 0
 TakesTold before r taken after = after ≡ (if taken then one_more before r else before)
 
--- the lines, marks and number are those of these rows
+-- told lines hold rows: the lines, marks and number are those of these rows
 pub record HoldsTold (told : ToldLines) (rows : List Row) : Type 0 where
   pub lines : told.lines ≡ fold with_row (no_lines told.lines.system) rows
   pub many : told.rows ≡ length rows

@@ -1,5 +1,6 @@
-ghost use Rattle.std.specs.Prelude.{◌≡◌};
-ghost use Rattle.mcs_text.specs.Lines.{no_lines};
+ghost use Rattle.std.specs.Prelude.{◌≡◌, IsSome};
+ghost use Rattle.mcs_text.specs.Lines.{no_lines, text_at};
+ghost use Rattle.mcs_text.specs.Parts.{next_of, passed};
 
 use crate::lines::Lines;
 use crate::text::Text;
@@ -29,6 +30,26 @@ impl<'a> LinesPart<'a> {
         ensures { result ≡ record { lines = lines.entry; place = 0 } }
     {
         LinesPart { lines, place: 0 }
+    }
+
+    /// The lines of its first moment, of which there must be one.
+    #[inline(always)]
+    pub fn first_lines(&self) -> &[u8]
+        requires { IsSome (next_of self.now) }
+        ensures { result.now ≡ text_at self.now.lines self.now.place }
+    {
+        self.lines.text_at(self.place)
+    }
+
+    /// Passes over the lines of its first moment, of which there must be one: they wait no more.
+    #[inline(always)]
+    pub fn pass(&mut self)
+        requires { IsSome (next_of self.old) }
+        ensures { self.new ≡ passed self.old }
+    {
+        // the place is before the number of the marks, so there is a next one
+        let _marks = self.lines.marks().len();
+        self.place += 1;
     }
 
     /// The room of the lines, without lines.
@@ -65,10 +86,8 @@ impl<'a> Part for LinesPart<'a> {
     }
 
     fn pour(&mut self, out: &mut Text<'a>) -> Result<(), Refused> {
-        // the place is before the number of the marks, so there is a next one
-        let _marks = self.lines.marks().len();
-        out.append(self.lines.text_at(self.place))?;
-        self.place += 1;
+        out.append(self.first_lines())?;
+        self.pass();
         Ok(())
     }
 

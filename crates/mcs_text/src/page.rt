@@ -1,4 +1,4 @@
-ghost use Rattle.std.specs.Prelude.{◌≡◌, ◌≤◌, ◌++◌, ◌↔◌, [], length, IfOk, IsTrue};
+ghost use Rattle.std.specs.Prelude.{◌≡◌, ◌≤◌, ◌+◌, ◌++◌, ◌↔◌, [], length, IfOk, IsTrue};
 ghost use Rattle.mcs_text.specs.Text.{row_text};
 
 use crate::bytes::LINE;
@@ -58,6 +58,13 @@ impl Page {
         self.used <= Self::FULL
     }
 
+    /// Whether there is room for so many bytes more, with which the page has at most `FULL`.
+    pub fn has_room_for(&self, bytes: usize) -> bool
+        ensures { IsTrue result ↔ (length self.now + bytes ≤ 65536) }
+    {
+        self.used <= Self::FULL && bytes <= Self::FULL - self.used
+    }
+
     /// The bytes of its lines.
     pub fn as_slice(&self) -> &[u8]
         ensures { result.now ≡ self.now }
@@ -73,6 +80,16 @@ impl Page {
         let bytes = self.bytes.as_mut_slice();
         let core = self.moment.write_moment(bytes, self.used, row.moment);
         self.used = write_rest(bytes, core, names, row);
+    }
+
+    /// Appends lines that were made elsewhere. It takes no memory.
+    pub fn append(&mut self, lines: &[u8])
+        requires { length self.old + length lines.now ≤ 65536 }
+        ensures { self.new ≡ self.old ++ lines.now }
+    {
+        let end = self.used + lines.len();
+        self.bytes[self.used..end].copy_from_slice(lines);
+        self.used = end;
     }
 
     /// Removes all lines. Their room is kept.

@@ -1,9 +1,10 @@
-ghost use Rattle.std.specs.Prelude.{◌≡◌, All, List, OnOk};
+ghost use Rattle.std.specs.Prelude.{◌≡◌, All, List, OnErr, OnOk};
 ghost use Rattle.mcs_ticks.specs.declared.row.Row.{Row};
+ghost use Rattle.mcs_ticks.specs.Given.{GivenUntil};
 ghost use Rattle.mcs_merge.specs.Merge.{merged_before, DoNotFall};
 ghost use Rattle.mcs_merge.specs.Parts.{all_from};
 ghost use Rattle.mcs_text.specs.Text.{schedule_text};
-ghost use Rattle.mcs_text.specs.Parts.{with_bytes, HoldLines};
+ghost use Rattle.mcs_text.specs.Parts.{with_bytes, HoldLines, TakesText};
 
 use crate::laws::given_rows_are_text;
 use crate::lines_part::LinesPart;
@@ -12,7 +13,7 @@ use mcs_merge::PartMerger;
 use mcs_ticks::{Refused, Tick};
 
 /// Puts the lines of all rows before a moment that wait in a merger behind a text: by moment, then core, then place. Where there is no memory
-/// the text may have some more lines.
+/// the text has the lines of some first ones of these rows more.
 pub fn pour_lines<'a>(
     merger: &mut PartMerger<LinesPart<'a>>,
     until: Tick,
@@ -22,6 +23,8 @@ pub fn pour_lines<'a>(
         → OnOk result (text.new ≡ with_bytes text.old (schedule_text text.old.system (merged_before until lists))) }
     ensures left { (lists : List (List Row)) → All DoNotFall lists → HoldLines text.old.system merger.old lists
         → OnOk result (HoldLines text.new.system merger.new (all_from until lists)) }
+    ensures refused { (lists : List (List Row)) → All DoNotFall lists → HoldLines text.old.system merger.old lists
+        → OnErr result (GivenUntil TakesText text.old (merged_before until lists) text.new) }
 {
     given_rows_are_text();
     merger.pour_before(until, text)

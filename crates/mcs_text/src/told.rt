@@ -1,5 +1,4 @@
 ghost use Rattle.std.specs.Prelude.{◌≡◌};
-ghost use Rattle.mcs_text.specs.Lines.{no_lines};
 ghost use Rattle.mcs_text.specs.Told.{nothing_told};
 
 use crate::lines::Lines;
@@ -82,15 +81,19 @@ impl Measured for ToldLines<'_> {
 
 /// They hold the rows whose lines they are, with their marks.
 impl Collector for ToldLines<'_> {
-    ghost use Rattle.std.specs.Prelude.{length};
-    ghost use Rattle.mcs_text.specs.Told.{HoldsTold};
+    ghost use Rattle.std.specs.Prelude.{◌≡◌, [], length};
+    ghost use Rattle.mcs_text.specs.Told.{nothing_told, HoldsTold};
     ghost use Rattle.mcs_text.specs.stored.Told.{told_more};
 
     ghost holds = { HoldsTold };
 
     ghost amount = { length };
 
-    fn clear(&mut self) {
+    /// Nothing told, in the same room.
+    fn clear(&mut self)
+        ensures emptied { HoldsTold self.new [] }
+        ensures opened { self.new ≡ nothing_told self.old.lines.system }
+    {
         self.lines.clear();
         self.rows = 0;
     }

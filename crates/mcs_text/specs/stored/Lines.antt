@@ -4,7 +4,7 @@ use Rattle.std.specs.List.{last_or}
 use Rattle.mcs_text.specs.declared.mark.Mark.{Mark}
 use Rattle.mcs_text.specs.Lines.{start_of, end_of}
 
--- the digits are those of the last mark's moment; there is none only where there are no bytes
+-- the digits are those of the last mark's moment; there is no mark only where there are no bytes
 abbrev pub IsReached : ℕ → ℕ → Option Mark → Type 0
 IsReached used digits None = used ≡ 0
 IsReached used digits (Some mark) = (0 < used) × (mark.moment ≡ digits)
