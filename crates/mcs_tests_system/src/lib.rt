@@ -4,4 +4,6 @@
 #[cfg(test)]
 mod links;
 #[cfg(test)]
+mod sample;
+#[cfg(test)]
 mod well_formed;

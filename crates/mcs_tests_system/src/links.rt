@@ -1,16 +1,11 @@
+//! Delays of pairs of cores, which a link gives, and how many links a pair may have.
+
+use crate::sample::link;
 use mcs_system::{Link, System, SystemParts};
 use mcs_ticks::{CoreId, Sequence};
 use std::alloc::Global;
 use std::process::Abort;
 use std::test::Fail;
-
-fn link(maker: usize, home: usize, delay: u64) -> Link {
-    Link {
-        maker: CoreId(maker),
-        home: CoreId(home),
-        delay,
-    }
-}
 
 // A system with no threads, whose signals are under way for 5 ticks but for the links.
 fn parts(alloc: Global, cores: usize, links: Vec<Link>) -> SystemParts {
