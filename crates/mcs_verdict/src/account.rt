@@ -1,15 +1,14 @@
+//! What is kept of a thread, row by row.
 ghost use Rattle.std.specs.Prelude.{◌≡◌, ℕ, ◌+◌, ◌<◌, ◌^◌, [], Some, None, max};
-ghost use Rattle.mcs_verdict.specs.Account.{all_kept, account_of, stood_since, total_at, active_since, or_first, passed, told_from, begins, ends, preempted, given, turned, seen_own, activated_since, job_by, miss_by, overdue_by, never_by, unended_by};
+ghost use Rattle.mcs_verdict.specs.Account.{all_kept, account_of, stood_since, total_at, active_since, or_first, passed, told_from, begins, ends, preempted, given, turned, seen_own, activated_since};
 ghost use Rattle.mcs_verdict.specs.Activation.{is_active};
-ghost use Rattle.mcs_verdict.specs.Misses.{is_above, missed, is_reached, overdue_at, yet_to_begin, was_activated, first_of};
 ghost use Rattle.mcs_verdict.specs.Rounds.{first_wait};
 
-use crate::held::Held;
 use crate::standing::{settled, standing_after};
-use crate::{Finding, Job, Standing, Stood};
+use crate::{Standing, Stood};
 use mcs_script::Item;
 use mcs_system::ThreadPart;
-use mcs_ticks::{NoteId, ThreadId, Tick, What, Why};
+use mcs_ticks::{NoteId, Tick, What, Why};
 
 /// What is kept of a thread: how it stands, since when, when its round began and was activated, and how it stood up to `since`, from then on
 /// and in all.
@@ -39,18 +38,6 @@ pub fn first_wait(part: &ThreadPart) -> Option<NoteId>
         Some(Item::Wait(NoteId(note))) => Some(NoteId(note)),
         _ => None,
     }
-}
-
-fn is_above(deadline: u64, ticks: u64) -> bool
-    ensures { result ≡ is_above deadline ticks }
-{
-    deadline != 0 && deadline < ticks
-}
-
-fn is_reached(deadline: u64, ticks: u64) -> bool
-    ensures { result ≡ is_reached deadline ticks }
-{
-    deadline != 0 && deadline <= ticks
 }
 
 fn is_active(standing: Standing) -> bool
@@ -84,69 +71,6 @@ fn note_first(earlier: &mut Option<Tick>, active: bool, from: Tick, to: Tick)
     }
 }
 
-fn yet_to_begin(standing: Standing, held: &Held) -> Option<Tick>
-    ensures { result ≡ yet_to_begin standing held.now }
-{
-    if standing == Standing::Done || held.word == 0 {
-        None
-    } else {
-        Some(held.since)
-    }
-}
-
-fn was_activated(waits: Option<NoteId>, called: Option<Tick>, held: &Held, stood: &Stood) -> bool
-    ensures { result ≡ was_activated waits called held.now stood.now }
-{
-    match waits {
-        Some(_) => called.is_some() || held.word != 0,
-        None => stood.ready != 0 || stood.running != 0,
-    }
-}
-
-// The round, where at least a deadline has passed since it was activated.
-fn overdue_at(
-    horizon: Tick,
-    thread: ThreadId,
-    deadline: u64,
-    begun: Tick,
-    stood: Stood,
-    activated: Option<Tick>,
-) -> Option<Finding>
-    ensures { result ≡ overdue_at horizon thread deadline begun stood activated }
-{
-    match activated {
-        Some(activated) if is_reached(deadline, horizon.get().saturating_sub(activated.get())) => {
-            Some(Finding::Overdue {
-                thread,
-                deadline,
-                activated,
-                queued: begun.get().saturating_sub(activated.get()),
-                stood,
-            })
-        }
-        _ => None,
-    }
-}
-
-// The job, where its response from its activation is above the deadline.
-fn missed(deadline: u64, job: &Job) -> Option<Finding>
-    ensures { result ≡ missed deadline job.now }
-{
-    if is_above(deadline, job.response) {
-        Some(Finding::Miss {
-            thread: job.thread,
-            number: job.number,
-            response: job.response,
-            deadline,
-            activated: job.activated,
-            queued: job.queued,
-            stood: job.stood,
-        })
-    } else {
-        None
-    }
-}
-
 impl Account {
     // Before the first row, whatever the number of the thread and of notifications.
     pub(crate) fn new(part: &ThreadPart) -> Self
@@ -171,7 +95,7 @@ impl Account {
     }
 
     // How the thread stood since its round began, up to some moment, where no row tells of it since `since`.
-    fn stood_since(&self, begun: Option<Tick>, moment: Tick) -> Stood
+    pub(crate) fn stood_since(&self, begun: Option<Tick>, moment: Tick) -> Stood
         ensures { all_kept self.now + moment < 2 ^ 64 → result ≡ stood_since begun moment self.now.standing self.now }
     {
         match begun {
@@ -211,7 +135,7 @@ impl Account {
     }
 
     // When the round was activated that is under way.
-    fn activated_since(&self, moment: Tick) -> Option<Tick>
+    pub(crate) fn activated_since(&self, moment: Tick) -> Option<Tick>
         ensures { result ≡ activated_since moment self.now }
     {
         match self.waits {
@@ -310,86 +234,6 @@ impl Account {
                 self.tell(settled(what, self.standing), moment, what);
                 self.turn(moment, what);
             }
-        }
-    }
-
-    // The round that ends.
-    pub(crate) fn job(&self, moment: Tick, thread: ThreadId, number: u64) -> Job
-        ensures { all_kept self.now + moment < 2 ^ 64 → result ≡ job_by moment thread number self.now }
-    {
-        let begun = self.begun.unwrap_or(moment);
-        let activated = self.activated_since(moment).unwrap_or(moment);
-        Job {
-            thread,
-            number,
-            activated,
-            begun,
-            ended: moment,
-            response: moment.get().saturating_sub(activated.get()),
-            queued: begun.get().saturating_sub(activated.get()),
-            preemptions: self.preemptions,
-            stood: self.stood_since(self.begun, moment),
-        }
-    }
-
-    // The round that ends, if it missed its deadline.
-    pub(crate) fn miss(&self, moment: Tick, thread: ThreadId, number: u64) -> Option<Finding>
-        ensures { all_kept self.now + moment < 2 ^ 64 → result ≡ miss_by moment thread number self.now }
-    {
-        let activated = self.activated_since(moment).unwrap_or(moment);
-        // so that the parts of a round that is in time need not be counted
-        if is_above(self.deadline, moment.get().saturating_sub(activated.get())) {
-            missed(self.deadline, &self.job(moment, thread, number))
-        } else {
-            None
-        }
-    }
-
-    // The round that is under way, or yet to begin by a word that is held, if it is overdue at the horizon.
-    fn overdue(&self, horizon: Tick, thread: ThreadId, held: &Held) -> Option<Finding>
-        ensures { all_kept self.now + horizon < 2 ^ 64 → result ≡ overdue_by horizon thread held.now self.now }
-    {
-        match self.begun {
-            Some(begun) => overdue_at(
-                horizon,
-                thread,
-                self.deadline,
-                begun,
-                self.stood_since(self.begun, horizon),
-                self.activated_since(horizon),
-            ),
-            None => overdue_at(
-                horizon,
-                thread,
-                self.deadline,
-                horizon,
-                Stood::new(),
-                yet_to_begin(self.standing, held),
-            ),
-        }
-    }
-
-    fn never(&self, horizon: Tick, thread: ThreadId, held: &Held) -> Option<Finding>
-        ensures { all_kept self.now + horizon < 2 ^ 64 → result ≡ never_by horizon thread held.now self.now }
-    {
-        let stood = self.total_at(horizon);
-        if self.deadline != 0 && !was_activated(self.waits, self.called, held, &stood) {
-            Some(Finding::Never {
-                thread,
-                deadline: self.deadline,
-            })
-        } else {
-            None
-        }
-    }
-
-    // What is found of the thread at the horizon, where this is the word for which its script waits first.
-    pub(crate) fn unended(&self, horizon: Tick, thread: ThreadId, held: &Held) -> Option<Finding>
-        ensures { all_kept self.now + horizon < 2 ^ 64 → result ≡ unended_by horizon thread held.now self.now }
-    {
-        match self.overdue(horizon, thread, held) {
-            Some(found) => Some(found),
-            None => self.never(horizon, thread, held),
         }
     }
 }

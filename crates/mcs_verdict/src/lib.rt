@@ -10,6 +10,7 @@ mod finding;
 mod held;
 mod job;
 mod laws;
+mod outcome;
 mod standing;
 mod watch;
 
