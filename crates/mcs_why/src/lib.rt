@@ -8,6 +8,7 @@ mod laws;
 mod search;
 mod span;
 mod trail;
+mod unended;
 
 pub use account::Account;
 pub use all::{find, tell};

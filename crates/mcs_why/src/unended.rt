@@ -1,0 +1,151 @@
+//! What there is of a round that has not ended at the horizon.
+ghost use Rattle.std.specs.Prelude.{◌≡◌, ℕ, ◌<◌, List, length, Some, None};
+ghost use Rattle.mcs_ticks.specs.declared.row.Row.{Row as TheRow};
+ghost use Rattle.mcs_ticks.specs.declared.row.What.TheVariants as row;
+ghost use Rattle.mcs_system.specs.System.{System as TheSystem};
+ghost use Rattle.mcs_verdict.specs.Jobs.{job_of};
+ghost use Rattle.mcs_verdict.specs.Rounds.{begun_of};
+ghost use Rattle.mcs_why.specs.Spans.{activated_of, to_begin, waits_since, open_span, open_by, open_if, sought};
+ghost use Rattle.mcs_why.specs.Search.{told_by, trail_of};
+
+use crate::trail::{Trail, from_of};
+use crate::{Sought, Span};
+use mcs_ticks::{NoteId, Tick};
+use mcs_verdict::{Job, Standing};
+
+fn to_begin(standing: Standing, set: Option<Tick>) -> Option<Tick>
+    ensures { result ≡ to_begin standing set }
+{
+    match standing {
+        Standing::Done => None,
+        _ => set,
+    }
+}
+
+fn waits_since(standing: Standing, stopped: Option<Tick>) -> Option<Tick>
+    ensures { result ≡ waits_since standing stopped }
+{
+    match standing {
+        Standing::Blocked => stopped,
+        _ => None,
+    }
+}
+
+// The moment at which a round under way was activated, where it is told to be activated at the horizon if it is not yet: a word that begins a
+// round activates it.
+fn told_by(waits: Option<NoteId>, horizon: Tick, moment: Tick) -> Option<Tick>
+    ensures { result ≡ told_by waits horizon moment }
+{
+    match waits {
+        Some(_) => Some(moment),
+        None if moment.get() < horizon.get() => Some(moment),
+        None => None,
+    }
+}
+
+fn open_if(number: u64, before: u64, unended: Option<Span>) -> Sought
+    ensures { result ≡ open_if number before unended }
+{
+    match unended {
+        Some(span) if span.number == number => Sought::There(span),
+        Some(span) => Sought::Missing(span.number),
+        None => Sought::Missing(before),
+    }
+}
+
+impl Trail {
+    // A round that has not ended at the horizon.
+    fn open_span(
+        &self,
+        horizon: Tick,
+        from: Tick,
+        activated: Option<Tick>,
+        begun: Option<Tick>,
+    ) -> Span
+        ensures { result ≡ open_span self.now.thread self.now.core self.now.ended horizon from activated begun }
+    {
+        Span {
+            thread: self.thread,
+            number: self.ended.saturating_add(1),
+            core: self.core,
+            from,
+            to: horizon,
+            ended: false,
+            activated,
+            begun,
+        }
+    }
+
+    // The round that is under way since this moment, told by when it was activated.
+    fn under_way(&self, horizon: Tick, begun: Tick, activated: Option<Tick>) -> Option<Span>
+        ensures { result ≡ open_by self.now.thread self.now.core self.now.ended horizon (Some begun) activated self.now.waited
+            (to_begin self.now.standing self.now.set) (waits_since self.now.standing self.now.stopped) }
+    {
+        if horizon.get() < begun.get() {
+            return None;
+        }
+        let span = match activated {
+            Some(activated) => {
+                let from = from_of(activated, self.waited);
+                self.open_span(horizon, from, Some(activated), Some(begun))
+            }
+            None => self.open_span(horizon, begun, None, Some(begun)),
+        };
+        Some(span)
+    }
+
+    // The round that is yet to begin.
+    fn to_come(&self, horizon: Tick, activated: Option<Tick>) -> Option<Span>
+        ensures { result ≡ open_by self.now.thread self.now.core self.now.ended horizon None activated self.now.waited
+            (to_begin self.now.standing self.now.set) (waits_since self.now.standing self.now.stopped) }
+    {
+        match to_begin(self.standing, self.set) {
+            Some(set) => Some(self.open_span(horizon, set, Some(set), None)),
+            None => {
+                let since = waits_since(self.standing, self.stopped)?;
+                Some(self.open_span(horizon, since, None, None))
+            }
+        }
+    }
+
+    // The round that has not ended at the horizon, if there is one, by when the one under way was activated.
+    fn open(&self, horizon: Tick, activated: Option<Tick>) -> Option<Span>
+        ensures { result ≡ open_by self.now.thread self.now.core self.now.ended horizon self.now.begun activated self.now.waited
+            (to_begin self.now.standing self.now.set) (waits_since self.now.standing self.now.stopped) }
+    {
+        match self.begun {
+            Some(begun) => self.under_way(horizon, begun, activated),
+            None => self.to_come(horizon, activated),
+        }
+    }
+
+    // When the round under way was activated, where this is what it would be if it ended at the horizon.
+    fn activated(&self, horizon: Tick, job: Option<Job>) -> Option<Tick>
+        ensures { (system : TheSystem) (thread number response : ℕ) (past : List TheRow) → self.now ≡ trail_of system thread number past →
+            thread < length system.threads → job ≡ job_of system past horizon (row.Round thread number response) →
+            result ≡ activated_of system thread past horizon (begun_of system thread past) }
+    {
+        match self.begun {
+            Some(_) => match job {
+                Some(job) => told_by(self.waits, horizon, job.activated),
+                None => None,
+            },
+            None => None,
+        }
+    }
+
+    // What there is of the round, where this is the one under way as if it ended at the horizon.
+    pub(crate) fn sought(&self, horizon: Tick, job: Option<Job>) -> Sought
+        ensures { (system : TheSystem) (thread number response : ℕ) (past : List TheRow) → self.now ≡ trail_of system thread number past →
+            thread < length system.threads → job ≡ job_of system past horizon (row.Round thread number response) →
+            result ≡ sought system horizon past thread number }
+    {
+        match self.found {
+            Some(span) => Sought::There(span),
+            None => {
+                let unended = self.open(horizon, self.activated(horizon, job));
+                open_if(self.number, self.ended, unended)
+            }
+        }
+    }
+}
