@@ -8,3 +8,7 @@ mod Streaming
 mod Resting
 mod Rounds
 mod Sinks
+mod Waiting
+mod Opened
+mod Gathering
+mod Turning

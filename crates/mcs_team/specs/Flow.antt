@@ -1,12 +1,13 @@
 -- Rows that go to a sink as soon as the clocks of all cores have passed them.
-use Rattle.std.specs.Prelude.{◌≡◌, ℕ, ◌+◌, ◌<◌, ◌≤◌, ◌⊎◌, nat_le, Bool, true, false, List, [], ◌∷◌, ◌++◌, length, map, filter, Result, Ok, Err, slice_index, slice_index_or}
+use Rattle.std.specs.Prelude.{◌≡◌, ℕ, ◌+◌, ◌<◌, ◌≤◌, nat_le, Bool, false, List, ◌++◌, length, map, filter, Result, Ok, Err, slice_index, slice_index_or}
 use Rattle.mcs_ticks.specs.declared.row.Row.{Row}
 use Rattle.mcs_ticks.specs.Given.{Given, GivenUntil, GivenSome}
 use Rattle.mcs_merge.specs.Merging.{Merging, IsInOrder}
+use Rattle.mcs_merge.specs.Parts.{all_from, AreHeld}
 use Rattle.mcs_merge.specs.laws.Steps.{HasTaken}
 use Rattle.mcs_system.specs.System.{System}
 use Rattle.mcs_core.specs.Clock.{clock, schedule}
-use Rattle.mcs_window.specs.Desk.{Table, clock_of, taken_of}
+use Rattle.mcs_window.specs.Desk.{Table, clock_of, taken_of, AllAreHere}
 use Rattle.mcs_window.specs.Stretch.{rows_between}
 use Rattle.mcs_window.specs.laws.Merging.{rows_until}
 use Rattle.mcs_team.specs.declared.batch.Batch.{Batch}
@@ -46,6 +47,24 @@ pub record AreTakenTo (pasts : List ℕ) (table : Table) : Type 0 where
   pub many_are : length pasts ≡ table.system.cores
   pub each : (core : ℕ) → core < table.system.cores → taken_of table core ≡ slice_index pasts core
 
+-- what cores told waits for an output: of each core its rows from moment t on to before a moment of its own
+pub record Waits {O P : Type 0} (holds : O → P → List Row → Type 0) (system : System) (horizon t : ℕ) (pasts : List ℕ)
+    (parts : List (List P)) (out : O) : Type 0 where
+  pub many_are : length pasts ≡ system.cores
+  pub early : (core : ℕ) → core < system.cores → slice_index pasts core ≤ horizon + 1
+  pub passed : (core : ℕ) → core < system.cores → t ≤ slice_index pasts core
+  pub held : AreHeld holds out parts (all_from t (rows_until system pasts))
+
+-- a desk of this run, on which nothing is lent or lost, and from which all that each core told before these moments was taken
+pub record IsClear (system : System) (horizon : ℕ) (desk : Table) (pasts : List ℕ) (end : ℕ) : Type 0 where
+  pub system_is : desk.system ≡ system
+  pub horizon_is : desk.horizon ≡ horizon
+  pub sound : desk.lost ≡ false
+  pub here : AllAreHere desk
+  pub long : desk.system.cores ≤ length desk.taken
+  pub taken : AreTakenTo pasts desk
+  pub end_is : end ≡ horizon + 1
+
 -- the batch of each core ends at its clock
 abbrev pub AreAtClocks : List ℕ → Table → Type 0
 AreAtClocks pasts table = (core : ℕ) → core < table.system.cores → slice_index pasts core ≡ clock_of table core
@@ -69,6 +88,11 @@ abbrev pub IsRestFault : {S : Type 0} → (S → Row → Bool → S → Type 0) 
     List Row → S → S → FlowFault → Type 0
 IsRestFault takes rows s t fault.Sink = GivenUntil takes s rows t
 IsRestFault takes rows s t fault.NoMemory = s ≡ t
+
+-- an output was given the rows of the schedule from moment t on to before moment u
+abbrev pub IsGivenBetween : {O : Type 0} → (O → Row → Bool → O → Type 0) → System → ℕ → ℕ → O → O → Type 0
+IsGivenBetween takes system t u before after =
+    (rows : List Row) × ((clock system t).rows ++ rows ≡ (clock system u).rows) × Given takes before rows after
 
 -- a sink that had been given the rows of the schedule before moment t has then been given those before moment u ..
 abbrev pub GivesOn : {S : Type 0} → (S → Row → Bool → S → Type 0) → System → ℕ → ℕ → S → S → Type 0

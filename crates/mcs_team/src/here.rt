@@ -1,17 +1,18 @@
-//! Runs on the caller's thread, whose rows go to a sink or are kept.
-ghost use Rattle.std.specs.Prelude.{◌≡◌, ◌≤◌, ◌+◌, ◌^◌, false, length, IfErr, IfOk, OnOk};
+//! Runs on the caller's thread, whose rows go to an output or are kept.
+ghost use Rattle.std.specs.Prelude.{◌≡◌, ◌≤◌, ◌+◌, ◌<◌, ◌^◌, length, slice_index_or, IfErr, IfOk, OnOk, []};
 ghost use Rattle.std.specs.Arc.{arc_value};
 ghost use Rattle.mcs_core.specs.Clock.{schedule};
 ghost use Rattle.mcs_system.specs.WellFormed.{IsWellFormed};
 ghost use Rattle.mcs_ticks.specs.Given.{Given};
-ghost use Rattle.mcs_team.specs.Flow.{pasts_of, AreTakenTo, IsAt, IsFlowFault};
-ghost use Rattle.mcs_window.specs.Desk.{opening_table, AllAreHere};
+ghost use Rattle.mcs_team.specs.Flow.{FailsFrom, IsClear, IsFlowFault, IsGivenBetween, Waits};
+ghost use Rattle.mcs_window.specs.Desk.{opening_table, AreEmpty};
 
-use crate::batch::gather;
-use crate::flow::Flow;
+use crate::FlowFault;
+use crate::outflow::Outflow;
+use crate::relay::{Relay, RowRelay};
 use crate::run::Run;
 use crate::whole::Kept;
-use crate::{FlowFault, Sink};
+use mcs_merge::Part;
 use mcs_system::System;
 use mcs_ticks::{NoMemory, Row, Tick};
 use mcs_window::Desk;
@@ -19,80 +20,96 @@ use std::alloc::Global;
 use std::marker::Brand;
 use std::sync::Arc;
 
-// With so many rows on the desk they are taken.
-const ROWS: usize = 2048;
+// With so much on the desk it is taken.
+const ENOUGH: usize = 2048;
 
-// Takes the turns in rounds, and gives the rows of each round that the clocks of all cores have passed.
-fn flow_rounds<B: Run, S: Sink>(
-    mut desk: Desk,
-    mut flow: Flow,
-    sink: &mut S,
+// Takes the turns that are left in rounds, and gives out what was told in each round before the clocks of all cores.
+fn flow_rounds<B: Run, W: Relay>(
+    relay: &W,
+    mut desk: Desk<W::Told>,
+    mut flow: Outflow<W>,
+    out: &mut <W::Part as Part>::Out,
 ) -> Result<(), FlowFault>
     requires well_formed { IsWellFormed B.system }
-    requires run { (desk.system ≡ B.system) × (desk.horizon ≡ B.horizon) }
-    requires sound { desk.lost ≡ false }
-    requires here { AllAreHere desk }
-    requires long { desk.system.cores ≤ length desk.taken }
-    requires taken { AreTakenTo (pasts_of flow.batches.items) desk }
-    requires end { flow.end ≡ B.horizon + 1 }
-    requires clocks { flow.merger.clocks ≡ pasts_of flow.batches.items }
-    requires first { flow.reached ≡ 0 }
-    requires at { IsAt B.system B.horizon flow.reached flow.merger }
-    ensures given { OnOk result (Given S.takes sink.old (schedule B.system B.horizon) sink.new) }
-    ensures fault { IfErr result (IsFlowFault S.takes B.system B.horizon sink.old sink.new) }
+    requires clear { IsClear B.system B.horizon desk flow.pasts.items flow.end }
+    requires fits { W.fits relay.now out.old }
+    requires waits { Waits W.Part.holds B.system B.horizon flow.reached flow.pasts.items flow.merger out.old }
+    ensures given { OnOk result (IsGivenBetween W.Part.Out.takes B.system flow.reached (B.horizon + 1) out.old out.new) }
+    ensures fault { IfErr result (FailsFrom W.Part.Out.takes B.system B.horizon flow.reached out.old out.new) }
 {
     'rounds: while !flow.is_over() {
-        let Ok(()) = desk.go(ROWS) else {
+        let Ok(()) = desk.go(ENOUGH) else {
             return Err(FlowFault::NoMemory);
         };
-        gather(&mut desk, flow.batches.as_mut_slice());
-        if let Err(fault) = flow.give::<B, S>(sink) {
-            return Err(fault);
-        }
-        flow.return_rooms(&mut desk);
+        let Ok(()) = flow.gather::<B>(relay, &mut desk) else {
+            return Err(FlowFault::NoMemory);
+        };
+        let Ok(()) = flow.pour::<B>(out) else {
+            return Err(FlowFault::Sink);
+        };
     }
     Ok(())
 }
 
 // Takes the turns in rounds at a desk on which nothing has happened yet.
-fn flow_desk<B: Run, S: Sink>(
+fn flow_desk<B: Run, W: Relay>(
     alloc: Global,
-    desk: Desk,
+    relay: &W,
+    desk: Desk<W::Told>,
     system: &System,
     horizon: Tick,
-    sink: &mut S,
+    out: &mut <W::Part as Part>::Out,
 ) -> Result<(), FlowFault>
     requires system { system.now ≡ B.system }
     requires horizon { (horizon ≡ B.horizon) × (horizon ≤ 2 ^ 40) }
     requires desk { desk ≡ opening_table B.system B.horizon }
-    ensures given { OnOk result (Given S.takes sink.old (schedule B.system B.horizon) sink.new) }
-    ensures fault { IfErr result (IsFlowFault S.takes B.system B.horizon sink.old sink.new) }
+    requires fits { W.fits relay.now out.old }
+    ensures given { OnOk result (Given W.Part.Out.takes out.old (schedule B.system B.horizon) out.new) }
+    ensures fault { IfErr result (IsFlowFault W.Part.Out.takes B.system B.horizon out.old out.new) }
 {
     let _parts = system.parts();
-    let Ok(flow) = Flow::new(alloc, system, horizon) else {
+    let Ok(flow) = Outflow::new(alloc, relay, system, horizon) else {
         return Err(FlowFault::NoMemory);
     };
-    flow_rounds::<B, S>(desk, flow, sink)
+    flow_rounds::<B, W>(relay, desk, flow, out)
 }
 
-/// The whole simulation up to the horizon on this thread, whose rows go to a sink.
-pub(crate) fn flow_here<S: Sink>(
+// All cores at moment 0, each with what it tells its rows to.
+fn desk_for<W: Relay>(
+    alloc: Global,
+    relay: &W,
+    system: &Arc<System>,
+    horizon: Tick,
+) -> Result<Desk<W::Told>, NoMemory>
+    requires { horizon ≤ 2 ^ 40 }
+    ensures { IfOk result (λ desk. desk ≡ opening_table (arc_value system.now) horizon) }
+{
+    let cores = system.parts().cores;
+    let mut told = Vec::with_capacity(alloc, cores)?;
+    for _ in 0..cores {
+        told.push(relay.empty())?;
+    }
+    let shared = Arc::try_clone(system)?;
+    Desk::opened(alloc, shared, horizon, told)
+}
+
+/// The whole simulation up to the horizon on this thread, given out to an output.
+pub(crate) fn flow_here<W: Relay>(
     alloc: Global,
     system: Arc<System>,
     horizon: Tick,
-    sink: &mut S,
+    relay: &W,
+    out: &mut <W::Part as Part>::Out,
 ) -> Result<(), FlowFault>
-    requires { horizon ≤ 2 ^ 40 }
-    ensures given { OnOk result (Given S.takes sink.old (schedule (arc_value system) horizon) sink.new) }
-    ensures fault { IfErr result (IsFlowFault S.takes (arc_value system) horizon sink.old sink.new) }
+    requires in_range { horizon ≤ 2 ^ 40 }
+    requires fits { W.fits relay.now out.old }
+    ensures given { OnOk result (Given W.Part.Out.takes out.old (schedule (arc_value system) horizon) out.new) }
+    ensures fault { IfErr result (IsFlowFault W.Part.Out.takes (arc_value system) horizon out.old out.new) }
 {
-    let Ok(shared) = Arc::try_clone(&system) else {
+    let Ok(desk) = desk_for(alloc, relay, &system, horizon) else {
         return Err(FlowFault::NoMemory);
     };
-    let Ok(desk) = Desk::new(alloc, shared, horizon) else {
-        return Err(FlowFault::NoMemory);
-    };
-    flow_desk::<Brand, S>(alloc, desk, &system, horizon, sink)
+    flow_desk::<Brand, W>(alloc, relay, desk, &system, horizon, out)
 }
 
 /// All rows up to the horizon, of a run on this thread.
@@ -105,7 +122,8 @@ pub(crate) fn rows_here(
     ensures { IfOk result (λ rows. rows.items ≡ schedule (arc_value system) horizon) }
 {
     let mut kept = Kept::new(alloc);
-    let Ok(()) = flow_here(alloc, system, horizon, &mut kept) else {
+    let relay = RowRelay::new(alloc);
+    let Ok(()) = flow_here(alloc, system, horizon, &relay, &mut kept) else {
         return Err(NoMemory);
     };
     Ok(kept.rows)

@@ -3,12 +3,15 @@
 
 mod alone;
 mod batch;
+mod by_core;
 mod counted;
 mod counts;
 mod fault;
 mod flow;
 mod gate;
 mod here;
+mod outflow;
+mod relay;
 mod reporting;
 mod room;
 mod run;
@@ -21,9 +24,11 @@ mod together;
 mod whole;
 
 pub use alone::simulate_alone;
+pub use by_core::{Plan, schedule_by_core};
 pub use fault::SimFault;
 pub use gate::{Gate, Open};
 pub use mcs_ticks::{FlowFault, Refused, Sink};
+pub use relay::Relay;
 pub use reporting::report;
 pub use snapshot::probe;
 pub use to_sink::{schedule_to, simulate_to};

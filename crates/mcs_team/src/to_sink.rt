@@ -10,6 +10,7 @@ ghost use Rattle.mcs_team.specs.Headline.{Headline};
 
 use crate::counted::Counted;
 use crate::here::{flow_here, rows_here};
+use crate::relay::RowRelay;
 use crate::sink::Stop;
 use crate::stream::flow;
 use crate::{FlowFault, Gate, Refused, Sink};
@@ -84,7 +85,8 @@ pub fn schedule_to<R: Threads + Wait + Sync, G: Gate + Sync, S: Sink>(
     bandwidth_is_bounded();
     let workers = workers.min(system.parts().cores);
     if workers < 2 {
-        flow_here(alloc, system, horizon, sink)
+        let relay = RowRelay::new(alloc);
+        flow_here(alloc, system, horizon, &relay, sink)
     } else {
         flow_team(rt, alloc, system, horizon, workers, gate, sink)
     }

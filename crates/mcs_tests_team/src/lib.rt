@@ -2,6 +2,8 @@
 #![tactic(auto)]
 
 #[cfg(test)]
+mod by_core;
+#[cfg(test)]
 mod collectors;
 #[cfg(test)]
 mod contexts;

@@ -8,11 +8,11 @@ use std::test::Fail;
 
 // Compares so many rows with those that are expected, and refuses the next.
 #[derive(Drop)]
-struct Compared<'a> {
+pub(super) struct Compared<'a> {
     expected: &'a [Row],
     most: usize,
-    given: usize,
-    same: bool,
+    pub(super) given: usize,
+    pub(super) same: bool,
 }
 
 impl Sink for Compared<'_> {
@@ -34,7 +34,7 @@ fn is_at(expected: &[Row], place: usize, row: &Row) -> bool {
 }
 
 // A sink that expects these rows, and refuses one that follows so many.
-fn comparing(expected: &[Row], most: usize) -> Compared<'_> {
+pub(super) fn comparing(expected: &[Row], most: usize) -> Compared<'_> {
     Compared {
         expected,
         most,

@@ -1,19 +1,29 @@
-use Rattle.std.proofs.Common.{◌≤◌, length, sym, subst, rules}
+use Rattle.std.proofs.Common.{◌+◌, rules, subst}
 use Rattle.mcs_system.specs.WellFormed.{IsWellFormed}
-use Rattle.mcs_window.specs.Desk.{Table, AllAreHere}
-use Rattle.mcs_team.specs.Flow.{pasts_of, AreTakenTo}
-use Rattle.mcs_team.proofs.Rounds.{opening-taken, opening-here, opening-long}
+use Rattle.mcs_team.specs.Flow.{IsGivenBetween, Waits}
+use Rattle.mcs_team.proofs.Giving.{on_ok}
+use Rattle.mcs_team.proofs.Turning.{clear-first, given-whole}
 use Rattle.mcs_team.proofs.here.flow_desk.Goals as goal
 
-pub flow_rounds-requires-clause-here : goal.flow_rounds-requires-clause-here
-flow_rounds-requires-clause-here g c = subst AllAreHere (sym c.requires.desk) (opening-here g.B.Run.system g.B.Run.horizon)
-
-pub flow_rounds-requires-clause-long : goal.flow_rounds-requires-clause-long
-flow_rounds-requires-clause-long g c =
+pub flow_rounds-requires-clause-clear : goal.flow_rounds-requires-clause-clear
+flow_rounds-requires-clause-clear g c =
     let well : IsWellFormed g.B.Run.system = search rules in
-    subst (λ (t : Table). t.system.cores ≤ length t.taken) (sym c.requires.desk) (opening-long g.B.Run.system g.B.Run.horizon well)
+    clear-first g.B.Run.system g.B.Run.horizon c.args.desk c.in-Ok.flow.pasts.items c.in-Ok.flow.end well c.requires.desk (search rules) (search rules)
 
-pub flow_rounds-requires-clause-taken : goal.flow_rounds-requires-clause-taken
-flow_rounds-requires-clause-taken g c =
-    subst (λ t. AreTakenTo (pasts_of c.in-Ok.flow.batches.items) t) (sym c.requires.desk)
-    (opening-taken g.B.Run.system g.B.Run.horizon (pasts_of c.in-Ok.flow.batches.items) (search rules))
+pub flow_rounds-requires-clause-waits : goal.flow_rounds-requires-clause-waits
+flow_rounds-requires-clause-waits g c =
+    let flow = c.in-Ok.flow in
+    let holds = g.W.Part.Part.holds in
+    subst (λ h. Waits holds g.B.Run.system h flow.reached flow.pasts.items flow.merger c.args.out.now) c.requires.horizon.0
+    (subst (λ s. Waits holds s c.args.horizon flow.reached flow.pasts.items flow.merger c.args.out.now) c.requires.system
+    (c.in-Ok.ensures.waits c.args.out.now c.requires.fits))
+
+pub returns-clause-given : goal.returns-clause-given
+returns-clause-given g c =
+    let takes = g.W.Part.Out.Sink.takes in
+    let system = g.B.Run.system in
+    let before = c.args.out.now in
+    let after = c.flow_rounds.new.out in
+    on_ok c.flow_rounds.result
+    (λ given. given-whole takes system g.B.Run.horizon before after (subst (λ t. IsGivenBetween takes system t (g.B.Run.horizon + 1) before after) c.in-Ok.ensures.first given))
+    c.flow_rounds.ensures.given

@@ -1,91 +1,71 @@
-use Rattle.std.proofs.Common.{◌≡◌, ◌≢◌, min, sym, ap, ◌∙◌, subst, arith, rules}
+use Rattle.std.proofs.Common.{◌≡◌, ◌≢◌, ◌∙◌, ap, min, rules, subst, sym}
 use Rattle.std.specs.Prelude.{fold}
 use Rattle.mcs_system.proofs.Linked.{takes_time}
-use Rattle.mcs_system.specs.System.{System}
-use Rattle.mcs_window.specs.Desk.{Table}
-use Rattle.mcs_team.specs.Flow.{pasts_of, AreBatches, AreTakenTo}
-use Rattle.mcs_team.proofs.Batches.{batches-written, pasts-written}
-use Rattle.mcs_team.proofs.Rounds.{may-gather, clear-next, fewer-left}
-use Rattle.mcs_team.proofs.Streaming.{done, some-given}
+use Rattle.mcs_ticks.specs.declared.sink.FlowFault.TheVariants as fault
+use Rattle.mcs_team.specs.Flow.{FailsFrom, IsClear, IsGivenBetween}
+use Rattle.mcs_team.proofs.Turning.{clear-later, fewer-left, given-further, fails-further, round-stops, rounds-end}
+use Rattle.mcs_team.proofs.Waiting.{fits-given}
 use Rattle.mcs_team.proofs.here.flow_rounds.Goals as goal
 
 pub returns-in_default-clause-fault : goal.returns-in_default-clause-fault
 returns-in_default-clause-fault g c =
-    some-given g.B.Run.system g.B.Run.horizon g.S.Sink.takes (takes_time g.B.Run.system c.requires.well_formed) c.args.sink.now c.rounds.sink c.rounds.flow.reached
-    c.rounds.invariant.at.in_time c.rounds.invariant.given
-
-pub returns-in-Err-clause-fault : goal.returns-in-Err-clause-fault
-returns-in-Err-clause-fault g c = c.in-Err.ensures.fault c.args.sink.now c.rounds.invariant.given
+    let r = c.rounds in
+    round-stops g.W.Part.Out.Sink.takes g.W.Part.Part.holds g.B.Run.system g.B.Run.horizon (takes_time g.B.Run.system c.requires.well_formed) c.requires.well_formed.limits.cores.0
+    c.args.flow.reached c.args.out.now r.desk r.flow.pasts.items r.flow.merger r.flow.reached r.flow.end r.out r.invariant
 
 pub gather-requires : goal.gather-requires
 gather-requires g c =
     let r = c.rounds in
-    subst (λ xs. AreTakenTo (pasts_of xs) c.go.new.self) (sym c.as_mut_slice.ensures.value)
-    (may-gather g.B.Run.system g.B.Run.horizon r.desk (pasts_of r.flow.batches.items) r.flow.end r.invariant.clear c.go.new.self c.in-Ok.ensures.later)
+    record { clear = clear-later g.B.Run.system g.B.Run.horizon r.desk r.flow.pasts.items r.flow.end r.invariant.clear c.go.new.self c.in-Ok.ensures.later }
 
-pub give-requires-clause-taken : goal.give-requires-clause-taken
-give-requires-clause-taken g c =
-    let batches = c.rounds.flow.batches in
-    let system = c.in-Ok.ensures.later.system_is ∙ c.rounds.invariant.clear.system_is in
-    let horizon = c.in-Ok.ensures.later.horizon_is ∙ c.rounds.invariant.clear.horizon_is in
-    batches-written g.B.Run.system g.B.Run.horizon c.rounds.flow.merger.clocks batches.len batches.items c.gather.new.batches c.as_mut_slice.result.now batches.ok.0 c.as_mut_slice.ensures.value
-    c.rounds.invariant.clocks_are
-    (subst (λ h. AreBatches g.B.Run.system h (pasts_of c.as_mut_slice.result.now) c.gather.new.batches) horizon
-    (subst (λ s. AreBatches s c.go.new.self.horizon (pasts_of c.as_mut_slice.result.now) c.gather.new.batches) system c.gather.ensures.batches))
+pub returns-in_default-gather-clause-fault : goal.returns-in_default-gather-clause-fault
+returns-in_default-gather-clause-fault g c =
+    let r = c.rounds in
+    round-stops g.W.Part.Out.Sink.takes g.W.Part.Part.holds g.B.Run.system g.B.Run.horizon (takes_time g.B.Run.system c.requires.well_formed) c.requires.well_formed.limits.cores.0
+    c.args.flow.reached c.args.out.now r.desk r.flow.pasts.items r.flow.merger r.flow.reached r.flow.end r.out r.invariant
 
-pub return_rooms-requires : goal.return_rooms-requires
-return_rooms-requires g c =
-    let system = ap (λ (desk : Table). desk.system.cores) c.gather.ensures.rest ∙ ap (λ (system : System). system.cores) (c.in-Ok.ensures.later.system_is ∙ c.rounds.invariant.clear.system_is) in
-    omega (arith, system, c.in_default-give.ensures.at.many_are)
+pub pour-requires-clause-waits : goal.pour-requires-clause-waits
+pour-requires-clause-waits g c =
+    let r = c.rounds in
+    c.in-Ok-gather.ensures.waits r.out
+    (fits-given g.W.Relay.fits g.W.Part.Out.Sink.takes g.met.W.Relay.fits_on c.args.relay.now c.args.out.now r.out r.invariant.given.0 c.requires.fits r.invariant.given.2)
+    r.invariant.waits
 
-pub rounds-init : goal.rounds-init
-rounds-init g c = record {
-  clear = record {
-    system_is = c.requires.run.0;
-    horizon_is = c.requires.run.1;
-    sound = c.requires.sound;
-    here = c.requires.here;
-    long = c.requires.long;
-    taken = c.requires.taken;
-    end_is = c.requires.end;
-  };
-  clocks_are = c.requires.clocks;
-  at = c.requires.at;
-  given = search rules;
-}
+pub returns-in_default-pour-clause-fault : goal.returns-in_default-pour-clause-fault
+returns-in_default-pour-clause-fault g c =
+    let r = c.rounds in
+    let takes = g.W.Part.Out.Sink.takes in
+    fails-further takes g.B.Run.system g.B.Run.horizon c.args.flow.reached r.flow.reached c.args.out.now r.out c.pour.new.out fault.Sink r.invariant.given
+    (subst (λ t. FailsFrom takes g.B.Run.system g.B.Run.horizon t r.out c.pour.new.out fault.Sink) c.gather.ensures.same.0 c.in_default-pour.ensures.refused)
 
 pub rounds-smaller : goal.rounds-smaller
 rounds-smaller g c =
     let r = c.rounds in
-    let batches = r.flow.batches in
-    let wrote = pasts-written batches.len batches.items c.gather.new.batches c.as_mut_slice.result.now batches.ok.0 c.as_mut_slice.ensures.value c.gather.ensures.batches.many_are in
     let more : r.flow.reached ≢ r.flow.end = search rules in
-    rw (c.return_rooms.ensures.desk, c.return_rooms.ensures.flow) (
-    fewer-left g.B.Run.system g.B.Run.horizon r.desk (pasts_of r.flow.batches.items) r.flow.end r.invariant.clear
-    c.go.new.self c.in-Ok.ensures.later c.gather.new.desk (pasts_of c.gather.new.batches) c.gather.ensures.pasts c.gather.ensures.taken c.gather.ensures.rest
-    r.flow.reached c.give.new.self.reached c.give.new.self.end c.in_default-give.ensures.end more (c.in_default-give.ensures.reached ∙ ap (fold min r.flow.end) wrote) c.in-Ok.ensures.fewer
-    )
+    rw c.pour.ensures.same.1
+    (fewer-left g.B.Run.system g.B.Run.horizon r.desk r.flow.pasts.items r.flow.end r.invariant.clear c.go.new.self c.in-Ok.ensures.later
+    c.gather.new.desk c.gather.new.self.pasts.items c.gather.new.self.end c.in-Ok-gather.ensures.clocks c.in-Ok-gather.ensures.clear c.gather.ensures.desk
+    r.flow.reached c.pour.new.self.reached c.gather.ensures.same.1 more
+    (c.in-Ok-pour.ensures.reached ∙ ap (λ end. fold min end c.gather.new.self.pasts.items) c.gather.ensures.same.1) c.in-Ok.ensures.fewer)
 
 pub rounds-preserved : goal.rounds-preserved
 rounds-preserved g c =
     let r = c.rounds in
-    let batches = r.flow.batches in
-    let wrote = pasts-written batches.len batches.items c.gather.new.batches c.as_mut_slice.result.now batches.ok.0 c.as_mut_slice.ensures.value c.gather.ensures.batches.many_are in
-    rw (c.return_rooms.ensures.desk, c.return_rooms.ensures.flow) (
+    let takes = g.W.Part.Out.Sink.takes in
+    let system = g.B.Run.system in
     record {
       clear =
-          clear-next g.B.Run.system g.B.Run.horizon r.desk (pasts_of r.flow.batches.items) r.flow.end r.invariant.clear
-          c.go.new.self c.in-Ok.ensures.later c.gather.new.desk (pasts_of c.gather.new.batches) c.gather.ensures.pasts c.gather.ensures.taken c.gather.ensures.rest
-          c.give.new.self.end (pasts_of c.give.new.self.batches.items) (c.in_default-give.ensures.pasts ∙ wrote) c.in_default-give.ensures.end c.gather.ensures.long;
-      clocks_are = c.in_default-give.ensures.clocks;
-      at = c.in_default-give.ensures.at;
-      given = c.in_default-give.ensures.given c.args.sink.now r.invariant.given;
+          subst (λ end. IsClear system g.B.Run.horizon c.gather.new.desk c.pour.new.self.pasts.items end) (sym c.pour.ensures.same.1)
+          (subst (λ pasts. IsClear system g.B.Run.horizon c.gather.new.desk pasts c.gather.new.self.end) (sym c.pour.ensures.same.0) c.in-Ok-gather.ensures.clear);
+      waits = c.in-Ok-pour.ensures.waits;
+      given =
+          given-further takes system c.args.flow.reached r.flow.reached c.pour.new.self.reached c.args.out.now r.out c.pour.new.out r.invariant.given
+          (subst (λ t. IsGivenBetween takes system t c.pour.new.self.reached r.out c.pour.new.out) c.gather.ensures.same.0 c.in-Ok-pour.ensures.given);
     }
-    )
 
 pub returns-clause-given : goal.returns-clause-given
 returns-clause-given g c =
     let r = c.rounds in
     let over : r.flow.reached ≡ r.flow.end = search rules in
-    done g.B.Run.system g.B.Run.horizon g.S.Sink.takes (takes_time g.B.Run.system c.requires.well_formed) c.args.sink.now r.sink r.flow.reached
-    r.invariant.given (over ∙ r.invariant.clear.end_is)
+    rounds-end g.W.Part.Out.Sink.takes g.W.Part.Part.holds g.B.Run.system g.B.Run.horizon (takes_time g.B.Run.system c.requires.well_formed) c.requires.well_formed.limits.cores.0
+    c.args.flow.reached c.args.out.now r.desk r.flow.pasts.items r.flow.merger r.flow.reached r.flow.end r.out r.invariant over

@@ -7,4 +7,4 @@ use Rattle.mcs_team.proofs.here.rows_here.Goals as goal
 pub returns : goal.returns
 returns c =
     let all = schedule (arc_value c.args.system) c.args.horizon in
-    keeps c.new-kept.result c.flow_here.new.sink all c.in-Ok.ensures.given ∙ ap (λ xs. xs ++ all) c.new-kept.ensures
+    keeps c.new-kept.result c.flow_here.new.out all c.in-Ok.ensures.given ∙ ap (λ xs. xs ++ all) c.new-kept.ensures

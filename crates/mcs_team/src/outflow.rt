@@ -1,0 +1,192 @@
+//! What cores told, on its way to an output.
+ghost use Rattle.std.specs.Prelude.{◌≡◌, ◌+◌, ◌<◌, ◌≤◌, ◌^◌, ◌↔◌, [], fold, length, min, replicate, slice_index, slice_set, IfOk, IsTrue, OnErr, OnOk};
+ghost use Rattle.mcs_merge.specs.Parts.{HoldEach};
+ghost use Rattle.mcs_stretch.specs.Stretch.{rows_between};
+ghost use Rattle.mcs_system.specs.WellFormed.{IsWellFormed};
+ghost use Rattle.mcs_ticks.specs.declared.sink.FlowFault.TheVariants as fault;
+ghost use Rattle.mcs_team.specs.Flow.{AreAtClocks, AreTakenTo, FailsFrom, IsClear, IsGivenBetween, Waits};
+ghost use Rattle.mcs_window.specs.Desk.{clock_of, taken_at};
+
+use crate::Relay;
+use crate::run::Run;
+use mcs_merge::{Part, PartMerger};
+use mcs_system::System;
+use mcs_ticks::{CoreId, NoMemory, Refused, Tick};
+use mcs_window::Desk;
+use std::alloc::Global;
+
+/// What cores told, which waits to be given out by moments.
+#[derive(Drop)]
+pub(crate) struct Outflow<W: Relay> {
+    merger: PartMerger<W::Part>,
+    /// For each core the moment before which all that it told was added.
+    pub(crate) pasts: Vec<Tick>,
+    /// All before it was given.
+    pub(crate) reached: Tick,
+    // the moment after the last
+    end: Tick,
+    // one of which all was given out
+    spare: Option<W::Part>,
+    ghost same: { length merger ≡ length pasts.items },
+}
+
+impl<W: Relay> Outflow<W> {
+    /// Nothing was told yet.
+    pub(crate) fn new(
+        alloc: Global,
+        relay: &W,
+        system: &System,
+        horizon: Tick,
+    ) -> Result<Outflow<W>, NoMemory>
+        requires { horizon ≤ 2 ^ 40 }
+        ensures waits { (out : W.Part.Out) → W.fits relay.now out → IfOk result
+            (λ flow. Waits W.Part.holds system.now horizon flow.reached flow.pasts.items flow.merger out) }
+        ensures first { IfOk result (λ flow. flow.reached ≡ 0) }
+        ensures end { IfOk result (λ flow. flow.end ≡ horizon + 1) }
+        ensures pasts { IfOk result (λ flow. flow.pasts.items ≡ replicate system.now.cores 0) }
+    {
+        let cores = system.parts().cores;
+        let parts = empty_parts(alloc, relay, cores)?;
+        let merger = PartMerger::new(alloc, parts)?;
+        let pasts = vec![in alloc; Tick::ZERO; cores]?;
+        let end = horizon.plus(1).unwrap();
+        Ok(Outflow {
+            merger,
+            pasts,
+            reached: Tick::ZERO,
+            end,
+            spare: None,
+        })
+    }
+
+    /// Whether all was given.
+    pub(crate) fn is_over(&self) -> bool
+        ensures { IsTrue result ↔ (self.now.reached ≡ self.now.end) }
+    {
+        self.reached == self.end
+    }
+
+    /// Adds what a core told from where that was last added to before a moment.
+    pub(crate) fn add<B: Run>(
+        &mut self,
+        relay: &W,
+        core: CoreId,
+        past: Tick,
+        told: W::Told,
+    ) -> Result<(), NoMemory>
+        requires known { core < length self.old.pasts.items }
+        requires in_order { slice_index self.old.pasts.items core ≤ past }
+        requires in_time { past ≤ B.horizon + 1 }
+        requires told { W.Told.holds told (rows_between B.system core (slice_index self.old.pasts.items core) past) }
+        ensures pasts { OnOk result (self.new.pasts.items ≡ slice_set self.old.pasts.items core past) }
+        ensures same { (self.new.reached ≡ self.old.reached) × (self.new.end ≡ self.old.end) }
+        ensures waits { (out : W.Part.Out) → W.fits relay.now out
+            → Waits W.Part.holds B.system B.horizon self.old.reached self.old.pasts.items self.old.merger out
+            → OnOk result (Waits W.Part.holds B.system B.horizon self.new.reached self.new.pasts.items self.new.merger out) }
+    {
+        let part = relay.part(told);
+        match self.merger.add(core, part) {
+            Ok(spare) => self.spare = spare,
+            Err((_, refusal)) => return Err(refusal),
+        }
+        self.pasts[core.0] = past;
+        Ok(())
+    }
+
+    /// Room for what a core tells.
+    pub(crate) fn take_room(&mut self, relay: &W) -> W::Told
+        ensures empty { W.Told.holds result [] }
+        ensures same { (self.new.reached ≡ self.old.reached) × (self.new.end ≡ self.old.end) }
+        ensures waits { (self.new.merger ≡ self.old.merger) × (self.new.pasts.items ≡ self.old.pasts.items) }
+    {
+        match self.spare.take() {
+            Some(part) => relay.room(part),
+            None => relay.empty(),
+        }
+    }
+
+    // Takes what a core told from a desk, and adds it.
+    fn take<B: Run>(
+        &mut self,
+        relay: &W,
+        desk: &mut Desk<W::Told>,
+        core: CoreId,
+    ) -> Result<(), NoMemory>
+        requires run { (desk.old.system ≡ B.system) × (desk.old.horizon ≡ B.horizon) }
+        requires known { core < desk.old.system.cores }
+        requires taken { AreTakenTo self.old.pasts.items desk.old }
+        ensures pasts { OnOk result (self.new.pasts.items ≡ slice_set self.old.pasts.items core (clock_of desk.old core)) }
+        ensures taken { desk.new ≡ taken_at desk.old core }
+        ensures same { (self.new.reached ≡ self.old.reached) × (self.new.end ≡ self.old.end) }
+        ensures waits { (out : W.Part.Out) → W.fits relay.now out
+            → Waits W.Part.holds B.system B.horizon self.old.reached self.old.pasts.items self.old.merger out
+            → OnOk result (Waits W.Part.holds B.system B.horizon self.new.reached self.new.pasts.items self.new.merger out) }
+    {
+        let _taken = desk.taken(core);
+        let past = desk.clock(core);
+        let room = self.take_room(relay);
+        let told = desk.take(core, room);
+        self.add::<B>(relay, core, past, told)
+    }
+
+    /// Takes what each core told from a desk, and adds it.
+    pub(crate) fn gather<B: Run>(
+        &mut self,
+        relay: &W,
+        desk: &mut Desk<W::Told>,
+    ) -> Result<(), NoMemory>
+        requires clear { IsClear B.system B.horizon desk.old self.old.pasts.items self.old.end }
+        ensures clear { OnOk result (IsClear B.system B.horizon desk.new self.new.pasts.items self.new.end) }
+        ensures clocks { OnOk result (AreAtClocks self.new.pasts.items desk.old) }
+        ensures desk { desk.new ≡ record desk.old { taken = desk.new.taken } }
+        ensures same { (self.new.reached ≡ self.old.reached) × (self.new.end ≡ self.old.end) }
+        ensures waits { (out : W.Part.Out) → W.fits relay.now out
+            → Waits W.Part.holds B.system B.horizon self.old.reached self.old.pasts.items self.old.merger out
+            → OnOk result (Waits W.Part.holds B.system B.horizon self.new.reached self.new.pasts.items self.new.merger out) }
+    {
+        for number in 0..self.pasts.len() {
+            self.take::<B>(relay, desk, CoreId(number))?;
+        }
+        Ok(())
+    }
+
+    /// Gives out all that each core told before the least of the moments up to which they told.
+    pub(crate) fn pour<B: Run>(&mut self, out: &mut <W::Part as Part>::Out) -> Result<(), Refused>
+        requires well_formed { IsWellFormed B.system }
+        requires end { self.old.end ≡ B.horizon + 1 }
+        requires waits { Waits W.Part.holds B.system B.horizon self.old.reached self.old.pasts.items self.old.merger out.old }
+        ensures waits { OnOk result (Waits W.Part.holds B.system B.horizon self.new.reached self.new.pasts.items self.new.merger out.new) }
+        ensures same { (self.new.pasts.items ≡ self.old.pasts.items) × (self.new.end ≡ self.old.end) }
+        ensures reached { OnOk result (self.new.reached ≡ fold min self.old.end self.old.pasts.items) }
+        ensures given { OnOk result (IsGivenBetween W.Part.Out.takes B.system self.old.reached self.new.reached out.old out.new) }
+        ensures refused { OnErr result (FailsFrom W.Part.Out.takes B.system B.horizon self.old.reached out.old out.new fault.Sink) }
+    {
+        let reached = least(self.pasts.as_slice(), self.end);
+        self.merger.pour_before(reached, out)?;
+        self.reached = reached;
+        Ok(())
+    }
+}
+
+// A part for each core, which holds nothing.
+fn empty_parts<W: Relay>(alloc: Global, relay: &W, cores: usize) -> Result<Vec<W::Part>, NoMemory>
+    ensures many { IfOk result (λ parts. length parts.items ≡ cores) }
+    ensures held { (out : W.Part.Out) → W.fits relay.now out → IfOk result (λ parts. HoldEach W.Part.holds out parts.items (replicate cores [])) }
+{
+    let mut parts = Vec::with_capacity(alloc, cores)?;
+    for _ in 0..cores {
+        parts.push(relay.part(relay.empty()))?;
+    }
+    Ok(parts)
+}
+
+// The least of the moments, or `end` where none is less.
+fn least(moments: &[Tick], end: Tick) -> Tick
+    ensures { result ≡ fold min end moments.now }
+{
+    let mut least = end;
+    for moment in moments {
+        least = least.min(*moment);
+    }
+    least
+}
