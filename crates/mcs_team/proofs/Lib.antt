@@ -4,6 +4,8 @@ mod Flowing
 mod Batches
 mod Adding
 mod Counting
+mod Tallies
+mod Endings
 mod Streaming
 mod Resting
 mod Rounds

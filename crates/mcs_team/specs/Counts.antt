@@ -1,7 +1,9 @@
 -- Rows of the cores that are counted as they are taken, and are not merged.
-use Rattle.std.specs.Prelude.{◌≡◌, ℕ, ◌+◌, ◌<◌, ◌≤◌, List, length, fold, slice_index}
+use Rattle.std.specs.Prelude.{◌≡◌, ℕ, ◌+◌, ◌<◌, ◌≤◌, List, length, fold, replicate, slice_index}
 use Rattle.mcs_report.specs.Tally.{Tally, added}
+use Rattle.mcs_report.specs.CoreTally.{CoreTally}
 use Rattle.mcs_report.specs.laws.ByCore.{CountsUntil}
+use Rattle.mcs_report.specs.laws.CoreTallies.{AreOfCores}
 use Rattle.mcs_system.specs.System.{System}
 use Rattle.mcs_team.specs.declared.batch.Batch.{Batch}
 
@@ -14,3 +16,7 @@ pub record AreCounted (system : System) (horizon : ℕ) (pasts : List ℕ) (tall
   pub many_are : length pasts ≡ system.cores
   pub early : (core : ℕ) → core < system.cores → slice_index pasts core ≤ horizon + 1
   pub counted : CountsUntil system horizon pasts tally
+
+-- each core has its tally, of all its rows up to the horizon
+abbrev pub AreWhole : System → ℕ → List CoreTally → Type 0
+AreWhole system horizon tallies = AreOfCores system horizon (replicate system.cores (horizon + 1)) tallies

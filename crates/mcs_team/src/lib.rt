@@ -12,6 +12,7 @@ mod gate;
 mod here;
 mod outflow;
 mod relay;
+mod own_tally;
 mod reporting;
 mod room;
 mod run;

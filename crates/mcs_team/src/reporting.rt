@@ -1,18 +1,24 @@
 //! Reports of whole simulations, of which nobody wants the rows.
-ghost use Rattle.std.specs.Prelude.{◌≡◌, ◌≤◌, ◌^◌, IfOk};
+ghost use Rattle.std.specs.Prelude.{◌≡◌, ℕ, ◌<◌, ◌≤◌, ◌^◌, false, IfOk, IfSome};
 ghost use Rattle.std.specs.Arc.{arc_value};
 ghost use Rattle.mcs_core.specs.Clock.{schedule};
 ghost use Rattle.mcs_report.specs.Reports.{reports_of};
+ghost use Rattle.mcs_report.specs.Tally.{opened_tally};
 ghost use Rattle.mcs_report.specs.laws.Demand.{AreWithinDemand};
+ghost use Rattle.mcs_team.specs.Counts.{AreWhole};
 ghost use Rattle.mcs_team.specs.Headline.{Headline};
+ghost use Rattle.mcs_window.specs.Desk.{taken_of, AllAreHere};
 
-use crate::batch::gather;
 use crate::counts::Counts;
+use crate::own_tally::{OwnTally, are_in_place, tallies_of_cores};
 use crate::room::{Room, crew, end, more};
 use crate::run::Run;
 use crate::sink::Stop;
-use crate::{FlowFault, Gate};
-use mcs_report::{Reports, cores_are_counted, demand_is_bounded};
+use crate::{FlowFault, Gate, SimFault, simulate_alone};
+use mcs_report::{
+    CoreTally, Places, Reports, Tally, core_tallies_give_reports, cores_are_counted,
+    demand_is_bounded,
+};
 use mcs_system::System;
 use mcs_ticks::{NoMemory, Tick};
 use mcs_window::Desk;
@@ -20,9 +26,6 @@ use std::alloc::Global;
 use std::marker::Brand;
 use std::sync::{Arc, Wait};
 use std::thread::{Threads, join_mut};
-
-// With so many rows on the desk they are taken.
-const ROWS: usize = 2048;
 
 /// The reports of the whole simulation up to the horizon, at most 2^40, of which nobody wants the rows: those of the schedule, for every
 /// number of workers. The rows of each core are counted by themselves, a few thousand at a time, and none is merged or kept. Threads work at
@@ -54,23 +57,82 @@ pub fn report<R: Threads + Wait + Sync, G: Gate + Sync>(
     }
 }
 
-// The reports, on this thread, which takes the turns in rounds and counts the rows of each.
+// The reports, on this thread, where each core counts its own rows.
 fn report_here(alloc: Global, system: Arc<System>, horizon: Tick) -> Result<Reports, NoMemory>
     requires { horizon ≤ 2 ^ 40 }
     ensures { IfOk result
         (λ reports. reports ≡ reports_of (arc_value system) horizon (schedule (arc_value system) horizon)) }
 {
-    cores_are_counted();
+    let tally = Tally::new(alloc, &system, horizon)?;
+    let places = Arc::new(alloc, Places::new(alloc, Arc::try_clone(&system)?)?)?;
+    let shared = Arc::try_clone(&system)?;
+    let found = count_here::<Brand>(alloc, &places, shared, horizon)?;
+    put_together(alloc, tally, &places, found, system, horizon)
+}
+
+// The reports of all rows that the cores have counted, or, where their tallies were not found, of a run on this thread that keeps its rows.
+fn put_together(
+    alloc: Global,
+    tally: Tally,
+    places: &Places,
+    found: Option<Vec<CoreTally>>,
+    system: Arc<System>,
+    horizon: Tick,
+) -> Result<Reports, NoMemory>
+    requires in_range { horizon ≤ 2 ^ 40 }
+    requires tally { tally ≡ opened_tally (arc_value system) horizon }
+    requires places { places.now ≡ arc_value system }
+    requires found { IfSome found (λ tallies. AreWhole (arc_value system) horizon tallies.items) }
+    ensures { IfOk result
+        (λ reports. reports ≡ reports_of (arc_value system) horizon (schedule (arc_value system) horizon)) }
+{
+    core_tallies_give_reports();
     let _parts = system.parts();
-    let mut counts = Counts::new(alloc, &system, horizon)?;
-    let mut desk = Desk::new(alloc, system, horizon)?;
-    'rounds: while !counts.are_over() {
-        desk.go(ROWS)?;
-        gather(&mut desk, counts.batches.as_mut_slice());
-        counts.count();
-        counts.return_rooms(&mut desk);
+    match found {
+        Some(tallies) => Ok(tally.together(places, tallies.as_slice())),
+        None => match simulate_alone(alloc, system, horizon) {
+            Ok(whole) => Ok(whole.reports),
+            Err(SimFault::NoMemory) => Err(NoMemory),
+        },
     }
-    Ok(counts.finish())
+}
+
+// The tallies of all cores of a run on this thread. None where they stand in another order, which no run meets.
+fn count_here<B: Run>(
+    alloc: Global,
+    places: &Arc<Places>,
+    system: Arc<System>,
+    horizon: Tick,
+) -> Result<Option<Vec<CoreTally>>, NoMemory>
+    requires run { (arc_value system ≡ B.system) × (arc_value places.now ≡ B.system) × (horizon ≡ B.horizon) }
+    requires in_range { horizon ≤ 2 ^ 40 }
+    ensures { IfOk result (λ found. IfSome found (λ tallies. AreWhole B.system B.horizon tallies.items)) }
+{
+    let cores = system.parts().cores;
+    let told = tallies_of_cores::<B>(alloc, places, cores, horizon)?;
+    let desk = Desk::opened(alloc, system, horizon, told)?;
+    count_to_end(alloc, desk)
+}
+
+// Takes all turns that are left, where each core counts its own rows, and all were told that were made before. Then the tallies alone, or None
+// where they stand in another order.
+fn count_to_end<B: Run>(
+    alloc: Global,
+    mut desk: Desk<OwnTally<B>>,
+) -> Result<Option<Vec<CoreTally>>, NoMemory>
+    requires run { (desk.system ≡ B.system) × (desk.horizon ≡ B.horizon) }
+    requires sound { desk.lost ≡ false }
+    requires here { AllAreHere desk }
+    requires first { (c : ℕ) → c < desk.system.cores → taken_of desk c ≡ 0 }
+    ensures { IfOk result (λ found. IfSome found (λ tallies. AreWhole B.system B.horizon tallies.items)) }
+{
+    desk.go(usize::MAX)?;
+    let told = desk.into_told();
+    if !are_in_place(told.as_slice()) {
+        return Ok(None);
+    }
+    let tallies = told.into_iter().map(|own| own.tally).collect(alloc)?;
+    Ok(Some(tallies))
 }
 
 // The reports, by threads that work and this one, which counts.

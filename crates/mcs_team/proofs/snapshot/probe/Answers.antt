@@ -1,20 +1,15 @@
-use Rattle.std.proofs.Common.{ℕ, suc, ◌≡◌, ◌⊎◌, inl, inr, ◌+◌, ◌<◌, ◌≤◌, ◌∙◌, List, refl, ap, sym, subst, arith}
+use Rattle.std.proofs.Common.{ℕ, suc, ◌≡◌, ◌+◌, ◌<◌, ◌∙◌, List, ap, sym, subst, arith}
 use Rattle.std.specs.Arc.{arc_value}
 use Rattle.mcs_control.specs.declared.view.ContextView.{ContextView}
 use Rattle.mcs_system.specs.System.{System}
 use Rattle.mcs_system.specs.WellFormed.{IsWellFormed}
-use Rattle.mcs_window.specs.Desk.{Table, opening_table, amount_kept, IsFinished, IsLater}
+use Rattle.mcs_window.specs.Desk.{Table, opening_table, IsFinished, IsLater}
 use Rattle.mcs_window.specs.Views.{views_at, views_before}
 use Rattle.mcs_window.proofs.Dealing.{views-at_one}
 use Rattle.mcs_window.proofs.Shown.{views-shown}
 use Rattle.mcs_team.specs.Headline.{BudgetsStand}
-use Rattle.mcs_team.proofs.Rounds.{sum-none}
+use Rattle.mcs_team.proofs.Endings.{ends}
 use Rattle.mcs_team.proofs.snapshot.probe.Goals as goal
-
--- where nothing is kept there is never enough
-ends : {enough : ℕ} (desk : Table) → IsFinished desk ⊎ (enough ≤ amount_kept (λ _. 0) desk) → 0 < enough → IsFinished desk
-ends desk (inl finished) some = finished
-ends desk (inr much) some = absurd (let none = sum-none (λ _. 0) desk.system.cores 0 0 (λ c l. refl) in omega arith)
 
 at-end : (system : System) (t : ℕ) (start desk : Table) (views : List ContextView) → IsWellFormed system → start ≡ opening_table system t → IsLater start desk → IsFinished desk →
     views ≡ views_at desk.system desk.clocks → views ≡ views_before system (t + 1)
