@@ -137,6 +137,7 @@ calls-here : (before after : Table) → before.system.cores ≤ length before.cl
 calls-here before after many = (
   record {
     lent = λ c l. by-lent before after c many l;
+    core_lent = λ c sound may e. (Lend c (past_of before c) ∷ [], by-lend before after c sound may e, (tt, tt));
     not_lent = by-awake before after many;
     skipped = by-skip before after many;
     settled = by-settle before after;

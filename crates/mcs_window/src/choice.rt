@@ -8,7 +8,7 @@ use mcs_ticks::{Collector, CoreId};
 
 impl<S: Collector> Desk<S> {
     // Whether a core may be lent.
-    fn may_lend(&self, core: CoreId) -> bool
+    pub(crate) fn may_lend(&self, core: CoreId) -> bool
         requires { core < self.now.system.cores }
         ensures { IsTrue result ↔ MayLend self.now core }
     {

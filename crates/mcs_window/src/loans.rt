@@ -1,5 +1,5 @@
 //! Cores that are lent for stretches, and taken back.
-ghost use Rattle.std.specs.Prelude.{◌≡◌, ℕ, ◌⊎◌, true, false, IfErr, OnOk, OnErr, IfSome, IfNone, IsTrue, IsFalse};
+ghost use Rattle.std.specs.Prelude.{◌≡◌, ℕ, ◌<◌, ◌⊎◌, true, false, IfErr, OnOk, OnErr, IfSome, IfNone, IsTrue, IsFalse};
 ghost use Rattle.mcs_window.specs.Desk.{clock_of, past_of, MayLend, IsChosen, lent_at, settled_at, IsAwake, IsLent, IsSameRun, with_lost, IsLoan, IsSettleFault, AllAreHere, IsFinished};
 
 use crate::delivery::{deliver_reserved, make_room};
@@ -8,7 +8,7 @@ use crate::settle::{make_own_room, put_box, put_rows, same_front};
 use crate::slot::{Loan, Slot};
 use crate::{Done, Lost, Piece, SettleFault};
 use mcs_mail::Mailbox;
-use mcs_ticks::Row;
+use mcs_ticks::{CoreId, Row};
 use std::mem;
 
 impl Desk<Vec<Row>> {
@@ -41,23 +41,24 @@ impl Desk<Vec<Row>> {
         self.lend_now()
     }
 
-    // Of the cores that may be lent, lends the earliest. No idle time is skipped.
-    fn lend_now(&mut self) -> Option<Piece>
+    /// Lends this core, if it may be lent now, for as long as the clocks of the others allow. No idle time is skipped. None where the core is
+    /// lent already, or may take no turn yet, or has taken all of them, and where a piece or core was lost.
+    pub fn lend_core(&mut self, core: CoreId) -> Option<Piece>
+        requires { core < self.old.system.cores }
         ensures some { IfSome result (λ piece. (self.old.lost ≡ false)
-            × IsChosen self.old piece.core
-            × (self.new ≡ lent_at self.old piece.core)) }
+            × (piece.core ≡ core)
+            × MayLend self.old core
+            × (self.new ≡ lent_at self.old core)) }
         ensures piece { IfSome result (λ piece. (piece.system ≡ self.old.system)
-            × (piece.first ≡ clock_of self.old piece.core)
-            × (piece.past ≡ past_of self.old piece.core)
+            × (piece.first ≡ clock_of self.old core)
+            × (piece.past ≡ past_of self.old core)
             × (piece.front ≡ self.old.clocks)) }
         ensures none { IfNone result ((self.new ≡ self.old)
-            × ((self.old.lost ≡ true) ⊎ ((c : ℕ) → ¬ MayLend self.old c))) }
-        ensures goes_on { IfNone result (self.old.lost ≡ false → AllAreHere self.old → IsFinished self.old) }
+            × ((self.old.lost ≡ true) ⊎ ¬ MayLend self.old core)) }
     {
-        if self.lost {
+        if self.lost || !self.may_lend(core) {
             return None;
         }
-        let core = self.choice()?;
         let first = self.clock(core);
         let past = self.past(core);
         let front = self.clocks;
@@ -76,6 +77,26 @@ impl Desk<Vec<Row>> {
             mail,
             alloc: self.alloc,
         })
+    }
+
+    // Of the cores that may be lent, lends the earliest. No idle time is skipped.
+    fn lend_now(&mut self) -> Option<Piece>
+        ensures some { IfSome result (λ piece. (self.old.lost ≡ false)
+            × IsChosen self.old piece.core
+            × (self.new ≡ lent_at self.old piece.core)) }
+        ensures piece { IfSome result (λ piece. (piece.system ≡ self.old.system)
+            × (piece.first ≡ clock_of self.old piece.core)
+            × (piece.past ≡ past_of self.old piece.core)
+            × (piece.front ≡ self.old.clocks)) }
+        ensures none { IfNone result ((self.new ≡ self.old)
+            × ((self.old.lost ≡ true) ⊎ ((c : ℕ) → ¬ MayLend self.old c))) }
+        ensures goes_on { IfNone result (self.old.lost ≡ false → AllAreHere self.old → IsFinished self.old) }
+    {
+        if self.lost {
+            return None;
+        }
+        let core = self.choice()?;
+        self.lend_core(core)
     }
 
     /// Marks a piece as lost: nothing is lent from now on. All loans stay, and stretches that are away may still be settled.
