@@ -4,6 +4,8 @@
 #[cfg(test)]
 mod by_core;
 #[cfg(test)]
+mod by_number;
+#[cfg(test)]
 mod collectors;
 #[cfg(test)]
 mod contexts;
