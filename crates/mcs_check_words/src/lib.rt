@@ -1,6 +1,7 @@
 //! The command line of `mcscheck`: what its words ask for.
 #![tactic(auto)]
 
+mod arguments;
 mod asked;
 mod words;
 

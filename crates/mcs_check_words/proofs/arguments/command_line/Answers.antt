@@ -4,7 +4,7 @@ use Rattle.clap.specs.Words.{rule_of}
 use Rattle.clap.specs.Built.{FitsChain}
 use Rattle.mcs_cli.specs.CommandLine.{HasOneOrDefault, horizon_rule, workers_rule}
 use Rattle.mcs_check_words.proofs.Lines.{line_is}
-use Rattle.mcs_check_words.proofs.words.command_line.Goals as goal
+use Rattle.mcs_check_words.proofs.arguments.command_line.Goals as goal
 
 pub returns : goal.returns
 returns c =
