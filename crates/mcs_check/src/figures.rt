@@ -1,21 +1,20 @@
 //! The figures of a thread and of a context, as named values and as lines.
-ghost use Rattle.std.specs.Prelude.{◌≡◌, ◌++◌, ◌∷◌, ◌<◌, ◌≤◌, ℕ, List, OnOk, OnErr, drop, length, map};
-ghost use Rattle.std.specs.Io.{StartsWith};
+ghost use Rattle.std.specs.Prelude.{◌≡◌, ◌++◌, ◌<◌, ℕ, List, OnOk, OnErr, length, map};
 ghost use Rattle.mcs_ticks.specs.declared.row.Row.{Row as TheRow};
 ghost use Rattle.mcs_fields.specs.Fields.{field_of, value_of};
-ghost use Rattle.mcs_text.specs.Text.{after, line};
 ghost use Rattle.mcs_verdict.specs.Findings.{UpTo};
 ghost use Rattle.mcs_verdict.specs.Watch.{watch_of};
 ghost use Rattle.mcs_table.specs.Figures.{figures_of};
 ghost use Rattle.mcs_table.specs.Table.{table_of};
 ghost use Rattle.mcs_table.specs.Unused.{unused_of};
-ghost use Rattle.mcs_check.specs.Figures.{context_fields, context_line, context_lines, context_text, deadline_known, known, lost_value, margin_value, merged_value, pair_words, table_lines, thread_fields, thread_line, thread_lines, thread_text, value_word};
+ghost use Rattle.mcs_check.specs.Figures.{context_fields, context_line, context_lines, context_text, deadline_known, known, lost_value, margin_value, merged_value, table_lines, thread_fields, thread_line, thread_lines, thread_text};
 
+use crate::pairs::{behind_two, put_line};
 use mcs_check_words::Format;
-use mcs_fields::{Cell, Field, append_below, put_object, put_row};
+use mcs_fields::{Cell, Field, put_object, put_row};
 use mcs_system::System;
 use mcs_table::{Figures, Margin, Signals, Table};
-use mcs_text::{append_number, append_word, context_name, thread_name};
+use mcs_text::{context_name, thread_name};
 use mcs_ticks::{ContextId, NoMemory, ThreadId};
 use mcs_verdict::Watch;
 use std::alloc::Global;
@@ -108,76 +107,6 @@ fn context_fields<'s>(system: &'s System, context: ContextId, unused: Option<u64
         ("context", Cell::Name(context_name(system, context))),
         ("unused", known(unused)),
     ]
-}
-
-/// Appends a value behind a space, and `-` where there is none.
-fn append_value(text: &mut Vec<u8>, cell: &Cell<'_>) -> Result<(), NoMemory>
-    ensures ok { OnOk result (text.new.items ≡ text.old.items ++ 32 ∷ value_word (value_of cell.now)) }
-    ensures kept { StartsWith text.new.items text.old.items }
-{
-    match *cell {
-        Cell::Number(number) => append_number(text, number),
-        Cell::Below(number) => {
-            text.push(b' ')?;
-            append_below(text, number)
-        }
-        Cell::Name(name) => append_word(text, name),
-        Cell::Empty => append_word(text, "-"),
-    }
-}
-
-/// Appends each value behind what it is called.
-fn append_pairs(text: &mut Vec<u8>, fields: &[Field<'_>]) -> Result<(), NoMemory>
-    ensures ok { OnOk result (text.new.items ≡ text.old.items ++ after (pair_words (map field_of fields.now))) }
-    ensures kept { StartsWith text.new.items text.old.items }
-{
-    for (name, cell) in fields {
-        append_word(text, name)?;
-        append_value(text, cell)?;
-    }
-    Ok(())
-}
-
-fn append_line(
-    text: &mut Vec<u8>,
-    word: &str,
-    name: &str,
-    fields: &[Field<'_>],
-) -> Result<(), NoMemory>
-    ensures ok { OnOk result (text.new.items ≡ text.old.items ++ line word.now (name.now ∷ pair_words (map field_of fields.now))) }
-    ensures kept { StartsWith text.new.items text.old.items }
-{
-    text.extend_from_slice(word.as_bytes())?;
-    append_word(text, name)?;
-    append_pairs(text, fields)?;
-    text.push(b'\n')?;
-    Ok(())
-}
-
-/// Appends a line of figures behind a word and a name. After a refusal the text is as it was.
-pub(crate) fn put_line(
-    text: &mut Vec<u8>,
-    word: &str,
-    name: &str,
-    fields: &[Field<'_>],
-) -> Result<(), NoMemory>
-    ensures ok { OnOk result (text.new.items ≡ text.old.items ++ line word.now (name.now ∷ pair_words (map field_of fields.now))) }
-    ensures err { OnErr result (text.new.items ≡ text.old.items) }
-{
-    let start = text.len();
-    let result = append_line(text, word, name, fields);
-    if result.is_err() {
-        text.truncate(start);
-    }
-    result
-}
-
-/// The values behind the first two.
-pub(crate) fn behind_two<'a, 's>(fields: &'a [Field<'s>]) -> &'a [Field<'s>]
-    requires { 2 ≤ length fields.now }
-    ensures { map field_of result.now ≡ drop 2 (map field_of fields.now) }
-{
-    &fields[2..]
 }
 
 /// Appends the line of a thread's figures as text. After a refusal the text is as it was.

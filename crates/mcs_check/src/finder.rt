@@ -23,6 +23,7 @@ const FULL: usize = 65_536;
 /// A target for lines: the first one is written at once, and later ones in pieces that grow.
 #[derive(Drop)]
 pub(crate) struct Lines<'t, T: Target> {
+    alloc: Global,
     pub(crate) target: &'t mut T,
     /// So many bytes of lines are written, 1 to those of a full piece.
     limit: usize,
@@ -31,11 +32,12 @@ pub(crate) struct Lines<'t, T: Target> {
 }
 
 impl<'t, T: Target> Lines<'t, T> {
-    pub(crate) fn new(target: &'t mut T) -> Lines<'t, T>
+    pub(crate) fn new(alloc: Global, target: &'t mut T) -> Lines<'t, T>
         ensures target { result.target.ghost_name ≡ target.entry.ghost_name }
         ensures target_now { result.target.now ≡ target.old }
     {
         Lines {
+            alloc,
             target,
             limit: 1,
             is_out_of_memory: false,
@@ -45,7 +47,6 @@ impl<'t, T: Target> Lines<'t, T> {
     /// One line more, behind a text that waits.
     pub(crate) fn put<P: Progress>(
         &mut self,
-        alloc: Global,
         text: &mut Vec<u8>,
         format: Format,
         system: &System,
@@ -59,7 +60,7 @@ impl<'t, T: Target> Lines<'t, T> {
         ensures refused { OnErr result
             (T.has_failed self.new.target.now ≡ failed_after self.new.is_out_of_memory (T.has_failed self.old.target.now)) }
     {
-        if put_shown(alloc, text, format, system, shown).is_err() {
+        if put_shown(self.alloc, text, format, system, shown).is_err() {
             self.is_out_of_memory = true;
             return Err(Refused);
         }
@@ -81,7 +82,6 @@ impl<'t, T: Target> Lines<'t, T> {
 #[derive(Drop)]
 pub(crate) struct Finder<'t, 's, 'k, 'p, T: Target, P: Progress> {
     pub(crate) lines: Lines<'t, T>,
-    alloc: Global,
     show: Show,
     format: Format,
     system: &'s System,
@@ -96,7 +96,6 @@ pub(crate) struct Finder<'t, 's, 'k, 'p, T: Target, P: Progress> {
 impl<'t, 's, 'k, 'p, T: Target, P: Progress> Finder<'t, 's, 'k, 'p, T, P> {
     pub(crate) fn new(
         lines: Lines<'t, T>,
-        alloc: Global,
         options: &Options,
         system: &'s System,
         allowed: &'s [bool],
@@ -113,7 +112,6 @@ impl<'t, 's, 'k, 'p, T: Target, P: Progress> Finder<'t, 's, 'k, 'p, T, P> {
     {
         Finder {
             lines,
-            alloc,
             show: options.show,
             format: options.format,
             system,
@@ -165,7 +163,6 @@ impl<T: Target, P: Progress> Sink for Finder<'_, '_, '_, '_, T, P> {
             return Ok(());
         };
         self.lines.put(
-            self.alloc,
             &mut self.seen.text,
             self.format,
             self.system,

@@ -10,6 +10,8 @@ mod figures;
 mod finder;
 mod format;
 mod line;
+mod machine;
+mod pairs;
 mod progress;
 mod ran;
 mod rest;

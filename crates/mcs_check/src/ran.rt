@@ -7,7 +7,7 @@ ghost use Rattle.mcs_why.specs.Account.{account_of};
 ghost use Rattle.mcs_check.specs.Figures.{known};
 ghost use Rattle.mcs_check.specs.Why.{account_lines, ended_of, idle_fields, idle_line, ran_fields, ran_line, ran_lines, span_fields, span_line, span_text, told_ran, waited};
 
-use crate::figures::{behind_two, put_line};
+use crate::pairs::{behind_two, put_line};
 use mcs_check_words::Format;
 use mcs_fields::{Cell, Field, put_object, put_row};
 use mcs_system::System;

@@ -45,15 +45,11 @@ pub(crate) fn put_rest(
 {
     let unended = find_unended(alloc, system, &seen.watch, options.horizon)?;
     let hints = hints(alloc, system)?;
-    put_ends(
-        alloc,
-        options,
-        &mut seen.text,
-        system,
-        allowed,
-        unended.as_slice(),
-        hints.as_slice(),
-    )?;
+    let ends = Ends {
+        found: unended.as_slice(),
+        hints: hints.as_slice(),
+    };
+    put_ends(alloc, options, &mut seen.text, system, allowed, &ends)?;
     let (text, watch) = (&mut seen.text, &seen.watch);
     put_tabled(alloc, options, text, system, watch, &seen.table)?;
     count_all(&mut seen.counts, allowed, unended.as_slice());
@@ -83,23 +79,30 @@ fn put_tabled(
     }
 }
 
-/// Puts what is shown of what was found at the horizon and of hints behind the text.
+/// What was found at the horizon, and hints.
+#[derive(Clone, Copy)]
+struct Ends<'a> {
+    found: &'a [Found],
+    hints: &'a [Hint],
+}
+
+/// Puts what is shown of these ends behind the text.
 fn put_ends(
     alloc: Global,
     options: &Options,
     text: &mut Vec<u8>,
     system: &System,
     allowed: &[bool],
-    all: &[Found],
-    hints: &[Hint],
+    ends: &Ends<'_>,
 ) -> Result<(), NoMemory>
-    requires { hints.now ≡ hints_of system.now }
-    ensures { OnOk result (text.new.items ≡ text.old.items ++ rest_lines options.now.format options.now.show system.now allowed.now all.now) }
+    requires { ends.now.hints.now ≡ hints_of system.now }
+    ensures { OnOk result
+        (text.new.items ≡ text.old.items ++ rest_lines options.now.format options.now.show system.now allowed.now ends.now.found.now) }
 {
     match options.show {
         Show::Findings | Show::Both => {
-            put_all(alloc, text, options.format, system, allowed, all)?;
-            put_hints(alloc, text, options.format, system, hints)
+            put_all(alloc, text, options.format, system, allowed, ends.found)?;
+            put_hints(alloc, text, options.format, system, ends.hints)
         }
         Show::Jobs | Show::Table => Ok(()),
     }

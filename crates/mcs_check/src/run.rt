@@ -15,6 +15,7 @@ ghost use Rattle.mcs_check.specs.stored.Rows.{counts_in, kept_table, refusal, ro
 use crate::allowed::{flags_of, refuse_unknown};
 use crate::finder::{Finder, Lines};
 use crate::format::{is_mixed, put_head};
+use crate::machine::Machine;
 use crate::rest::put_rest;
 use crate::seen::Seen;
 use crate::{CheckFault, Counts, Progress};
@@ -124,7 +125,8 @@ fn write_check<H: Threads + Wait + Sync, T: Target, P: Progress>(
         return Err(RunFault::Sim(SimFault::NoMemory));
     };
     let allowed = allowed.as_slice();
-    let found = find_rows(rt, alloc, target, &system, allowed, options, progress);
+    let machine = Machine { rt, alloc };
+    let found = find_rows(&machine, target, &system, allowed, options, progress);
     progress.wipe();
     let mut seen = found?;
     if put_rest(alloc, options, &mut seen, &system, allowed).is_err() {
@@ -136,8 +138,7 @@ fn write_check<H: Threads + Wait + Sync, T: Target, P: Progress>(
 
 /// Finds what the rows of a system's schedule tell, and writes the lines of what is shown of them as they come, but for the last ones.
 fn find_rows<'s, H: Threads + Wait + Sync, T: Target, P: Progress>(
-    rt: &H,
-    alloc: Global,
+    machine: &Machine<'_, H>,
     target: &mut T,
     system: &'s Arc<System>,
     allowed: &'s [bool],
@@ -161,6 +162,7 @@ fn find_rows<'s, H: Threads + Wait + Sync, T: Target, P: Progress>(
 {
     schedules_are_in_order();
     let _parts = system.parts();
+    let (rt, alloc) = (machine.rt, machine.alloc);
     let Ok(shared) = Arc::try_clone(system) else {
         return Err(RunFault::Sim(SimFault::NoMemory));
     };
@@ -179,8 +181,8 @@ fn find_rows<'s, H: Threads + Wait + Sync, T: Target, P: Progress>(
         table,
         text,
     };
-    let lines = Lines::new(target);
-    let mut finder = Finder::new(lines, alloc, options, system, allowed, &mut seen, progress);
+    let lines = Lines::new(alloc, target);
+    let mut finder = Finder::new(lines, options, system, allowed, &mut seen, progress);
     let (horizon, workers) = (options.horizon, options.workers);
     let result = schedule_to(rt, alloc, shared, horizon, workers, &Open, &mut finder);
     match result {

@@ -16,7 +16,6 @@ use mcs_cli::Target;
 use mcs_system::System;
 use mcs_ticks::{Refused, Row, Sink};
 use mcs_why::Account;
-use std::alloc::Global;
 
 /// What is kept of the rows that went by: who ran, and the lines that are not written yet.
 #[derive(Drop)]
@@ -29,7 +28,6 @@ pub(crate) struct Told {
 #[derive(Drop)]
 pub(crate) struct Teller<'t, 's, 'k, 'p, T: Target, P: Progress> {
     pub(crate) lines: Lines<'t, T>,
-    alloc: Global,
     format: Format,
     system: &'s System,
     told: &'k mut Told,
@@ -41,7 +39,6 @@ pub(crate) struct Teller<'t, 's, 'k, 'p, T: Target, P: Progress> {
 impl<'t, 's, 'k, 'p, T: Target, P: Progress> Teller<'t, 's, 'k, 'p, T, P> {
     pub(crate) fn new(
         lines: Lines<'t, T>,
-        alloc: Global,
         format: Format,
         system: &'s System,
         told: &'k mut Told,
@@ -55,7 +52,6 @@ impl<'t, 's, 'k, 'p, T: Target, P: Progress> Teller<'t, 's, 'k, 'p, T, P> {
     {
         Teller {
             lines,
-            alloc,
             format,
             system,
             told,
@@ -86,7 +82,6 @@ impl<T: Target, P: Progress> Sink for Teller<'_, '_, '_, '_, T, P> {
             return Ok(());
         }
         self.lines.put(
-            self.alloc,
             &mut self.told.text,
             self.format,
             self.system,

@@ -17,6 +17,7 @@ ghost use Rattle.mcs_check.specs.stored.Rows.{refusal};
 
 use crate::asked::{no_thread, round_number, thread_named};
 use crate::finder::Lines;
+use crate::machine::Machine;
 use crate::ran::put_account;
 use crate::run::refusal;
 use crate::seeker::Seeker;
@@ -97,13 +98,13 @@ pub fn explain<H: Threads + Wait + Sync, S: Source, T: Target, P: Progress>(
         return Err(WhyFault::Mixed);
     }
     let system = read_system(alloc, source)?;
-    answer(rt, alloc, target, system, options, question, progress)
+    let machine = Machine { rt, alloc };
+    answer(&machine, target, system, options, question, progress)
 }
 
 /// Tells it of a system.
 fn answer<H: Threads + Wait + Sync, T: Target, P: Progress>(
-    rt: &H,
-    alloc: Global,
+    machine: &Machine<'_, H>,
     target: &mut T,
     system: System,
     options: &Options,
@@ -116,18 +117,18 @@ fn answer<H: Threads + Wait + Sync, T: Target, P: Progress>(
     ensures blamed { T.has_failed target.new ≡ true → result ≡ Err (Run fault.Write) }
 {
     let Some(thread) = thread_named(system.parts(), question.thread.as_str()) else {
-        return Err(no_thread(alloc, system.parts(), question.thread.as_str()));
+        return Err(no_thread(machine.alloc, system.parts(), question.thread.as_str()));
     };
-    let Ok(system) = Arc::new(alloc, system) else {
+    let Ok(system) = Arc::new(machine.alloc, system) else {
         return Err(WhyFault::Run(RunFault::Sim(SimFault::NoMemory)));
     };
     let number = round_number(question.round.as_str());
-    match find_round(rt, alloc, &system, thread, number, options, progress)? {
+    match find_round(machine, &system, thread, number, options, progress)? {
         Sought::There(span) => {
-            write_span(rt, alloc, target, &system, &span, options, progress)?;
+            write_span(machine, target, &system, &span, options, progress)?;
             Ok(())
         }
-        Sought::Missing(rounds) => Err(no_round(alloc, question, rounds)),
+        Sought::Missing(rounds) => Err(no_round(machine.alloc, question, rounds)),
     }
 }
 
@@ -159,8 +160,7 @@ fn no_round(alloc: Global, question: &Question, rounds: u64) -> WhyFault
 
 /// What there is of the round of a thread.
 fn find_round<H: Threads + Wait + Sync, P: Progress>(
-    rt: &H,
-    alloc: Global,
+    machine: &Machine<'_, H>,
     system: &Arc<System>,
     thread: ThreadId,
     number: u64,
@@ -174,6 +174,7 @@ fn find_round<H: Threads + Wait + Sync, P: Progress>(
 {
     schedules_are_in_order();
     let _parts = system.parts();
+    let (rt, alloc) = (machine.rt, machine.alloc);
     let Ok(shared) = Arc::try_clone(system) else {
         return Err(RunFault::Sim(SimFault::NoMemory));
     };
@@ -193,8 +194,7 @@ fn find_round<H: Threads + Wait + Sync, P: Progress>(
 
 /// Writes the rows of a span, what is told of its round, and who ran meanwhile.
 fn write_span<H: Threads + Wait + Sync, T: Target, P: Progress>(
-    rt: &H,
-    alloc: Global,
+    machine: &Machine<'_, H>,
     target: &mut T,
     system: &Arc<System>,
     span: &Span,
@@ -208,11 +208,11 @@ fn write_span<H: Threads + Wait + Sync, T: Target, P: Progress>(
     ensures fault { IfErr result (IsWriteFault (T.contents target.old) (T.contents target.new) (T.has_failed target.new)
         (round_text options.now.format (arc_value system.now) span.now (schedule (arc_value system.now) options.now.horizon))) }
 {
-    let told = tell_rows(rt, alloc, target, system, span, options, progress);
+    let told = tell_rows(machine, target, system, span, options, progress);
     progress.wipe();
     let mut told = told?;
     let (text, account) = (&mut told.text, &told.account);
-    if put_account(alloc, text, options.format, system, span, account).is_err() {
+    if put_account(machine.alloc, text, options.format, system, span, account).is_err() {
         return Err(RunFault::Sim(SimFault::NoMemory));
     }
     write_text(target, told.text.as_slice())
@@ -220,8 +220,7 @@ fn write_span<H: Threads + Wait + Sync, T: Target, P: Progress>(
 
 /// Writes the lines of the rows of a span as they come, but for the last ones, and counts who ran.
 fn tell_rows<H: Threads + Wait + Sync, T: Target, P: Progress>(
-    rt: &H,
-    alloc: Global,
+    machine: &Machine<'_, H>,
     target: &mut T,
     system: &Arc<System>,
     span: &Span,
@@ -239,6 +238,7 @@ fn tell_rows<H: Threads + Wait + Sync, T: Target, P: Progress>(
 {
     schedules_are_in_order();
     let _parts = system.parts();
+    let (rt, alloc) = (machine.rt, machine.alloc);
     let Ok(shared) = Arc::try_clone(system) else {
         return Err(RunFault::Sim(SimFault::NoMemory));
     };
@@ -247,8 +247,8 @@ fn tell_rows<H: Threads + Wait + Sync, T: Target, P: Progress>(
     };
     let text = Vec::new(alloc);
     let mut told = Told { account, text };
-    let lines = Lines::new(target);
-    let mut teller = Teller::new(lines, alloc, options.format, system, &mut told, progress);
+    let lines = Lines::new(alloc, target);
+    let mut teller = Teller::new(lines, options.format, system, &mut told, progress);
     let (horizon, workers) = (options.horizon, options.workers);
     let result = schedule_to(rt, alloc, shared, horizon, workers, &Open, &mut teller);
     match result {

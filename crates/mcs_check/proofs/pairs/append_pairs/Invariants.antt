@@ -3,7 +3,7 @@ use Rattle.std.specs.Io.{StartsWith}
 use Rattle.mcs_fields.specs.Fields.{field_of}
 use Rattle.mcs_text.specs.Text.{after}
 use Rattle.mcs_check.specs.Figures.{pair_words}
-use Rattle.mcs_check.proofs.figures.append_pairs.Given as goal
+use Rattle.mcs_check.proofs.pairs.append_pairs.Given as goal
 
 abbrev pub invariant-loop-name : goal.invariant-loop-name
 invariant-loop-name l = record {
