@@ -1,4 +1,6 @@
-use crate::tests::{answer, are_answered};
+//! Faults of links between cores, and of the versions that have them.
+
+use crate::files::{answer, are_answered};
 use std::alloc::Global;
 use std::test::Fail;
 

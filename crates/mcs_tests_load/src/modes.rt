@@ -1,4 +1,6 @@
-use crate::tests::are_answered;
+//! Faults of a context's mode.
+
+use crate::files::are_answered;
 use std::test::Fail;
 
 /// The numbers at the top of a file, and the beginning of a context.

@@ -1,0 +1,124 @@
+//! The most rows that a file may have of each kind, and one more.
+
+use crate::files::{PARTS, TOP, answer};
+use std::alloc::{AllocError, Global};
+use std::process::Abort;
+use std::test::Fail;
+
+/// So many rows behind a text; a row's pieces have its number between them.
+fn with_rows(
+    alloc: Global,
+    begin: &str,
+    pieces: &[&str],
+    count: usize,
+) -> Result<String, AllocError> {
+    let mut text = String::from_str(alloc, begin)?;
+    for i in 0..count {
+        for (place, piece) in pieces.iter().enumerate() {
+            if place != 0 {
+                write!(text, "{i}")?;
+            }
+            text.push_str(piece)?;
+        }
+    }
+    Ok(text)
+}
+
+/// A thread of which the items of the script are to come.
+const SCRIPT: &str = "version = 1\ncores = 1\ndelay = 1
+context = [{name='a',core=0,budget=2,period=5}]
+thread = [{name='A',context='a',priority=5,script=[";
+
+/// Rows of which a file may have so many, and what one more is answered.
+#[derive(Clone, Copy)]
+struct Rows {
+    begin: &'static str,
+    pieces: &'static [&'static str],
+    most: usize,
+    end: &'static str,
+    want: &'static str,
+}
+
+static ROWS: [Rows; 4] = [
+    Rows {
+        begin: TOP,
+        pieces: CONTEXTS,
+        most: 4_096,
+        end: "",
+        want: "too many at context",
+    },
+    Rows {
+        begin: TOP,
+        pieces: &["[[note]]\nname = 'n", "'\ncore = 1\n"],
+        most: 4_096,
+        end: "",
+        want: "too many at note",
+    },
+    Rows {
+        begin: PARTS,
+        pieces: &[
+            "[[order]]\nat = ",
+            "\ncore = 1\ncontext = 'b'\nbudget = 7\nperiod = 7\n",
+        ],
+        most: 4_096,
+        end: "",
+        want: "too many at order",
+    },
+    Rows {
+        begin: SCRIPT,
+        pieces: &["'yield',"],
+        most: 1_024,
+        end: "]}]\n",
+        want: "too many at thread 1 script",
+    },
+];
+
+const CONTEXTS: &[&str] = &[
+    "[[context]]\nname = 'c",
+    "'\ncore = 0\nbudget = 1\nperiod = 2\n",
+];
+
+const THREADS: &[&str] = &[
+    "[[thread]]\nname = 't",
+    "'\ncontext = 'c",
+    "'\npriority = 5\nscript = ['yield']\n",
+];
+
+fn are_most(rt: &impl Abort, alloc: Global, begin: &str, rows: &Rows) -> Result<(), Fail> {
+    let Rows {
+        pieces,
+        most,
+        end,
+        want,
+        ..
+    } = *rows;
+    for (count, want) in [(most, "accepted"), (most.saturating_add(1), want)] {
+        let mut text = with_rows(alloc, begin, pieces, count)?;
+        text.push_str(end)?;
+        let found = answer(alloc, text.as_str())?;
+        assert_eq!(rt; found.as_str(), want, "of {count}");
+    }
+    Ok(())
+}
+
+#[test]
+fn most_rows(rt: HostRuntime) -> Result<(), Fail> {
+    for rows in ROWS.as_slice() {
+        are_most(&rt, rt.alloc(), rows.begin, rows)?;
+    }
+    Ok(())
+}
+
+// each thread has a context of its own
+#[test]
+fn most_threads(rt: HostRuntime) -> Result<(), Fail> {
+    let begin = with_rows(rt.alloc(), TOP, CONTEXTS, 4_096)?;
+    let rows = Rows {
+        begin: "",
+        pieces: THREADS,
+        most: 4_096,
+        end: "",
+        want: "too many at thread",
+    };
+    are_most(&rt, rt.alloc(), begin.as_str(), &rows)
+}
