@@ -12,9 +12,15 @@ mod contexts;
 #[cfg(test)]
 mod desks;
 #[cfg(test)]
+mod finished;
+#[cfg(test)]
 mod idle;
 #[cfg(test)]
+mod lending;
+#[cfg(test)]
 mod orders;
+#[cfg(test)]
+mod refused;
 #[cfg(test)]
 mod reports;
 #[cfg(test)]
