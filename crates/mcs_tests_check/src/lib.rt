@@ -2,6 +2,16 @@
 #![tactic(auto)]
 
 #[cfg(test)]
-mod tests;
+mod findings;
+#[cfg(test)]
+mod formats;
+#[cfg(test)]
+mod hinted;
+#[cfg(test)]
+mod progress;
+#[cfg(test)]
+mod runs;
+#[cfg(test)]
+mod streams;
 #[cfg(test)]
 mod why;

@@ -1,3 +1,4 @@
+//! Why a round took so long, as text and as JSON.
 ghost use Rattle.std.specs.Prelude.{◌≤◌, ◌^◌};
 
 use mcs_check::{Quiet, WhyFault, explain, explain_with};

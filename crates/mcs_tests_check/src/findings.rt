@@ -1,0 +1,102 @@
+//! Findings and rounds that ended, as text, and names that no notification has.
+
+use crate::runs::{LATE, SIGNALS, options, written};
+use mcs_check_words::Show;
+use std::test::Fail;
+
+/// It runs in [0, 2), [5, 7) and [10, 11).
+const WHAT_IS_LATE: &str = "\
+11 0 miss A 1 11 deadline 10 activated 0 queued 0 ready 0 running 5 throttled 6 blocked 0 woken 0
+missed 1 overdue 0 lost 0 never 0 merged 0 allowed 0 hints 0
+";
+
+const WHAT_IS_LOST: &str = "\
+3 0 lost tick 1
+5 0 lost tick 1
+missed 0 overdue 0 lost 2 never 0 merged 0 allowed 0 hints 0
+";
+
+/// The one round of `LATE`, and the three of `SIGNALS` that end up to 5, each of which begins where the one before ended.
+const LATE_JOBS: &str = "\
+11 0 job A 1 activated 0 begun 0 response 11 queued 0 preemptions 0 ready 0 running 5 throttled 6 blocked 0 woken 0
+missed 1 overdue 0 lost 0 never 0 merged 0 allowed 0 hints 0
+";
+
+const SIGNAL_JOBS: &str = "\
+2 0 job A 1 activated 0 begun 0 response 2 queued 0 preemptions 0 ready 0 running 2 throttled 0 blocked 0 woken 0
+4 0 job A 2 activated 2 begun 2 response 2 queued 0 preemptions 0 ready 0 running 2 throttled 0 blocked 0 woken 0
+missed 0 overdue 0 lost 2 never 0 merged 0 allowed 0 hints 0
+";
+
+const WHAT_IS_ALLOWED: &str = "missed 0 overdue 0 lost 0 never 0 merged 0 allowed 2 hints 0\n";
+
+#[test]
+fn a_miss_is_written(rt: HostRuntime) -> Result<(), Fail> {
+    for workers in [1, 2] {
+        let text = written(
+            &rt,
+            rt.alloc(),
+            LATE,
+            &options(rt.alloc(), 20, workers, &[])?,
+        )?;
+        assert_eq!(rt; text.as_str(), WHAT_IS_LATE, "workers: {workers}");
+    }
+    Ok(())
+}
+
+#[test]
+fn lost_signals_are_written_or_allowed(rt: HostRuntime) -> Result<(), Fail> {
+    let text = written(&rt, rt.alloc(), SIGNALS, &options(rt.alloc(), 5, 1, &[])?)?;
+    assert_eq!(rt; text.as_str(), WHAT_IS_LOST);
+    let text = written(
+        &rt,
+        rt.alloc(),
+        SIGNALS,
+        &options(rt.alloc(), 5, 1, &["tick"])?,
+    )?;
+    assert_eq!(rt; text.as_str(), WHAT_IS_ALLOWED);
+    Ok(())
+}
+
+// No finding is written, and what is found is counted.
+#[test]
+fn rounds_that_ended_are_written(rt: HostRuntime) -> Result<(), Fail> {
+    for (system, horizon, want) in [(LATE, 20, LATE_JOBS), (SIGNALS, 5, SIGNAL_JOBS)] {
+        let mut options = options(rt.alloc(), horizon, 1, &[])?;
+        options.show = Show::Jobs;
+        let text = written(&rt, rt.alloc(), system, &options)?;
+        assert_eq!(rt; text.as_str(), want);
+    }
+    Ok(())
+}
+
+// A name of two lines is told in one.
+#[test]
+fn names_that_are_not_known(rt: HostRuntime) -> Result<(), Fail> {
+    for (system, name, want) in [
+        (
+            SIGNALS,
+            "tack",
+            "mcscheck: --allow-lost: no notification is called \"tack\": the nearest is tick",
+        ),
+        (
+            SIGNALS,
+            "a\nb",
+            "mcscheck: --allow-lost: no notification is called \"a\\nb\": the nearest is tick",
+        ),
+        (
+            LATE,
+            "tick",
+            "mcscheck: --allow-lost: no notification is called \"tick\": there is none",
+        ),
+    ] {
+        let text = written(
+            &rt,
+            rt.alloc(),
+            system,
+            &options(rt.alloc(), 20, 1, &[name])?,
+        )?;
+        assert_eq!(rt; text.as_str(), want);
+    }
+    Ok(())
+}

@@ -1,0 +1,55 @@
+//! What a run reads, and what it writes to.
+
+use crate::runs::{LATE, SIGNALS, options};
+use mcs_check::{CheckFault, Counts, Quiet, check, check_with};
+use mcs_cli::{FromRead, IntoWrite, RunFault};
+use std::alloc::Global;
+use std::process::Abort;
+use std::rt::Files;
+use std::sync::Wait;
+use std::test::Fail;
+use std::thread::Threads;
+
+// The first of three texts has room.
+#[test]
+fn a_target_that_is_full_has_failed(rt: HostRuntime) -> Result<(), Fail> {
+    let mut room = [b'-'; 20];
+    let mut source = FromRead::new(SIGNALS.as_bytes());
+    let mut target = IntoWrite::new(room.as_mut_slice());
+    let ended = check(
+        &rt,
+        rt.alloc(),
+        &mut source,
+        &mut target,
+        &options(rt.alloc(), 5, 1, &[])?,
+        &mut Quiet,
+    );
+    assert_eq!(rt; ended, Err(CheckFault::Run(RunFault::Write)));
+    assert_eq!(rt; room.as_slice(), b"3 0 lost tick 1\n5 0 ".as_slice());
+    Ok(())
+}
+
+fn of_input(
+    rt: &(impl Files + Threads + Wait + Sync),
+    alloc: Global,
+    file: Option<String>,
+) -> Result<Result<Counts, CheckFault>, Fail> {
+    let mut options = options(alloc, 20, 1, &[])?;
+    options.file = file;
+    let mut source = FromRead::new(LATE.as_bytes());
+    let mut target = IntoWrite::new(Vec::with_capacity(alloc, 4096)?);
+    Ok(check_with(rt, alloc, &mut source, &mut target, &options, &mut Quiet))
+}
+
+// A file that is not there was not read; where none is named the input is.
+#[test]
+fn files_and_the_input(rt: HostRuntime) -> Result<(), Fail> {
+    let name = String::from_str(rt.alloc(), "no_folder/no_file.toml")?;
+    let ended = of_input(&rt, rt.alloc(), Some(name))?;
+    assert_eq!(rt; ended, Err(CheckFault::Run(RunFault::Read)));
+    match of_input(&rt, rt.alloc(), None)? {
+        Ok(counts) => assert_eq!(rt; (counts.missed, counts.is_clean(false)), (1, false)),
+        Err(_) => rt.abort(),
+    }
+    Ok(())
+}
