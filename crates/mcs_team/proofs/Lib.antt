@@ -3,8 +3,8 @@ mod Giving
 mod Flowing
 mod Batches
 mod Adding
-mod Counting
 mod Tallies
+mod Told
 mod Endings
 mod Streaming
 mod Resting

@@ -20,10 +20,10 @@ some-of : {S : Type 0} (xs : List S) (c : ℕ) → c < length xs → S
 some-of [] c l = absurd (omega arith)
 some-of (x ∷ xs) c l = x
 
--- what is true of each of a list, and of one more
-pub each-more : {S : Type 0} (P : ℕ → S → Type 0) (xs more : List S) (many : ℕ) (y : S) → length xs ≡ many →
+-- what is true of each of a list is true of each of the list with one more
+pub each-more : {S : Type 0} (xs more : List S) (many : ℕ) (y : S) (P : ℕ → S → Type 0) → length xs ≡ many →
     ((c : ℕ) (x : S) → c < many → P c (slice_index_or xs c x)) → P many y → more ≡ xs ++ y ∷ [] → (c : ℕ) (x : S) → c < many + 1 → P c (slice_index_or more c x)
-each-more P xs more many y long each last e c x l = by (nat_lt c many) refl
+each-more xs more many y P long each last e c x l = by (nat_lt c many) refl
   where
     by : (u : Bool) → nat_lt c many ≡ u → P c (slice_index_or more c x)
     by true f =

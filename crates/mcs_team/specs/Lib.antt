@@ -2,3 +2,4 @@ pub mod Counts
 pub mod Flow
 pub mod Headline
 pub mod NoSystem
+pub mod Telling

@@ -9,30 +9,28 @@ ghost use Rattle.mcs_team.specs.Counts.{AreWhole};
 ghost use Rattle.mcs_team.specs.Headline.{Headline};
 ghost use Rattle.mcs_window.specs.Desk.{taken_of, AllAreHere};
 
-use crate::counts::Counts;
+use crate::counts::{counted, counting};
 use crate::own_tally::{OwnTally, are_in_place, tallies_of_cores};
-use crate::room::{Room, crew, end, more};
 use crate::run::Run;
-use crate::sink::Stop;
-use crate::{FlowFault, Gate, SimFault, simulate_alone};
-use mcs_report::{
-    CoreTally, Places, Reports, Tally, core_tallies_give_reports, cores_are_counted,
-    demand_is_bounded,
-};
+use crate::team::{Team, crew};
+use crate::telling::Untold;
+use crate::tellings::Tellings;
+use crate::{Gate, SimFault, simulate_alone};
+use mcs_report::{CoreTally, Places, Reports, Tally, core_tallies_give_reports, demand_is_bounded};
 use mcs_system::System;
 use mcs_ticks::{NoMemory, Tick};
 use mcs_window::Desk;
 use std::alloc::Global;
 use std::marker::Brand;
 use std::sync::{Arc, Wait};
-use std::thread::{Threads, join_mut};
+use std::thread::Threads;
 
 /// The reports of the whole simulation up to the horizon, at most 2^40, of which nobody wants the rows: those of the schedule, for every
-/// number of workers. The rows of each core are counted by themselves, a few thousand at a time, and none is merged or kept. Threads work at
-/// one desk, as many as the lesser of `workers` and the number of cores, beside this one, which counts the rows; where that number is less
-/// than two this one takes all turns, and where pieces of work have few rows it takes those that are left after a while, as `simulate_to` says.
-/// The reports are those that `simulate_to` gives. `NoMemory` is answered only where a growth was refused. The gate is told of each piece of
-/// work that is lent; where this thread takes turns none is.
+/// number of workers. Each core counts its own rows where its turns are taken, and no row is merged or kept. Threads work at one desk, this
+/// one among them, as many as the lesser of `workers` and the number of cores; where that number is less than two this one takes all turns,
+/// and where pieces of work have few rows it takes those that are left after a while, as `simulate_to` says. The reports are those that
+/// `simulate_to` gives. `NoMemory` is answered only where a growth was refused. The gate is told of each piece of work that is lent; where
+/// this thread takes turns alone none is.
 pub fn report<R: Threads + Wait + Sync, G: Gate + Sync>(
     rt: &R,
     alloc: Global,
@@ -135,7 +133,7 @@ fn count_to_end<B: Run>(
     Ok(Some(tallies))
 }
 
-// The reports, by threads that work and this one, which counts.
+// The reports, by threads of which each counts the rows of the pieces that it runs.
 fn report_team<R: Threads + Wait + Sync, G: Gate + Sync>(
     rt: &R,
     alloc: Global,
@@ -148,69 +146,50 @@ fn report_team<R: Threads + Wait + Sync, G: Gate + Sync>(
     ensures { IfOk result
         (λ reports. reports ≡ reports_of (arc_value system) horizon (schedule (arc_value system) horizon)) }
 {
+    let tally = Tally::new(alloc, &system, horizon)?;
+    let places = Arc::new(alloc, Places::new(alloc, Arc::try_clone(&system)?)?)?;
     let desk = Desk::new(alloc, Arc::try_clone(&system)?, horizon)?;
-    match report_beside::<Brand, R, G>(rt, alloc, &system, desk, workers, gate) {
-        Ok(reports) => Ok(reports),
-        Err(Stop::Fault(_)) => Err(NoMemory),
-        Err(Stop::Odd(_)) => report_here(alloc, system, horizon),
-    }
+    let found = count_beside::<Brand, R, G>(rt, alloc, &places, desk, workers, gate)?;
+    put_together(alloc, tally, &places, found, system, horizon)
 }
 
-// The reports of a run, whose rows are counted while threads work at its desk.
-fn report_beside<B: Run + Send + Sync, R: Threads + Wait + Sync, G: Gate + Sync>(
+// The tallies of all cores of a run, whose rows are counted by threads that work at its desk. None where something was not as this run left it,
+// which no run meets.
+fn count_beside<B: Run + Send + Sync, R: Threads + Wait + Sync, G: Gate + Sync>(
     rt: &R,
     alloc: Global,
-    system: &System,
+    places: &Arc<Places>,
     desk: Desk,
     workers: usize,
     gate: &G,
-) -> Result<Reports, Stop>
-    requires system { system.now ≡ B.system }
+) -> Result<Option<Vec<CoreTally>>, NoMemory>
     requires desk { (desk.system ≡ B.system) × (desk.horizon ≡ B.horizon) }
-    ensures { IfOk result (λ reports. reports ≡ reports_of B.system B.horizon (schedule B.system B.horizon)) }
+    requires places { arc_value places.now ≡ B.system }
+    ensures { IfOk result (λ found. IfSome found (λ tallies. AreWhole B.system B.horizon tallies.items)) }
 {
-    let horizon = desk.horizon();
-    let room = Room::<B>::new(desk);
-    let shared = &room;
-    let ((), ended) = join_mut(
-        rt,
-        &mut || crew(rt, shared, workers, gate),
-        &mut || -> Result<Reports, Stop>
-            requires { (system.now ≡ B.system) × (horizon ≡ B.horizon) × (horizon ≤ 2 ^ 40) }
-            ensures { IfOk result (λ reports. reports ≡ reports_of B.system B.horizon (schedule B.system B.horizon)) }
-        {
-            let ended = count_taken(rt, shared, gate, alloc, system, horizon);
-            end(rt, shared);
-            ended
-        },
-    );
-    ended
+    let tellings = counting::<B>(alloc, places, desk.cores(), desk.horizon())?;
+    let team = Team::<B, OwnTally<B>>::new(desk, tellings, workers);
+    crew(rt, &team, gate);
+    match team.into_parts() {
+        Ok((desk, tellings)) => count_rest(alloc, desk, tellings),
+        Err(Untold::NoMemory) => Err(NoMemory),
+        Err(Untold::Odd) => Ok(None),
+    }
 }
 
-// Counts the rows as they come, until all were counted.
-fn count_taken<B: Run, R: Wait, G: Gate>(
-    rt: &R,
-    room: &Room<B>,
-    gate: &G,
+// Takes the turns that a team has left, after which the tallies are as `count_to_end` says.
+fn count_rest<B: Run>(
     alloc: Global,
-    system: &System,
-    horizon: Tick,
-) -> Result<Reports, Stop>
-    requires system { system.now ≡ B.system }
-    requires horizon { (horizon ≡ B.horizon) × (horizon ≤ 2 ^ 40) }
-    ensures { IfOk result (λ reports. reports ≡ reports_of B.system B.horizon (schedule B.system B.horizon)) }
+    desk: Desk,
+    tellings: Tellings<B, OwnTally<B>>,
+) -> Result<Option<Vec<CoreTally>>, NoMemory>
+    requires run { (desk.system ≡ B.system) × (desk.horizon ≡ B.horizon) }
+    requires sound { desk.lost ≡ false }
+    requires here { AllAreHere desk }
+    ensures { IfOk result (λ found. IfSome found (λ tallies. AreWhole B.system B.horizon tallies.items)) }
 {
-    cores_are_counted();
-    let _parts = system.parts();
-    let Ok(mut counts) = Counts::new(alloc, system, horizon) else {
-        return Err(Stop::Fault(FlowFault::NoMemory));
-    };
-    for _ in rt.forever() {
-        if counts.are_over() {
-            return Ok(counts.finish());
-        }
-        more(rt, room, gate, counts.batches.as_mut_slice(), Tick::ZERO)?;
-        counts.count();
+    match counted(alloc, tellings, &desk)? {
+        Some(told) => count_to_end(alloc, desk.retold([Tick::ZERO; 64], told)),
+        None => Ok(None),
     }
-    Err(Stop::Odd(Tick::ZERO))
 }

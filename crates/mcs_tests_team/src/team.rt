@@ -1,7 +1,7 @@
 //! Teams of all sizes, and workers at work at once.
 
 use super::systems::{LONG_DELAY, SIGNALS, TWO_MAKERS, moment, system};
-use mcs_team::{Gate, Open, Whole, simulate, simulate_alone};
+use mcs_team::{Gate, Open, Whole, report, simulate, simulate_alone};
 use mcs_ticks::{CoreId, Tick};
 use std::alloc::Global;
 use std::process::Abort;
@@ -137,6 +137,31 @@ fn a_team_with_short_pieces_ends(rt: HostRuntime) -> Result<(), Fail> {
         let system = system(alloc, TWO_MAKERS)?;
         let whole = simulate(&rt, alloc, system, horizon, workers, &gate)?;
         assert!(rt; are_same(&whole, &alone), "{workers} workers");
+        assert_eq!(rt; counted(&gate), (1024, 1024), "{workers} workers");
+    }
+    Ok(())
+}
+
+// Where only reports are wanted the team ends as early, and the caller's thread counts on what the threads have counted.
+#[test]
+fn a_team_that_only_counts_ends_too(rt: HostRuntime) -> Result<(), Fail> {
+    let alloc = rt.alloc();
+    let horizon = moment(10_000)?;
+    let alone = simulate_alone(alloc, system(alloc, TWO_MAKERS)?, horizon)?;
+    for workers in [2, 64] {
+        let gate = zero_counts();
+        let system = system(alloc, TWO_MAKERS)?;
+        let reports = report(&rt, alloc, system, horizon, workers, &gate)?;
+        let threads = reports.threads.as_slice();
+        let cores = reports.cores.as_slice();
+        assert!(rt;
+            threads == alone.reports.threads.as_slice(),
+            "{workers} workers"
+        );
+        assert!(rt;
+            cores == alone.reports.cores.as_slice(),
+            "{workers} workers"
+        );
         assert_eq!(rt; counted(&gate), (1024, 1024), "{workers} workers");
     }
     Ok(())

@@ -1,0 +1,7 @@
+-- What a core told: its rows from one moment to before another.
+use Rattle.std.specs.Prelude.{ℕ}
+
+pub record Span : Type 0 where
+  pub core : ℕ
+  pub first : ℕ
+  pub past : ℕ

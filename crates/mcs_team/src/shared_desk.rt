@@ -1,0 +1,201 @@
+//! The desk of one run, which the threads share. Its system is known by the type.
+ghost use Rattle.std.specs.Prelude.{◌≡◌, ◌⊎◌, false, IfOk, OnErr};
+ghost use Rattle.mcs_window.specs.Desk.{settled_at, taken_at, with_lost, AllAreHere};
+
+use crate::errand::{Errand, Told};
+use crate::run::Run;
+use crate::telling::{Telling, Untold};
+use crate::tellings::Tellings;
+use mcs_ticks::{Collector, CoreId, Tick};
+use mcs_window::{Desk, Done, Lost, SettleFault};
+use std::marker::PhantomData;
+
+// Where so many rows wait it is time to take them.
+const ENOUGH: usize = 4096;
+
+// Where so many rows wait no piece is lent until they were taken.
+const FULL: usize = 65_536;
+
+// After so many pieces it is asked whether they were worth it.
+const PIECES: usize = 1024;
+
+// With fewer rows from so many pieces, 128 of each, it may cost less to run them than to lend them. Then the team ends, and the caller's thread
+// takes the turns that are left.
+const ROWS: usize = 128 * PIECES;
+
+/// A desk for the system and the horizon of the run, and what its cores told of their rows, of which none lies on the desk.
+#[derive(Drop)]
+pub(crate) struct SharedDesk<B: Run, S: Collector + Drop> {
+    desk: Desk,
+    tellings: Tellings<B, S>,
+    // how many pieces were lent since that was asked last, and how many rows they told
+    pieces: usize,
+    rows: usize,
+    // whether a thread has begun to work, and how many wait for a piece
+    begun: bool,
+    idle: usize,
+    // whether the team has ended
+    ended: bool,
+    // why nothing is lent any more, where something was lost
+    lost: Option<Untold>,
+    of: PhantomData<B>,
+    ghost ours: { (desk.system ≡ B.system) × (desk.horizon ≡ B.horizon) },
+}
+
+impl<B: Run, S: Collector + Drop> SharedDesk<B, S> {
+    /// The desk, which is one of the run.
+    pub(crate) fn new(desk: Desk, tellings: Tellings<B, S>) -> SharedDesk<B, S>
+        requires { (desk.system ≡ B.system) × (desk.horizon ≡ B.horizon) }
+    {
+        SharedDesk {
+            desk,
+            tellings,
+            pieces: 0,
+            rows: 0,
+            begun: false,
+            idle: 0,
+            ended: false,
+            lost: None,
+            of: PhantomData,
+        }
+    }
+
+    /// A piece, if one is to be had now: none where too many rows wait, or where the team has ended.
+    pub(crate) fn lend(&mut self) -> Option<Errand<B, S>> {
+        if self.is_full() || self.ended {
+            return None;
+        }
+        let piece = self.desk.lend()?;
+        self.count_piece();
+        let Some(telling) = self.tellings.take(piece.core) else {
+            self.lose(Untold::Odd);
+            return None;
+        };
+        Some(Errand { piece, telling })
+    }
+
+    /// Whether a further piece is to be had now, for which a thread waits.
+    pub(crate) fn can_lend(&self) -> bool {
+        self.idle > 0 && !self.is_full() && !self.ended && self.desk.can_lend()
+    }
+
+    /// A thread begins to wait for a piece.
+    pub(crate) fn rest(&mut self) {
+        self.idle = self.idle.saturating_add(1);
+    }
+
+    /// A thread has waited.
+    pub(crate) fn wake(&mut self) {
+        self.idle = self.idle.saturating_sub(1);
+    }
+
+    // One piece more was lent: the team ends with it where the pieces were not worth it.
+    fn count_piece(&mut self)
+        ensures { self.new.desk ≡ self.old.desk }
+    {
+        self.pieces = self.pieces.saturating_add(1);
+        if self.pieces >= PIECES {
+            self.ended = self.rows < ROWS;
+            self.pieces = 0;
+            self.rows = 0;
+        }
+    }
+
+    /// Takes what a piece of this run has come to. Nothing is lent any more where it was lost, or is of no loan, or where there was no memory.
+    pub(crate) fn settle(&mut self, ran: Result<Told<B, S>, Untold>)
+        ensures ok { IfOk ran (λ told.
+            (self.new.desk ≡ taken_at (settled_at self.old.desk told.done.core told.done.past) told.done.core)
+            ⊎ (self.new.desk ≡ with_lost self.old.desk)) }
+        ensures err { OnErr ran (self.new.desk ≡ with_lost self.old.desk) }
+    {
+        match ran {
+            Ok(Told { done, telling }) => {
+                self.rows = self.rows.saturating_add(done.rows.len());
+                self.tellings.put(telling);
+                self.take_back(done);
+            }
+            Err(why) => self.lose(why),
+        }
+    }
+
+    // Takes a stretch back, and its rows from the desk, which were told.
+    fn take_back(&mut self, done: Done)
+        requires { done.system ≡ B.system }
+        ensures { (self.new.desk ≡ taken_at (settled_at self.old.desk done.core done.past) done.core)
+            ⊎ (self.new.desk ≡ with_lost self.old.desk) }
+    {
+        let core = done.core;
+        match self.desk.take_back(done) {
+            Ok(()) => drop(self.desk.take_rows(core)),
+            Err((SettleFault::NoMemory, _)) => self.lose(Untold::NoMemory),
+            Err(_) => self.lose(Untold::Odd),
+        }
+    }
+
+    // Lends nothing from now on.
+    fn lose(&mut self, why: Untold)
+        ensures { self.new.desk ≡ with_lost self.old.desk }
+    {
+        self.lost = Some(why);
+        self.desk.forfeit(Lost {
+            core: CoreId(0),
+            first: Tick::ZERO,
+            past: Tick::ZERO,
+        });
+    }
+
+    /// Whether no piece is to be had any more.
+    pub(crate) fn is_over(&self) -> bool {
+        self.ended || self.desk.finished() || self.desk.lost()
+    }
+
+    /// Whether no piece is lent until rows were taken.
+    pub(crate) fn is_full(&self) -> bool {
+        self.tellings.waiting() >= FULL
+    }
+
+    /// Whether it is time for the caller's thread to take rows.
+    pub(crate) fn is_due(&self) -> bool {
+        self.tellings.waiting() >= ENOUGH || self.is_over()
+    }
+
+    /// A thread has begun to work.
+    pub(crate) fn begin(&mut self) {
+        self.begun = true;
+    }
+
+    /// Whether a thread has begun to work.
+    pub(crate) fn has_begun(&self) -> bool {
+        self.begun
+    }
+
+    /// Lends nothing from now on.
+    pub(crate) fn close(&mut self) {
+        self.lose(Untold::Odd);
+    }
+
+    /// Moves what each core has told behind `told`, where that has room for it, and leaves an empty collector in its place.
+    pub(crate) fn exchange(&mut self, rooms: &mut Vec<S>, told: &mut Vec<Telling<B, S>>) {
+        self.tellings.exchange(rooms, told);
+    }
+
+    /// The desk and what was told, once all threads have ended. The desk has nothing lent and nothing lost.
+    pub(crate) fn into_parts(self) -> Result<(Desk, Tellings<B, S>), Untold>
+        ensures run { IfOk result (λ parts. (parts.0.system ≡ B.system) × (parts.0.horizon ≡ B.horizon)) }
+        ensures whole { IfOk result (λ parts. (parts.0.lost ≡ false) × AllAreHere parts.0) }
+    {
+        let SharedDesk {
+            desk,
+            tellings,
+            lost,
+            ..
+        } = self;
+        if let Some(why) = lost {
+            return Err(why);
+        }
+        if desk.lost() || !desk.all_are_here() {
+            return Err(Untold::Odd);
+        }
+        Ok((desk, tellings))
+    }
+}

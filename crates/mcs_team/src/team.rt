@@ -1,0 +1,146 @@
+//! Threads that work at one desk.
+ghost use Rattle.std.specs.Prelude.{◌≡◌, false, IfOk};
+ghost use Rattle.mcs_window.specs.Desk.{AllAreHere};
+
+use crate::Gate;
+use crate::run::Run;
+use crate::shared_desk::SharedDesk;
+use crate::telling::{Telling, Untold};
+use crate::tellings::Tellings;
+use mcs_ticks::Collector;
+use mcs_window::Desk;
+use std::sync::{Condvar, Mutex, Wait};
+use std::thread;
+use std::thread::{Parker, Threads};
+use std::time::Duration;
+
+// So long, in milliseconds, the caller's thread sleeps at most before it looks for rows.
+const NAP: u64 = 1;
+
+/// What the threads of a run share.
+#[derive(Drop)]
+pub(crate) struct Team<B: Run, S: Collector + Drop> {
+    desk: Mutex<SharedDesk<B, S>>,
+    workers: usize,
+    // told where a further piece may be had, and at the end
+    free: Condvar,
+    // told where it is time to take rows
+    due: Parker,
+}
+
+impl<B: Run, S: Collector + Drop> Team<B, S> {
+    /// So many threads are to work at the desk, of which none has begun.
+    pub(crate) fn new(desk: Desk, tellings: Tellings<B, S>, workers: usize) -> Team<B, S>
+        requires { (desk.system ≡ B.system) × (desk.horizon ≡ B.horizon) }
+    {
+        Team {
+            desk: Mutex::new(SharedDesk::<B, S>::new(desk, tellings)),
+            workers,
+            free: Condvar::new(),
+            due: Parker::new(),
+        }
+    }
+
+    /// Waits until it may be time to take what was told. Where no thread has begun to work this one runs a piece.
+    pub(crate) fn wait<R: Wait, G: Gate>(&self, rt: &R, gate: &G) {
+        let mut guard = self.desk.lock(rt);
+        if guard.has_begun() {
+            let is_due = guard.is_due();
+            drop(guard);
+            if !is_due {
+                self.due.park_timeout(rt, Duration::from_millis(NAP));
+            }
+            return;
+        }
+        let errand = guard.lend();
+        drop(guard);
+        if let Some(errand) = errand {
+            let ran = errand.run(gate);
+            self.desk.lock(rt).settle(ran);
+            self.free.notify_all();
+        }
+    }
+
+    /// Moves what each core has told behind `told`, where that has room for it, and leaves an empty collector in its place. Answers whether no
+    /// piece is to be had any more.
+    pub(crate) fn take_out<R: Wait>(
+        &self,
+        rt: &R,
+        rooms: &mut Vec<S>,
+        told: &mut Vec<Telling<B, S>>,
+    ) -> bool {
+        let mut guard = self.desk.lock(rt);
+        let was_full = guard.is_full();
+        guard.exchange(rooms, told);
+        let is_over = guard.is_over();
+        drop(guard);
+        if was_full {
+            self.free.notify_all();
+        }
+        is_over
+    }
+
+    /// Ends the work of all threads.
+    pub(crate) fn end<R: Wait>(&self, rt: &R) {
+        self.desk.lock(rt).close();
+        self.free.notify_all();
+    }
+
+    /// The desk and what was told, once all threads have ended. The desk has nothing lent and nothing lost.
+    pub(crate) fn into_parts(self) -> Result<(Desk, Tellings<B, S>), Untold>
+        ensures run { IfOk result (λ parts. (parts.0.system ≡ B.system) × (parts.0.horizon ≡ B.horizon)) }
+        ensures whole { IfOk result (λ parts. (parts.0.lost ≡ false) × AllAreHere parts.0) }
+    {
+        self.desk.into_inner().into_parts()
+    }
+}
+
+// Takes pieces until none is to be had any more. Who takes one wakes another thread only where a further piece is to be had, for which one
+// waits.
+fn work<B: Run, S: Collector + Drop, R: Wait, G: Gate>(rt: &R, team: &Team<B, S>, gate: &G) {
+    let mut guard = team.desk.lock(rt);
+    guard.begin();
+    for _ in rt.forever() {
+        match guard.lend() {
+            Some(errand) => {
+                let more = guard.can_lend();
+                drop(guard);
+                if more {
+                    team.free.notify_one();
+                }
+                let ran = errand.run(gate);
+                guard = team.desk.lock(rt);
+                guard.settle(ran);
+                if guard.is_due() {
+                    team.due.unpark();
+                }
+            }
+            None => {
+                if guard.is_over() {
+                    team.due.unpark();
+                    team.free.notify_all();
+                    return;
+                }
+                guard.rest();
+                guard = team.free.wait(rt, guard);
+                guard.wake();
+            }
+        }
+    }
+}
+
+/// Lets threads work, this one among them, and waits until they have ended. A thread that can't be started is done
+/// without.
+pub(crate) fn crew<
+    B: Run + Send + Sync,
+    S: Collector + Drop + Send,
+    R: Threads + Wait + Sync,
+    G: Gate + Sync,
+>(rt: &R, team: &Team<B, S>, gate: &G) {
+    thread::scope(thread::scope_env(), rt, |scope| {
+        for _ in 1..team.workers {
+            let _started = scope.spawn(move || work(rt, team, gate)).is_ok();
+        }
+        work(rt, team, gate);
+    });
+}
