@@ -19,13 +19,13 @@ module _ {S : Type 0} (holds : S → List Row → Type 0) where
       ∙ ap (λ xs. held ++ xs) (sym (take_more rows i row l)))
       (law t u (held ++ take i rows) row before taken)
 
-  -- the rows of a stretch, behind those up to its first moment
-  pub told-on : (system other : System) (c core first from past : ℕ) (rows : List Row) (t u : S) → other ≡ system → core ≡ c → from ≡ first →
-      (start : ℕ) → start ≤ first → from ≤ past → rows ≡ rows_between other core from past →
+  -- the rows of a core, behind those up to the first of its moments
+  pub told-on : (system : System) (c core first from past : ℕ) (rows : List Row) (t u : S) → core ≡ c → from ≡ first →
+      (start : ℕ) → start ≤ first → from ≤ past → rows ≡ rows_between system core from past →
       holds t (rows_between system c start first) → ((held : List Row) → holds t held → holds u (held ++ rows)) → holds u (rows_between system c start past)
-  told-on system other c core first from past rows t u s k f start before after are h more =
+  told-on system c core first from past rows t u k f start before after are h more =
       subst (holds u)
       (ap (λ xs. rows_between system c start first ++ xs)
-      (are ∙ ap (λ (x : System). rows_between x core from past) s ∙ ap (λ n. rows_between system n from past) k ∙ ap (λ n. rows_between system c n past) f)
+      (are ∙ ap (λ n. rows_between system n from past) k ∙ ap (λ n. rows_between system c n past) f)
       ∙ rows-join system c start first past before (omega arith))
       (more (rows_between system c start first) h)

@@ -34,7 +34,7 @@ impl<B: Run, S: Collector + Drop> Errand<B, S> {
         let Ok(done) = ran else {
             return Err(Untold::NoMemory);
         };
-        let telling = telling.tell(&done)?;
+        let telling = telling.tell(done.core, done.first, done.past, done.rows.as_slice())?;
         Ok(Told { done, telling })
     }
 }

@@ -67,11 +67,35 @@ impl<B: Run, S: Collector + Drop> SharedDesk<B, S> {
         }
         let piece = self.desk.lend()?;
         self.count_piece();
-        let Some(telling) = self.tellings.take(piece.core) else {
-            self.lose(Untold::Odd);
-            return None;
+        match self.take_telling(piece.core) {
+            Ok(telling) => Some(Errand { piece, telling }),
+            Err(why) => {
+                self.lose(why);
+                None
+            }
+        }
+    }
+
+    // What a core tells to. It is behind the core where idle time was skipped on the desk since, in which no row was made: then it catches up.
+    fn take_telling(&mut self, core: CoreId) -> Result<Telling<B, S>, Untold> {
+        if core.0 >= self.desk.cores() {
+            return Err(Untold::Odd);
+        }
+        let (from, past) = (self.desk.taken(core), self.desk.clock(core));
+        let rows = self.desk.take_rows(core);
+        let Some(telling) = self.tellings.take(core) else {
+            return Err(Untold::Odd);
         };
-        Some(Errand { piece, telling })
+        telling.tell(core, from, past, rows.as_slice())
+    }
+
+    // What each core tells to catches up with it.
+    fn catch_up(&mut self) -> Result<(), Untold> {
+        for core in 0..self.desk.cores() {
+            let telling = self.take_telling(CoreId(core))?;
+            self.tellings.put(telling);
+        }
+        Ok(())
     }
 
     /// Whether a further piece is to be had now, for which a thread waits.
@@ -180,19 +204,15 @@ impl<B: Run, S: Collector + Drop> SharedDesk<B, S> {
     }
 
     /// The desk and what was told, once all threads have ended. The desk has nothing lent and nothing lost.
-    pub(crate) fn into_parts(self) -> Result<(Desk, Tellings<B, S>), Untold>
+    pub(crate) fn into_parts(mut self) -> Result<(Desk, Tellings<B, S>), Untold>
         ensures run { IfOk result (λ parts. (parts.0.system ≡ B.system) × (parts.0.horizon ≡ B.horizon)) }
         ensures whole { IfOk result (λ parts. (parts.0.lost ≡ false) × AllAreHere parts.0) }
     {
-        let SharedDesk {
-            desk,
-            tellings,
-            lost,
-            ..
-        } = self;
-        if let Some(why) = lost {
+        if let Some(why) = self.lost {
             return Err(why);
         }
+        self.catch_up()?;
+        let SharedDesk { desk, tellings, .. } = self;
         if desk.lost() || !desk.all_are_here() {
             return Err(Untold::Odd);
         }

@@ -5,7 +5,6 @@ ghost use Rattle.mcs_ticks.specs.declared.row.Row.{Row};
 
 use crate::run::Run;
 use mcs_ticks::{Collector, CoreId, Refused, Row, Tick};
-use mcs_window::Done;
 use std::marker::{Model, PhantomData};
 
 /// What holds the rows of a core of the run from one moment to before another, and no others. Contracts see the core and the moments.
@@ -76,13 +75,20 @@ impl<B: Run, S: Collector + Drop> Telling<B, S> {
         self.past
     }
 
-    /// Tells the rows of a stretch of this run, which follows. `Odd` where it does not follow, and `NoMemory` where a row was refused, which
-    /// a collector does for want of memory alone. What was told is then gone.
-    pub(crate) fn tell(self, done: &Done) -> Result<Telling<B, S>, Untold>
-        requires { done.now.system ≡ B.system }
-        ensures { IfOk result (λ telling. telling ≡ record self { past = done.now.past }) }
+    /// Tells the rows of a core from one moment to before another, which follow. `Odd` where they do not follow, and `NoMemory` where a row was
+    /// refused, which a collector does for want of memory alone. What was told is then gone.
+    pub(crate) fn tell(
+        self,
+        core: CoreId,
+        from: Tick,
+        past: Tick,
+        rows: &[Row],
+    ) -> Result<Telling<B, S>, Untold>
+        requires in_order { from ≤ past }
+        requires rows { rows.now ≡ rows_between B.system core from past }
+        ensures { IfOk result (λ telling. telling ≡ record self { past = past }) }
     {
-        if done.core != self.core || done.first != self.past {
+        if core != self.core || from != self.past {
             return Err(Untold::Odd);
         }
         let Telling {
@@ -91,13 +97,13 @@ impl<B: Run, S: Collector + Drop> Telling<B, S> {
             mut told,
             ..
         } = self;
-        let Ok(()) = tell_all(done.rows.as_slice(), &mut told) else {
+        let Ok(()) = tell_all(rows, &mut told) else {
             return Err(Untold::NoMemory);
         };
         Ok(Telling {
             core,
             first,
-            past: done.past,
+            past,
             told,
             of: PhantomData,
         })

@@ -1,19 +1,15 @@
-use Rattle.std.proofs.Common.{◌≡◌, ◌∙◌, ap, arith, rules}
-use Rattle.std.specs.Arc.{arc_value}
-use Rattle.mcs_window.specs.Pieces.{Outcome}
+use Rattle.std.proofs.Common.{◌≡◌, ◌≤◌, arith, rules}
 use Rattle.mcs_team.proofs.Told.{told-on}
 use Rattle.mcs_team.proofs.telling.Telling.tell.Goals as goal
 
 pub invariant_of-result : goal.invariant_of-result
 invariant_of-result g c =
     let a = c.self.inside in
-    let d = c.done.inside in
-    let core : d.core ≡ a.core = search rules in
-    let first : d.first ≡ a.past = search rules in
-    let system = ap (λ (outcome : Outcome). outcome.system) c.done.view_is ∙ c.requires in
+    let core : c.args.core ≡ a.core = search rules in
+    let from : c.args.from ≡ a.past = search rules in
     let order = c.self.invariant.0 in
-    let on = c.done.invariant.stretch.in_order in (
+    let on = c.requires.in_order in (
       omega arith,
-      told-on g.S.Collector.holds g.B.Run.system (arc_value d.system) a.core d.core a.past d.first d.past d.rows.items a.told c.tell_all.new.told system core first a.first order on
-          c.done.invariant.rows_are c.self.invariant.1 (rw c.as_slice.ensures.value at c.in-Ok.ensures),
+      told-on g.S.Collector.holds g.B.Run.system a.core c.args.core a.past c.args.from c.args.past c.args.rows.now a.told c.tell_all.new.told core from a.first order on
+          c.requires.rows c.self.invariant.1 c.in-Ok.ensures,
     )
