@@ -14,3 +14,4 @@ mod Waiting
 mod Opened
 mod Gathering
 mod Turning
+mod OneCore

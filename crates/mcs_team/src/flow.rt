@@ -7,6 +7,7 @@ ghost use Rattle.mcs_ticks.specs.Given.{Given, GivenUntil};
 ghost use Rattle.mcs_team.specs.Flow.{pasts_of, AreBatches, FailsFrom, GivesOn, GoesOn, IsAt, IsBatch};
 
 use crate::batch::{Batch, empty_batches, least_past};
+use crate::relay::give_all;
 use crate::run::Run;
 use crate::{FlowFault, Refused, Sink};
 use mcs_merge::{Merger, steps_are_merged};
@@ -119,17 +120,6 @@ fn pour<S: Sink>(merger: &mut Merger, sink: &mut S) -> Result<(), Refused>
     give_all(first, sink)?;
     give_all(second, sink)?;
     merger.clear_lone_rows();
-    Ok(())
-}
-
-// Gives these rows.
-fn give_all<S: Sink>(rows: &[Row], sink: &mut S) -> Result<(), Refused>
-    ensures given { OnOk result (Given S.takes sink.old rows.now sink.new) }
-    ensures refused { OnErr result (GivenUntil S.takes sink.old rows.now sink.new) }
-{
-    for row in rows {
-        sink.row(row)?;
-    }
     Ok(())
 }
 

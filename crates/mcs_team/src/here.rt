@@ -8,6 +8,7 @@ ghost use Rattle.mcs_team.specs.Flow.{FailsFrom, IsClear, IsFlowFault, IsGivenBe
 ghost use Rattle.mcs_window.specs.Desk.{opening_table, AreEmpty};
 
 use crate::FlowFault;
+use crate::one_core::flow_one;
 use crate::outflow::Outflow;
 use crate::relay::{Relay, RowRelay};
 use crate::run::Run;
@@ -93,7 +94,7 @@ fn desk_for<W: Relay>(
     Desk::opened(alloc, shared, horizon, told)
 }
 
-/// The whole simulation up to the horizon on this thread, given out to an output.
+/// The whole simulation up to the horizon on this thread, given out to an output. Of one core nothing is merged.
 pub(crate) fn flow_here<W: Relay>(
     alloc: Global,
     system: Arc<System>,
@@ -106,9 +107,13 @@ pub(crate) fn flow_here<W: Relay>(
     ensures given { OnOk result (Given W.Part.Out.takes out.old (schedule (arc_value system) horizon) out.new) }
     ensures fault { IfErr result (IsFlowFault W.Part.Out.takes (arc_value system) horizon out.old out.new) }
 {
+    let cores = system.parts().cores;
     let Ok(desk) = desk_for(alloc, relay, &system, horizon) else {
         return Err(FlowFault::NoMemory);
     };
+    if cores == 1 {
+        return flow_one(relay, desk, out);
+    }
     flow_desk::<Brand, W>(alloc, relay, desk, &system, horizon, out)
 }
 

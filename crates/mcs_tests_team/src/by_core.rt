@@ -1,57 +1,16 @@
 //! Rows that cores tell to lists of their own, which are given to a sink by moments.
 
 use super::sinks::comparing;
-use super::systems::{IDLE, RING, SIGNALS, TWO_MAKERS, moment, system};
-use mcs_merge::RowPart;
-use mcs_team::{FlowFault, Open, Plan, Relay, Sink, schedule_by_core, simulate_alone};
-use mcs_ticks::Row;
-use std::alloc::Global;
-use std::marker::PhantomData;
+use super::systems::{DEPLETES, IDLE, RING, SIGNALS, TWO_MAKERS, moment, system};
+use mcs_team::{FlowFault, Open, Plan, RowRelay, schedule_by_core, simulate_alone};
 use std::sync::Arc;
 use std::test::Fail;
-
-// Lists of rows, whose memory is from there.
-struct Lists<S> {
-    alloc: Global,
-    to: PhantomData<S>,
-}
-
-impl<S> Drop for Lists<S> {
-    fn drop(self) {
-        let Lists { alloc: _, to: _ } = self;
-    }
-}
-
-impl<S: Sink> Relay for Lists<S> {
-    type Told = Vec<Row>;
-
-    type Part = RowPart<S>;
-
-    ghost fits = { λ _ _. Unit {0} };
-
-    fn empty(&self) -> Vec<Row> {
-        Vec::new(self.alloc)
-    }
-
-    fn part(&self, told: Vec<Row>) -> RowPart<S> {
-        RowPart::new(told)
-    }
-
-    fn room(&self, part: RowPart<S>) -> Vec<Row> {
-        part.into_room()
-    }
-
-    ghost fits_on = { λ _ _ _ _ fits _. fits };
-}
 
 #[test]
 fn outputs_get_the_schedule(rt: HostRuntime) -> Result<(), Fail> {
     let alloc = rt.alloc();
-    let lists = Lists {
-        alloc,
-        to: PhantomData,
-    };
-    for text in [IDLE, SIGNALS, TWO_MAKERS, RING] {
+    let relay = RowRelay::new(alloc);
+    for text in [DEPLETES, IDLE, SIGNALS, TWO_MAKERS, RING] {
         let shared = system(alloc, text)?;
         let horizon = moment(40)?;
         let whole = simulate_alone(alloc, Arc::try_clone(&shared)?, horizon)?;
@@ -63,7 +22,7 @@ fn outputs_get_the_schedule(rt: HostRuntime) -> Result<(), Fail> {
                     system: Arc::try_clone(&shared)?,
                     horizon,
                 };
-                let ended = schedule_by_core(&rt, plan, workers, &Open, &lists, &mut sink);
+                let ended = schedule_by_core(&rt, plan, workers, &Open, &relay, &mut sink);
                 if matches!(ended, Err(FlowFault::NoMemory)) {
                     return Err(Fail::from("no memory"));
                 }

@@ -28,6 +28,15 @@ pub(crate) fn moment(ticks: u64) -> Result<Tick, Fail>
 /// Two cores on which nothing happens.
 pub const IDLE: &str = "version = 1\ncores = 2\ndelay = 1\n";
 
+/// One thread on the one core computes for longer than its budget.
+pub const DEPLETES: &str = r#"
+version = 1
+cores = 1
+delay = 1
+context = [{ name = "a", core = 0, budget = 2, period = 5 }]
+thread = [{ name = "A", context = "a", priority = 5, rounds = 1, script = ["compute 5"] }]
+"#;
+
 /// One thread, on the second of two cores, computes for a tick.
 pub const ONE_TICK: &str = r#"
 version = 1

@@ -1,18 +1,10 @@
 //! Views of a whole system at a moment.
 
-use super::systems::{moment, system};
+use super::systems::{DEPLETES, moment, system};
 use mcs_control::ContextView;
 use mcs_team::probe;
 use std::process::Abort;
 use std::test::Fail;
-
-const DEPLETES: &str = r#"
-version = 1
-cores = 1
-delay = 1
-context = [{ name = "a", core = 0, budget = 2, period = 5 }]
-thread = [{ name = "A", context = "a", priority = 5, rounds = 1, script = ["compute 5"] }]
-"#;
 
 // The one refill of the one context is of 2 ticks: when it begins, and the ticks in use.
 fn shows(rt: &impl Abort, views: &[ContextView], begins: u64, using: u64) {
