@@ -1,5 +1,5 @@
 -- What a target has, and what waits, after rows were given to a sink that writes their lines.
-use Rattle.std.proofs.Common.{◌≡◌, ◌∙◌, ◌++◌, ℕ, Bool, true, false, List, [], ◌∷◌, Option, Result, Ok, Err, OnErr, IfErr, inl, inr, length, take, drop, refl, ap, sym, subst, append_assoc, append-nil, take-append-drop, flat_map}
+use Rattle.std.proofs.Common.{◌≡◌, ◌∙◌, ◌++◌, ℕ, Bool, true, false, List, [], ◌∷◌, Option, Result, Ok, Err, OnOk, OnErr, IfErr, inl, inr, length, take, drop, refl, ap, sym, subst, append_assoc, append-nil, take-append-drop, flat_map}
 use Rattle.std.specs.Io.KnownBytes.{Appends}
 use Rattle.std.proofs.KnownBytes.{Appends-nil, Appends-trans}
 use Rattle.mcs_ticks.specs.declared.row.Row.{Row}
@@ -49,6 +49,21 @@ prefix-longer a b xs ys p =
 pub prefix-then : (a b c : Option (List ℕ)) (xs rest : List ℕ) → AppendsBefore a b xs rest → AppendsPrefix b c rest → AppendsPrefix a c xs
 prefix-then a b c xs rest p q =
     prefix-before a c xs (drop q.0 rest) (before-then a b c xs rest (drop q.0 rest) p (before-prefix b c rest q))
+
+-- what waits is written, and then more bytes are, of which none waits
+pub written-through : {U E : Type 0} (a b c : Option (List ℕ)) (xs rest ys : List ℕ) (r : Result U E) → AppendsBefore a b xs rest → rest ≡ []
+    → OnOk r (Appends b c ys) → OnOk r (AppendsBefore a c (xs ++ ys) rest)
+written-through a b c xs rest ys (Ok u) p e q =
+    let waits : AppendsBefore a b (xs ++ ys) ys = subst (λ l. AppendsBefore a b (xs ++ ys) (l ++ ys)) e (before-longer a b xs rest ys p) in
+    subst (AppendsBefore a c (xs ++ ys)) (sym e) (xs ++ ys, before-all a b c (xs ++ ys) ys waits q, sym (append-nil (xs ++ ys)))
+written-through a b c xs rest ys (Err f) p e q = tt
+
+-- .. or a first part of them
+pub refused-through : {U E : Type 0} (a b c : Option (List ℕ)) (xs rest ys : List ℕ) (r : Result U E) → AppendsBefore a b xs rest → rest ≡ []
+    → OnErr r (AppendsPrefix b c ys) → OnErr r (AppendsPrefix a c (xs ++ ys))
+refused-through a b c xs rest ys (Ok u) p e q = tt
+refused-through a b c xs rest ys (Err f) p e q =
+    prefix-then a b c (xs ++ ys) ys (subst (λ l. AppendsBefore a b (xs ++ ys) (l ++ ys)) e (before-longer a b xs rest ys p)) q
 
 -- A sink, what its target has, what waits, and the line of a row; what stays in it after each row, and after each that it takes.
 module _ {S : Type 0} (takes : S → Row → Bool → S → Type 0) (contents : S → Option (List ℕ)) (text : S → List ℕ)

@@ -1,5 +1,5 @@
 -- What a target has, and what waits, after rows were given to the sink that writes their lines.
-use Rattle.std.proofs.Common.{◌≡◌, ◌∙◌, ◌++◌, ℕ, Bool, true, false, List, [], Option, Result, Err, IfErr, refl, ap, sym, subst}
+use Rattle.std.proofs.Common.{◌≡◌, ◌∙◌, ◌++◌, ℕ, Bool, true, List, [], Option, Result, Err, IfErr, refl, ap, sym, subst}
 use Rattle.mcs_ticks.specs.declared.row.Row.{Row}
 use Rattle.mcs_system.specs.System.{System}
 use Rattle.mcs_core.specs.Clock.{schedule}
@@ -7,6 +7,7 @@ use Rattle.mcs_text.specs.Text.{row_text, schedule_text}
 use Rattle.mcs_ticks.specs.Given.{Given, GivenUntil, GivenSome}
 use Rattle.mcs_cli.specs.Devices.{AppendsPrefix}
 use Rattle.mcs_cli.specs.Flow.{AppendsBefore, TakesLine}
+use Rattle.mcs_cli.specs.Lines.{PutsRow}
 use Rattle.mcs_cli.specs.declared.sink.Lines.{Lines}
 use Rattle.mcs_cli.proofs.Flow.{given_streams, until_streams, some_streams, until_ends}
 
@@ -21,19 +22,9 @@ err-is P r e is p = subst (λ r. IfErr r P) is p
 
 -- a target's bytes and whether it has failed
 module _ {W : Type 0} (contents : W → Option (List ℕ)) (failed : W → Bool) where
-  abbrev pub Takes : Lines W → Row → Bool → Lines W → Type 0
-  Takes before row taken after =
-      (after.target.ghost_name ≡ before.target.ghost_name)
-      × (after.page.ghost_name ≡ before.page.ghost_name)
-      × (after.names ≡ before.names)
-      × (taken ≡ true → failed after.target.now ≡ failed before.target.now)
-      × (taken ≡ false → failed after.target.now ≡ true)
-      × TakesLine (contents before.target.now) (contents after.target.now)
-      before.page.now after.page.now (row_text before.names.now row) taken
-
   -- where a row is refused the target has failed
-  pub lines_fail : (s t : Lines W) (rows : List Row) → GivenUntil Takes s rows t → failed t.target.now ≡ true
-  lines_fail s t rows given = until_ends Takes (λ l. failed l.target.now ≡ true) (λ s t row takes. takes.4 refl) s t rows given
+  pub lines_fail : (s t : Lines W) (rows : List Row) → GivenUntil (PutsRow contents failed) s rows t → failed t.target.now ≡ true
+  lines_fail s t rows given = until_ends (PutsRow contents failed) (λ l. failed l.target.now ≡ true) (λ s t row takes. takes.4 refl) s t rows given
 
   -- before the first row and after some
   module _ (first : Lines W) where
@@ -49,7 +40,7 @@ module _ {W : Type 0} (contents : W → Option (List ℕ)) (failed : W → Bool)
     abbrev IsWorking : Lines W → Type 0
     IsWorking l = failed l.target.now ≡ failed first.target.now
 
-    step : (s t : Lines W) (row : Row) (taken : Bool) → IsStill s → Takes s row taken t →
+    step : (s t : Lines W) (row : Row) (taken : Bool) → IsStill s → PutsRow contents failed s row taken t →
         IsStill t × (taken ≡ true → IsWorking s → IsWorking t)
         × TakesLine (contents s.target.now) (contents t.target.now) s.page.now t.page.now (row_text first.names.now row) taken
     step s t row taken is takes =
@@ -73,28 +64,28 @@ module _ {W : Type 0} (contents : W → Option (List ℕ)) (failed : W → Bool)
       output-is : first.page.now ++ schedule_text first.names.now (schedule shared horizon) ≡ output
       output-is = rw (empty, system_is, shared_is) refl
 
-      pub lines_given : Given Takes first (schedule shared horizon) last →
+      pub lines_given : Given (PutsRow contents failed) first (schedule shared horizon) last →
           IsStill last × (failed last.target.now ≡ failed target) × AppendsBefore (contents target) (contents last.target.now) output last.page.now
       lines_given given =
-          let ended = given_streams Takes (λ l. contents l.target.now) (λ l. l.page.now) (row_text first.names.now) IsStill IsWorking step
+          let ended = given_streams (PutsRow contents failed) (λ l. contents l.target.now) (λ l. l.page.now) (row_text first.names.now) IsStill IsWorking step
           first last (schedule shared horizon) still refl given in
           let before : AppendsBefore (contents target) (contents last.target.now) (first.page.now ++ schedule_text first.names.now (schedule shared horizon)) last.page.now =
           rw (← target_is) ended.2 in
           (ended.0, ended.1 ∙ ap failed target_is, subst (λ xs. AppendsBefore (contents target) (contents last.target.now) xs last.page.now) output-is before)
 
-      pub lines_some : GivenSome Takes first (schedule shared horizon) last →
+      pub lines_some : GivenSome (PutsRow contents failed) first (schedule shared horizon) last →
           IsStill last × (failed last.target.now ≡ failed target) × AppendsPrefix (contents target) (contents last.target.now) output
       lines_some given =
-          let ended = some_streams Takes (λ l. contents l.target.now) (λ l. l.page.now) (row_text first.names.now) IsStill IsWorking step
+          let ended = some_streams (PutsRow contents failed) (λ l. contents l.target.now) (λ l. l.page.now) (row_text first.names.now) IsStill IsWorking step
           first last (schedule shared horizon) still refl given in
           let before : AppendsPrefix (contents target) (contents last.target.now) (first.page.now ++ schedule_text first.names.now (schedule shared horizon)) =
           rw (← target_is) ended.2 in
           (ended.0, ended.1 ∙ ap failed target_is, subst (AppendsPrefix (contents target) (contents last.target.now)) output-is before)
 
-      pub lines_until : GivenUntil Takes first (schedule shared horizon) last →
+      pub lines_until : GivenUntil (PutsRow contents failed) first (schedule shared horizon) last →
           IsStill last × AppendsPrefix (contents target) (contents last.target.now) output
       lines_until given =
-          let ended = until_streams Takes (λ l. contents l.target.now) (λ l. l.page.now) (row_text first.names.now) IsStill IsWorking step
+          let ended = until_streams (PutsRow contents failed) (λ l. contents l.target.now) (λ l. l.page.now) (row_text first.names.now) IsStill IsWorking step
           first last (schedule shared horizon) still given in
           let before : AppendsPrefix (contents target) (contents last.target.now) (first.page.now ++ schedule_text first.names.now (schedule shared horizon)) =
           rw (← target_is) ended.1 in

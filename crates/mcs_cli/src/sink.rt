@@ -1,8 +1,9 @@
 //! The sink that writes the rows of a schedule.
-ghost use Rattle.std.specs.Prelude.{◌≡◌, ◌≤◌, [], true, false, length, OnOk, OnErr};
-ghost use Rattle.mcs_text.specs.Text.{row_text};
+ghost use Rattle.std.specs.Prelude.{◌≡◌, ◌≤◌, ◌++◌, [], true, length, is_ok, OnOk, OnErr};
+ghost use Rattle.std.specs.Io.KnownBytes.{Appends};
 ghost use Rattle.mcs_cli.specs.Devices.{AppendsPrefix};
-ghost use Rattle.mcs_cli.specs.Flow.{AppendsBefore, TakesLine};
+ghost use Rattle.mcs_cli.specs.Flow.{AppendsBefore};
+ghost use Rattle.mcs_cli.specs.Lines.{PutsLines};
 
 use crate::Target;
 use crate::streams::write_bytes;
@@ -37,28 +38,46 @@ impl<'a, T: Target> Lines<'a, T> {
             limit: 1,
         }
     }
-}
 
-impl<T: Target> Sink for Lines<'_, T> {
-    ghost takes = { λ before row taken after.
-        (after.target.ghost_name ≡ before.target.ghost_name)
-        × (after.page.ghost_name ≡ before.page.ghost_name)
-        × (after.names ≡ before.names)
-        × (taken ≡ true → T.has_failed after.target.now ≡ T.has_failed before.target.now)
-        × (taken ≡ false → T.has_failed after.target.now ≡ true)
-        × TakesLine (T.contents before.target.now) (T.contents after.target.now)
-        before.page.now after.page.now (row_text before.names.now row) taken };
+    /// The names of the system whose rows it writes.
+    pub(crate) fn names(&self) -> &'a Names<'a>
+        ensures { result.now ≡ self.now.names.now }
+    {
+        self.names
+    }
 
+    /// Puts lines of the system behind those that wait. They are refused only where the target has failed.
+    pub(crate) fn append(&mut self, lines: &[u8]) -> Result<(), Refused>
+        ensures { PutsLines T.contents T.has_failed self.old lines.now (is_ok result) self.new }
+    {
+        put(self.target, self.page, lines)?;
+        self.write_enough()
+    }
+
+    /// Writes the lines that wait where they are enough.
     #[inline(always)]
-    fn row(&mut self, row: &Row) -> Result<(), Refused> {
-        make_room(self.target, self.page)?;
-        self.page.put_row(self.names, row);
+    fn write_enough(&mut self) -> Result<(), Refused>
+        ensures { PutsLines T.contents T.has_failed self.old [] (is_ok result) self.new }
+    {
         if self.page.len() < self.limit {
             return Ok(());
         }
         write_lines(self.target, self.page)?;
         self.limit = self.limit.saturating_mul(2).min(Page::FULL);
         Ok(())
+    }
+}
+
+impl<T: Target> Sink for Lines<'_, T> {
+    ghost use Rattle.mcs_cli.specs.Lines.{PutsRow};
+
+    ghost takes = { PutsRow T.contents T.has_failed };
+
+    #[inline(always)]
+    fn row(&mut self, row: &Row) -> Result<(), Refused> {
+        make_room(self.target, self.page)?;
+        self.page.put_row(self.names, row);
+        self.write_enough()
     }
 }
 
@@ -77,6 +96,26 @@ fn make_room<T: Target>(target: &mut T, page: &mut Page) -> Result<(), Refused>
     write_lines(target, page)
 }
 
+/// Puts lines on a page, of which those that wait there are written first where there is no room for both. Lines for which no page has room are
+/// written at once.
+fn put<T: Target>(target: &mut T, page: &mut Page, lines: &[u8]) -> Result<(), Refused>
+    ensures written { OnOk result (AppendsBefore (T.contents target.old) (T.contents target.new) (page.old ++ lines.now) page.new) }
+    ensures working { OnOk result (T.has_failed target.new ≡ T.has_failed target.old) }
+    ensures prefix { OnErr result (AppendsPrefix (T.contents target.old) (T.contents target.new) (page.old ++ lines.now)) }
+    ensures failed { OnErr result (T.has_failed target.new ≡ true) }
+{
+    if page.has_room_for(lines.len()) {
+        page.append(lines);
+        return Ok(());
+    }
+    write_lines(target, page)?;
+    if lines.len() <= Page::FULL {
+        page.append(lines);
+        return Ok(());
+    }
+    write(target, lines)
+}
+
 /// Writes the lines of a page, which then has none.
 fn write_lines<T: Target>(target: &mut T, page: &mut Page) -> Result<(), Refused>
     ensures empty { OnOk result (page.new ≡ []) }
@@ -85,9 +124,20 @@ fn write_lines<T: Target>(target: &mut T, page: &mut Page) -> Result<(), Refused
     ensures prefix { OnErr result (AppendsPrefix (T.contents target.old) (T.contents target.new) page.old) }
     ensures failed { OnErr result (T.has_failed target.new ≡ true) }
 {
-    let Ok(()) = write_bytes(target, page.as_slice()) else {
-        return Err(Refused);
-    };
+    write(target, page.as_slice())?;
     page.clear();
     Ok(())
+}
+
+/// Writes lines.
+fn write<T: Target>(target: &mut T, lines: &[u8]) -> Result<(), Refused>
+    ensures written { OnOk result (Appends (T.contents target.old) (T.contents target.new) lines.now) }
+    ensures working { OnOk result (T.has_failed target.new ≡ T.has_failed target.old) }
+    ensures prefix { OnErr result (AppendsPrefix (T.contents target.old) (T.contents target.new) lines.now) }
+    ensures failed { OnErr result (T.has_failed target.new ≡ true) }
+{
+    match write_bytes(target, lines) {
+        Ok(()) => Ok(()),
+        Err(_) => Err(Refused),
+    }
 }

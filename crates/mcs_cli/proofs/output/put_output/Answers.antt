@@ -4,7 +4,7 @@ use Rattle.mcs_report.specs.Reports.{reports_of}
 use Rattle.mcs_text.specs.Text.{reports_text, schedule_text}
 use Rattle.std.specs.Arc.{arc_value}
 use Rattle.mcs_cli.proofs.Flow.{fault-longer, fault-last}
-use Rattle.mcs_cli.proofs.streams.put_output.Goals as goal
+use Rattle.mcs_cli.proofs.output.put_output.Goals as goal
 
 pub returns-in_err-reports-in-Both-clause-fault : goal.returns-in_err-reports-in-Both-clause-fault
 returns-in_err-reports-in-Both-clause-fault g c =

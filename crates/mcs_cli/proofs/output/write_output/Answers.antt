@@ -4,7 +4,7 @@ use Rattle.mcs_cli.specs.Devices.{AppendsPrefix}
 use Rattle.mcs_cli.specs.Flow.{AppendsBefore}
 use Rattle.mcs_cli.specs.Run.{output_of}
 use Rattle.mcs_cli.proofs.Flow.{fault-then}
-use Rattle.mcs_cli.proofs.streams.write_output.Goals as goal
+use Rattle.mcs_cli.proofs.output.write_output.Goals as goal
 
 pub returns-clause-fault : goal.returns-clause-fault
 returns-clause-fault g c =

@@ -8,21 +8,21 @@ use Rattle.mcs_cli.specs.Devices.{AppendsPrefix}
 use Rattle.mcs_cli.specs.Flow.{AppendsBefore}
 use Rattle.mcs_cli.proofs.Flow.{prefix-before}
 use Rattle.mcs_cli.proofs.Rows.{at-last, at-target, err-is, lines_fail, lines_given, lines_some, lines_until}
-use Rattle.mcs_cli.proofs.streams.write_rows.Goals as goal
+use Rattle.mcs_cli.proofs.output.write_rows.Goals as goal
 
 pub returns-in-Ok-result-clause-ok : goal.returns-in-Ok-result-clause-ok
 returns-in-Ok-result-clause-ok g c =
     let held = g.T.Target.contents in
     let system : System = arc_value c.args.system.now in
     let first = c.new-lines.result in
-    let last = c.give_rows-result.new.sink in
+    let last = c.give_rows-result.new.lines in
     let empty : c.new-lines.result.page.now ≡ [] = search rules in
     let system_is : c.new-lines.result.names.now ≡ arc_value c.args.system.now = search rules in
     let shared_is : arc_value c.in-Ok.shared ≡ arc_value c.args.system.now = search rules in
     let ended = lines_given held g.T.Target.has_failed first last system (arc_value c.in-Ok.shared) c.args.options.now.horizon c.args.target.now
     empty system_is shared_is c.new-lines.ensures.target_now c.in-Ok-result.ensures.given in
-    let target_is : c.give_rows-result.new.sink.target.ghost_name ≡ c.new-lines.result.target.ghost_name = ended.0.target_is in
-    let page_is : c.give_rows-result.new.sink.page.ghost_name ≡ c.new-lines.result.page.ghost_name = ended.0.page_is in
+    let target_is : c.give_rows-result.new.lines.target.ghost_name ≡ c.new-lines.result.target.ghost_name = ended.0.target_is in
+    let page_is : c.give_rows-result.new.lines.page.ghost_name ≡ c.new-lines.result.page.ghost_name = ended.0.page_is in
     at-last (λ w xs. AppendsBefore (held c.args.target.now) (held w) (schedule_text system (schedule system c.args.options.now.horizon)) xs)
     last.target.now _ last.page.now _ (search rules) (search rules) ended.2
 
@@ -31,13 +31,13 @@ returns-in-Ok-result-clause-working g c =
     let held = g.T.Target.contents in
     let system : System = arc_value c.args.system.now in
     let first = c.new-lines.result in
-    let last = c.give_rows-result.new.sink in
+    let last = c.give_rows-result.new.lines in
     let empty : c.new-lines.result.page.now ≡ [] = search rules in
     let system_is : c.new-lines.result.names.now ≡ arc_value c.args.system.now = search rules in
     let shared_is : arc_value c.in-Ok.shared ≡ arc_value c.args.system.now = search rules in
     let ended = lines_given held g.T.Target.has_failed first last system (arc_value c.in-Ok.shared) c.args.options.now.horizon c.args.target.now
     empty system_is shared_is c.new-lines.ensures.target_now c.in-Ok-result.ensures.given in
-    let target_is : c.give_rows-result.new.sink.target.ghost_name ≡ c.new-lines.result.target.ghost_name = ended.0.target_is in
+    let target_is : c.give_rows-result.new.lines.target.ghost_name ≡ c.new-lines.result.target.ghost_name = ended.0.target_is in
     at-target (λ w. g.T.Target.has_failed w ≡ false) last.target.now _ (search rules) (ended.1 ∙ c.requires.working)
 
 pub returns-in-Err-NoMemory-clause-fault : goal.returns-in-Err-NoMemory-clause-fault
@@ -45,14 +45,14 @@ returns-in-Err-NoMemory-clause-fault g c =
     let held = g.T.Target.contents in
     let system : System = arc_value c.args.system.now in
     let first = c.new-lines.result in
-    let last = c.give_rows-result.new.sink in
+    let last = c.give_rows-result.new.lines in
     let empty : c.new-lines.result.page.now ≡ [] = search rules in
     let system_is : c.new-lines.result.names.now ≡ arc_value c.args.system.now = search rules in
     let shared_is : arc_value c.in-Ok.shared ≡ arc_value c.args.system.now = search rules in
     let is : c.give_rows-result.result ≡ Err fault.NoMemory = search rules in
     let ended = lines_some held g.T.Target.has_failed first last system (arc_value c.in-Ok.shared) c.args.options.now.horizon c.args.target.now
     empty system_is shared_is c.new-lines.ensures.target_now (err-is _ c.give_rows-result.result fault.NoMemory is c.give_rows-result.ensures.fault) in
-    let target_is : c.give_rows-result.new.sink.target.ghost_name ≡ c.new-lines.result.target.ghost_name = ended.0.target_is in
+    let target_is : c.give_rows-result.new.lines.target.ghost_name ≡ c.new-lines.result.target.ghost_name = ended.0.target_is in
     at-target (λ w. (g.T.Target.has_failed w ≡ false) × AppendsPrefix (held c.args.target.now) (held w) (schedule_text system (schedule system c.args.options.now.horizon)))
     last.target.now _ (search rules) (ended.1 ∙ c.requires.working, ended.2)
 
@@ -61,7 +61,7 @@ returns-clause-fault g c =
     let held = g.T.Target.contents in
     let system : System = arc_value c.args.system.now in
     let first = c.new-lines.result in
-    let last = c.give_rows-result.new.sink in
+    let last = c.give_rows-result.new.lines in
     let empty : c.new-lines.result.page.now ≡ [] = search rules in
     let system_is : c.new-lines.result.names.now ≡ arc_value c.args.system.now = search rules in
     let shared_is : arc_value c.in-Ok.shared ≡ arc_value c.args.system.now = search rules in
@@ -69,7 +69,7 @@ returns-clause-fault g c =
     let given = err-is _ c.give_rows-result.result fault.Sink is c.give_rows-result.ensures.fault in
     let ended = lines_until held g.T.Target.has_failed first last system (arc_value c.in-Ok.shared) c.args.options.now.horizon c.args.target.now
     empty system_is shared_is c.new-lines.ensures.target_now given in
-    let target_is : c.give_rows-result.new.sink.target.ghost_name ≡ c.new-lines.result.target.ghost_name = ended.0.target_is in
+    let target_is : c.give_rows-result.new.lines.target.ghost_name ≡ c.new-lines.result.target.ghost_name = ended.0.target_is in
     at-target (λ w. (g.T.Target.has_failed w ≡ true) × AppendsPrefix (held c.args.target.now) (held w) (schedule_text system (schedule system c.args.options.now.horizon)))
     last.target.now _ (search rules) (lines_fail held g.T.Target.has_failed first last (schedule (arc_value c.in-Ok.shared) c.args.options.now.horizon) given, ended.1)
 
@@ -78,12 +78,12 @@ returns-then-is_err-clause-fault g c =
     let held = g.T.Target.contents in
     let system : System = arc_value c.args.system.now in
     let first = c.new-lines.result in
-    let last = c.give_rows-result.new.sink in
+    let last = c.give_rows-result.new.lines in
     let empty : c.new-lines.result.page.now ≡ [] = search rules in
     let system_is : c.new-lines.result.names.now ≡ arc_value c.args.system.now = search rules in
     let shared_is : arc_value c.in-Ok.shared ≡ arc_value c.args.system.now = search rules in
     let ended = lines_given held g.T.Target.has_failed first last system (arc_value c.in-Ok.shared) c.args.options.now.horizon c.args.target.now
     empty system_is shared_is c.new-lines.ensures.target_now c.in-Ok-result.ensures.given in
-    let target_is : c.give_rows-result.new.sink.target.ghost_name ≡ c.new-lines.result.target.ghost_name = ended.0.target_is in
+    let target_is : c.give_rows-result.new.lines.target.ghost_name ≡ c.new-lines.result.target.ghost_name = ended.0.target_is in
     at-target (λ w. (g.T.Target.has_failed w ≡ false) × AppendsPrefix (held c.args.target.now) (held w) (schedule_text system (schedule system c.args.options.now.horizon)))
     last.target.now _ (search rules) (ended.1 ∙ c.requires.working, prefix-before _ _ _ _ ended.2)

@@ -1,0 +1,158 @@
+//! The text of each core: made where the core runs, and put behind that of other cores a moment at a time.
+ghost use Rattle.std.specs.Prelude.{◌≡◌};
+
+use crate::Target;
+use crate::named::Named;
+use crate::sink::Lines;
+use mcs_merge::Part;
+use mcs_team::{Refused, Relay, Sink};
+use mcs_text::{LinesPart, Names, ToldLines};
+use mcs_ticks::{Collector, Measured, Row, Soonest};
+use std::alloc::Global;
+use std::marker::PhantomData;
+
+/// The lines that a core of the system tells which `B` names.
+#[derive(Drop)]
+pub(crate) struct CoreText<'a, B: Named> {
+    told: ToldLines<'a>,
+    of: PhantomData<B>,
+    ghost of_system: { told.lines.system ≡ B.system },
+}
+
+/// A row becomes a line, or there is no memory.
+impl<B: Named> Sink for CoreText<'_, B> {
+    ghost use Rattle.mcs_text.specs.Told.{TakesTold};
+
+    ghost takes = { λ before row taken after. TakesTold before.told row taken after.told };
+
+    #[inline(always)]
+    fn row(&mut self, row: &Row) -> Result<(), Refused> {
+        self.told.row(row)
+    }
+}
+
+/// The size is how many rows they are of.
+impl<B: Named> Measured for CoreText<'_, B> {
+    ghost size = { λ text. text.told.rows };
+
+    #[inline(always)]
+    fn size(&self) -> usize {
+        self.told.size()
+    }
+}
+
+/// It holds the rows whose lines they are.
+impl<B: Named> Collector for CoreText<'_, B> {
+    ghost use Rattle.std.specs.Prelude.{length};
+    ghost use Rattle.mcs_text.specs.Told.{HoldsTold};
+    ghost use Rattle.mcs_text.specs.stored.Told.{told_more};
+
+    ghost holds = { λ text rows. HoldsTold text.told rows };
+
+    ghost amount = { length };
+
+    fn clear(&mut self) {
+        self.told.clear();
+    }
+
+    ghost holds_more = { λ before after held row holds taken. told_more before.told after.told held row holds taken };
+
+    ghost is_measured = { λ text held holds. holds.many };
+}
+
+/// The lines of a core of the system that `B` names, which wait to be put on the page of `Lines`.
+#[derive(Drop)]
+pub(crate) struct CorePart<'a, B: Named, T> {
+    lines: LinesPart<'a>,
+    to: PhantomData<(B, T)>,
+    ghost of_system: { lines.lines.system ≡ B.system },
+}
+
+/// It holds the rows whose lines they are, and puts those of a moment on the page at once.
+impl<'a, B: Named, T: Target + 'a> Part for CorePart<'a, B, T> {
+    ghost use Rattle.mcs_text.specs.Parts.{left_of, next_of, HoldsRows};
+
+    type Out = Lines<'a, T>;
+
+    ghost holds = { λ out part rows. HoldsRows out.names.now part.lines rows };
+
+    ghost first = { λ part. next_of part.lines };
+
+    ghost left = { λ part. left_of part.lines };
+
+    #[inline(always)]
+    fn next(&self) -> Soonest {
+        self.lines.next()
+    }
+
+    fn pour(&mut self, out: &mut Lines<'a, T>) -> Result<(), Refused> {
+        out.append(self.lines.first_lines())?;
+        self.lines.pass();
+        Ok(())
+    }
+
+    ghost use Rattle.std.proofs.Common.{subst, sym};
+
+    ghost is_first = { λ out part rows held. held.first };
+
+    ghost holds_on = { λ before after part rows row held taken. subst (λ names. HoldsRows names.now part.lines rows) (sym taken.2) held };
+}
+
+/// Rows of the system that `B` names, told as text where their core runs and given to `Lines`.
+#[derive(Drop)]
+pub(crate) struct ByCore<'a, B: Named, T> {
+    alloc: Global,
+    names: &'a Names<'a>,
+    to: PhantomData<(B, T)>,
+    ghost of_system: { names.now ≡ B.system },
+}
+
+impl<'a, B: Named, T> ByCore<'a, B, T> {
+    /// For the system with these names.
+    pub(crate) fn new(alloc: Global, names: &'a Names<'a>) -> ByCore<'a, B, T>
+        requires { names.now ≡ B.system }
+    {
+        ByCore {
+            alloc,
+            names,
+            to: PhantomData,
+        }
+    }
+}
+
+impl<'a, B: Named, T: Target + 'a> Relay for ByCore<'a, B, T> {
+    type Told = CoreText<'a, B>;
+
+    type Part = CorePart<'a, B, T>;
+
+    ghost use Rattle.std.specs.Prelude.{◌≡◌};
+
+    ghost fits = { λ relay out. out.names.now ≡ B.system };
+
+    fn empty(&self) -> CoreText<'a, B> {
+        CoreText {
+            told: ToldLines::new(self.alloc, self.names),
+            of: PhantomData,
+        }
+    }
+
+    fn part(&self, told: CoreText<'a, B>) -> CorePart<'a, B, T> {
+        let CoreText { told, of: _ } = told;
+        CorePart {
+            lines: LinesPart::new(told.into_lines()),
+            to: PhantomData,
+        }
+    }
+
+    fn room(&self, part: CorePart<'a, B, T>) -> CoreText<'a, B> {
+        let CorePart { lines, to: _ } = part;
+        CoreText {
+            told: ToldLines::in_room_of(lines.into_room()),
+            of: PhantomData,
+        }
+    }
+
+    ghost use Rattle.std.proofs.Common.{◌∙◌, ap};
+
+    ghost fits_on = { λ relay before after row fits taken. ap (λ names. names.now) taken.2 ∙ fits };
+}
