@@ -15,3 +15,5 @@ mod sinks;
 mod stretches;
 #[cfg(test)]
 mod systems;
+#[cfg(test)]
+mod texts;
