@@ -66,7 +66,7 @@ module _ (system : System) (takes_time : TakesTime system) {O : Type 0} (takes :
   given-all e = let g : t ≡ suc horizon = omega arith in subst (λ n. Given takes before (clock system n).rows out) g given
 
 -- turns were taken on the desk
-module _ (desk ran : Table) (one : desk.system.cores ≡ 1) (later : IsLater desk ran) (reached now : ℕ) (at : clock_of desk 0 ≡ reached) (to : clock_of ran 0 ≡ now) where
+module _ (desk ran : Table) (one : desk.system.cores ≡ 1) (later : IsLater desk ran) (reached now : ℕ) (at : clock_of desk 0 ≡ reached) (to : now ≡ clock_of ran 0) where
   one-ran : ran.system.cores ≡ 1
   one-ran = ap (λ (x : System). x.cores) later.system_is ∙ one
 
@@ -80,7 +80,7 @@ module _ (desk ran : Table) (one : desk.system.cores ≡ 1) (later : IsLater des
 -- what was told in a round is given
 module _ {S O : Type 0} (takes : O → Row → Bool → O → Type 0) (holds : S → List Row → Type 0) (system : System) (horizon : ℕ) (before : O)
     (desk : Table) (reached : ℕ) (room : S) (out : O) (is : IsBetween takes holds system horizon before desk reached room out) (one : system.cores ≡ 1) (takes_time : TakesTime system)
-    (ran : Table) (later : IsLater desk ran) (now : ℕ) (to : clock_of ran 0 ≡ now) (in_time : now ≤ ran.horizon + 1) (in_order : taken_of ran 0 ≤ clock_of ran 0) where
+    (ran : Table) (later : IsLater desk ran) (now : ℕ) (to : now ≡ clock_of ran 0) (in_time : now ≤ ran.horizon + 1) (in_order : taken_of ran 0 ≤ clock_of ran 0) where
   system_same : ran.system ≡ system
   system_same = later.system_is ∙ is.system_is
 
@@ -97,7 +97,7 @@ module _ {S O : Type 0} (takes : O → Row → Bool → O → Type 0) (holds : S
   told-is =
       ap (λ (y : System). rows_between y 0 (taken_of ran 0) (clock_of ran 0)) system_same
       ∙ ap (λ n. rows_between system 0 n (clock_of ran 0)) from
-      ∙ ap (rows_between system 0 reached) to
+      ∙ ap (rows_between system 0 reached) (sym to)
 
   pub between-next : (next : Table) → next ≡ taken_at ran 0 → (more : S) → holds more [] → (after : O) →
       Given takes out (rows_between ran.system 0 (taken_of ran 0) (clock_of ran 0)) after → IsBetween takes holds system horizon before next now more after
@@ -108,8 +108,8 @@ module _ {S O : Type 0} (takes : O → Row → Bool → O → Type 0) (holds : S
         sound = ap (λ (x : Table). x.lost) taken ∙ later.sound;
         here = subst AllAreHere (sym taken) later.here;
         long = let e = ap (λ (x : Table). length x.taken) taken ∙ length-set ran.taken 0 (clock_of ran 0) in let l = long in omega arith;
-        clock_is = ap (λ (x : Table). clock_of x 0) taken ∙ to;
-        taken_is = ap (λ (x : Table). taken_of x 0) taken ∙ get_or-set_same ran.taken 0 (clock_of ran 0) 0 (let l = long in omega arith) ∙ to;
+        clock_is = ap (λ (x : Table). clock_of x 0) taken ∙ sym to;
+        taken_is = ap (λ (x : Table). taken_of x 0) taken ∙ get_or-set_same ran.taken 0 (clock_of ran 0) 0 (let l = long in omega arith) ∙ sym to;
         early = let h = horizon_same in omega arith;
         empty = empty;
         given = given-on system one takes_time takes horizon before out after reached now further is.given (subst (λ xs. Given takes out xs after) told-is given);

@@ -22,7 +22,7 @@ returns-in_default-give-clause-fault g c =
     let system = c.args.desk.system in
     let in_order : taken_of ran 0 ≤ clock_of ran 0 = (let v = c.taken-taken.ensures.value in let o = c.taken-taken.ensures.in_order in omega arith) in
     between-refused takes g.W.Told.Collector.holds system c.args.desk.horizon c.args.out.now r.desk r.reached r.room r.out r.invariant c.requires.one
-    (takes_time system c.requires.well_formed) ran c.in-Ok.ensures.later c.clock-reached.result (sym c.clock-reached.ensures.value) c.clock-reached.ensures.in_time in_order
+    (takes_time system c.requires.well_formed) ran c.in-Ok.ensures.later c.clock-reached.result c.clock-reached.ensures.value c.clock-reached.ensures.in_time in_order
     c.give.new.out
     (c.in_default-give.ensures.refused (rows_between ran.system 0 (taken_of ran 0) (clock_of ran 0))
     (fits-given g.W.Relay.fits takes g.met.W.Relay.fits_on c.args.relay.now c.args.out.now r.out (clock system r.reached).rows c.requires.fits r.invariant.given)
@@ -36,7 +36,7 @@ rounds-smaller g c =
     let last : c.horizon-horizon.result ≡ c.args.desk.horizon = c.horizon-horizon.ensures.value in
     let fewer : r.desk.horizon + 1 - c.clock-reached.result < r.desk.horizon + 1 - r.reached =
     fewer-left r.desk c.go.new.self (ap (λ (x : System). x.cores) r.invariant.system_is ∙ c.requires.one) c.in-Ok.ensures.later r.reached c.clock-reached.result
-    r.invariant.clock_is (sym c.clock-reached.ensures.value) (omega arith) c.in-Ok.ensures.fewer in
+    r.invariant.clock_is c.clock-reached.ensures.value (omega arith) c.in-Ok.ensures.fewer in
     let less : c.args.desk.horizon + 1 - c.clock-reached.result < c.args.desk.horizon + 1 - r.reached = omega arith in
     less
 
@@ -53,7 +53,7 @@ rounds-preserved g c =
     c.take-told.ensures.rows
     in
     between-next takes g.W.Told.Collector.holds system c.args.desk.horizon c.args.out.now r.desk r.reached r.room r.out r.invariant c.requires.one
-    (takes_time system c.requires.well_formed) ran c.in-Ok.ensures.later c.clock-reached.result (sym c.clock-reached.ensures.value) c.clock-reached.ensures.in_time in_order
+    (takes_time system c.requires.well_formed) ran c.in-Ok.ensures.later c.clock-reached.result c.clock-reached.ensures.value c.clock-reached.ensures.in_time in_order
     c.take-told.new.self c.take-told.ensures.taken c.give.new.told given.1 c.give.new.out given.0
 
 pub returns-clause-given : goal.returns-clause-given
