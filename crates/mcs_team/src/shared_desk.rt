@@ -212,6 +212,14 @@ impl<B: Run, S: Collector + Drop> SharedDesk<B, S> {
             return Err(why);
         }
         self.catch_up()?;
+        self.parts()
+    }
+
+    // The desk and what was told, where nothing is lent and nothing is lost.
+    fn parts(self) -> Result<(Desk, Tellings<B, S>), Untold>
+        ensures run { IfOk result (λ parts. (parts.0.system ≡ B.system) × (parts.0.horizon ≡ B.horizon)) }
+        ensures whole { IfOk result (λ parts. (parts.0.lost ≡ false) × AllAreHere parts.0) }
+    {
         let SharedDesk { desk, tellings, .. } = self;
         if desk.lost() || !desk.all_are_here() {
             return Err(Untold::Odd);

@@ -1,6 +1,6 @@
 use Rattle.std.proofs.Common.{◌≡◌, false, refl, rules}
 use Rattle.mcs_window.specs.Desk.{AllAreHere}
-use Rattle.mcs_team.proofs.shared_desk.SharedDesk.into_parts.Goals as goal
+use Rattle.mcs_team.proofs.shared_desk.SharedDesk.parts.Goals as goal
 
 pub returns-clause-whole : goal.returns-clause-whole
 returns-clause-whole g c =
