@@ -1,12 +1,15 @@
 -- Lines that are put behind those that wait: those of several rows at once are as if the rows had been given one by one.
-use Rattle.std.proofs.Common.{◌≡◌, ◌≢◌, ◌∙◌, ◌++◌, ℕ, suc, Bool, true, false, List, [], ◌∷◌, Option, inl, inr, refl, sym, subst, append_assoc, append-nil, arith}
-use Rattle.std.specs.Prelude.{IfSome, IsSome}
+use Rattle.std.proofs.Common.{◌≡◌, ◌≢◌, ◌∙◌, ◌++◌, ℕ, suc, Bool, true, false, List, [], ◌∷◌, Option, inl, inr, length, refl, sym, ap, subst, append_assoc, append-nil, arith}
+use Rattle.std.specs.Prelude.{fold, IfSome, IsSome}
 use Rattle.mcs_ticks.specs.declared.row.Row.{Row}
 use Rattle.mcs_ticks.specs.Given.{Given, GivenUntil}
 use Rattle.mcs_merge.specs.Merge.{rows_at}
 use Rattle.mcs_merge.specs.Parts.{rows_from}
+use Rattle.mcs_system.specs.System.{System}
 use Rattle.mcs_text.specs.Text.{row_text, schedule_text}
-use Rattle.mcs_text.specs.Lines.{text_at, moment_of}
+use Rattle.mcs_text.specs.Lines as text
+use Rattle.mcs_text.specs.Lines.{no_lines, with_row, text_at, moment_of}
+use Rattle.mcs_text.specs.Told.{ToldLines, HoldsTold, nothing_told}
 use Rattle.mcs_text.specs.Parts.{LinesPart, HoldsRows, next_of, no_text, passed}
 use Rattle.mcs_text.proofs.Parts.{holds-rest, next-known, waits}
 use Rattle.mcs_cli.specs.Devices.{AppendsPrefix}
@@ -14,6 +17,15 @@ use Rattle.mcs_cli.specs.Flow.{AppendsBefore}
 use Rattle.mcs_cli.specs.Lines.{PutsLines, PutsRow}
 use Rattle.mcs_cli.specs.declared.sink.Lines.{Lines}
 use Rattle.mcs_cli.proofs.Flow.{before-none, before-then, prefix-then}
+
+-- the bytes of the lines of rows are their text
+text-of : (lines : text.Lines) (rows : List Row) → (fold with_row lines rows).bytes ≡ lines.bytes ++ schedule_text lines.system rows
+text-of lines [] = sym (append-nil lines.bytes)
+text-of lines (row ∷ rows) = text-of (with_row lines row) rows ∙ append_assoc lines.bytes (row_text lines.system row) (schedule_text lines.system rows)
+
+-- where nothing was told no row is held
+pub told-none-holds : (system : System) → HoldsTold (nothing_told system) []
+told-none-holds system = record { lines = refl; many = refl }
 
 -- a target's bytes and whether it has failed
 module _ {W : Type 0} (contents : W → Option (List ℕ)) (failed : W → Bool) where
@@ -78,6 +90,21 @@ module _ {W : Type 0} (contents : W → Option (List ℕ)) (failed : W → Bool)
   refused-at-once (row ∷ next ∷ rows) before after some p =
       let middle = waiting before (row_text before.names.now row) in
       inr (middle, takes-one before row, refused-at-once (next ∷ rows) middle after (λ e. cc) (rest-puts before after row (next ∷ rows) false p))
+
+  -- all lines that were told are put
+  module _ (before after : Lines W) (told : ToldLines) (rows : List Row) (ours : told.lines.system ≡ before.names.now) (h : HoldsTold told rows)
+      (many : told.rows ≢ 0) where
+    told-text : told.lines.bytes ≡ schedule_text before.names.now rows
+    told-text = ap (λ lines. lines.bytes) h.lines ∙ text-of (no_lines told.lines.system) rows ∙ ap (λ system. schedule_text system rows) ours
+
+    told-some : rows ≢ []
+    told-some e = many (h.many ∙ ap (λ (xs : List Row). length xs) e)
+
+    pub told-given : PutsLines contents failed before told.lines.bytes true after → Given (PutsRow contents failed) before rows after
+    told-given p = given-at-once rows before after told-some (subst (λ xs. PutsLines contents failed before xs true after) told-text p)
+
+    pub told-refused : PutsLines contents failed before told.lines.bytes false after → GivenUntil (PutsRow contents failed) before rows after
+    told-refused p = refused-at-once rows before after told-some (subst (λ xs. PutsLines contents failed before xs false after) told-text p)
 
   -- the lines at the first mark of a part are put
   module _ (before after : Lines W) (part : LinesPart) (rows : List Row) (some : IsSome (next_of part)) (h : HoldsRows before.names.now part rows) where

@@ -10,6 +10,7 @@ use mcs_text::{LinesPart, Names, ToldLines};
 use mcs_ticks::{Collector, Measured, Row, Soonest};
 use std::alloc::Global;
 use std::marker::PhantomData;
+use std::mem;
 
 /// The lines that a core of the system tells which `B` names.
 #[derive(Drop)]
@@ -150,6 +151,18 @@ impl<'a, B: Named, T: Target + 'a> Relay for ByCore<'a, B, T> {
             told: ToldLines::in_room_of(lines.into_room()),
             of: PhantomData,
         }
+    }
+
+    fn give(&self, told: &mut CoreText<'a, B>, out: &mut Lines<'a, T>) -> Result<(), Refused> {
+        // an append without lines could write those that wait
+        if told.size() == 0 {
+            return Ok(());
+        }
+        let empty = ToldLines::new(self.alloc, self.names);
+        let lines = mem::replace(&mut told.told, empty).into_lines();
+        out.append(lines.as_slice())?;
+        told.told = ToldLines::in_room_of(lines);
+        Ok(())
     }
 
     ghost use Rattle.std.proofs.Common.{◌∙◌, ap};
