@@ -36,7 +36,7 @@ ALWAYS_TRIED = (
     'mcs_window/cores_first_behind_always_not_safe',
     # what is given
     'mcs_merge/lists_join_merges_by_core_first',
-    'mcs_team/stream_flow_all_answers_a_part_after_a_loss',
+    'mcs_team/stream_give_out_answers_a_part_after_a_loss',
     'mcs_report/account_report_at_leaves_an_open_run_out',
     # files, and who is blamed
     'mcs_load/config_config_later_fault_first',

@@ -1,6 +1,7 @@
 -- What a sink was given, one row or one list after another.
-use Rattle.std.proofs.Common.{refl, inl, inr, Bool, true, List, [], ◌∷◌, ◌++◌, sym, subst}
+use Rattle.std.proofs.Common.{◌≡◌, ◌+◌, ◌<◌, ℕ, refl, inl, inr, Bool, true, false, List, [], ◌∷◌, ◌++◌, length, take, drop, get_or, sym, ap, ◌∙◌, subst}
 use Rattle.std.proofs.Common.{Result, Ok, Err, OnOk, OnErr, IfOk, IfErr}
+use Rattle.std.proofs.lemmas.List.{take_more, drop_more, take-append-drop}
 use Rattle.mcs_ticks.specs.declared.row.Row.{Row}
 use Rattle.mcs_ticks.specs.Given.{Given, GivenUntil}
 
@@ -28,6 +29,21 @@ module _ {S : Type 0} (takes : S → Row → Bool → S → Type 0) where
   until-more s t [] ys h = absurd h
   until-more s t (x ∷ xs) ys (inl p) = inl p
   until-more s t (x ∷ xs) ys (inr p) = inr (p.0, p.1, until-more p.0 t xs ys p.2)
+
+-- while the rows of a slice are given
+module _ (rows : List Row) (i : ℕ) (row : Row) (l : i < length rows) (is : row ≡ get_or rows i row) where
+  one-more : take i rows ++ row ∷ [] ≡ take (i + 1) rows
+  one-more = sym (take_more rows i row l ∙ ap (λ x. take i rows ++ x ∷ []) (sym is))
+
+  module _ {S : Type 0} (takes : S → Row → Bool → S → Type 0) (s t u : S) (given : Given takes s (take i rows) t) where
+    pub gives-more : takes t row true u → Given takes s (take (i + 1) rows) u
+    gives-more taken = subst (λ xs. Given takes s xs u) one-more (given-one takes s t u (take i rows) row given taken)
+
+    pub gives-until : takes t row false u → GivenUntil takes s rows u
+    gives-until refused =
+        subst (λ xs. GivenUntil takes s xs u)
+        (ap (λ xs. take i rows ++ xs) (ap (λ x. x ∷ drop (i + 1) rows) is ∙ sym (drop_more rows i row l)) ∙ take-append-drop i rows)
+        (until-append takes s t u (take i rows) (row ∷ drop (i + 1) rows) given (inl refused))
 
 -- what is known of an answer, carried on
 pub if_ok : {T E : Type 0} {P Q : T → Type 0} (r : Result T E) → ((x : T) → P x → Q x) → IfOk r P → IfOk r Q

@@ -1,83 +1,101 @@
--- The rows at a moment or later.
-use Rattle.std.proofs.Common.{◌≡◌, ℕ, suc, ◌+◌, ◌<◌, ◌≤◌, Bool, true, false, cond, inl, List, [], ◌∷◌, ◌++◌, length, take, drop, get_or, refl, sym, ap, ◌∙◌, subst, arith}
-use Rattle.std.specs.Prelude.{nat_le}
+-- The rows from a moment on, told and given after all before it.
+use Rattle.std.proofs.Common.{◌≡◌, ◌≢◌, ℕ, ◌+◌, ◌<◌, ◌≤◌, Bool, true, false, cond, List, [], ◌∷◌, ◌++◌, length, min, take, get_or, refl, sym, ap, ◌∙◌, subst, append-nil, arith}
+use Rattle.std.specs.Prelude.{fold, nat_le, slice_index, slice_set, ◌==◌}
 use Rattle.std.proofs.lemmas.Bool.Decides.{nat_tests}
-use Rattle.std.proofs.lemmas.List.{take_more, drop_more, take-append-drop}
+use Rattle.std.proofs.lemmas.List.{get_or-set_same, get_or-set_other, length-set, take_more}
 use Rattle.std.proofs.lemmas.List.Elements.{filter-append}
 use Rattle.mcs_ticks.specs.declared.row.Row.{Row}
-use Rattle.mcs_merge.specs.Merge.{AreFrom}
-use Rattle.mcs_merge.specs.Merging.{AreBefore}
-use Rattle.mcs_system.specs.System.{System, TakesTime}
-use Rattle.mcs_core.specs.Clock.{clock, schedule}
-use Rattle.mcs_stretch.proofs.Merging.{clock-later, clock-before, later-from, rows-later}
-use Rattle.mcs_ticks.specs.Given.{Given, GivenUntil}
-use Rattle.mcs_team.specs.Flow.{rows_from, IsFlowFault, IsRestFault}
-use Rattle.mcs_ticks.specs.declared.sink.FlowFault.{FlowFault}
-use Rattle.mcs_ticks.specs.declared.sink.FlowFault.TheVariants as fault
-use Rattle.mcs_team.proofs.Giving.{given-append, until-append, given-one}
+use Rattle.mcs_merge.specs.Parts.{rows_from}
+use Rattle.mcs_merge.proofs.Parts.{from-all, from-none}
+use Rattle.mcs_system.specs.System.{System}
+use Rattle.mcs_stretch.specs.Stretch.{rows_between}
+use Rattle.mcs_stretch.proofs.Merging.{from-between, list-between}
+use Rattle.mcs_stretch.proofs.Ranges.{rows-join}
+use Rattle.mcs_window.specs.Desk.{Table, clock_of, taken_of, taken_at}
+use Rattle.mcs_team.specs.Flow.{IsGivenBetween}
+use Rattle.mcs_team.proofs.Opened as opened
+use Rattle.mcs_team.proofs.Rounds.{least-same}
 
-from-apart : (t : ℕ) (xs ys : List Row) → rows_from t (xs ++ ys) ≡ rows_from t xs ++ rows_from t ys
-from-apart t xs ys = filter-append (λ row. nat_le t row.moment) xs ys
-
-from-kept : (t : ℕ) (row : Row) (rows : List Row) → t ≤ row.moment → rows_from t (row ∷ rows) ≡ row ∷ rows_from t rows
-from-kept t row rows l = by (nat_le t row.moment) refl
+from-kept : (t : ℕ) (row : Row) → t ≤ row.moment → rows_from t (row ∷ []) ≡ row ∷ []
+from-kept t row l = by (nat_le t row.moment) refl
   where
-    by : (b : Bool) → nat_le t row.moment ≡ b → cond b (row ∷ rows_from t rows) (rows_from t rows) ≡ row ∷ rows_from t rows
+    by : (b : Bool) → nat_le t row.moment ≡ b → cond b (row ∷ []) [] ≡ row ∷ []
     by true e = refl
     by false e = absurd (let g : row.moment < t = grind (arith, nat_tests) in omega arith)
 
-from-left : (t : ℕ) (row : Row) (rows : List Row) → row.moment < t → rows_from t (row ∷ rows) ≡ rows_from t rows
-from-left t row rows l = by (nat_le t row.moment) refl
+-- while the rows are told
+module _ {S : Type 0} (holds : S → List Row → Type 0) (from : ℕ) (rows : List Row) (i : ℕ) (row : Row) (l : i < length rows) (is : row ≡ get_or rows i row) where
+  parts : rows_from from (take (i + 1) rows) ≡ rows_from from (take i rows) ++ rows_from from (row ∷ [])
+  parts =
+      ap (rows_from from) (take_more rows i row l ∙ ap (λ x. take i rows ++ x ∷ []) (sym is))
+      ∙ filter-append (λ row. nat_le from row.moment) (take i rows) (row ∷ [])
+
+  -- a row is told, ..
+  pub tells-more : (takes : S → Row → Bool → S → Type 0) → ((before after : S) (held : List Row) (row : Row) → holds before held → takes before row true after → holds after (held ++ row ∷ [])) →
+      (s u : S) → from ≤ row.moment → holds s (rows_from from (take i rows)) → takes s row true u → holds u (rows_from from (take (i + 1) rows))
+  tells-more takes more s u late held taken =
+      subst (holds u) (ap (λ xs. rows_from from (take i rows) ++ xs) (sym (from-kept from row late)) ∙ sym parts) (more s u (rows_from from (take i rows)) row held taken)
+
+  -- .. or is before the moment
+  pub tells-same : (s : S) → row.moment < from → holds s (rows_from from (take i rows)) → holds s (rows_from from (take (i + 1) rows))
+  tells-same s early held =
+      subst (holds s) (sym (parts ∙ ap (λ xs. rows_from from (take i rows) ++ xs) (from-none from row [] early) ∙ append-nil (rows_from from (take i rows)))) held
+
+-- of all rows of a core those from a moment on
+pub rest-of : (system : System) (c from past : ℕ) → from ≤ past → rows_from from (rows_between system c 0 past) ≡ rows_between system c from past
+rest-of system c from past l =
+    ap (rows_from from) (sym (rows-join system c 0 from past (omega arith) l))
+    ∙ filter-append (λ row. nat_le from row.moment) (rows_between system c 0 from) (rows_between system c from past)
+    ∙ ap (λ xs. xs ++ rows_from from (rows_between system c from past)) (opened.from-none from (rows_between system c 0 from) (list-between system c 0 from (omega arith)).before)
+    ∙ from-all from (rows_between system c from past) (from-between system c from past)
+
+-- while the rest of each core is added: of the cores below this number all was
+pub record AreAdded (start : Table) (first : List ℕ) (end many : ℕ) (desk : Table) (pasts : List ℕ) : Type 0 where
+  pub system_is : desk.system ≡ start.system
+  pub horizon_is : desk.horizon ≡ start.horizon
+  pub clocks_are : desk.clocks ≡ start.clocks
+  pub taken_left : (core : ℕ) → many ≤ core → taken_of desk core ≡ taken_of start core
+  pub long : length pasts ≡ length first
+  pub done : (core : ℕ) → core < many → slice_index pasts core ≡ end
+  pub left : (core : ℕ) → many ≤ core → slice_index pasts core ≡ slice_index first core
+
+pub adds-first : (start : Table) (first : List ℕ) (end : ℕ) → AreAdded start first end 0 start first
+adds-first start first end =
+    record {
+      system_is = refl;
+      horizon_is = refl;
+      clocks_are = refl;
+      taken_left = λ c l. refl;
+      long = refl;
+      done = λ c l. absurd (omega arith);
+      left = λ c l. refl;
+    }
+
+pub adds-more : (start : Table) (first : List ℕ) (end n : ℕ) (desk : Table) (pasts : List ℕ) → AreAdded start first end n desk pasts → n < length first →
+    (next : Table) (news : List ℕ) → next ≡ taken_at desk n → news ≡ slice_set pasts n end → AreAdded start first end (n + 1) next news
+adds-more start first end n desk pasts is l next news e f =
+    record {
+      system_is = ap (λ (t : Table). t.system) e ∙ is.system_is;
+      horizon_is = ap (λ (t : Table). t.horizon) e ∙ is.horizon_is;
+      clocks_are = ap (λ (t : Table). t.clocks) e ∙ is.clocks_are;
+      taken_left = λ c k. ap (λ (t : Table). taken_of t c) e ∙ get_or-set_other desk.taken n c (clock_of desk n) 0 (omega arith) ∙ is.taken_left c (omega arith);
+      long = ap length f ∙ length-set pasts n end ∙ is.long;
+      done = λ c k. by c k (c == n) refl;
+      left = λ c k. ap (λ xs. slice_index xs c) f ∙ get_or-set_other pasts n c end 0 (omega arith) ∙ is.left c (omega arith);
+    }
   where
-    by : (b : Bool) → nat_le t row.moment ≡ b → cond b (row ∷ rows_from t rows) (rows_from t rows) ≡ rows_from t rows
-    by true e = absurd (let g : t ≤ row.moment = grind (arith, nat_tests) in omega arith)
-    by false e = refl
+    by : (c : ℕ) → c < n + 1 → (b : Bool) → (c == n) ≡ b → slice_index news c ≡ end
+    by c k true g =
+        let i : c ≡ n = grind (arith, nat_tests) in
+        rw i (ap (λ xs. slice_index xs n) f ∙ get_or-set_same pasts n end 0 (let o = is.long in omega arith))
+    by c k false g =
+        let i : c ≢ n = grind (arith, nat_tests) in
+        ap (λ xs. slice_index xs c) f ∙ get_or-set_other pasts n c end 0 i ∙ is.done c (omega arith)
 
-from-none : (t : ℕ) (rows : List Row) → AreBefore t rows → rows_from t rows ≡ []
-from-none t [] h = refl
-from-none t (row ∷ rows) h = from-left t row rows h.0 ∙ from-none t rows h.1
-
-from-all : (t : ℕ) (rows : List Row) → AreFrom t rows → rows_from t rows ≡ rows
-from-all t [] h = refl
-from-all t (row ∷ rows) h = from-kept t row rows h.0 ∙ ap (λ xs. row ∷ xs) (from-all t rows h.1)
-
--- while the rows are given
-module _ {S : Type 0} (takes : S → Row → Bool → S → Type 0) (from : ℕ) (rows : List Row) (i : ℕ) (row : Row) (l : i < length rows) (is : row ≡ get_or rows i row) where
-  one-more : take (i + 1) rows ≡ take i rows ++ row ∷ []
-  one-more = take_more rows i row l ∙ ap (λ x. take i rows ++ x ∷ []) (sym is)
-
-  pub give-more : (s t u : S) → from ≤ row.moment → Given takes s (rows_from from (take i rows)) t → takes t row true u → Given takes s (rows_from from (take (i + 1) rows)) u
-  give-more s t u late given taken =
-      subst (λ xs. Given takes s xs u)
-      (ap (λ xs. rows_from from (take i rows) ++ xs) (sym (from-kept from row [] late))
-      ∙ sym (from-apart from (take i rows) (row ∷ [])) ∙ ap (rows_from from) (sym one-more)) (given-one takes s t u (rows_from from (take i rows)) row given taken)
-
-  pub give-until : (s t u : S) → from ≤ row.moment → Given takes s (rows_from from (take i rows)) t → takes t row false u → GivenUntil takes s (rows_from from rows) u
-  give-until s t u late given refused =
-      subst (λ xs. GivenUntil takes s xs u)
-      (ap (λ xs. rows_from from (take i rows) ++ xs) (sym (from-kept from row (drop (i + 1) rows) late))
-      ∙ sym (from-apart from (take i rows) (row ∷ drop (i + 1) rows))
-      ∙ ap (rows_from from) (ap (λ xs. take i rows ++ xs) (ap (λ x. x ∷ drop (i + 1) rows) is ∙ sym (drop_more rows i row l)) ∙ take-append-drop i rows))
-      (until-append takes s t u (rows_from from (take i rows)) (row ∷ rows_from from (drop (i + 1) rows)) given (inl refused))
-
--- after the clock's rows before a moment, those from it on are the rest of the schedule
-module _ (system : System) (horizon : ℕ) (takes_time : TakesTime system) (m : ℕ) (l : m ≤ horizon + 1) where
-  rest-is : rows_from m (schedule system horizon) ≡ rows-later system m (suc horizon)
-  rest-is =
-      ap (rows_from m) (clock-later system takes_time m (suc horizon) (omega arith))
-      ∙ from-apart m (clock system m).rows (rows-later system m (suc horizon))
-      ∙ ap (λ xs. xs ++ rows_from m (rows-later system m (suc horizon))) (from-none m (clock system m).rows (clock-before system takes_time m))
-      ∙ from-all m (rows-later system m (suc horizon)) (later-from system m (suc horizon))
-
-  whole-is : (clock system m).rows ++ rows_from m (schedule system horizon) ≡ schedule system horizon
-  whole-is = ap (λ xs. (clock system m).rows ++ xs) rest-is ∙ sym (clock-later system takes_time m (suc horizon) (omega arith))
-
-  module _ {S : Type 0} (takes : S → Row → Bool → S → Type 0) (s t u : S) (given : Given takes s (clock system m).rows t) where
-    pub rest-given : Given takes t (rows_from m (schedule system horizon)) u → Given takes s (schedule system horizon) u
-    rest-given more = subst (λ xs. Given takes s xs u) whole-is (given-append takes s t u (clock system m).rows (rows_from m (schedule system horizon)) given more)
-
-    pub rest-fault : (why : FlowFault) → IsRestFault takes (rows_from m (schedule system horizon)) t u why → IsFlowFault takes system horizon s u why
-    rest-fault fault.Sink h =
-        subst (λ xs. GivenUntil takes s xs u) whole-is (until-append takes s t u (clock system m).rows (rows_from m (schedule system horizon)) given h)
-    rest-fault fault.NoMemory h =
-        ((clock system m).rows, rows_from m (schedule system horizon), sym whole-is, subst (λ x. Given takes s (clock system m).rows x) h given)
+-- when the rest of each core was added all of it was given
+pub rest-given : {O : Type 0} (takes : O → Row → Bool → O → Type 0) (system : System) (horizon from reached now end : ℕ) (pasts : List ℕ) (before out : O) → reached ≡ from → now ≡ fold min end pasts →
+    end ≡ horizon + 1 → (length pasts ≡ system.cores) × ((c : ℕ) → c < system.cores → slice_index pasts c ≡ horizon + 1) → IsGivenBetween takes system reached now before out →
+    IsGivenBetween takes system from (horizon + 1) before out
+rest-given takes system horizon from reached now end pasts before out e least last all given =
+    subst (λ t. IsGivenBetween takes system t (horizon + 1) before out) e
+    (subst (λ u. IsGivenBetween takes system reached u before out) (least ∙ least-same end pasts (λ c l. all.1 c (let n = all.0 in omega arith) ∙ sym last) ∙ last) given)

@@ -24,8 +24,8 @@ use std::sync::Arc;
 // With so much on the desk it is taken.
 const ENOUGH: usize = 2048;
 
-// Takes the turns that are left in rounds, and gives out what was told in each round before the clocks of all cores.
-fn flow_rounds<B: Run, W: Relay>(
+/// Takes the turns that are left in rounds, and gives out what was told in each round before the clocks of all cores.
+pub(crate) fn flow_rounds<B: Run, W: Relay>(
     relay: &W,
     mut desk: Desk<W::Told>,
     mut flow: Outflow<W>,
@@ -69,10 +69,25 @@ fn flow_desk<B: Run, W: Relay>(
     ensures fault { IfErr result (IsFlowFault W.Part.Out.takes B.system B.horizon out.old out.new) }
 {
     let _parts = system.parts();
-    let Ok(flow) = Outflow::new(alloc, relay, system, horizon) else {
+    let Ok(flow) = Outflow::new(alloc, relay, system, horizon, Tick::ZERO) else {
         return Err(FlowFault::NoMemory);
     };
     flow_rounds::<B, W>(relay, desk, flow, out)
+}
+
+/// For each core what it tells its rows to. None was told yet.
+pub(crate) fn empty_told<W: Relay>(
+    alloc: Global,
+    relay: &W,
+    cores: usize,
+) -> Result<Vec<W::Told>, NoMemory>
+    ensures { IfOk result (λ told. AreEmpty W.Told.holds cores told.items) }
+{
+    let mut told = Vec::with_capacity(alloc, cores)?;
+    for _ in 0..cores {
+        told.push(relay.empty())?;
+    }
+    Ok(told)
 }
 
 // All cores at moment 0, each with what it tells its rows to.
@@ -85,11 +100,7 @@ fn desk_for<W: Relay>(
     requires { horizon ≤ 2 ^ 40 }
     ensures { IfOk result (λ desk. desk ≡ opening_table (arc_value system.now) horizon) }
 {
-    let cores = system.parts().cores;
-    let mut told = Vec::with_capacity(alloc, cores)?;
-    for _ in 0..cores {
-        told.push(relay.empty())?;
-    }
+    let told = empty_told(alloc, relay, system.parts().cores)?;
     let shared = Arc::try_clone(system)?;
     Desk::opened(alloc, shared, horizon, told)
 }

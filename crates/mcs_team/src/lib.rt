@@ -2,13 +2,11 @@
 #![tactic(auto)]
 
 mod alone;
-mod batch;
 mod by_core;
 mod counted;
 mod counts;
 mod errand;
 mod fault;
-mod flow;
 mod gate;
 mod here;
 mod one_core;
@@ -16,9 +14,8 @@ mod outflow;
 mod own_tally;
 mod relay;
 mod reporting;
-mod room;
+mod rest;
 mod run;
-mod seat;
 mod shared_desk;
 mod sink;
 mod snapshot;

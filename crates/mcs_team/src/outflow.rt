@@ -9,6 +9,7 @@ ghost use Rattle.mcs_window.specs.Desk.{clock_of, taken_at};
 
 use crate::Relay;
 use crate::run::Run;
+use crate::telling::{Telling, Untold};
 use mcs_merge::{Part, PartMerger};
 use mcs_system::System;
 use mcs_ticks::{CoreId, NoMemory, Refused, Tick};
@@ -25,37 +26,40 @@ pub(crate) struct Outflow<W: Relay> {
     pub(crate) reached: Tick,
     // the moment after the last
     end: Tick,
-    // one of which all was given out
-    spare: Option<W::Part>,
+    // those of which all was given out
+    spare: Vec<W::Part>,
     ghost same: { length merger ≡ length pasts.items },
 }
 
 impl<W: Relay> Outflow<W> {
-    /// Nothing was told yet.
+    /// All before moment `at` was given, and nothing was told of the time since.
     pub(crate) fn new(
         alloc: Global,
         relay: &W,
         system: &System,
         horizon: Tick,
+        at: Tick,
     ) -> Result<Outflow<W>, NoMemory>
-        requires { horizon ≤ 2 ^ 40 }
+        requires horizon { horizon ≤ 2 ^ 40 }
+        requires at { at ≤ horizon + 1 }
         ensures waits { (out : W.Part.Out) → W.fits relay.now out → IfOk result
             (λ flow. Waits W.Part.holds system.now horizon flow.reached flow.pasts.items flow.merger out) }
-        ensures first { IfOk result (λ flow. flow.reached ≡ 0) }
+        ensures first { IfOk result (λ flow. flow.reached ≡ at) }
         ensures end { IfOk result (λ flow. flow.end ≡ horizon + 1) }
-        ensures pasts { IfOk result (λ flow. flow.pasts.items ≡ replicate system.now.cores 0) }
+        ensures pasts { IfOk result (λ flow. flow.pasts.items ≡ replicate system.now.cores at) }
     {
         let cores = system.parts().cores;
         let parts = empty_parts(alloc, relay, cores)?;
         let merger = PartMerger::new(alloc, parts)?;
-        let pasts = vec![in alloc; Tick::ZERO; cores]?;
+        let pasts = vec![in alloc; at; cores]?;
+        let spare = Vec::with_capacity(alloc, cores)?;
         let end = horizon.plus(1).unwrap();
         Ok(Outflow {
             merger,
             pasts,
-            reached: Tick::ZERO,
+            reached: at,
             end,
-            spare: None,
+            spare,
         })
     }
 
@@ -86,7 +90,7 @@ impl<W: Relay> Outflow<W> {
     {
         let part = relay.part(told);
         match self.merger.add(core, part) {
-            Ok(spare) => self.spare = spare,
+            Ok(spare) => keep(&mut self.spare, spare),
             Err((_, refusal)) => return Err(refusal),
         }
         self.pasts[core.0] = past;
@@ -99,10 +103,50 @@ impl<W: Relay> Outflow<W> {
         ensures same { (self.new.reached ≡ self.old.reached) × (self.new.end ≡ self.old.end) }
         ensures waits { (self.new.merger ≡ self.old.merger) × (self.new.pasts.items ≡ self.old.pasts.items) }
     {
-        match self.spare.take() {
+        match self.spare.pop() {
             Some(part) => relay.room(part),
             None => relay.empty(),
         }
+    }
+
+    /// Adds what a core told, where that goes on where what was added last of the core ends. Else it's not as this run left it.
+    pub(crate) fn add_telling<B: Run>(
+        &mut self,
+        relay: &W,
+        telling: Telling<B, W::Told>,
+    ) -> Result<(), Untold>
+        requires end { self.old.end ≡ B.horizon + 1 }
+        ensures same { (self.new.reached ≡ self.old.reached) × (self.new.end ≡ self.old.end) }
+        ensures waits { (out : W.Part.Out) → W.fits relay.now out
+            → Waits W.Part.holds B.system B.horizon self.old.reached self.old.pasts.items self.old.merger out
+            → OnOk result (Waits W.Part.holds B.system B.horizon self.new.reached self.new.pasts.items self.new.merger out) }
+    {
+        let (core, first, past) = (telling.core(), telling.first(), telling.past());
+        if core.0 >= self.pasts.len() || self.pasts[core.0] != first || past > self.end {
+            return Err(Untold::Odd);
+        }
+        match self.add::<B>(relay, core, past, telling.into_told()) {
+            Ok(()) => Ok(()),
+            Err(_) => Err(Untold::NoMemory),
+        }
+    }
+
+    /// Adds all that was told, of which nothing is left then.
+    pub(crate) fn add_all<B: Run>(
+        &mut self,
+        relay: &W,
+        told: &mut Vec<Telling<B, W::Told>>,
+    ) -> Result<(), Untold>
+        requires end { self.old.end ≡ B.horizon + 1 }
+        ensures same { (self.new.reached ≡ self.old.reached) × (self.new.end ≡ self.old.end) }
+        ensures waits { (out : W.Part.Out) → W.fits relay.now out
+            → Waits W.Part.holds B.system B.horizon self.old.reached self.old.pasts.items self.old.merger out
+            → OnOk result (Waits W.Part.holds B.system B.horizon self.new.reached self.new.pasts.items self.new.merger out) }
+    {
+        'told: while let Some(telling) = told.pop() {
+            self.add_telling::<B>(relay, telling)?;
+        }
+        Ok(())
     }
 
     // Takes what a core told from a desk, and adds it.
@@ -165,6 +209,15 @@ impl<W: Relay> Outflow<W> {
         self.merger.pour_before(reached, out)?;
         self.reached = reached;
         Ok(())
+    }
+}
+
+// Keeps a part of which all was given out, where there is room for it.
+fn keep<P: Drop>(spare: &mut Vec<P>, part: Option<P>) {
+    if let Some(part) = part {
+        if spare.len() < spare.capacity() {
+            spare.push_reserved(part);
+        }
     }
 }
 

@@ -1,99 +1,214 @@
-//! The caller's thread gives the rows to a sink while a team works.
-ghost use Rattle.std.specs.Prelude.{◌≡◌, ◌≤◌, ◌+◌, ◌^◌};
+//! The caller's thread gives out what the cores of a team tell while they work.
+ghost use Rattle.std.specs.Prelude.{◌≡◌, ◌+◌, ◌≤◌, ◌^◌, IfErr, OnOk};
+ghost use Rattle.std.specs.Arc.{arc_value};
 ghost use Rattle.mcs_system.specs.WellFormed.{IsWellFormed};
-ghost use Rattle.mcs_team.specs.Flow.{pasts_of, Flows, IsAt};
+ghost use Rattle.mcs_team.specs.Flow.{IsGivenBetween, IsStop, Waits};
 
-use crate::flow::Flow;
-use crate::room::{Room, crew, end, more};
+use crate::by_core::Plan;
+use crate::outflow::Outflow;
+use crate::rest::{go_on_alone, stop_at};
 use crate::run::Run;
 use crate::sink::Stop;
-use crate::{FlowFault, Gate, Sink};
-use mcs_system::System;
-use mcs_ticks::Tick;
+use crate::team::{Team, crew};
+use crate::telling::Telling;
+use crate::tellings::Tellings;
+use crate::{FlowFault, Gate, Relay};
+use mcs_merge::Part;
+use mcs_ticks::{Collector, CoreId, NoMemory, Tick};
 use mcs_window::Desk;
 use std::alloc::Global;
-use std::sync::Wait;
+use std::sync::{Arc, Wait};
 use std::thread::{Threads, join_mut};
 
-// Gives the rows as they come, until all were given.
-fn flow_all<B: Run, R: Wait, G: Gate, S: Sink>(
-    rt: &R,
-    room: &Room<B>,
-    gate: &G,
-    mut flow: Flow,
-    sink: &mut S,
+// What was taken from a team, and room for what its cores tell next.
+#[derive(Drop)]
+struct Basket<B: Run, S: Collector + Drop> {
+    rooms: Vec<S>,
+    told: Vec<Telling<B, S>>,
+}
+
+impl<B: Run, S: Collector + Drop> Basket<B, S> {
+    // For so many cores.
+    fn new(alloc: Global, cores: usize) -> Result<Basket<B, S>, NoMemory> {
+        let rooms = Vec::with_capacity(alloc, cores)?;
+        let told = Vec::with_capacity(alloc, cores)?;
+        Ok(Basket { rooms, told })
+    }
+}
+
+// Makes room for what each core tells next, as far as there is none.
+fn fill<W: Relay>(relay: &W, rooms: &mut Vec<W::Told>, flow: &mut Outflow<W>)
+    ensures same { (flow.new.reached ≡ flow.old.reached) × (flow.new.end ≡ flow.old.end) }
+    ensures waits { (flow.new.merger ≡ flow.old.merger) × (flow.new.pasts.items ≡ flow.old.pasts.items) }
+{
+    for _ in 0..flow.pasts.len() {
+        if rooms.len() < rooms.capacity() {
+            rooms.push_reserved(flow.take_room(relay));
+        }
+    }
+}
+
+// Adds what was taken, and gives out what can be.
+fn give<B: Run, W: Relay>(
+    relay: &W,
+    told: &mut Vec<Telling<B, W::Told>>,
+    flow: &mut Outflow<W>,
+    out: &mut <W::Part as Part>::Out,
 ) -> Result<(), Stop>
     requires well_formed { IsWellFormed B.system }
-    requires end { flow.end ≡ B.horizon + 1 }
-    requires clocks { flow.merger.clocks ≡ pasts_of flow.batches.items }
-    requires first { flow.reached ≡ 0 }
-    requires at { IsAt B.system B.horizon flow.reached flow.merger }
-    ensures { Flows S.takes B.system B.horizon sink.old sink.new result }
+    requires end { flow.old.end ≡ B.horizon + 1 }
+    requires fits { W.fits relay.now out.old }
+    requires waits { Waits W.Part.holds B.system B.horizon flow.old.reached flow.old.pasts.items flow.old.merger out.old }
+    ensures end { flow.new.end ≡ flow.old.end }
+    ensures waits { OnOk result (Waits W.Part.holds B.system B.horizon flow.new.reached flow.new.pasts.items flow.new.merger out.new) }
+    ensures given { OnOk result (IsGivenBetween W.Part.Out.takes B.system flow.old.reached flow.new.reached out.old out.new) }
+    ensures stop { IfErr result (IsStop W.Part.Out.takes B.system B.horizon flow.old.reached out.old out.new) }
 {
+    if let Err(untold) = flow.add_all::<B>(relay, told) {
+        return Err(stop_at(untold, flow.reached));
+    }
+    let Ok(()) = flow.pour::<B>(out) else {
+        return Err(Stop::Fault(FlowFault::Sink));
+    };
+    Ok(())
+}
+
+// Gives out what is told, until no piece is to be had any more.
+fn give_out<B: Run, R: Wait, G: Gate, W: Relay>(
+    rt: &R,
+    gate: &G,
+    team: &Team<B, W::Told>,
+    relay: &W,
+    flow: &mut Outflow<W>,
+    out: &mut <W::Part as Part>::Out,
+) -> Result<(), Stop>
+    requires well_formed { IsWellFormed B.system }
+    requires end { flow.old.end ≡ B.horizon + 1 }
+    requires fits { W.fits relay.now out.old }
+    requires waits { Waits W.Part.holds B.system B.horizon flow.old.reached flow.old.pasts.items flow.old.merger out.old }
+    ensures end { flow.new.end ≡ flow.old.end }
+    ensures waits { OnOk result (Waits W.Part.holds B.system B.horizon flow.new.reached flow.new.pasts.items flow.new.merger out.new) }
+    ensures given { OnOk result (IsGivenBetween W.Part.Out.takes B.system flow.old.reached flow.new.reached out.old out.new) }
+    ensures stop { IfErr result (IsStop W.Part.Out.takes B.system B.horizon flow.old.reached out.old out.new) }
+{
+    let alloc = *flow.pasts.allocator();
+    let Ok(mut basket) = Basket::<B, W::Told>::new(alloc, flow.pasts.len()) else {
+        return Err(Stop::Fault(FlowFault::NoMemory));
+    };
     for _ in rt.forever() {
-        if flow.is_over() {
-            return Ok(());
-        }
-        if let Err(stop) = more(rt, room, gate, flow.batches.as_mut_slice(), flow.reached) {
+        fill(relay, &mut basket.rooms, flow);
+        team.wait(rt, gate);
+        let is_over = team.take_out(rt, &mut basket.rooms, &mut basket.told);
+        if let Err(stop) = give::<B, W>(relay, &mut basket.told, flow, out) {
             return Err(stop);
         }
-        if let Err(fault) = flow.give::<B, S>(sink) {
-            return Err(Stop::Fault(fault));
+        if is_over {
+            return Ok(());
         }
-        flow.take_rooms();
     }
     Err(Stop::Odd(flow.reached))
 }
 
-// Gives the rows as they come, from the first.
-fn stream<B: Run, R: Wait, G: Gate, S: Sink>(
+// Gives out what the cores tell while threads work at their desk, until no piece is to be had any more and the threads have ended.
+fn work_and_give<B: Run + Send + Sync, R: Threads + Wait + Sync, G: Gate + Sync, W: Relay>(
     rt: &R,
-    room: &Room<B>,
     gate: &G,
-    alloc: Global,
-    system: &System,
-    horizon: Tick,
-    sink: &mut S,
+    team: &Team<B, W::Told>,
+    relay: &W,
+    flow: &mut Outflow<W>,
+    out: &mut <W::Part as Part>::Out,
 ) -> Result<(), Stop>
-    requires system { system.now ≡ B.system }
-    requires horizon { (horizon ≡ B.horizon) × (horizon ≤ 2 ^ 40) }
-    ensures { Flows S.takes B.system B.horizon sink.old sink.new result }
+where
+    W::Told: Send,
+    requires well_formed { IsWellFormed B.system }
+    requires end { flow.old.end ≡ B.horizon + 1 }
+    requires fits { W.fits relay.now out.old }
+    requires waits { Waits W.Part.holds B.system B.horizon flow.old.reached flow.old.pasts.items flow.old.merger out.old }
+    ensures end { flow.new.end ≡ flow.old.end }
+    ensures waits { OnOk result (Waits W.Part.holds B.system B.horizon flow.new.reached flow.new.pasts.items flow.new.merger out.new) }
+    ensures given { OnOk result (IsGivenBetween W.Part.Out.takes B.system flow.old.reached flow.new.reached out.old out.new) }
+    ensures stop { IfErr result (IsStop W.Part.Out.takes B.system B.horizon flow.old.reached out.old out.new) }
 {
-    let _parts = system.parts();
-    let Ok(flow) = Flow::new(alloc, system, horizon) else {
-        return Err(Stop::Fault(FlowFault::NoMemory));
-    };
-    flow_all(rt, room, gate, flow, sink)
-}
-
-/// Gives the rows of a run to a sink while threads work at its desk.
-pub(crate) fn flow<B: Run + Send + Sync, R: Threads + Wait + Sync, G: Gate + Sync, S: Sink>(
-    rt: &R,
-    alloc: Global,
-    system: &System,
-    desk: Desk,
-    workers: usize,
-    gate: &G,
-    sink: &mut S,
-) -> Result<(), Stop>
-    requires system { system.now ≡ B.system }
-    requires desk { (desk.system ≡ B.system) × (desk.horizon ≡ B.horizon) }
-    ensures { Flows S.takes B.system B.horizon sink.old sink.new result }
-{
-    let horizon = desk.horizon();
-    let room = Room::<B>::new(desk);
-    let shared = &room;
     let ((), ended) = join_mut(
         rt,
-        &mut || crew(rt, shared, workers, gate),
+        &mut || crew(rt, team, gate),
         &mut || -> Result<(), Stop>
-            requires { (system.now ≡ B.system) × (horizon ≡ B.horizon) × (horizon ≤ 2 ^ 40) }
-            ensures { Flows S.takes B.system B.horizon sink.entry.now sink.exit.now result }
+            requires { IsWellFormed B.system
+                × (flow.now.end ≡ B.horizon + 1)
+                × W.fits relay.now out.now
+                × Waits W.Part.holds B.system B.horizon flow.now.reached flow.now.pasts.items flow.now.merger out.now }
+            ensures end { flow.exit.now.end ≡ flow.entry.now.end }
+            ensures waits { OnOk result (Waits W.Part.holds B.system B.horizon flow.exit.now.reached flow.exit.now.pasts.items flow.exit.now.merger out.exit.now) }
+            ensures given { OnOk result (IsGivenBetween W.Part.Out.takes B.system flow.entry.now.reached flow.exit.now.reached out.entry.now out.exit.now) }
+            ensures stop { IfErr result (IsStop W.Part.Out.takes B.system B.horizon flow.entry.now.reached out.entry.now out.exit.now) }
         {
-            let ended = stream(rt, shared, gate, alloc, system, horizon, sink);
-            end(rt, shared);
+            let ended = give_out(rt, gate, team, relay, flow, out);
+            if ended.is_err() {
+                team.end(rt);
+            }
             ended
         },
     );
     ended
+}
+
+// What the cores of a run tell to.
+fn tellings_for<B: Run, W: Relay>(
+    alloc: Global,
+    relay: &W,
+    cores: usize,
+) -> Result<Tellings<B, W::Told>, NoMemory> {
+    let mut slots = Vec::with_capacity(alloc, cores)?;
+    for number in 0..cores {
+        let telling = Telling::<B, W::Told>::new(CoreId(number), Tick::ZERO, relay.empty());
+        slots.push(Some(telling))?;
+    }
+    Ok(Tellings::<B, W::Told>::new(slots))
+}
+
+// A team for a run, of which no thread works yet.
+fn team_for<B: Run, W: Relay>(
+    plan: &Plan,
+    workers: usize,
+    relay: &W,
+) -> Result<Team<B, W::Told>, NoMemory>
+    requires run { (arc_value plan.now.system ≡ B.system) × (plan.now.horizon ≡ B.horizon) }
+    requires in_range { plan.now.horizon ≤ 2 ^ 40 }
+{
+    let shared = Arc::try_clone(&plan.system)?;
+    let desk = Desk::new(plan.alloc, shared, plan.horizon)?;
+    let tellings = tellings_for::<B, W>(plan.alloc, relay, desk.cores())?;
+    Ok(Team::<B, W::Told>::new(desk, tellings, workers))
+}
+
+/// The whole simulation, of which threads take the turns and this one gives out what the cores tell; once no piece is to be had any more it takes
+/// the turns that are left.
+pub(crate) fn flow_beside<B: Run + Send + Sync, R: Threads + Wait + Sync, G: Gate + Sync, W: Relay>(
+    rt: &R,
+    plan: &Plan,
+    workers: usize,
+    gate: &G,
+    relay: &W,
+    out: &mut <W::Part as Part>::Out,
+) -> Result<(), Stop>
+where
+    W::Told: Send,
+    requires run { (arc_value plan.now.system ≡ B.system) × (plan.now.horizon ≡ B.horizon) }
+    requires in_range { plan.now.horizon ≤ 2 ^ 40 }
+    requires fits { W.fits relay.now out.old }
+    ensures given { OnOk result (IsGivenBetween W.Part.Out.takes B.system 0 (B.horizon + 1) out.old out.new) }
+    ensures stop { IfErr result (IsStop W.Part.Out.takes B.system B.horizon 0 out.old out.new) }
+{
+    let _parts = plan.system.parts();
+    let Ok(team) = team_for::<B, W>(plan, workers, relay) else {
+        return Err(Stop::Fault(FlowFault::NoMemory));
+    };
+    let Ok(mut flow) = Outflow::new(plan.alloc, relay, &plan.system, plan.horizon, Tick::ZERO)
+    else {
+        return Err(Stop::Fault(FlowFault::NoMemory));
+    };
+    if let Err(stop) = work_and_give(rt, gate, &team, relay, &mut flow, out) {
+        return Err(stop);
+    }
+    go_on_alone(relay, team, flow, out)
 }

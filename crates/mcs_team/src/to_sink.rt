@@ -1,25 +1,21 @@
-ghost use Rattle.std.specs.Prelude.{◌≡◌, ◌≤◌, ◌+◌, ◌^◌, IfErr, IfOk, OnErr, OnOk};
+ghost use Rattle.std.specs.Prelude.{◌≡◌, ◌≤◌, ◌^◌, IfErr, IfOk, OnOk};
 ghost use Rattle.std.specs.Arc.{arc_value};
 ghost use Rattle.mcs_core.specs.Clock.{schedule};
 ghost use Rattle.mcs_report.specs.Reports.{reports_of};
 ghost use Rattle.mcs_report.specs.laws.Bandwidth.{RunsWithinBandwidth};
 ghost use Rattle.mcs_report.specs.laws.Demand.{AreWithinDemand};
-ghost use Rattle.mcs_ticks.specs.Given.{Given, GivenUntil};
-ghost use Rattle.mcs_team.specs.Flow.{rows_from, IsFlowFault, IsRestFault};
+ghost use Rattle.mcs_ticks.specs.Given.{Given};
+ghost use Rattle.mcs_team.specs.Flow.{IsFlowFault};
 ghost use Rattle.mcs_team.specs.Headline.{Headline};
 
+use crate::by_core::{Plan, schedule_by_core};
 use crate::counted::Counted;
-use crate::here::{flow_here, rows_here};
 use crate::relay::RowRelay;
-use crate::sink::Stop;
-use crate::stream::flow;
-use crate::{FlowFault, Gate, Refused, Sink};
-use mcs_report::{Reports, Tally, bandwidth_is_bounded, demand_is_bounded, schedules_are_reported};
+use crate::{FlowFault, Gate, Sink};
+use mcs_report::{Reports, Tally, demand_is_bounded, schedules_are_reported};
 use mcs_system::System;
-use mcs_ticks::{Row, Tick};
-use mcs_window::Desk;
+use mcs_ticks::Tick;
 use std::alloc::Global;
-use std::marker::Brand;
 use std::sync::{Arc, Wait};
 use std::thread::Threads;
 
@@ -82,78 +78,11 @@ pub fn schedule_to<R: Threads + Wait + Sync, G: Gate + Sync, S: Sink>(
         (Headline (arc_value system) horizon (schedule (arc_value system) horizon)
         (reports_of (arc_value system) horizon (schedule (arc_value system) horizon))) }
 {
-    bandwidth_is_bounded();
-    let workers = workers.min(system.parts().cores);
-    if workers < 2 {
-        let relay = RowRelay::new(alloc);
-        flow_here(alloc, system, horizon, &relay, sink)
-    } else {
-        flow_team(rt, alloc, system, horizon, workers, gate, sink)
-    }
-}
-
-// Threads work, and this one gives the rows.
-fn flow_team<R: Threads + Wait + Sync, G: Gate + Sync, S: Sink>(
-    rt: &R,
-    alloc: Global,
-    system: Arc<System>,
-    horizon: Tick,
-    workers: usize,
-    gate: &G,
-    sink: &mut S,
-) -> Result<(), FlowFault>
-    requires { horizon ≤ 2 ^ 40 }
-    ensures given { OnOk result (Given S.takes sink.old (schedule (arc_value system) horizon) sink.new) }
-    ensures fault { IfErr result (IsFlowFault S.takes (arc_value system) horizon sink.old sink.new) }
-{
-    let Ok(shared) = Arc::try_clone(&system) else {
-        return Err(FlowFault::NoMemory);
+    let relay = RowRelay::new(alloc);
+    let plan = Plan {
+        alloc,
+        system,
+        horizon,
     };
-    let Ok(desk) = Desk::new(alloc, shared, horizon) else {
-        return Err(FlowFault::NoMemory);
-    };
-    let stop = match flow::<Brand, R, G, S>(rt, alloc, &system, desk, workers, gate, sink) {
-        Ok(()) => return Ok(()),
-        Err(stop) => stop,
-    };
-    match stop {
-        Stop::Fault(fault) => return Err(fault),
-        Stop::Odd(from) => return rest_alone(alloc, system, horizon, from, sink),
-    }
-}
-
-// Simulates on this thread, and gives the rows at this moment or later.
-fn rest_alone<S: Sink>(
-    alloc: Global,
-    system: Arc<System>,
-    horizon: Tick,
-    from: Tick,
-    sink: &mut S,
-) -> Result<(), FlowFault>
-    requires { horizon ≤ 2 ^ 40 }
-    ensures given { OnOk result (Given S.takes sink.old (rows_from from (schedule (arc_value system) horizon)) sink.new) }
-    ensures fault { IfErr result
-        (IsRestFault S.takes (rows_from from (schedule (arc_value system) horizon)) sink.old sink.new) }
-{
-    let Ok(rows) = rows_here(alloc, system, horizon) else {
-        return Err(FlowFault::NoMemory);
-    };
-    let Ok(()) = give_from(sink, rows.as_slice(), from) else {
-        return Err(FlowFault::Sink);
-    };
-    Ok(())
-}
-
-// Gives the rows at this moment or later, in order.
-fn give_from<S: Sink>(sink: &mut S, rows: &[Row], from: Tick) -> Result<(), Refused>
-    ensures given { OnOk result (Given S.takes sink.old (rows_from from rows.now) sink.new) }
-    ensures refused { OnErr result (GivenUntil S.takes sink.old (rows_from from rows.now) sink.new) }
-{
-    for row in rows {
-        if row.moment < from {
-            continue;
-        }
-        sink.row(row)?;
-    }
-    Ok(())
+    schedule_by_core(rt, plan, workers, gate, &relay, sink)
 }

@@ -2,7 +2,7 @@ use Rattle.std.proofs.Common.{◌+◌, rules, subst}
 use Rattle.mcs_system.specs.WellFormed.{IsWellFormed}
 use Rattle.mcs_team.specs.Flow.{IsGivenBetween, Waits}
 use Rattle.mcs_team.proofs.Giving.{on_ok}
-use Rattle.mcs_team.proofs.Turning.{clear-first, given-whole}
+use Rattle.mcs_team.proofs.Rounds.{clear-first, given-whole}
 use Rattle.mcs_team.proofs.here.flow_desk.Goals as goal
 
 pub flow_rounds-requires-clause-clear : goal.flow_rounds-requires-clause-clear

@@ -3,7 +3,7 @@ use Rattle.std.specs.Prelude.{fold}
 use Rattle.mcs_system.proofs.Linked.{takes_time}
 use Rattle.mcs_ticks.specs.declared.sink.FlowFault.TheVariants as fault
 use Rattle.mcs_team.specs.Flow.{FailsFrom, IsClear, IsGivenBetween}
-use Rattle.mcs_team.proofs.Turning.{clear-later, fewer-left, given-further, fails-further, round-stops, rounds-end}
+use Rattle.mcs_team.proofs.Rounds.{clear-later, fewer-left, given-further, fails-further, round-stops, rounds-end}
 use Rattle.mcs_team.proofs.Waiting.{fits-given}
 use Rattle.mcs_team.proofs.here.flow_rounds.Goals as goal
 

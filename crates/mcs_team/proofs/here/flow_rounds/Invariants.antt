@@ -1,5 +1,4 @@
-use Rattle.mcs_team.proofs.Rounds.{rounds_left}
-use Rattle.mcs_team.proofs.Turning.{IsRound}
+use Rattle.mcs_team.proofs.Rounds.{rounds_left, IsRound}
 use Rattle.mcs_team.proofs.here.flow_rounds.Given as goal
 
 abbrev pub invariant-rounds : goal.invariant-rounds

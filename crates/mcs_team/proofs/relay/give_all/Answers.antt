@@ -1,6 +1,5 @@
 use Rattle.std.proofs.Common.{rules}
-use Rattle.mcs_team.proofs.Giving.{on_err}
-use Rattle.mcs_team.proofs.Flowing.{gives-more, gives-until}
+use Rattle.mcs_team.proofs.Giving.{on_err, gives-more, gives-until}
 use Rattle.mcs_team.proofs.relay.give_all.Goals as goal
 
 pub returns-in_err-row-clause-refused : goal.returns-in_err-row-clause-refused

@@ -1,4 +1,4 @@
-use Rattle.std.proofs.Common.{◌≡◌, ◌≤◌, arith, rules}
+use Rattle.std.proofs.Common.{◌≡◌, arith, rules}
 use Rattle.mcs_team.proofs.Told.{told-on}
 use Rattle.mcs_team.proofs.telling.Telling.tell.Goals as goal
 

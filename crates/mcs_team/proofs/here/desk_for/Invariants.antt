@@ -1,5 +1,0 @@
-use Rattle.mcs_window.specs.Desk.{AreEmpty}
-use Rattle.mcs_team.proofs.here.desk_for.Given as goal
-
-abbrev pub invariant-loop : goal.invariant-loop
-invariant-loop g l = AreEmpty g.W.Told.Collector.holds l.counter l.told.items
