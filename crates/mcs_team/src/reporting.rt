@@ -168,7 +168,7 @@ fn count_beside<B: Run + Send + Sync, R: Threads + Wait + Sync, G: Gate + Sync>(
     ensures { IfOk result (λ found. IfSome found (λ tallies. AreWhole B.system B.horizon tallies.items)) }
 {
     let tellings = counting::<B>(alloc, places, desk.cores(), desk.horizon())?;
-    let team = Team::<B, OwnTally<B>>::new(desk, tellings, workers);
+    let team = Team::<B, OwnTally<B>>::new(alloc, desk, tellings, workers);
     crew(rt, &team, gate);
     match team.into_parts() {
         Ok((desk, tellings)) => count_rest(alloc, desk, tellings),

@@ -8,6 +8,7 @@ use crate::telling::{Telling, Untold};
 use crate::tellings::Tellings;
 use mcs_ticks::{Collector, CoreId, Tick};
 use mcs_window::{Desk, Done, Lost, SettleFault};
+use std::alloc::Global;
 use std::marker::PhantomData;
 
 // Where so many rows wait it is time to take them.
@@ -15,6 +16,11 @@ const ENOUGH: usize = 4096;
 
 // Where so many rows wait no piece is lent until they were taken.
 const FULL: usize = 65_536;
+
+// So many pieces a thread takes at most under one lock, and only where they have no more rows than that.
+const MOST: usize = 8;
+
+const SHORT: usize = 1024;
 
 // After so many pieces it is asked whether they were worth it.
 const PIECES: usize = 1024;
@@ -28,8 +34,12 @@ const ROWS: usize = 128 * PIECES;
 pub(crate) struct SharedDesk<B: Run, S: Collector + Drop> {
     desk: Desk,
     tellings: Tellings<B, S>,
-    // how many pieces were lent since that was asked last, and how many rows they told
+    // how many threads share it, and how many pieces are away
+    workers: usize,
+    away: usize,
+    // how many pieces were lent since that was asked last, how many came back, and how many rows these told
     pieces: usize,
+    back: usize,
     rows: usize,
     // whether a thread has begun to work, and how many wait for a piece
     begun: bool,
@@ -44,13 +54,16 @@ pub(crate) struct SharedDesk<B: Run, S: Collector + Drop> {
 
 impl<B: Run, S: Collector + Drop> SharedDesk<B, S> {
     /// The desk, which is one of the run.
-    pub(crate) fn new(desk: Desk, tellings: Tellings<B, S>) -> SharedDesk<B, S>
+    pub(crate) fn new(desk: Desk, tellings: Tellings<B, S>, workers: usize) -> SharedDesk<B, S>
         requires { (desk.system ≡ B.system) × (desk.horizon ≡ B.horizon) }
     {
         SharedDesk {
             desk,
             tellings,
+            workers,
+            away: 0,
             pieces: 0,
+            back: 0,
             rows: 0,
             begun: false,
             idle: 0,
@@ -66,6 +79,7 @@ impl<B: Run, S: Collector + Drop> SharedDesk<B, S> {
             return None;
         }
         let piece = self.desk.lend()?;
+        self.away = self.away.saturating_add(1);
         self.count_piece();
         match self.take_telling(piece.core) {
             Ok(telling) => Some(Errand { piece, telling }),
@@ -98,6 +112,30 @@ impl<B: Run, S: Collector + Drop> SharedDesk<B, S> {
         Ok(())
     }
 
+    /// Pieces that are to be had now: no more than come to one thread where each takes the same part of those at home.
+    pub(crate) fn lend_some(&mut self, alloc: Global) -> Vec<Errand<B, S>> {
+        let mut errands = Vec::new(alloc);
+        for _ in 0..self.share() {
+            let Some(errand) = self.lend() else {
+                return errands;
+            };
+            if errands.push(errand).is_err() {
+                self.lose(Untold::NoMemory);
+                return errands;
+            }
+        }
+        errands
+    }
+
+    // How many pieces a thread takes at once: one where they have many rows, since a piece keeps its rows until it is settled.
+    fn share(&self) -> usize {
+        if self.back == 0 || self.rows / self.back > SHORT {
+            return 1;
+        }
+        let home = self.desk.cores().saturating_sub(self.away);
+        (home / self.workers.max(1)).clamp(1, MOST)
+    }
+
     /// Whether a further piece is to be had now, for which a thread waits.
     pub(crate) fn can_lend(&self) -> bool {
         self.idle > 0 && !self.is_full() && !self.ended && self.desk.can_lend()
@@ -121,6 +159,7 @@ impl<B: Run, S: Collector + Drop> SharedDesk<B, S> {
         if self.pieces >= PIECES {
             self.ended = self.rows < ROWS;
             self.pieces = 0;
+            self.back = 0;
             self.rows = 0;
         }
     }
@@ -132,13 +171,25 @@ impl<B: Run, S: Collector + Drop> SharedDesk<B, S> {
             ⊎ (self.new.desk ≡ with_lost self.old.desk)) }
         ensures err { OnErr ran (self.new.desk ≡ with_lost self.old.desk) }
     {
+        self.away = self.away.saturating_sub(1);
         match ran {
             Ok(Told { done, telling }) => {
+                self.back = self.back.saturating_add(1);
                 self.rows = self.rows.saturating_add(done.rows.len());
                 self.tellings.put(telling);
                 self.take_back(done);
             }
             Err(why) => self.lose(why),
+        }
+    }
+
+    /// Takes what so many pieces have come to. Where some are missing there was no memory to keep them.
+    pub(crate) fn settle_all(&mut self, many: usize, ran: Vec<Result<Told<B, S>, Untold>>) {
+        if ran.len() < many {
+            self.lose(Untold::NoMemory);
+        }
+        for told in ran {
+            self.settle(told);
         }
     }
 

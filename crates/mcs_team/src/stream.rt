@@ -178,7 +178,7 @@ fn team_for<B: Run, W: Relay>(
     let shared = Arc::try_clone(&plan.system)?;
     let desk = Desk::new(plan.alloc, shared, plan.horizon)?;
     let tellings = tellings_for::<B, W>(plan.alloc, relay, desk.cores())?;
-    Ok(Team::<B, W::Told>::new(desk, tellings, workers))
+    Ok(Team::<B, W::Told>::new(plan.alloc, desk, tellings, workers))
 }
 
 /// The whole simulation, of which threads take the turns and this one gives out what the cores tell; once no piece is to be had any more it takes

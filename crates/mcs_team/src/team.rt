@@ -3,12 +3,14 @@ ghost use Rattle.std.specs.Prelude.{◌≡◌, false, IfOk};
 ghost use Rattle.mcs_window.specs.Desk.{AllAreHere};
 
 use crate::Gate;
+use crate::errand::{Errand, Told};
 use crate::run::Run;
 use crate::shared_desk::SharedDesk;
 use crate::telling::{Telling, Untold};
 use crate::tellings::Tellings;
 use mcs_ticks::Collector;
 use mcs_window::Desk;
+use std::alloc::Global;
 use std::sync::{Condvar, Mutex, Wait};
 use std::thread;
 use std::thread::{Parker, Threads};
@@ -22,6 +24,7 @@ const NAP: u64 = 1;
 pub(crate) struct Team<B: Run, S: Collector + Drop> {
     desk: Mutex<SharedDesk<B, S>>,
     workers: usize,
+    alloc: Global,
     // told where a further piece may be had, and at the end
     free: Condvar,
     // told where it is time to take rows
@@ -30,12 +33,18 @@ pub(crate) struct Team<B: Run, S: Collector + Drop> {
 
 impl<B: Run, S: Collector + Drop> Team<B, S> {
     /// So many threads are to work at the desk, of which none has begun.
-    pub(crate) fn new(desk: Desk, tellings: Tellings<B, S>, workers: usize) -> Team<B, S>
+    pub(crate) fn new(
+        alloc: Global,
+        desk: Desk,
+        tellings: Tellings<B, S>,
+        workers: usize,
+    ) -> Team<B, S>
         requires { (desk.system ≡ B.system) × (desk.horizon ≡ B.horizon) }
     {
         Team {
-            desk: Mutex::new(SharedDesk::<B, S>::new(desk, tellings)),
+            desk: Mutex::new(SharedDesk::<B, S>::new(desk, tellings, workers)),
             workers,
+            alloc,
             free: Condvar::new(),
             due: Parker::new(),
         }
@@ -95,36 +104,51 @@ impl<B: Run, S: Collector + Drop> Team<B, S> {
     }
 }
 
-// Takes pieces until none is to be had any more. Who takes one wakes another thread only where a further piece is to be had, for which one
+// Runs pieces, one after another.
+fn run_all<B: Run, S: Collector + Drop, G: Gate>(
+    alloc: Global,
+    errands: Vec<Errand<B, S>>,
+    gate: &G,
+) -> Vec<Result<Told<B, S>, Untold>> {
+    let mut ran = Vec::new(alloc);
+    for errand in errands {
+        let told = errand.run(gate);
+        if ran.push(told).is_err() {
+            return ran;
+        }
+    }
+    ran
+}
+
+// Takes pieces until none is to be had any more. Who takes some wakes another thread only where a further piece is to be had, for which one
 // waits.
 fn work<B: Run, S: Collector + Drop, R: Wait, G: Gate>(rt: &R, team: &Team<B, S>, gate: &G) {
     let mut guard = team.desk.lock(rt);
     guard.begin();
     for _ in rt.forever() {
-        match guard.lend() {
-            Some(errand) => {
-                let more = guard.can_lend();
-                drop(guard);
-                if more {
-                    team.free.notify_one();
-                }
-                let ran = errand.run(gate);
-                guard = team.desk.lock(rt);
-                guard.settle(ran);
-                if guard.is_due() {
-                    team.due.unpark();
-                }
+        let errands = guard.lend_some(team.alloc);
+        let many = errands.len();
+        if many == 0 {
+            if guard.is_over() {
+                team.due.unpark();
+                team.free.notify_all();
+                return;
             }
-            None => {
-                if guard.is_over() {
-                    team.due.unpark();
-                    team.free.notify_all();
-                    return;
-                }
-                guard.rest();
-                guard = team.free.wait(rt, guard);
-                guard.wake();
-            }
+            guard.rest();
+            guard = team.free.wait(rt, guard);
+            guard.wake();
+            continue;
+        }
+        let more = guard.can_lend();
+        drop(guard);
+        if more {
+            team.free.notify_one();
+        }
+        let ran = run_all(team.alloc, errands, gate);
+        guard = team.desk.lock(rt);
+        guard.settle_all(many, ran);
+        if guard.is_due() {
+            team.due.unpark();
         }
     }
 }
