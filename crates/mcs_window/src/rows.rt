@@ -90,17 +90,4 @@ impl Desk<Vec<Row>> {
         let none = Vec::new(self.alloc);
         self.take(core, none)
     }
-
-    /// The rows of a core that are yet to come have the room of this list, where none of them lies on the desk. What the list holds is
-    /// dropped, and no memory is taken.
-    pub fn put_room(&mut self, core: CoreId, list: Vec<Row>)
-        requires { core < self.old.system.cores }
-        ensures { self.new ≡ self.old }
-    {
-        if self.told[core.0].is_empty() {
-            let mut room = list;
-            room.clear();
-            self.told[core.0] = room;
-        }
-    }
 }
