@@ -18,7 +18,7 @@ use crate::streams::write_text;
 use crate::{Gate, Options, RunFault, Show, Target};
 use mcs_report::Reports;
 use mcs_system::System;
-use mcs_team::{FlowFault, Plan, SimFault, report, schedule_by_core, simulate_to};
+use mcs_team::{FlowFault, Plan, SimFault, report, schedule_by_core, schedule_to, simulate_to};
 use mcs_text::{Names, Page, put_reports};
 use std::alloc::Global;
 use std::marker::Brand;
@@ -132,8 +132,8 @@ fn write_rows<H: Threads + Wait + Sync, T: Target, G: Gate + Sync>(
     }
 }
 
-/// Gives the schedule's rows to the sink of lines: as text that each core makes of its own, or one by one where they are counted too, since reports
-/// are to be shown.
+/// Gives the schedule's rows to the sink of lines: as text that each core makes of its own, or one by one where there is one core, whose lines need no
+/// merge, and where they are counted too, since reports are to be shown.
 fn give_rows<B: Named + Send + Sync, H: Threads + Wait + Sync, G: Gate + Sync, T: Target>(
     rt: &H,
     alloc: Global,
@@ -154,6 +154,9 @@ fn give_rows<B: Named + Send + Sync, H: Threads + Wait + Sync, G: Gate + Sync, T
     if options.show == Show::Both {
         let reports = simulate_to(rt, alloc, system, horizon, workers, gate, lines)?;
         Ok(Some(reports))
+    } else if system.parts().cores == 1 {
+        schedule_to(rt, alloc, system, horizon, workers, gate, lines)?;
+        Ok(None)
     } else {
         let relay = ByCore::<B, T>::new(alloc, lines.names());
         let plan = Plan {
