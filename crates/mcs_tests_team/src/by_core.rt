@@ -9,13 +9,13 @@ use std::test::Fail;
 #[test]
 fn outputs_get_the_schedule(rt: HostRuntime) -> Result<(), Fail> {
     let alloc = rt.alloc();
-    let relay = RowRelay::new(alloc);
     for text in [DEPLETES, IDLE, SIGNALS, TWO_MAKERS, RING] {
         let shared = system(alloc, text)?;
         let horizon = moment(40)?;
         let whole = simulate_alone(alloc, Arc::try_clone(&shared)?, horizon)?;
         for most in [0usize, 2, 1000] {
             for workers in [0usize, 1, 2, 64] {
+                let relay = RowRelay::new(alloc);
                 let mut sink = comparing(whole.rows.as_slice(), most);
                 let plan = Plan {
                     alloc,
