@@ -5,12 +5,11 @@ pub mod Trees
 pub mod Passing
 pub mod Kept
 pub mod Helds
-pub mod Pops
 pub mod Parts
 pub mod Nexts
 pub mod Pouring
 pub mod Rows
-pub mod Lone
-pub mod Calls
+pub mod Adds
 pub mod Pours
+pub mod Calls
 mod Worked

@@ -1,13 +1,13 @@
 -- Which core is next, where heads are of the first moments of parts.
 use Rattle.std.proofs.Common.{◌≡◌, ℕ, zero, suc, ◌*◌, ◌^◌, ◌<◌, ◌≤◌, inl, inr, true, false, List, [], ◌∷◌, length, get_or, set, Option, Some, None, refl, sym, ap, ◌∙◌, subst, arith, get_or-set_same, get_or-set_other}
 use Rattle.std.specs.Prelude.{Contains, IfSome, nat_lt, map}
-use Rattle.std.proofs.lemmas.Bool.{cases_eq}
+use Rattle.std.proofs.lemmas.Bool.{cases_eq, cases_lt}
 use Rattle.std.proofs.lemmas.Bool.Decides.{nat_tests}
 use Rattle.std.proofs.lemmas.List.{length-set, get_or_default}
 use Rattle.mcs_merge.specs.declared.heads.Head.{Head}
 use Rattle.mcs_merge.specs.Parts.{first_of, parts_of}
-use Rattle.mcs_merge.specs.stored.Heads.{blank, core_of, head_at}
-use Rattle.mcs_merge.specs.stored.Parts.{head_of_next, left_of, left_of_all, AreNext, IsInLine, IsNextCore, NoneBefore}
+use Rattle.mcs_merge.specs.stored.Heads.{core_of, far, head_at, head_of_next}
+use Rattle.mcs_merge.specs.stored.Parts.{left_of, left_of_all, AreNext, IsInLine, IsNextCore, NoneBefore}
 
 -- fewer moments of one core are fewer of all
 pub fewer-of-all : {P : Type 0} (left : P → ℕ) (cores : List (List P)) (core : ℕ) (new : List P) → core < length cores → left_of left new < left_of left (get_or cores core []) →
@@ -22,11 +22,10 @@ alone-in-line first [] core = tt
 alone-in-line first (part ∷ parts) zero = λ none. refl
 alone-in-line first (part ∷ parts) (suc core) = alone-in-line first parts core
 
-core-of-next : (core : ℕ) (next : Option ℕ) → core < 64 → core_of (head_of_next core next) ≡ core
-core-of-next core None l = omega arith
-core-of-next core (Some moment) l = omega arith
+core-of-next : (core t : ℕ) → core < 64 → core_of (head_of_next core (Some t)) ≡ core
+core-of-next core t l = omega arith
 
-moment-before : (core : ℕ) (next : Option ℕ) (until : ℕ) → until ≤ 2 ^ 42 → core < 64 → (head_of_next core next).rank < 128 * until → (t : ℕ) × (next ≡ Some t) × (t < until)
+moment-before : (core : ℕ) (next : Option ℕ) (until : ℕ) → until ≤ 2 ^ 42 → core < 64 → (head_of_next core next).rank < 64 * until → (t : ℕ) × (next ≡ Some t) × (t < until)
 moment-before core None until m l h = absurd (omega arith)
 moment-before core (Some t) until m l h = (t, refl, omega arith)
 
@@ -38,38 +37,45 @@ earlier : (c d t : ℕ) (next : Option ℕ) → d < c → c < 64 → (head_of_ne
 earlier c d t None l k h = tt
 earlier c d t (Some other) l k h = omega arith
 
-not-before : (d until rank : ℕ) (next : Option ℕ) → d < 64 → 128 * until ≤ rank → rank ≤ (head_of_next d next).rank → IfSome next (λ other. until ≤ other)
+not-before : (d until rank : ℕ) (next : Option ℕ) → d < 64 → 64 * until ≤ rank → rank ≤ (head_of_next d next).rank → IfSome next (λ other. until ≤ other)
 not-before d until rank None l m h = tt
 not-before d until rank (Some other) l m h = omega arith
 
 module _ {P : Type 0} (first : P → Option ℕ) (cores : List (List P)) (heads : List Head) (h : AreNext first cores heads) where
   module _ (head : Head) (among : Contains heads head) (least : (core : ℕ) → core < length heads → head.rank ≤ (head_at core heads).rank) where
-    next-of : ℕ → Option ℕ
-    next-of core = first_of first (parts_of core cores)
+    -- where it is before a moment it is that of a core
+    within : (until : ℕ) → until ≤ 2 ^ 42 → head.rank < 64 * until → among.0 < length cores
+    within until m l = elim (cases_lt among.0 (length cores)) [
+      | inl k ↦ k
+      | inr k ↦
+          let is : head ≡ far = sym among.2 ∙ get_or_default heads among.0 head far among.1 ∙ h.others among.0 k among.1 in
+          let late : far.rank < 64 * until = subst (λ (x : Head). x.rank < 64 * until) is l in
+          absurd (omega arith)
+    ]
 
-    head-is : head ≡ head_of_next among.0 (first_of first (parts_of among.0 cores))
-    head-is = sym among.2 ∙ get_or_default heads among.0 head blank among.1 ∙ h.each among.0 (let l = among.1 in let same = h.same in omega arith)
+    head-is : among.0 < length cores → head ≡ head_of_next among.0 (first_of first (parts_of among.0 cores))
+    head-is k = sym among.2 ∙ get_or_default heads among.0 head far among.1 ∙ h.each among.0 k
 
     least-of : (d : ℕ) → d < length cores → head.rank ≤ (head_of_next d (first_of first (parts_of d cores))).rank
-    least-of d l = subst (λ (x : Head). head.rank ≤ x.rank) (h.each d l) (least d (let same = h.same in omega arith))
+    least-of d l = subst (λ (x : Head). head.rank ≤ x.rank) (h.each d l) (least d (let enough = h.enough in omega arith))
 
-    pub next-core : (until core : ℕ) → until ≤ 2 ^ 42 → nat_lt head.rank (128 * until) ≡ true → core ≡ core_of head → IsNextCore first cores until core
+    pub next-core : (until core : ℕ) → until ≤ 2 ^ 42 → nat_lt head.rank (64 * until) ≡ true → core ≡ core_of head → IsNextCore first cores until core
     next-core until core m e is =
         let k = among.0 in
-        let within : k < length cores = (let l = among.1 in let same = h.same in omega arith) in
+        let early : head.rank < 64 * until = grind (arith, nat_tests) in
+        let is_core = within until m early in
         let few : k < 64 = (let few = h.few in omega arith) in
-        let lies : (head_of_next k (first_of first (parts_of k cores))).rank < 128 * until =
-        subst (λ (x : Head). x.rank < 128 * until) head-is (grind (arith, nat_tests))
-        in
+        let lies : (head_of_next k (first_of first (parts_of k cores))).rank < 64 * until = subst (λ (x : Head). x.rank < 64 * until) (head-is is_core) early in
         let found = moment-before k (first_of first (parts_of k cores)) until m few lies in
-        let core_is : core ≡ k = is ∙ ap core_of head-is ∙ core-of-next k (first_of first (parts_of k cores)) few in
+        let head_is : head ≡ head_of_next k (Some found.0) = head-is is_core ∙ ap (head_of_next k) found.1 in
+        let core_is : core ≡ k = is ∙ ap core_of head_is ∙ core-of-next k found.0 few in
         let by : (d : ℕ) → d < length cores → (head_of_next k (Some found.0)).rank ≤ (head_of_next d (first_of first (parts_of d cores))).rank =
-        λ d l. subst (λ (x : Head). x.rank ≤ (head_of_next d (first_of first (parts_of d cores))).rank) (head-is ∙ ap (head_of_next k) found.1) (least-of d l)
+        λ d l. subst (λ (x : Head). x.rank ≤ (head_of_next d (first_of first (parts_of d cores))).rank) head_is (least-of d l)
         in
         let total = h.few in
         subst (IsNextCore first cores until) (sym core_is)
         (record {
-          within = within;
+          within = is_core;
           moment = found.0;
           is = found.1;
           before = found.2;
@@ -77,7 +83,7 @@ module _ {P : Type 0} (first : P → Option ℕ) (cores : List (List P)) (heads 
           lower = λ d l. earlier k d found.0 (first_of first (parts_of d cores)) l few (by d (omega arith));
         })
 
-    pub none-before : (until : ℕ) → nat_lt head.rank (128 * until) ≡ false → NoneBefore first cores until
+    pub none-before : (until : ℕ) → nat_lt head.rank (64 * until) ≡ false → NoneBefore first cores until
     none-before until e d l =
         let total = h.few in
         not-before d until head.rank (first_of first (parts_of d cores)) (omega arith) (grind (arith, nat_tests)) (least-of d l)
@@ -87,16 +93,17 @@ module _ {P : Type 0} (first : P → Option ℕ) (cores : List (List P)) (heads 
       AreNext first (set cores core parts) (set heads core head)
   AreNext-set core parts head l line is =
       record {
-        some = (let some = h.some in omega (arith, length-set cores core parts));
         few = (let few = h.few in omega (arith, length-set cores core parts));
-        same = length-set heads core head ∙ h.same ∙ sym (length-set cores core parts);
+        enough = (let enough = h.enough in omega (arith, length-set cores core parts, length-set heads core head));
         each = λ d p. elim (cases_eq d core) [
           | inl e ↦ subst (λ i. head_at i (set heads core head) ≡ head_of_next i (first_of first (get_or (set cores core parts) i []))) (sym e)
-              (get_or-set_same heads core head blank (let same = h.same in omega arith) ∙ is
+              (get_or-set_same heads core head far (let enough = h.enough in omega arith) ∙ is
               ∙ sym (ap (λ parts. head_of_next core (first_of first parts)) (get_or-set_same cores core parts [] l)))
-          | inr e ↦ get_or-set_other heads core d head blank e ∙ h.each d (omega (arith, length-set cores core parts))
+          | inr e ↦ get_or-set_other heads core d head far e ∙ h.each d (omega (arith, length-set cores core parts))
               ∙ sym (ap (λ parts. head_of_next d (first_of first parts)) (get_or-set_other cores core d parts [] e))
         ];
+        others = λ i p q. get_or-set_other heads core i head far (λ e. omega (arith, length-set cores core parts))
+            ∙ h.others i (omega (arith, length-set cores core parts)) (omega (arith, length-set heads core head));
         in_line = λ d p. elim (cases_eq d core) [
           | inl e ↦ subst (λ i. IsInLine first (get_or (set cores core parts) i [])) (sym e)
               (subst (IsInLine first) (sym (get_or-set_same cores core parts [] l)) line)

@@ -83,17 +83,6 @@ merged-part end t lists c now rest l e at m before none =
     flat_map-part (λ t. flat_map (rows_at t) lists) (λ t. flat_map (rows_at t) (set lists c rest)) now t end 0 (omega arith) (omega arith)
     before (first-at t lists c now rest l e at none) (λ i k. other-at i t lists c now rest e at k)
 
-pub merged-first : (end : ℕ) (lists : List (List Row)) (c : ℕ) (row : Row) (rows : List Row) → c < length lists → get_or lists c [] ≡ row ∷ rows → row.moment < end →
-    ((i : ℕ) → i < row.moment → flat_map (rows_at i) lists ≡ []) → ((d : ℕ) → d < c → rows_at row.moment (get_or lists d []) ≡ []) →
-    merged_before end lists ≡ row ∷ merged_before end (set lists c rows)
-merged-first end lists c row rows l e m before none = merged-part end row.moment lists c (row ∷ []) rows l e (refl, tt) m before none
-
-pub least-above : (clocks : List ℕ) (t : ℕ) → 1 ≤ length clocks → ((d : ℕ) → d < length clocks → t < get_or clocks d 0) → t < least_clock clocks
-least-above [] t l h = absurd (omega arith)
-least-above (clock ∷ []) t l h = h 0 (omega arith)
-least-above (clock ∷ other ∷ clocks) t l h =
-    omega (arith, h 0 (omega arith), least-above (other ∷ clocks) t (omega arith) (λ d k. h (suc d) (omega arith)))
-
 pub least-of : (clocks : List ℕ) (d : ℕ) → d < length clocks → least_clock clocks ≤ get_or clocks d 0
 least-of [] d l = absurd (omega arith)
 least-of (clock ∷ []) zero l = omega arith

@@ -8,7 +8,7 @@ use Rattle.mcs_merge.specs.Merging.{Merging, list_of, least_clock, passed, AreOf
 use Rattle.mcs_merge.specs.Parts.{rows_from, all_from, poured}
 use Rattle.mcs_merge.specs.laws.Steps.{PoursMerged, PoursAll}
 use Rattle.mcs_merge.proofs.Merges.{flat_map-same}
-use Rattle.mcs_merge.proofs.Calls.{between, merged-more, same-at}
+use Rattle.mcs_merge.proofs.Adds.{between, merged-more, same-at}
 use Rattle.mcs_merge.proofs.Parts.{from-in-order, from-is, at-from}
 use Rattle.mcs_merge.proofs.Pouring.{merged-none}
 

@@ -1,11 +1,11 @@
 -- Merges that are worked by hand.
-use Rattle.std.proofs.Common.{◌≡◌, ℕ, List, [], ◌∷◌, ◌++◌, Some, None, ◌<◌, ◌≤◌, length, slice_index, lit<, lit≤, refl}
+use Rattle.std.proofs.Common.{◌≡◌, ℕ, List, [], ◌∷◌, ◌++◌, Some, ◌<◌, ◌≤◌, length, slice_index, lit<, lit≤, refl}
 use Rattle.mcs_ticks.specs.declared.row.Row.{Row}
 use Rattle.mcs_ticks.specs.declared.row.What.TheVariants as row
 use Rattle.mcs_merge.specs.Merge.{merged, merged_before, AreFrom}
-use Rattle.mcs_merge.specs.Merging.{Merging, starting, next_row, CanAdd, IsListOf}
+use Rattle.mcs_merge.specs.Merging.{Merging, starting, passed, CanAdd, IsListOf}
 use Rattle.mcs_merge.specs.Parts.{first_moment, all_from, first_of, poured, Hold}
-use Rattle.mcs_merge.specs.laws.Calls.{Call, Add, Pop, ClearLone, after, taken, MayBeMade}
+use Rattle.mcs_merge.specs.laws.Calls.{Call, Add, Pour, after, taken, MayBeMade}
 
 -- a row of this core at this moment
 abbrev at : ℕ → ℕ → ℕ → Row
@@ -17,37 +17,23 @@ cores_take_turns :
     ≡ at 0 0 1 ∷ at 0 1 3 ∷ at 2 1 4 ∷ at 2 1 5 ∷ at 2 3 6 ∷ at 3 0 2 ∷ at 3 3 7 ∷ []
 cores_take_turns = refl
 
--- two cores: what comes while the clocks go on
+-- two cores: what is given while the clocks go on
 abbrev first_calls : List Call
-first_calls = Add 0 (at 1 0 1 ∷ at 3 0 2 ∷ []) 4 ∷ []
+first_calls = Add 0 (at 1 0 1 ∷ at 3 0 2 ∷ []) 4 ∷ Pour 0 ∷ Add 1 (at 1 1 3 ∷ []) 2 ∷ Pour 2 ∷ []
 
-abbrev second_calls : List Call
-second_calls = Add 0 (at 1 0 1 ∷ at 3 0 2 ∷ []) 4 ∷ Pop ∷ Add 1 (at 1 1 3 ∷ []) 2 ∷ []
-
-abbrev third_calls : List Call
-third_calls = Add 0 (at 1 0 1 ∷ at 3 0 2 ∷ []) 4 ∷ Pop ∷ Add 1 (at 1 1 3 ∷ []) 2 ∷ Pop ∷ Pop ∷ Pop ∷ Add 1 [] 5 ∷ []
-
--- the second core's clock is 0: no row is below it
-none_before_all_clocks : next_row (after first_calls (starting 2)) ≡ None
-none_before_all_clocks = refl
+abbrev all_calls : List Call
+all_calls = first_calls ++ Add 1 [] 5 ∷ Pour 4 ∷ []
 
 -- at one moment the first core's row comes first
-lower_core_first : next_row (after second_calls (starting 2)) ≡ Some (at 1 0 1)
-lower_core_first = refl
-
-both_of_a_moment : taken (second_calls ++ Pop ∷ Pop ∷ Pop ∷ []) (starting 2) ≡ at 1 0 1 ∷ at 1 1 3 ∷ []
+both_of_a_moment : taken first_calls (starting 2) ≡ at 1 0 1 ∷ at 1 1 3 ∷ []
 both_of_a_moment = refl
 
 -- a clock that goes on lets the row of the other core pass
-clock_alone : taken (third_calls ++ Pop ∷ Pop ∷ []) (starting 2) ≡ at 1 0 1 ∷ at 1 1 3 ∷ at 3 0 2 ∷ []
+clock_alone : taken all_calls (starting 2) ≡ at 1 0 1 ∷ at 1 1 3 ∷ at 3 0 2 ∷ []
 clock_alone = refl
 
-none_is_left : next_row (after (third_calls ++ Pop ∷ []) (starting 2)) ≡ None
+none_is_left : passed (after all_calls (starting 2)) ≡ []
 none_is_left = refl
-
--- of one core alone all rows that are left are taken at once
-taken_at_once : taken (Add 0 (at 1 0 1 ∷ at 3 0 2 ∷ []) 4 ∷ Pop ∷ Add 0 (at 4 0 3 ∷ []) 5 ∷ ClearLone ∷ Pop ∷ []) (starting 1) ≡ at 1 0 1 ∷ at 3 0 2 ∷ at 4 0 3 ∷ []
-taken_at_once = refl
 
 -- of two cores all rows before moment 3 are given at once ..
 abbrev two_lists : List (List Row)
@@ -60,8 +46,8 @@ given_at_once = refl
 left_then : all_from 3 two_lists ≡ (at 3 0 2 ∷ []) ∷ (at 4 1 5 ∷ []) ∷ []
 left_then = refl
 
-none_is_next : next_row (poured 3 (record { left = two_lists; clocks = 3 ∷ 5 ∷ [] })) ≡ None
-none_is_next = refl
+none_has_passed : passed (poured 3 (record { left = two_lists; clocks = 3 ∷ 5 ∷ [] })) ≡ []
+none_has_passed = refl
 
 -- rows of a core that lie in two parts, each of them a list
 abbrev two_parts : List (List Row)
@@ -74,12 +60,15 @@ first_comes_first : first_of first_moment two_parts ≡ Some 1
 first_comes_first = refl
 
 -- all of these calls may be made
-they_may_be_made : MayBeMade third_calls (starting 2)
+they_may_be_made : MayBeMade all_calls (starting 2)
 they_may_be_made = (
   may (lit< tt) (lit≤ tt) (lit≤ tt, (lit≤ tt, tt)) (record { of_core = (refl, (refl, tt)); in_order = ((lit≤ tt, tt), (tt, tt)); before = (lit< tt, (lit< tt, tt)) }),
   (
-    may (lit< tt) (lit≤ tt) (lit≤ tt, tt) (record { of_core = (refl, tt); in_order = (tt, tt); before = (lit< tt, tt) }),
-    (may (lit< tt) (lit≤ tt) tt (record { of_core = tt; in_order = tt; before = tt }), tt),
+    lit≤ tt,
+    (
+      may (lit< tt) (lit≤ tt) (lit≤ tt, tt) (record { of_core = (refl, tt); in_order = (tt, tt); before = (lit< tt, tt) }),
+      (lit≤ tt, (may (lit< tt) (lit≤ tt) tt (record { of_core = tt; in_order = tt; before = tt }), (lit≤ tt, tt))),
+    ),
   ),
 )
   where

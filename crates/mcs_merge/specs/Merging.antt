@@ -1,6 +1,6 @@
 -- A merge that gives its rows while more are added.
-use Rattle.std.specs.Prelude.{◌≡◌, ℕ, ◌<◌, ◌≤◌, min, List, [], ◌∷◌, ◌++◌, length, drop, replicate, Option, Some, None}
-use Rattle.std.specs.Prelude.{slice_get, slice_set, slice_index, slice_index_or}
+use Rattle.std.specs.Prelude.{◌≡◌, ℕ, ◌<◌, ◌≤◌, min, List, [], ◌∷◌, ◌++◌, length, replicate}
+use Rattle.std.specs.Prelude.{slice_set, slice_index, slice_index_or}
 use Rattle.mcs_ticks.specs.declared.row.Row.{Row}
 use Rattle.mcs_merge.specs.Merge.{merged_before, AreFrom, DoNotFall}
 
@@ -26,19 +26,6 @@ least_clock (clock ∷ other ∷ clocks) = min clock (least_clock (other ∷ clo
 -- the rows that are left before all clocks, by moment, core and place
 abbrev pub passed : Merging → List Row
 passed m = merged_before (least_clock m.clocks) m.left
-
--- the first of them
-abbrev pub next_row : Merging → Option Row
-next_row m = slice_get (passed m) 0
-
--- without this row, the first of its core
-abbrev pub without_row : Option Row → Merging → Merging
-without_row None m = m
-without_row (Some row) m = record m { left = slice_set m.left row.core (drop 1 (list_of row.core m.left)) }
-
--- a merger of one core, without rows
-abbrev pub emptied : Merging → Merging
-emptied m = record m { left = [] ∷ [] }
 
 -- with these rows behind those of this core
 abbrev pub with_rows : ℕ → List Row → List (List Row) → List (List Row)

@@ -1,4 +1,3 @@
 pub mod Heads
-pub mod Held
 pub mod Queue
 pub mod Parts

@@ -1,6 +1,5 @@
-ghost use Rattle.std.specs.Prelude.{◌≡◌, ◌<◌, ◌≤◌, ◌*◌, ◌^◌, ℕ, nat_lt, drop, length, slice_set, replicate, Contains, IfOk, IsTrue};
-ghost use Rattle.mcs_merge.specs.stored.Parts.{head_of_next};
-ghost use Rattle.mcs_merge.specs.stored.Heads.{at_clock, at_row, blank, core_of, has_row, head_at, lesser, IsTree};
+ghost use Rattle.std.specs.Prelude.{◌≡◌, ◌+◌, ◌*◌, ◌^◌, ◌<◌, ◌≤◌, ℕ, nat_lt, drop, length, slice_set, replicate, Contains, IfOk};
+ghost use Rattle.mcs_merge.specs.stored.Heads.{core_of, far, head_at, head_of_next, least_below, lesser, IsTree};
 
 use mcs_ticks::{Limits, NoMemory, Soonest, Tick};
 use std::alloc::Global;
@@ -8,22 +7,19 @@ use std::marker::Model;
 
 const CORES: u64 = Limits::CORES as u64;
 
-// Of each moment there is a rank for each core without a row, and behind them one for each core with a row.
-const RANKS: u64 = 2 * CORES;
-
-/// What comes next of a core: its first row, or where none is left whatever is at its clock or later.
-#[derive(Clone, Copy, Debug, PartialEq, Eq)]
+/// What comes next of a core.
+#[derive(Clone, Copy, Debug)]
 pub(crate) struct Head {
-    // heads are ordered by it: by moment, then those of cores without a row, then by core
+    // heads are ordered by it: by moment, and then by core
     rank: u64,
 }
 
-/// The heads of all cores. Contracts see them by core.
+/// The heads of all cores. Contracts see them by core, and behind them a few of no core.
 #[derive(Debug, Drop)]
 pub(crate) struct Heads {
-    // a tree: below place i stand 2 * i and 2 * i + 1, and the heads themselves stand from place `cores` on
+    // a tree: below place i stand the four from 4 * i + 1 on, and the heads themselves stand behind those that have any below them
     nodes: Vec<Head>,
-    cores: usize,
+    inner: usize,
 }
 
 impl Model for Heads {
@@ -34,31 +30,14 @@ impl Model for Heads {
 
     ghost use Rattle.mcs_merge.specs.stored.Heads.{IsTree};
 
-    ghost view = { λ a. drop a.cores a.nodes.items };
+    ghost view = { λ a. drop a.inner a.nodes.items };
 
-    ghost invariant = { λ a. IsTree a.cores a.nodes.items };
+    ghost invariant = { λ a. IsTree a.inner a.nodes.items };
 }
 
 impl Head {
-    /// That of a core without a row: whatever comes of it is at its clock or later.
-    pub(crate) fn at_clock(core: usize, clock: Tick) -> Self
-        requires { core < 64 }
-        ensures { result ≡ at_clock core clock }
-    {
-        Head {
-            rank: RANKS * clock.get() + core as u64,
-        }
-    }
-
-    /// That of a core whose first row is at this moment.
-    pub(crate) fn at_row(core: usize, moment: Tick) -> Self
-        requires { core < 64 }
-        ensures { result ≡ at_row core moment }
-    {
-        Head {
-            rank: RANKS * moment.get() + CORES + core as u64,
-        }
-    }
+    // What comes after all that any core has.
+    const FAR: Head = Head { rank: u64::MAX };
 
     /// That of a core of which this moment is next, or none.
     pub(crate) fn of_next(core: usize, next: Soonest) -> Self
@@ -66,26 +45,19 @@ impl Head {
         ensures { result ≡ head_of_next core next }
     {
         match next.moment() {
-            Some(moment) => Head::at_row(core, moment),
-            None => Head {
-                rank: RANKS * Limits::TICK + core as u64,
+            Some(moment) => Head {
+                rank: CORES * moment.get() + core as u64,
             },
+            None => Head::FAR,
         }
     }
 
     /// Whether the core has a row before this moment.
     pub(crate) fn is_before(&self, until: Tick) -> bool
-        ensures before { result ≡ nat_lt self.now.rank (128 * until) }
+        ensures before { result ≡ nat_lt self.now.rank (64 * until) }
         ensures in_range { until ≤ 2 ^ 42 }
     {
-        self.rank < RANKS * until.get()
-    }
-
-    /// Whether the core has a row.
-    pub(crate) fn has_row(&self) -> bool
-        ensures { result ≡ has_row self.now }
-    {
-        self.rank % RANKS >= CORES
+        self.rank < CORES * until.get()
     }
 
     /// The core that it is of.
@@ -97,15 +69,15 @@ impl Head {
 }
 
 impl Heads {
-    /// As many blank heads as there are cores, 1 to 64.
+    /// Those of so many cores that have no row, and of a few more.
     pub(crate) fn new(alloc: Global, cores: usize) -> Result<Self, NoMemory>
-        requires some { 1 ≤ cores }
-        requires few { cores ≤ 64 }
-        ensures { IfOk result (λ heads. heads ≡ replicate cores blank) }
+        requires { cores ≤ 64 }
+        ensures far { IfOk result (λ heads. heads ≡ replicate (length heads) far) }
+        ensures enough { IfOk result (λ heads. cores ≤ length heads) }
     {
-        let blank = Head::at_clock(0, Tick::ZERO);
-        let nodes = vec![in alloc; blank; 2 * cores]?;
-        Ok(Heads { nodes, cores })
+        let inner = (cores + 1) / 3;
+        let nodes = vec![in alloc; Head::FAR; 4 * inner + 1]?;
+        Ok(Heads { nodes, inner })
     }
 
     /// The head that comes first.
@@ -113,46 +85,42 @@ impl Heads {
         ensures among { Contains self.now result }
         ensures least { (core : ℕ) → core < length self.now → result.rank ≤ (head_at core self.now).rank }
     {
-        self.nodes[1]
+        self.nodes[0]
     }
 
-    /// Changes the head of a core. Where it is the same as before, as between rows of one core at one moment, nothing is compared.
+    /// Changes the head of a core.
     pub(crate) fn set(&mut self, core: usize, head: Head)
         requires core { core < length self.old }
         ensures { self.new ≡ slice_set self.old core head }
     {
-        if is_at(self.nodes.as_slice(), self.cores + core, &head) {
-            return;
-        }
-        play(self.nodes.as_mut_slice(), self.cores, core, head);
+        play(self.nodes.as_mut_slice(), self.inner, core, head);
     }
-}
-
-// Whether this head stands in this place.
-fn is_at(nodes: &[Head], place: usize, head: &Head) -> bool
-    requires { place < length nodes.now }
-    ensures { IsTrue result → head_at place nodes.now ≡ head.now }
-{
-    nodes[place] == *head
 }
 
 // Changes a leaf, and what stands above it.
-fn play(nodes: &mut [Head], cores: usize, core: usize, head: Head)
-    requires tree { IsTree cores nodes.old }
-    requires core { core < cores }
-    ensures tree { IsTree cores nodes.new }
-    ensures leaves { drop cores nodes.new ≡ slice_set (drop cores nodes.old) core head }
+fn play(nodes: &mut [Head], inner: usize, core: usize, head: Head)
+    requires tree { IsTree inner nodes.old }
+    requires core { inner + core < length nodes.old }
+    ensures tree { IsTree inner nodes.new }
+    ensures leaves { drop inner nodes.new ≡ slice_set (drop inner nodes.old) core head }
 {
-    let mut place = cores + core;
-    let mut best = head;
-    nodes[place] = best;
-    'up: while place > 1 {
-        // the head beside was not written on this way up, so no step waits for what the step before it stored
-        let beside = 4 * (place / 2) + 1 - place;
-        best = lesser(best, nodes[beside]);
-        place /= 2;
-        nodes[place] = best;
+    let mut place = inner + core;
+    nodes[place] = head;
+    'up: while place > 0 {
+        place = (place - 1) / 4;
+        nodes[place] = least_below(nodes, place);
     }
+}
+
+// The first of the four that stand below a place.
+fn least_below(nodes: &[Head], place: usize) -> Head
+    requires { 4 * place + 4 < length nodes.now }
+    ensures { result ≡ least_below place nodes.now }
+{
+    let last = 4 * place + 4;
+    let least = lesser(nodes[last - 3], nodes[last - 2]);
+    let least = lesser(least, nodes[last - 1]);
+    lesser(least, nodes[last])
 }
 
 // The one that comes first.

@@ -1,214 +1,186 @@
-ghost use Rattle.std.specs.Prelude.{◌≡◌, ◌<◌, ◌≤◌, [], length, drop, slice_get, slice_index, slice_set};
-ghost use Rattle.std.specs.Prelude.{◌++◌, ◌↔◌, IfErr, IfOk, IfSome, IsOk, IsSome, OnErr, OnOk};
-ghost use Rattle.mcs_merge.specs.Merging.{after_add, emptied, list_of, next_row, starting, with_rows, without_row, CanAdd};
-ghost use Rattle.mcs_merge.specs.stored.Held.{clocks_of, lists_of, merging_of};
-ghost use Rattle.mcs_merge.specs.stored.Heads.{head_of, IsKept};
+ghost use Rattle.std.specs.Prelude.{◌≡◌, ◌<◌, ◌≤◌, ◌∷◌, ◌++◌, ℕ, [], All, List, None, length, map, slice_set, IfErr, IfNone, IfOk, IfSome, IsOk, IsSome, OnErr, OnOk};
+ghost use Rattle.mcs_ticks.specs.declared.row.Row.{Row};
+ghost use Rattle.mcs_ticks.specs.Given.{Given, GivenUntil};
+ghost use Rattle.mcs_merge.specs.Merge.{merged_before, DoNotFall};
+ghost use Rattle.mcs_merge.specs.Merging.{list_of, with_rows};
+ghost use Rattle.mcs_merge.specs.Parts.{all_from, first_of, parts_of, AreHeld, Hold, HoldEach};
+ghost use Rattle.mcs_merge.specs.stored.Heads.{head_of_next};
+ghost use Rattle.mcs_merge.specs.stored.Parts.{left_of_all, AreNext, IsInLine, IsNextCore, IsRefused, NoneBefore, Pours};
 
+use crate::Part;
 use crate::heads::{Head, Heads};
-use crate::held::Held;
-use crate::queue::RowQueue;
-use mcs_ticks::{CoreId, NoMemory, Row, Tick};
+use crate::waiting::Waiting;
+use mcs_ticks::{CoreId, NoMemory, Refused, Tick};
 use std::alloc::Global;
 use std::marker::Model;
 
-/// A merge that gives its rows, by moment, then core, then place, while more are added: a row as soon as the clocks of
-/// all cores have passed its moment. Contracts see the rows that are left and the clock of each core.
-#[derive(Debug, Drop)]
-pub struct Merger {
-    cores: Vec<Held>,
-    // what comes next of each core
+/// A merge of parts, of which more are added while others are given out: by moment, then core, then place. Contracts see the parts of each
+/// core, one behind another.
+#[derive(Drop)]
+pub struct Merger<P: Part> {
+    cores: Vec<Waiting<P>>,
+    // the first moment of each core
     heads: Heads,
 }
 
-impl Model for Merger {
-    ghost use Rattle.mcs_merge.specs.Merging.{Merging};
+impl<P: Part> Model for Merger<P> {
+    ghost use Rattle.std.specs.Prelude.{List};
+    ghost use Rattle.mcs_merge.specs.stored.Parts.{AreNext};
 
-    ghost Value = { Merging };
+    ghost Value = { List (List P) };
 
-    ghost use Rattle.mcs_merge.specs.stored.Held.{merging_of};
-    ghost use Rattle.mcs_merge.specs.stored.Heads.{IsKept};
+    ghost view = { λ a. a.cores.items };
 
-    ghost view = { λ a. merging_of a.cores.items };
-
-    ghost invariant = { λ a. IsKept (merging_of a.cores.items) a.heads };
+    ghost invariant = { λ a. AreNext P.first a.cores.items a.heads };
 }
 
-impl Merger {
-    /// No row is left and all clocks are 0, of 1 to 64 cores.
-    pub fn new(alloc: Global, cores: usize) -> Result<Self, NoMemory>
-        requires some { 1 ≤ cores }
-        requires few { cores ≤ 64 }
-        ensures { IfOk result (λ merger. merger ≡ starting cores) }
+impl<P: Part> Merger<P> {
+    /// A part for each core, of 1 to 64 cores.
+    pub fn new(alloc: Global, parts: Vec<P>) -> Result<Self, NoMemory>
+        requires some { 1 ≤ length parts.items }
+        requires few { length parts.items ≤ 64 }
+        ensures parts { IfOk result (λ merger. merger ≡ map (λ part. part ∷ []) parts.items) }
+        ensures held { (out : P.Out) (lists : List (List Row)) → HoldEach P.holds out parts.items lists
+            → IfOk result (λ merger. AreHeld P.holds out merger lists) }
     {
-        let held = no_rows(alloc, cores)?;
-        let heads = first_heads(alloc, cores)?;
-        Ok(Merger { cores: held, heads })
+        let cores = waiting_of(alloc, parts)?;
+        let heads = heads_of(alloc, cores.as_slice())?;
+        Ok(Merger { cores, heads })
     }
 
-    /// Adds rows of a core behind those that it has, and sets its clock, before which no more rows of it come. The rows
-    /// are of that core, their moments do not fall, and they are from its last clock to before the new one. Where there
-    /// is no memory the rows are handed back and the merger is as it was. Where none of the core's rows is left the
-    /// list is moved in, and else it is copied once; only that takes memory.
-    pub fn add(
-        &mut self,
-        core: CoreId,
-        rows: Vec<Row>,
-        clock: Tick,
-    ) -> Result<(), (Vec<Row>, NoMemory)>
-        requires { CanAdd core rows.items clock self.old }
-        ensures added { OnOk result (self.new ≡ after_add core rows.items clock self.old) }
-        ensures handed_back { IfErr result (λ back. back.0.items ≡ rows.items) }
+    /// Adds a part of a core behind those that it has, and gives one back of which all was given out, where there is one. It takes memory only
+    /// where something of the core waits; where there is none the part is handed back and the merger is as it was. Nothing is copied.
+    pub fn add(&mut self, core: CoreId, part: P) -> Result<Option<P>, (P, NoMemory)>
+        requires { core < length self.old }
+        ensures added { (out : P.Out) (lists : List (List Row)) (rows : List Row) → AreHeld P.holds out self.old lists → P.holds out part rows
+            → OnOk result (AreHeld P.holds out self.new (with_rows core rows lists)) }
+        ensures empty { IfOk result (λ room. IfSome room (λ part. P.first part ≡ None)) }
+        ensures handed_back { IfErr result (λ back. back.0 ≡ part) }
         ensures unchanged { OnErr result (self.new ≡ self.old) }
-        ensures moved { list_of core self.old.left ≡ [] → IsOk result }
-        ensures none { rows.items ≡ [] → IsOk result }
+        ensures moved { first_of P.first (parts_of core self.old) ≡ None → IsOk result }
+        ensures none { P.first part ≡ None → IsOk result }
+        ensures cores { length self.new ≡ length self.old }
     {
-        let head = append(self.cores.as_mut_slice(), core.0, rows, clock)?;
+        let cores = self.cores.as_mut_slice();
+        let room = add_to(cores, core.0, part)?;
+        let head = head_at(cores, core.0);
         self.heads.set(core.0, head);
+        Ok(room)
+    }
+
+    /// Gives out all rows before a moment, by moment, then core, then place.
+    pub fn pour_before(&mut self, until: Tick, out: &mut P::Out) -> Result<(), Refused>
+        ensures given { (lists : List (List Row)) → All DoNotFall lists → AreHeld P.holds out.old self.old lists
+            → OnOk result (Given P.Out.takes out.old (merged_before until lists) out.new × AreHeld P.holds out.new self.new (all_from until lists)) }
+        ensures refused { (lists : List (List Row)) → All DoNotFall lists → AreHeld P.holds out.old self.old lists
+            → OnErr result (GivenUntil P.Out.takes out.old (merged_before until lists) out.new) }
+        ensures cores { length self.new ≡ length self.old }
+    {
+        'moments: while let Some(core) = self.next_before(until) {
+            self.pour(core, out)?;
+        }
         Ok(())
     }
 
-    /// The room of a core's rows where none of them is left, as a list without rows that can be filled again; else a list
-    /// without room. It takes no memory.
-    pub fn take_room(&mut self, core: CoreId) -> Vec<Row>
-        requires { core < length self.old.clocks }
-        ensures room { result.items ≡ [] }
-        ensures same { self.new ≡ self.old }
-    {
-        take_room(self.cores.as_mut_slice(), core.0)
-    }
-
-    /// Takes the row that is first by moment, core and place of those that are left, if its moment is below all clocks;
-    /// else, or where none is left, None. Of `c` cores it takes the order of `log c` steps.
-    #[inline(always)]
-    pub fn pop(&mut self) -> Option<Row>
-        ensures row { result ≡ next_row self.old }
-        ensures left { self.new ≡ without_row (next_row self.old) self.old }
-        ensures clocks { self.new.clocks ≡ self.old.clocks }
+    // The core whose first moment comes first, where that is before this moment.
+    fn next_before(&self, until: Tick) -> Option<usize>
+        ensures next { IfSome result (λ core. IsNextCore P.first self.now until core) }
+        ensures none { IfNone result (NoneBefore P.first self.now until) }
+        ensures in_line { (core : ℕ) → core < length self.now → IsInLine P.first (parts_of core self.now) }
     {
         let first = self.heads.first();
-        if !first.has_row() {
-            return None;
+        if first.is_before(until) {
+            Some(first.core())
+        } else {
+            None
         }
-        let core = first.core();
+    }
+
+    // Gives out all rows of the first moment that the first part of this core has.
+    fn pour(&mut self, core: usize, out: &mut P::Out) -> Result<(), Refused>
+        requires within { core < length self.old }
+        requires some { IsSome (first_of P.first (parts_of core self.old)) }
+        ensures fewer { OnOk result (left_of_all P.left self.new < left_of_all P.left self.old) }
+        ensures given { (rows : List Row) → DoNotFall rows → Hold P.holds out.old (parts_of core self.old) rows → OnOk result
+            (IfSome (first_of P.first (parts_of core self.old)) (λ t. Pours P.Out.takes P.holds t rows out.old out.new (parts_of core self.new))) }
+        ensures refused { (rows : List Row) → DoNotFall rows → Hold P.holds out.old (parts_of core self.old) rows → OnErr result
+            (IfSome (first_of P.first (parts_of core self.old)) (λ t. IsRefused P.Out.takes P.holds t rows out.old out.new)) }
+        ensures others { self.new ≡ slice_set self.old core (parts_of core self.new) }
+    {
         let cores = self.cores.as_mut_slice();
-        let row = take_first(cores, core);
+        let poured = pour_of(cores, core, out);
         let head = head_at(cores, core);
         self.heads.set(core, head);
-        row
-    }
-
-    /// The rows that are left of a merger of one core, whose clock has passed all of them: those of the first slice, and
-    /// then those of the second, as they lie in a ring. None of a merger of more cores.
-    pub fn lone_rows(&self) -> Option<(&[Row], &[Row])>
-        ensures rows { IfSome result (λ rows. rows.0.now ++ rows.1.now ≡ list_of 0 self.now.left) }
-        ensures lone { IsSome result ↔ (length self.now.clocks ≡ 1) }
-    {
-        match self.cores.as_slice() {
-            [lone] => Some(lone.rows.as_slices()),
-            _ => None,
-        }
-    }
-
-    /// Takes all rows that are left of a merger of one core, as that many calls of `pop` do. Their room is kept.
-    pub fn clear_lone_rows(&mut self)
-        requires { length self.old.clocks ≡ 1 }
-        ensures { self.new ≡ emptied self.old }
-    {
-        let head = clear(self.cores.as_mut_slice(), 0);
-        self.heads.set(0, head);
+        poured
     }
 }
 
-// As many cores without rows and with the clock 0.
-fn no_rows(alloc: Global, cores: usize) -> Result<Vec<Held>, NoMemory>
-    ensures { IfOk result (λ held. merging_of held.items ≡ starting cores) }
+// Each part alone.
+fn waiting_of<P: Part>(alloc: Global, parts: Vec<P>) -> Result<Vec<Waiting<P>>, NoMemory>
+    ensures { IfOk result (λ cores. cores.items ≡ map (λ part. part ∷ []) parts.items) }
 {
-    let mut held = Vec::with_capacity(alloc, cores)?;
-    for _ in 0..cores {
-        held.push(Held {
-            rows: RowQueue::new(alloc),
-            clock: Tick::ZERO,
-        })?;
+    let mut cores = Vec::with_capacity(alloc, parts.len())?;
+    for part in parts {
+        cores.push(Waiting::new(alloc, part))?;
     }
-    Ok(held)
+    Ok(cores)
 }
 
-// The heads of cores without rows and with the clock 0.
-fn first_heads(alloc: Global, cores: usize) -> Result<Heads, NoMemory>
-    requires some { 1 ≤ cores }
-    requires few { cores ≤ 64 }
-    ensures { IfOk result (λ heads. IsKept (starting cores) heads) }
+// The heads of all cores.
+fn heads_of<P: Part>(alloc: Global, cores: &[Waiting<P>]) -> Result<Heads, NoMemory>
+    requires few { length cores.now ≤ 64 }
+    requires in_line { (core : ℕ) → core < length cores.now → IsInLine P.first (parts_of core cores.now) }
+    ensures { IfOk result (λ heads. AreNext P.first cores.now heads) }
 {
-    let mut heads = Heads::new(alloc, cores)?;
-    for core in 0..cores {
-        heads.set(core, Head::at_clock(core, Tick::ZERO));
+    let mut heads = Heads::new(alloc, cores.len())?;
+    for core in 0..cores.len() {
+        let head = head_at(cores, core);
+        heads.set(core, head);
     }
     Ok(heads)
 }
 
-// Adds rows to a core, and gives its head.
-fn append(
-    cores: &mut [Held],
-    core: usize,
-    rows: Vec<Row>,
-    clock: Tick,
-) -> Result<Head, (Vec<Row>, NoMemory)>
-    requires core { core < length cores.old }
-    requires few { core < 64 }
-    ensures added { OnOk result (merging_of cores.new ≡ after_add core rows.items clock (merging_of cores.old)) }
-    ensures head { IfOk result
-        (λ head. head ≡ head_of core (list_of core (lists_of cores.new)) (slice_index (clocks_of cores.new) core)) }
-    ensures handed_back { IfErr result (λ back. back.0.items ≡ rows.items) }
-    ensures unchanged { OnErr result (merging_of cores.new ≡ merging_of cores.old) }
-    ensures moved { list_of core (lists_of cores.old) ≡ [] → IsOk result }
-    ensures none { rows.items ≡ [] → IsOk result }
-{
-    let held = &mut cores[core];
-    held.append(rows, clock)?;
-    Ok(held.head(core))
-}
-
-// The room of a core's rows where none is left.
-fn take_room(cores: &mut [Held], core: usize) -> Vec<Row>
-    requires { core < length cores.old }
-    ensures room { result.items ≡ [] }
-    ensures same { merging_of cores.new ≡ merging_of cores.old }
-{
-    let held = &mut cores[core];
-    held.take_room()
-}
-
-// Takes the first row of a core.
-#[inline(always)]
-fn take_first(cores: &mut [Held], core: usize) -> Option<Row>
-    requires { core < length cores.old }
-    ensures row { result ≡ slice_get (list_of core (lists_of cores.old)) 0 }
-    ensures left { lists_of cores.new
-        ≡ slice_set (lists_of cores.old) core (drop 1 (list_of core (lists_of cores.old))) }
-    ensures clocks { clocks_of cores.new ≡ clocks_of cores.old }
-{
-    cores[core].take_first()
-}
-
 // What comes next of a core.
-fn head_at(cores: &[Held], core: usize) -> Head
-    requires core { core < length cores.now }
+fn head_at<P: Part>(cores: &[Waiting<P>], core: usize) -> Head
+    requires within { core < length cores.now }
     requires few { core < 64 }
-    ensures { result
-        ≡ head_of core (list_of core (lists_of cores.now)) (slice_index (clocks_of cores.now) core) }
+    ensures { result ≡ head_of_next core (first_of P.first (parts_of core cores.now)) }
 {
-    cores[core].head(core)
+    Head::of_next(core, cores[core].next())
 }
 
-// Takes all rows of a core, and gives its head.
-fn clear(cores: &mut [Held], core: usize) -> Head
-    requires core { core < length cores.old }
-    requires few { core < 64 }
-    ensures left { lists_of cores.new ≡ slice_set (lists_of cores.old) core [] }
-    ensures clocks { clocks_of cores.new ≡ clocks_of cores.old }
-    ensures head { result ≡ head_of core [] (slice_index (clocks_of cores.old) core) }
+// Adds a part of a core.
+fn add_to<P: Part>(
+    cores: &mut [Waiting<P>],
+    core: usize,
+    part: P,
+) -> Result<Option<P>, (P, NoMemory)>
+    requires { core < length cores.old }
+    ensures added { (out : P.Out) (rows more : List Row) → Hold P.holds out (parts_of core cores.old) rows → P.holds out part more
+        → OnOk result (Hold P.holds out (parts_of core cores.new) (rows ++ more)) }
+    ensures empty { IfOk result (λ room. IfSome room (λ part. P.first part ≡ None)) }
+    ensures handed_back { IfErr result (λ back. back.0 ≡ part) }
+    ensures unchanged { OnErr result (cores.new ≡ cores.old) }
+    ensures no_room { (first_of P.first (parts_of core cores.old) ≡ None → IsOk result) × (P.first part ≡ None → IsOk result) }
+    ensures others { cores.new ≡ slice_set cores.old core (parts_of core cores.new) }
+    ensures in_line { IsInLine P.first (parts_of core cores.new) }
 {
-    let held = &mut cores[core];
-    held.clear();
-    held.head(core)
+    let waiting = &mut cores[core];
+    waiting.add(part)
+}
+
+// Gives out all rows of the first moment that the first part of a core has.
+fn pour_of<P: Part>(cores: &mut [Waiting<P>], core: usize, out: &mut P::Out) -> Result<(), Refused>
+    requires within { core < length cores.old }
+    requires some { IsSome (first_of P.first (parts_of core cores.old)) }
+    ensures fewer { OnOk result (left_of_all P.left cores.new < left_of_all P.left cores.old) }
+    ensures given { (rows : List Row) → DoNotFall rows → Hold P.holds out.old (parts_of core cores.old) rows → OnOk result
+        (IfSome (first_of P.first (parts_of core cores.old)) (λ t. Pours P.Out.takes P.holds t rows out.old out.new (parts_of core cores.new))) }
+    ensures refused { (rows : List Row) → DoNotFall rows → Hold P.holds out.old (parts_of core cores.old) rows → OnErr result
+        (IfSome (first_of P.first (parts_of core cores.old)) (λ t. IsRefused P.Out.takes P.holds t rows out.old out.new)) }
+    ensures others { cores.new ≡ slice_set cores.old core (parts_of core cores.new) }
+    ensures in_line { IsInLine P.first (parts_of core cores.new) }
+{
+    let waiting = &mut cores[core];
+    waiting.pour(out)
 }

@@ -1,7 +1,6 @@
-ghost use Rattle.std.specs.Prelude.{◌≡◌, ◌<◌, ◌++◌, ℕ, [], drop, option_map, slice_get, slice_index, IfErr, IfNone, IfSome, IsOk, OnErr, OnOk};
+ghost use Rattle.std.specs.Prelude.{◌≡◌, ◌<◌, ℕ, [], drop, option_map, slice_get, slice_index, IfNone, IfSome};
 
-use mcs_ticks::{NoMemory, Row, Tick};
-use std::alloc::Global;
+use mcs_ticks::{Row, Tick};
 use std::collections::VecDeque;
 use std::marker::Model;
 use std::mem;
@@ -31,17 +30,6 @@ impl Model for RowQueue {
 }
 
 impl RowQueue {
-    /// No row.
-    pub(crate) fn new(alloc: Global) -> Self
-        ensures { result.items ≡ [] }
-    {
-        RowQueue {
-            rows: VecDeque::new(alloc),
-            moments: [Tick::ZERO; AHEAD],
-            at: 0,
-        }
-    }
-
     /// These rows, in this order. The list is moved in.
     pub(crate) fn of_rows(rows: Vec<Row>) -> Self
         ensures { result.items ≡ rows.items }
@@ -88,13 +76,6 @@ impl RowQueue {
         self.rows.clear();
     }
 
-    /// The rows as they lie in a ring: those of the first slice, and then those of the second.
-    pub(crate) fn as_slices(&self) -> (&[Row], &[Row])
-        ensures { result.0.now ++ result.1.now ≡ self.now.items }
-    {
-        self.rows.as_slices()
-    }
-
     /// The room of the rows where none is left, as a list without rows; else a list without room.
     pub(crate) fn take_room(&mut self) -> Vec<Row>
         ensures room { result.items ≡ [] }
@@ -105,26 +86,6 @@ impl RowQueue {
             return none.into_vec();
         }
         mem::replace(&mut self.rows, none).into_vec()
-    }
-
-    /// Puts these rows behind those that there are. Where there is no memory they are handed back and all is as it was. It
-    /// takes none where there is no row, or none is added.
-    pub(crate) fn append(&mut self, rows: Vec<Row>) -> Result<(), (Vec<Row>, NoMemory)>
-        ensures rows { OnOk result (self.new.items ≡ self.old.items ++ rows.items) }
-        ensures handed_back { IfErr result (λ back. back.0.items ≡ rows.items) }
-        ensures unchanged { OnErr result (self.new.items ≡ self.old.items) }
-        ensures moved { self.old.items ≡ [] → IsOk result }
-        ensures none { rows.items ≡ [] → IsOk result }
-    {
-        let mut more = VecDeque::from_vec(rows);
-        if self.rows.is_empty() {
-            self.rows = more;
-        } else if self.rows.append(&mut more).is_err() {
-            return Err((more.into_vec(), NoMemory));
-        }
-        self.moments = moments_of(&self.rows);
-        self.at = 0;
-        Ok(())
     }
 }
 

@@ -4,7 +4,7 @@ ghost use Rattle.std.specs.Prelude.{◌≡◌, length, IfOk, OnOk};
 use super::play::{moment, opened};
 use super::systems::system;
 use mcs_mail::Mailbox;
-use mcs_merge::PartMerger;
+use mcs_merge::Merger;
 use mcs_system::System;
 use mcs_text::{LinesPart, Names, Text, ToldLines, pour_lines};
 use mcs_ticks::{Collector, CoreId, Measured};
@@ -78,13 +78,13 @@ fn merger_of<'a>(
     alloc: Global,
     system: &System,
     names: &'a Names<'a>,
-) -> Result<PartMerger<LinesPart<'a>>, Fail>
+) -> Result<Merger<LinesPart<'a>>, Fail>
     ensures { IfOk result (λ merger. length merger ≡ 2) }
 {
     let first = part_of(alloc, system, names, 0)?;
     let second = part_of(alloc, system, names, 1)?;
     let parts = Vec::from_array(alloc, [first, second])?;
-    Ok(PartMerger::new(alloc, parts)?)
+    Ok(Merger::new(alloc, parts)?)
 }
 
 #[test]

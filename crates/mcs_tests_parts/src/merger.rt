@@ -1,106 +1,149 @@
-ghost use Rattle.std.specs.Prelude.{◌≡◌, ◌<◌, length, slice_index, slice_set, IfOk, OnOk};
-ghost use Rattle.mcs_merge.specs.Merge.{AreFrom};
-ghost use Rattle.mcs_merge.specs.Merging.{IsListOf};
+ghost use Rattle.std.specs.Prelude.{◌≡◌, ◌<◌, length, IfOk};
 
-use mcs_merge::Merger;
-use mcs_ticks::{CoreId, Row, ThreadId, Tick, What};
+use mcs_merge::{Merger, RowPart};
+use mcs_ticks::{CoreId, NoMemory, Row, ThreadId, Tick, What};
 use std::alloc::Global;
 use std::test::Fail;
 
-// Rows of one core, of which each tells its moment and a number of its own. The moments may not fall, and are from one clock to
-// before the next.
-fn rows_between(
-    alloc: Global,
-    core: usize,
-    from: Tick,
-    to: Tick,
-    rows: &[(u64, usize)],
-) -> Result<Vec<Row>, Fail>
-    ensures { IfOk result (λ rows. AreFrom from rows.items × IsListOf core rows.items to) }
-{
+// Rows of one core, of which each tells its moment and a number of its own.
+fn part_of(alloc: Global, core: usize, rows: &[(u64, usize)]) -> Result<RowPart<Vec<Row>>, Fail> {
     let mut all = Vec::new(alloc);
-    let mut last = from;
     for (moment, number) in rows {
-        let moment = Tick::new(*moment).ok_or("a moment")?;
-        if moment < last || moment >= to {
-            return Err(Fail::from("the moments are not between the clocks, or fall"));
-        }
-        last = moment;
         all.push(Row {
-            moment,
+            moment: Tick::new(*moment).ok_or("a moment")?,
             core: CoreId(core),
             what: What::Run {
                 thread: ThreadId(*number),
             },
         })?;
     }
-    Ok(all)
+    Ok(RowPart::new(all))
 }
 
-// Adds rows of a core from its clock to before the next.
+// A merger of six cores, of which the fourth has no row.
+fn six_cores(alloc: Global) -> Result<Merger<RowPart<Vec<Row>>>, Fail>
+    ensures { IfOk result (λ merger. length merger ≡ 6) }
+{
+    let parts = [
+        part_of(alloc, 0, &[(0, 1), (3, 2), (3, 3), (9, 4)])?,
+        part_of(alloc, 1, &[(0, 5), (0, 6), (2, 7), (3, 8)])?,
+        part_of(alloc, 2, &[(2, 9), (3, 10), (10, 11)])?,
+        part_of(alloc, 3, &[])?,
+        part_of(alloc, 4, &[(0, 12), (9, 13)])?,
+        part_of(alloc, 5, &[(3, 14)])?,
+    ];
+    Ok(Merger::new(alloc, Vec::from_array(alloc, parts)?)?)
+}
+
+// Adds a part of a core.
 fn add(
     alloc: Global,
-    merger: &mut Merger,
+    merger: &mut Merger<RowPart<Vec<Row>>>,
     core: usize,
-    clocks: (u64, u64),
     rows: &[(u64, usize)],
 ) -> Result<(), Fail>
-    requires core { core < length merger.old.clocks }
-    requires clock { slice_index merger.old.clocks core ≡ clocks.0 }
-    ensures { OnOk result (merger.new.clocks ≡ slice_set merger.old.clocks core clocks.1) }
+    requires { core < length merger.old }
+    ensures { length merger.new ≡ length merger.old }
 {
-    let from = Tick::new(clocks.0).ok_or("a clock")?;
-    let to = Tick::new(clocks.1).ok_or("a clock")?;
-    if to < from {
-        return Err(Fail::from("the clock goes back"));
-    }
-    let rows = rows_between(alloc, core, from, to, rows)?;
-    match merger.add(CoreId(core), rows, to) {
-        Ok(()) => Ok(()),
+    let part = part_of(alloc, core, rows)?;
+    match merger.add(CoreId(core), part) {
+        Ok(_) => Ok(()),
         Err((_, refusal)) => Err(Fail::from(refusal)),
     }
 }
 
-// A row, which tells its moment, core and number.
-fn row(moment: u64, core: usize, number: usize) -> Result<Row, Fail> {
-    Ok(Row {
-        moment: Tick::new(moment).ok_or("a moment")?,
-        core: CoreId(core),
-        what: What::Run {
-            thread: ThreadId(number),
-        },
-    })
+// The moment, core and number of each row that is given before a moment.
+fn poured(
+    alloc: Global,
+    merger: &mut Merger<RowPart<Vec<Row>>>,
+    until: u64,
+) -> Result<Vec<(u64, usize, usize)>, Fail>
+    ensures { length merger.new ≡ length merger.old }
+{
+    let until = Tick::new(until).ok_or("a moment")?;
+    let mut rows = Vec::new(alloc);
+    merger
+        .pour_before(until, &mut rows)
+        .ok()
+        .ok_or("no memory")?;
+    Ok(told(alloc, rows.as_slice())?)
+}
+
+fn told(alloc: Global, rows: &[Row]) -> Result<Vec<(u64, usize, usize)>, NoMemory> {
+    let mut all = Vec::new(alloc);
+    for row in rows {
+        if let What::Run { thread } = row.what {
+            all.push((row.moment.get(), row.core.0, thread.0))?;
+        }
+    }
+    Ok(all)
 }
 
 #[test]
-fn rows_are_given_when_all_clocks_have_passed_them(rt: HostRuntime) -> Result<(), Fail> {
+fn rows_are_given_by_moment_then_core_then_place(rt: HostRuntime) -> Result<(), Fail> {
     let alloc = rt.alloc();
-    let mut merger = Merger::new(alloc, 2)?;
-    add(alloc, &mut merger, 0, (0, 4), &[(1, 1), (3, 2)])?;
-    assert_eq!(rt; merger.pop(), None);
-    add(alloc, &mut merger, 1, (0, 2), &[(1, 3)])?;
-    assert_eq!(rt; merger.pop(), Some(row(1, 0, 1)?));
-    assert_eq!(rt; merger.pop(), Some(row(1, 1, 3)?));
-    assert_eq!(rt; merger.pop(), None);
-    add(alloc, &mut merger, 1, (2, 5), &[])?;
-    assert_eq!(rt; merger.pop(), Some(row(3, 0, 2)?));
-    assert_eq!(rt; merger.pop(), None);
+    let mut merger = six_cores(alloc)?;
+    let first = poured(alloc, &mut merger, 3)?;
+    let want = [
+        (0, 0, 1),
+        (0, 1, 5),
+        (0, 1, 6),
+        (0, 4, 12),
+        (2, 1, 7),
+        (2, 2, 9),
+    ];
+    assert_eq!(rt; first.as_slice(), want.as_slice());
+    let second = poured(alloc, &mut merger, 10)?;
+    let want = [
+        (3, 0, 2),
+        (3, 0, 3),
+        (3, 1, 8),
+        (3, 2, 10),
+        (3, 5, 14),
+        (9, 0, 4),
+        (9, 4, 13),
+    ];
+    assert_eq!(rt; second.as_slice(), want.as_slice());
     Ok(())
 }
 
 #[test]
-fn rows_of_one_core_are_given_where_they_lie(rt: HostRuntime) -> Result<(), Fail> {
+fn rows_that_are_added_stand_behind_those_of_their_core(rt: HostRuntime) -> Result<(), Fail> {
     let alloc = rt.alloc();
-    let mut merger = Merger::new(alloc, 1)?;
-    add(alloc, &mut merger, 0, (0, 4), &[(1, 1), (3, 2)])?;
-    assert_eq!(rt; merger.pop(), Some(row(1, 0, 1)?));
-    add(alloc, &mut merger, 0, (4, 5), &[(4, 3)])?;
-    let (first, second) = merger.lone_rows().ok_or("the rows of one core")?;
-    let mut rows = first.iter().chain(second.iter());
-    assert_eq!(rt; rows.next(), Some(&row(3, 0, 2)?));
-    assert_eq!(rt; rows.next(), Some(&row(4, 0, 3)?));
-    assert_eq!(rt; rows.next(), None);
-    merger.clear_lone_rows();
-    assert_eq!(rt; merger.pop(), None);
+    let mut merger = six_cores(alloc)?;
+    add(alloc, &mut merger, 5, &[(3, 15), (4, 16)])?;
+    add(alloc, &mut merger, 3, &[(1, 17), (4, 18)])?;
+    let rows = poured(alloc, &mut merger, 5)?;
+    let want = [
+        (0, 0, 1),
+        (0, 1, 5),
+        (0, 1, 6),
+        (0, 4, 12),
+        (1, 3, 17),
+        (2, 1, 7),
+        (2, 2, 9),
+        (3, 0, 2),
+        (3, 0, 3),
+        (3, 1, 8),
+        (3, 2, 10),
+        (3, 5, 14),
+        (3, 5, 15),
+        (4, 3, 18),
+        (4, 5, 16),
+    ];
+    assert_eq!(rt; rows.as_slice(), want.as_slice());
+    Ok(())
+}
+
+#[test]
+fn the_room_of_a_part_is_given_back(rt: HostRuntime) -> Result<(), Fail> {
+    let alloc = rt.alloc();
+    let mut merger = six_cores(alloc)?;
+    poured(alloc, &mut merger, 4)?;
+    let part = part_of(alloc, 1, &[(4, 19)])?;
+    let Ok(Some(room)) = merger.add(CoreId(1), part) else {
+        return Err(Fail::from("a part of which all was given"));
+    };
+    assert_eq!(rt; room.into_room().len(), 0);
     Ok(())
 }

@@ -9,13 +9,13 @@ ghost use Rattle.mcs_text.specs.Parts.{with_bytes, HoldLines, TakesText};
 use crate::laws::given_rows_are_text;
 use crate::lines_part::LinesPart;
 use crate::text::Text;
-use mcs_merge::PartMerger;
+use mcs_merge::Merger;
 use mcs_ticks::{Refused, Tick};
 
 /// Puts the lines of all rows before a moment that wait in a merger behind a text: by moment, then core, then place. Where there is no memory
 /// the text has the lines of some first ones of these rows more.
 pub fn pour_lines<'a>(
-    merger: &mut PartMerger<LinesPart<'a>>,
+    merger: &mut Merger<LinesPart<'a>>,
     until: Tick,
     text: &mut Text<'a>,
 ) -> Result<(), Refused>

@@ -1,9 +1,8 @@
 -- What one call of a merger does to what was taken, of all rows that were added.
-use Rattle.std.specs.Prelude.{◌≡◌, ℕ, ◌<◌, ◌≤◌, List, [], ◌++◌, length, replicate, None, option_to_list}
+use Rattle.std.specs.Prelude.{◌≡◌, ℕ, ◌<◌, ◌≤◌, List, [], ◌++◌, length, replicate}
 use Rattle.mcs_ticks.specs.declared.row.Row.{Row}
 use Rattle.mcs_merge.specs.Merge.{rows_at, merged_before, merged, last_of_all}
-use Rattle.mcs_merge.specs.Merging.{Merging, starting, list_of, least_clock, passed, next_row}
-use Rattle.mcs_merge.specs.Merging.{without_row, with_rows, after_add, emptied, CanAdd, IsInOrder}
+use Rattle.mcs_merge.specs.Merging.{Merging, starting, list_of, least_clock, passed, with_rows, after_add, CanAdd, IsInOrder}
 use Rattle.mcs_merge.specs.Parts.{poured}
 
 -- these rows were taken, of all these lists: with those that all clocks have passed they are all rows before the least
@@ -25,46 +24,22 @@ AddsMerged =
     IsInOrder m → HasTaken all taken m → CanAdd core rows clock m →
     IsInOrder (after_add core rows clock m) × HasTaken (with_rows core rows all) taken (after_add core rows clock m)
 
--- .. and the next row is taken behind it
-abbrev pub PopsMerged : Type 0
-PopsMerged =
-    (m : Merging) (all : List (List Row)) (taken : List Row) →
-    IsInOrder m → HasTaken all taken m →
-    IsInOrder (without_row (next_row m) m)
-    × HasTaken all (taken ++ option_to_list (next_row m)) (without_row (next_row m) m)
-
--- one core alone has passed all rows that it has left ..
-abbrev pub PassesAlone : Type 0
-PassesAlone = (m : Merging) → IsInOrder m → length m.clocks ≡ 1 → passed m ≡ list_of 0 m.left
-
--- .. and all of them are taken behind it
-abbrev pub EmptiesMerged : Type 0
-EmptiesMerged =
-    (m : Merging) (all : List (List Row)) (taken : List Row) →
-    IsInOrder m → HasTaken all taken m → length m.clocks ≡ 1 →
-    IsInOrder (emptied m) × HasTaken all (taken ++ passed m) (emptied m)
-
--- where there is no next row, what was taken is all rows before the least clock, merged ..
-abbrev pub PausesMerged : Type 0
-PausesMerged =
-    (m : Merging) (all : List (List Row)) (taken : List Row) →
-    HasTaken all taken m → next_row m ≡ None → taken ≡ merged_before (least_clock m.clocks) all
-
--- .. and all rows, where all clocks have passed each of them
-abbrev pub EndsMerged : Type 0
-EndsMerged =
-    (m : Merging) (all : List (List Row)) (taken : List Row) →
-    HasTaken all taken m → next_row m ≡ None → last_of_all all < least_clock m.clocks → taken ≡ merged all
-
--- all rows before a moment that all clocks have passed are taken behind it ..
+-- .. and all rows before a moment that all clocks have passed are taken behind it
 abbrev pub PoursMerged : Type 0
 PoursMerged =
     (m : Merging) (all : List (List Row)) (taken : List Row) (until : ℕ) →
     IsInOrder m → HasTaken all taken m → until ≤ least_clock m.clocks →
     IsInOrder (poured until m) × HasTaken all (taken ++ merged_before until m.left) (poured until m)
 
--- .. and where it is the least clock, what was taken is all rows before it, merged
+-- where it is the least clock, what was taken then is all rows before it, merged ..
 abbrev pub PoursAll : Type 0
 PoursAll =
     (m : Merging) (all : List (List Row)) (taken : List Row) →
     HasTaken all taken m → taken ++ merged_before (least_clock m.clocks) m.left ≡ merged_before (least_clock m.clocks) all
+
+-- .. and all rows, where all clocks have passed each of them
+abbrev pub EndsMerged : Type 0
+EndsMerged =
+    (m : Merging) (all : List (List Row)) (taken : List Row) →
+    HasTaken all taken m → last_of_all all < least_clock m.clocks →
+    taken ++ merged_before (least_clock m.clocks) m.left ≡ merged all

@@ -1,20 +1,15 @@
 -- How parts lie, which one is next, and what is given of them.
-use Rattle.std.specs.Prelude.{◌≡◌, ◌⊎◌, ℕ, Bool, ◌+◌, ◌^◌, ◌<◌, ◌≤◌, List, [], ◌∷◌, ◌++◌, length, All, Option, Some, None, IfSome, IsSome}
+use Rattle.std.specs.Prelude.{◌≡◌, ◌⊎◌, ℕ, Bool, ◌+◌, ◌<◌, ◌≤◌, List, [], ◌∷◌, ◌++◌, length, All, Option, Some, None, IfSome, IsSome}
 use Rattle.mcs_ticks.specs.declared.row.Row.{Row}
 use Rattle.mcs_ticks.specs.Given.{Given, GivenUntil}
 use Rattle.mcs_merge.specs.Parts.{first_of, parts_of, Hold}
 use Rattle.mcs_merge.specs.declared.heads.Head.{Head}
-use Rattle.mcs_merge.specs.stored.Heads.{at_clock, at_row, head_at}
+use Rattle.mcs_merge.specs.stored.Heads.{far, head_at, head_of_next}
 
 -- all rows are of this moment
 abbrev pub AreAt : ℕ → List Row → Type 0
 AreAt t [] = Unit {0}
 AreAt t (row ∷ rows) = (row.moment ≡ t) × AreAt t rows
-
--- the head of a core of which this moment is next, or none
-abbrev pub head_of_next : ℕ → Option ℕ → Head
-head_of_next core None = at_clock core (2 ^ 42)
-head_of_next core (Some moment) = at_row core moment
 
 module _ {P : Type 0} where
   -- how many moments are left of all parts
@@ -43,12 +38,12 @@ module _ {P : Type 0} (first : P → Option ℕ) where
   GoesOn [] after = after ≡ []
   GoesOn (front ∷ later) after = (after ≡ front ∷ later) ⊎ ((first front ≡ None) × (after ≡ later))
 
-  -- the head of each core is of the first moment of its parts, of which none stands behind an empty one
+  -- the head of each core is of the first moment of its parts, of which none stands behind an empty one; heads of no core are far
   pub record AreNext (cores : List (List P)) (heads : List Head) : Type 0 where
-    pub some : 1 ≤ length cores
     pub few : length cores ≤ 64
-    pub same : length heads ≡ length cores
+    pub enough : length cores ≤ length heads
     pub each : (core : ℕ) → core < length cores → head_at core heads ≡ head_of_next core (first_of first (parts_of core cores))
+    pub others : (i : ℕ) → length cores ≤ i → i < length heads → head_at i heads ≡ far
     pub in_line : (core : ℕ) → core < length cores → IsInLine (parts_of core cores)
 
   -- the first moment of this core is before this one, no later than that of any core, and earlier than those of lower cores
