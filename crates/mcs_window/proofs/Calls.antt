@@ -2,11 +2,12 @@
 use Rattle.std.proofs.Common.{◌≡◌, ℕ, suc, ◌-◌, ◌<◌, ◌≤◌, false, Some, None, List, [], ◌∷◌, ◌++◌, length, set, replicate, inl, inr, refl, sym, ap, ◌∙◌, subst, arith, append_assoc}
 use Rattle.std.proofs.lemmas.List.{set-get_or}
 use Rattle.mcs_stretch.specs.ByScripts.{IsSafeByScripts, clocks_after}
-use Rattle.mcs_window.specs.Desk.{Table, AllAreHere, IsSkipped, IsAwake, MayLend, IsLent, IsLoan, IsSpent, WentByScripts, clock_of, past_of, loan_of, lent_at, settled_at}
+use Rattle.mcs_window.specs.Desk.{Table, AllAreHere, IsSkipped, IsAwake, MayLend, IsLent, IsLentWithin, IsLoan, IsSpent, WentByScripts, clock_of, past_of, past_within, loan_of, lent_at, lent_to, settled_at}
 use Rattle.mcs_window.specs.Pieces.{Outcome}
 use Rattle.mcs_window.specs.declared.slot.Loan.{Loan}
 use Rattle.mcs_window.specs.laws.Steps.{Step, Lend, Settle, Skip, Go, Spend, settled_loan, after_step, after_steps, turns_of_loan, turns_of, turns_in, MaySkipTo, AreTaken, NoneGoes, NoneIsSpent}
 use Rattle.mcs_window.proofs.Steps.{clocks-many}
+use Rattle.mcs_window.proofs.Waking.{awake-lost}
 use Rattle.mcs_window.specs.laws.Calls as calls
 use Rattle.mcs_window.specs.laws.Calls.{IsBy, IsByLoans, CallsAreSteps, GoingIsSteps}
 
@@ -46,26 +47,38 @@ by-awake before after many (inl p) = by-skip before after many p.1 p.2
 by-awake before after many (inr p) = ([], record { taken = tt; after_is = p.1 }, tt)
 
 -- then a core is lent
-by-lend : (table after : Table) (c : ℕ) → table.lost ≡ false → MayLend table c → after ≡ lent_at table c → IsBy table after (Lend c (past_of table c) ∷ [])
-by-lend table after c sound may e =
-    record { taken = (record { sound = sound; may = may; ahead = (let a = may.ahead in omega arith); in_time = omega arith }, tt); after_is = e }
+by-lend : (table after : Table) (c past : ℕ) → table.lost ≡ false → MayLend table c → clock_of table c ≤ past → past ≤ past_of table c → after ≡ lent_to table c past → IsBy table after (Lend c past ∷ [])
+by-lend table after c past sound may ahead in_time e =
+    record { taken = (record { sound = sound; may = may; ahead = ahead; in_time = in_time }, tt); after_is = e }
 
 none-append : (first second : List Step) → NoneGoes first → NoneGoes second → NoneGoes (first ++ second)
 none-append [] second p q = q
 none-append (step ∷ first) second p q = (p.0, none-append first second p.1 q)
 
-awake-lost : (before table : Table) → IsAwake before table → table.lost ≡ before.lost
-awake-lost before table (inl p) = ap (λ (t : Table). t.lost) p.2.rest
-awake-lost before table (inr p) = ap (λ (t : Table). t.lost) p.1
+by-lent-to : (before table after : Table) (c past : ℕ) → before.system.cores ≤ length before.clocks → IsAwake before table → before.lost ≡ false → MayLend table c → clock_of table c ≤ past → past ≤ past_of table c
+    → after ≡ lent_to table c past → IsByLoans before after
+by-lent-to before table after c past many awake sound may ahead in_time e =
+    let first = by-awake before table many awake in
+    let second = by-lend table after c past (awake-lost before table awake ∙ sound) may ahead in_time e in (
+      first.0 ++ Lend c past ∷ [],
+      (steps-join before table after first.0 (Lend c past ∷ []) first.1 second).0,
+      none-append first.0 (Lend c past ∷ []) first.2 (tt, tt),
+    )
 
 by-lent : (before after : Table) (c : ℕ) → before.system.cores ≤ length before.clocks → IsLent before c after → IsByLoans before after
 by-lent before after c many lent =
-    let first = by-awake before lent.table many lent.awake in
-    let second = by-lend lent.table after c (awake-lost before lent.table lent.awake ∙ lent.sound) lent.chosen.may lent.lent in (
-      first.0 ++ Lend c (past_of lent.table c) ∷ [],
-      (steps-join before lent.table after first.0 (Lend c (past_of lent.table c) ∷ []) first.1 second).0,
-      none-append first.0 (Lend c (past_of lent.table c) ∷ []) first.2 (tt, tt),
-    )
+    let ahead = lent.chosen.may.ahead in
+    by-lent-to before lent.table after c (past_of lent.table c) many lent.awake lent.sound lent.chosen.may (omega arith) (omega arith) lent.lent
+
+by-lent-within : (before after : Table) (span c : ℕ) → before.system.cores ≤ length before.clocks → IsLentWithin before span c after → IsByLoans before after
+by-lent-within before after span c many lent =
+    let ahead = lent.chosen.may.ahead in
+    by-lent-to before lent.table after c (past_within lent.table span c) many lent.awake lent.sound lent.chosen.may (omega arith) (omega arith) lent.lent
+
+by-core-lent : (before after : Table) (c : ℕ) → before.lost ≡ false → MayLend before c → after ≡ lent_at before c → IsByLoans before after
+by-core-lent before after c sound may e =
+    let ahead = may.ahead in
+    (Lend c (past_of before c) ∷ [], by-lend before after c (past_of before c) sound may (omega arith) (omega arith) e, (tt, tt))
 
 -- a loan is settled
 by-settle : (before after : Table) (done : Outcome) → done.core < before.system.cores → IsLoan before done → after ≡ settled_at before done.core done.past →
@@ -137,7 +150,8 @@ calls-here : (before after : Table) → before.system.cores ≤ length before.cl
 calls-here before after many = (
   record {
     lent = λ c l. by-lent before after c many l;
-    core_lent = λ c sound may e. (Lend c (past_of before c) ∷ [], by-lend before after c sound may e, (tt, tt));
+    lent_within = λ span c _ l. by-lent-within before after span c many l;
+    core_lent = by-core-lent before after;
     not_lent = by-awake before after many;
     skipped = by-skip before after many;
     settled = by-settle before after;

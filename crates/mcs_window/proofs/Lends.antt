@@ -1,5 +1,5 @@
 -- A desk of which a core is lent.
-use Rattle.std.proofs.Common.{◌≡◌, ℕ, ◌<◌, Some, None, List, [], length, map, get_or, set, inl, inr, refl, sym, ap, ◌∙◌, subst, arith}
+use Rattle.std.proofs.Common.{◌≡◌, ℕ, ◌<◌, ◌≤◌, Some, None, List, [], length, map, get_or, set, inl, inr, refl, sym, ap, ◌∙◌, subst, arith}
 use Rattle.std.specs.Prelude.{slice_index}
 use Rattle.std.specs.Arc.{arc_value}
 use Rattle.std.specs.Vec.{with_item}
@@ -12,7 +12,7 @@ use Rattle.mcs_mail.specs.declared.mail.Mail.{Mail}
 use Rattle.mcs_mail.specs.Box.{Content}
 use Rattle.mcs_system.specs.System.{System}
 use Rattle.mcs_core.specs.State.{State}
-use Rattle.mcs_window.specs.Desk.{past_of, loan_of, MayGoOn, MayLend, lent_at, IsFinished, AllAreHere}
+use Rattle.mcs_window.specs.Desk.{past_of, past_within, loan_of, MayGoOn, MayLend, lent_to, IsFinished, AllAreHere}
 use Rattle.mcs_window.specs.Pieces.{IsWork}
 use Rattle.mcs_stretch.specs.Stretch.{NothingArrivesBefore}
 use Rattle.mcs_window.specs.stored.Cores.{IsHere}
@@ -68,19 +68,36 @@ module _ {S : Type 0} {holds : S → List Row → Type 0} (a : Inside S) (kept :
         far = λ b l other _. past_by-reached (table_of a) k system.cores b l other;
       }
 
+  -- and so for no more than so many moments
+  pub may_go_within : (k span : ℕ) → MayLend (table_of a) k → 1 ≤ span → MayGoOn (table_of a) k (past_within (table_of a) span k)
+  may_go_within k span may some =
+      let all = may_go_on k may in
+      let ahead = all.ahead in
+      let in_time = all.in_time in
+      let no_more : past_within (table_of a) span k ≤ past_of (table_of a) k = omega arith in
+      record {
+        known = may.known;
+        here = may.here;
+        ahead = omega arith;
+        in_time = omega arith;
+        reached = λ b m x l j i e. (let reach = all.reached b m x l j i e in omega arith);
+        far = λ b l other signals. (let far = all.far b l other signals in omega arith);
+      }
+
   -- the piece that is lent
-  pub lent_work : (k : ℕ) (slot : Slot) (box : Content) (spare : Arc System Global) (state : State) (first past : ℕ) → MayLend (table_of a) k → slot ≡ Here spare state →
-      slot ≡ get_or a.slots.items k slot → box ≡ get_or a.boxes.items k box → first ≡ slice_index a.clocks k → past ≡ past_of (table_of a) k →
+  pub lent_work : (k : ℕ) (slot : Slot) (box : Content) (spare : Arc System Global) (state : State) (first past : ℕ) → MayGoOn (table_of a) k past → slot ≡ Here spare state →
+      slot ≡ get_or a.slots.items k slot → box ≡ get_or a.boxes.items k box → first ≡ slice_index a.clocks k →
       IsWork (record { system = arc_value spare; core = k; first = first; past = past; front = a.clocks; state = state; mail = box.mails })
-  lent_work k slot box spare state first past may e at b_at first_is past_is =
+  lent_work k slot box spare state first past may e at b_at first_is =
       let here = here_at k slot box spare state may.known e at b_at in
-      let far = past_by-in_time (table_of a) k system.cores in
+      let ahead = may.ahead in
+      let far = may.in_time in
       rw (here.0, first_is) (record {
         stretch = record {
           known = may.known;
-          in_order = (let ahead = may.ahead in omega arith);
+          in_order = omega arith;
           in_time = (let horizon = kept.horizon in omega arith);
-          reached = subst (λ m. NothingArrivesBefore system k m a.clocks) (sym past_is) (may_go_on k may).reached;
+          reached = may.reached;
           idle = kept.idle;
         };
         state_is = here.1.state_is;
@@ -99,9 +116,9 @@ module _ {S : Type 0} {holds : S → List Row → Type 0} (a : Inside S) (kept :
       }
 
   -- what the desk keeps
-  pub lent_kept : (k : ℕ) (slot : Slot) (loan : Loan) (box : Content) → MayLend (table_of a) k → slot ≡ Away loan → loan.past ≡ past_of (table_of a) k → loan.front ≡ a.clocks → box.mails ≡ [] →
+  pub lent_kept : (k : ℕ) (slot : Slot) (loan : Loan) (box : Content) → MayGoOn (table_of a) k loan.past → slot ≡ Away loan → loan.front ≡ a.clocks → box.mails ≡ [] →
       IsKept holds (record a { slots = with_item a.slots k slot; boxes = with_item a.boxes k box })
-  lent_kept k slot loan box may e past front none =
+  lent_kept k slot loan box may e front none =
       record {
         horizon = kept.horizon;
         well_formed = kept.well_formed;
@@ -115,17 +132,17 @@ module _ {S : Type 0} {holds : S → List Row → Type 0} (a : Inside S) (kept :
         reaches_are = kept.reaches_are;
         since = kept.since;
         placed = placed-set system a.horizon a.clocks a.slots.items a.boxes.items k slot box kept.placed (omega (arith, kept.slots_of, may.known)) (omega (arith, kept.boxes_of, may.known))
-            (subst (IsPlaced system a.horizon k a.clocks box.mails) (sym e) (away_at k loan box.mails (subst (MayGoOn (table_of a) k) (sym past) (may_go_on k may)) front none));
+            (subst (IsPlaced system a.horizon k a.clocks box.mails) (sym e) (away_at k loan box.mails may front none));
       }
 
   -- what the desk shows
-  pub lent_shows : (k : ℕ) (slot : Slot) (loan : Loan) (box : Content) → slot ≡ Away loan → loan.past ≡ past_of (table_of a) k → loan.front ≡ a.clocks →
-      table_of (record a { slots = with_item a.slots k slot; boxes = with_item a.boxes k box }) ≡ lent_at (table_of a) k
-  lent_shows k slot loan box e past front =
+  pub lent_shows : (k past : ℕ) (slot : Slot) (loan : Loan) (box : Content) → slot ≡ Away loan → loan.past ≡ past → loan.front ≡ a.clocks →
+      table_of (record a { slots = with_item a.slots k slot; boxes = with_item a.boxes k box }) ≡ lent_to (table_of a) k past
+  lent_shows k past slot loan box e past_is front =
       ap (λ loans. record (table_of a) { loans = loans }) (map-set slot_loan a.slots.items k slot ∙ ap (set (map slot_loan a.slots.items) k) (ap slot_loan e ∙ one))
     where
-      one : Some loan ≡ Some (record { past = past_of (table_of a) k; front = a.clocks })
-      one = rw (← past, ← front) refl
+      one : Some loan ≡ Some (record { past = past; front = a.clocks })
+      one = rw (← past_is, ← front) refl
 
   -- where nothing is lent and no core may be lent, all is done
   pub all_done : AllAreHere (table_of a) → ((c : ℕ) → ¬ MayLend (table_of a) c) → IsFinished (table_of a)

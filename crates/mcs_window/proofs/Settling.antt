@@ -27,13 +27,12 @@ use Rattle.mcs_window.specs.declared.slot.Slot.TheVariants.{Here, Away}
 use Rattle.mcs_window.specs.declared.desk.Desk.TheInside.{Inside}
 use Rattle.mcs_window.specs.stored.Cores.{IsHere}
 use Rattle.mcs_window.specs.stored.Delivery.{count_for, HaveRoom, AreSameMail, AreDelivered, IsJoined}
-use Rattle.mcs_window.specs.stored.Opening.{HasItems}
 use Rattle.mcs_window.specs.stored.Slots.{slot_loan, table_of, IsAway, IsPlaced, ArePlaced, IsKept}
 use Rattle.mcs_stretch.proofs.Boxes.{filter-flat_map-none, out_of_turn}
 use Rattle.mcs_stretch.proofs.Joins.{inbox-joined}
 use Rattle.mcs_stretch.proofs.News.{news-are, news-joined}
 use Rattle.mcs_stretch.proofs.Deliveries.{signals_from, home-news}
-use Rattle.mcs_window.proofs.Advances.{list-more, here_own, here_other, since_later}
+use Rattle.mcs_window.proofs.Advances.{here_own, here_other, since_later}
 use Rattle.mcs_stretch.proofs.Later.{takes_time, rises, later_other, signals_own}
 
 -- of the first signals no more are for a core than there are
@@ -225,10 +224,14 @@ boxes_roomy a full kept same =
         let many = kept.boxes_of in
         subst (λ ms. IsPlaced (arc_value a.system) a.horizon b a.clocks ms (get_or a.slots.items b slot)) (sym (same.each b box (omega arith))) (kept.placed b slot box l)
 
--- a list of rows has more room
-pub rows_roomy : (a : Inside (Vec Row Global)) (k : ℕ) (old new : Vec Row Global) → IsKept HasItems a → k < (arc_value a.system).cores → old ≡ get_or a.told.items k old → new.items ≡ old.items
-    → IsKept HasItems (record a { told = with_item a.told k new })
-rows_roomy a k old new kept h at same =
+-- the rows that a core told since they were last taken
+abbrev rows_since : {S : Type 0} → Inside S → ℕ → List Row
+rows_since a b = rows_between (arc_value a.system) b (slice_index a.taken b) (slice_index a.clocks b)
+
+-- what a core told has more room
+pub told_roomy : {S : Type 0} {holds : S → List Row → Type 0} (a : Inside S) (k : ℕ) (old new : S) → IsKept holds a → k < (arc_value a.system).cores → old ≡ get_or a.told.items k old
+    → ((held : List Row) → holds old held → holds new held) → IsKept holds (record a { told = with_item a.told k new })
+told_roomy {S} {holds} a k old new kept h at same =
     record {
       horizon = kept.horizon;
       well_formed = kept.well_formed;
@@ -243,21 +246,21 @@ rows_roomy a k old new kept h at same =
       since = record {
         in_time = kept.since.in_time;
         in_order = kept.since.in_order;
-        told_are = record { many_are = length-set a.told.items k new ∙ kept.since.told_are.many_are; each = rows_same };
+        told_are = record { many_are = length-set a.told.items k new ∙ kept.since.told_are.many_are; each = each };
       };
       placed = kept.placed;
     }
   where
-    rows_same : (b : ℕ) (x : Vec Row Global) → b < (arc_value a.system).cores → (get_or (set a.told.items k new) b x).items ≡ rows_between (arc_value a.system) b (slice_index a.taken b) (slice_index a.clocks b)
-    rows_same b x p = elim (eqb_tells b k) [
-      | inl e ↦ ap (λ d. (get_or (set a.told.items k new) d x).items) e.1 ∙ ap (λ (v : Vec Row Global). v.items) (get_or-set_same a.told.items k new x (let all = kept.since.told_are.many_are in omega arith))
-          ∙ same ∙ ap (λ (v : Vec Row Global). v.items) at ∙ kept.since.told_are.each k old h
-          ∙ ap (λ d. rows_between (arc_value a.system) d (slice_index a.taken d) (slice_index a.clocks d)) (sym e.1)
-      | inr e ↦ ap (λ (v : Vec Row Global). v.items) (get_or-set_other a.told.items k b new x e.1) ∙ kept.since.told_are.each b x p
+    each : (b : ℕ) (x : S) → b < (arc_value a.system).cores → holds (get_or (set a.told.items k new) b x) (rows_since a b)
+    each b x p = elim (eqb_tells b k) [
+      | inl e ↦ subst (λ d. holds (get_or (set a.told.items k new) d x) (rows_since a d)) (sym e.1)
+          (subst (λ t. holds t (rows_since a k)) (sym (get_or-set_same a.told.items k new x (let all = kept.since.told_are.many_are in omega arith)))
+          (same (rows_since a k) (subst (λ t. holds t (rows_since a k)) (sym at) (kept.since.told_are.each k old h))))
+      | inr e ↦ subst (λ t. holds t (rows_since a b)) (sym (get_or-set_other a.told.items k b new x e.1)) (kept.since.told_are.each b x p)
     ]
 
 -- a stretch that was lent
-module _ (a : Inside (Vec Row Global)) (kept : IsKept HasItems a) (done : Outcome) (are : IsOutcome done) (same : done.system ≡ arc_value a.system) (loan : IsLoan (table_of a) done) where
+module _ {S : Type 0} {holds : S → List Row → Type 0} (a : Inside S) (kept : IsKept holds a) (done : Outcome) (are : IsOutcome done) (same : done.system ≡ arc_value a.system) (loan : IsLoan (table_of a) done) where
   abbrev system : System
   system = arc_value a.system
 
@@ -271,8 +274,9 @@ module _ (a : Inside (Vec Row Global)) (kept : IsKept HasItems a) (done : Outcom
   pub out-none : filter (is_home system k) done.out ≡ []
   out-none = ap (filter (is_home system k)) (rw same at are.out_is) ∙ own-none system k done.first done.past
 
-  module _ (spare : Arc System Global) (mailbox : Content) (joined full : List Content) (old new : Vec Row Global) (copy : arc_value spare ≡ done.system) (mails_are : mailbox.mails ≡ done.mail)
-      (is_joined : IsJoined k mailbox a.boxes.items joined) (delivered : AreDelivered system done.out joined full) (at : old ≡ get_or a.told.items k old) (more : new.items ≡ old.items ++ done.rows) where
+  module _ (spare : Arc System Global) (mailbox : Content) (joined full : List Content) (old new : S) (copy : arc_value spare ≡ done.system) (mails_are : mailbox.mails ≡ done.mail)
+      (is_joined : IsJoined k mailbox a.boxes.items joined) (delivered : AreDelivered system done.out joined full) (at : old ≡ get_or a.told.items k old)
+      (more : (held : List Row) → holds old held → holds new (held ++ done.rows)) where
     abbrev back : Slot
     back = Here spare done.state
 
@@ -332,10 +336,10 @@ module _ (a : Inside (Vec Row Global)) (kept : IsKept HasItems a) (done : Outcom
     boxes_are : (with_items (with_items a.boxes joined) full).items ≡ full
     boxes_are = with_items_is (with_items a.boxes joined) full (let ok = (with_items a.boxes joined).ok.0 in let many = delivered.many in let e = ap length boxes_first in omega arith)
 
-    rows_more : new.items ≡ old.items ++ rows_between system k (slice_index a.clocks k) done.past
-    rows_more = more ∙ ap (λ rows. old.items ++ rows) (rw same at are.rows_are ∙ ap (λ m. rows_between system k m done.past) loan.first)
+    rows_are : done.rows ≡ rows_between system k (slice_index a.clocks k) done.past
+    rows_are = rw same at are.rows_are ∙ ap (λ m. rows_between system k m done.past) loan.first
 
-    pub settled_kept : IsKept HasItems (record a {
+    pub settled_kept : IsKept holds (record a {
       clocks = set a.clocks k done.past;
       slots = with_item a.slots k back;
       boxes = with_items (with_items a.boxes joined) full;
@@ -353,7 +357,8 @@ module _ (a : Inside (Vec Row Global)) (kept : IsKept HasItems a) (done : Outcom
           boxes_of = ap length boxes_are ∙ delivered.many ∙ is_joined.many ∙ kept.boxes_of;
           delays_are = kept.delays_are;
           reaches_are = kept.reaches_are;
-          since = since_later system kept.well_formed a.clocks k done.past there a.horizon a.taken a.told.items kept.since inside forward (away mailbox).in_time old new at (list-more old new _ rows_more);
+          since = since_later system kept.well_formed a.clocks k done.past there a.horizon a.taken a.told.items kept.since inside forward (away mailbox).in_time old new at
+              (λ held h. subst (λ rows. holds new (held ++ rows)) rows_are (more held h));
           placed = subst (λ boxes. ArePlaced system a.horizon (set a.clocks k done.past) (set a.slots.items k back) boxes) (sym boxes_are) placed;
         }
 

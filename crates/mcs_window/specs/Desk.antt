@@ -64,6 +64,10 @@ past_of table c =
     fold (λ past b. if b == c then past else min past (clock_of table b + delay_between table.system b c))
     (table.horizon + 1) (range_with_len 0 table.system.cores)
 
+-- the moment up to which core c may be lent for no more than so many moments
+abbrev pub past_within : Table → ℕ → ℕ → ℕ
+past_within table span c = min (clock_of table c + span) (past_of table c)
+
 -- core c is not lent, and it may take at least one turn
 pub record MayLend (table : Table) (c : ℕ) : Type 0 where
   pub known : c < table.system.cores
@@ -139,6 +143,14 @@ pub record IsLent (before : Table) (c : ℕ) (after : Table) : Type 0 where
   pub sound : before.lost ≡ false
   pub chosen : IsChosen table c
   pub lent : after ≡ lent_at table c
+
+-- and so for no more than so many moments
+pub record IsLentWithin (before : Table) (span c : ℕ) (after : Table) : Type 0 where
+  pub table : Table
+  pub awake : IsAwake before table
+  pub sound : before.lost ≡ false
+  pub chosen : IsChosen table c
+  pub lent : after ≡ lent_to table c (past_within table span c)
 
 -- nothing but clocks and loans changed
 pub record IsSameRun (before after : Table) : Type 0 where

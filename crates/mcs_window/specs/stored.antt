@@ -5,3 +5,4 @@ pub mod Delivery
 pub mod Reaches
 pub mod Slots
 pub mod Rounds
+pub mod Outcomes

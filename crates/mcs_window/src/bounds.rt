@@ -5,7 +5,7 @@ ghost use Rattle.mcs_stretch.specs.ByScripts.{IsFarByScripts};
 ghost use Rattle.mcs_laws.specs.Links.{Signals};
 ghost use Rattle.mcs_stretch.specs.Stretch.{NothingArrivesBefore};
 ghost use Rattle.mcs_window.specs.stored.Reaches.{IsReach};
-ghost use Rattle.mcs_window.specs.Desk.{past_of};
+ghost use Rattle.mcs_window.specs.Desk.{past_of, past_within};
 
 use crate::desk::Desk;
 use mcs_ticks::{Collector, CoreId, Tick};
@@ -34,6 +34,15 @@ impl<S: Collector> Desk<S> {
             }
         }
         Tick::new(past).unwrap()
+    }
+
+    // The moment up to which a core may be lent for no more than so many moments.
+    pub(crate) fn past_within(&self, core: CoreId, span: u64) -> Tick
+        requires { core < self.now.system.cores }
+        ensures { result ≡ past_within self.now span core }
+    {
+        let most = self.clock(core).get().saturating_add(span);
+        Tick::new(most.min(self.past(core).get())).unwrap()
     }
 
     // After how long a signal of this core may reach another one, from a moment on: after its delay, and never where no script says one.

@@ -5,7 +5,7 @@ ghost use Rattle.mcs_core.specs.Quiet.{IsNextBusy};
 ghost use Rattle.mcs_stretch.specs.Idle.{IsIdle, AreIdle, AreSet, IsIdleUntil, OnlyCounts};
 ghost use Rattle.mcs_stretch.specs.Inbox.{inbox};
 ghost use Rattle.mcs_window.specs.stored.Slots.{HoldsAt};
-ghost use Rattle.mcs_window.specs.Desk.{clock_of, loan_of, IsSkipped, AllAreHere, WentByScripts};
+ghost use Rattle.mcs_window.specs.Desk.{Table, clock_of, loan_of, IsSkipped, AllAreHere, WentByScripts};
 
 use crate::calendar::Calendar;
 use crate::desk::Desk;
@@ -61,6 +61,14 @@ impl<S: Collector> Desk<S> {
         };
         let moment = self.idle_until(enough);
         self.skip_to(moment);
+    }
+
+    /// No core does more than count ticks while idle time is skipped from here on: it makes no row and no signal.
+    pub fn idle_is_silent(&self)
+        ensures { AllAreHere self.now → (after : Table) → IsSkipped self.now after → (c : ℕ) → c < self.now.system.cores
+            → OnlyCounts self.now.system self.now.clocks after.clocks c }
+    {
+        let _lost = self.lost;
     }
 
     // Each core whose clock is before the moment goes to it: until then all cores only count ticks.

@@ -1,17 +1,18 @@
 //! Cores that are lent for stretches, and taken back.
-ghost use Rattle.std.specs.Prelude.{◌≡◌, ℕ, ◌<◌, ◌⊎◌, true, false, IfErr, OnOk, OnErr, IfSome, IfNone, IsTrue, IsFalse};
-ghost use Rattle.mcs_window.specs.Desk.{clock_of, past_of, MayLend, IsChosen, lent_at, settled_at, IsAwake, IsLent, IsSameRun, with_lost, IsLoan, IsSettleFault, AllAreHere, IsFinished};
+ghost use Rattle.std.specs.Prelude.{◌≡◌, ℕ, ◌<◌, ◌≤◌, ◌⊎◌, true, false, IfErr, OnOk, OnErr, IfSome, IfNone, IsTrue, IsFalse};
+ghost use Rattle.mcs_window.specs.Desk.{clock_of, past_of, MayLend, IsChosen, past_within, lent_at, lent_to, settled_at, IsAwake, IsLent, IsLentWithin, IsSameRun, with_lost, IsLoan, IsSettleFault, AllAreHere, IsFinished};
 
+use crate::append::Append;
 use crate::delivery::{deliver_reserved, make_room};
 use crate::desk::Desk;
-use crate::settle::{make_own_room, put_box, put_rows, same_front};
+use crate::settle::{make_own_room, put_box, same_front};
 use crate::slot::{Loan, Slot};
 use crate::{Done, Lost, Piece, SettleFault};
 use mcs_mail::Mailbox;
-use mcs_ticks::{CoreId, Row};
+use mcs_ticks::{Collector, CoreId};
 use std::mem;
 
-impl Desk<Vec<Row>> {
+impl<S: Collector> Desk<S> {
     /// Whether a core may be lent now.
     pub fn can_lend(&self) -> bool
         ensures some { IsTrue result → (self.now.lost ≡ false) × (c : ℕ) × MayLend self.now c }
@@ -35,10 +36,27 @@ impl Desk<Vec<Row>> {
         ensures goes_on { IfNone result (self.old.lost ≡ false → AllAreHere self.old → IsFinished self.new) }
         ensures same_run { IsSameRun self.old self.new }
     {
+        let _lost = self.lost;
+        self.lend_within(u64::MAX)
+    }
+
+    /// Lends as `lend` does, but for no more than so many moments, of which there is at least one.
+    pub fn lend_within(&mut self, span: u64) -> Option<Piece>
+        requires { 1 ≤ span }
+        ensures some { IfSome result (λ piece. IsLentWithin self.old span piece.core self.new) }
+        ensures piece { IfSome result (λ piece. (piece.system ≡ self.old.system)
+            × (piece.first ≡ clock_of self.new piece.core)
+            × (piece.past ≡ past_within self.new span piece.core)
+            × (piece.front ≡ self.new.clocks)) }
+        ensures none { IfNone result (IsAwake self.old self.new
+            × ((self.old.lost ≡ true) ⊎ ((c : ℕ) → ¬ MayLend self.new c))) }
+        ensures goes_on { IfNone result (self.old.lost ≡ false → AllAreHere self.old → IsFinished self.new) }
+        ensures same_run { IsSameRun self.old self.new }
+    {
         if !self.lost && self.all_are_here() {
             self.skip_idle();
         }
-        self.lend_now()
+        self.lend_now(span)
     }
 
     /// Lends this core, if it may be lent now, for as long as the clocks of the others allow. No idle time is skipped. None where the core is
@@ -56,11 +74,30 @@ impl Desk<Vec<Row>> {
         ensures none { IfNone result ((self.new ≡ self.old)
             × ((self.old.lost ≡ true) ⊎ ¬ MayLend self.old core)) }
     {
+        let _lost = self.lost;
+        self.lend_core_within(core, u64::MAX)
+    }
+
+    // Lends this core as `lend_core` does, but for no more than so many moments.
+    fn lend_core_within(&mut self, core: CoreId, span: u64) -> Option<Piece>
+        requires known { core < self.old.system.cores }
+        requires some { 1 ≤ span }
+        ensures some { IfSome result (λ piece. (self.old.lost ≡ false)
+            × (piece.core ≡ core)
+            × MayLend self.old core
+            × (self.new ≡ lent_to self.old core (past_within self.old span core))) }
+        ensures piece { IfSome result (λ piece. (piece.system ≡ self.old.system)
+            × (piece.first ≡ clock_of self.old core)
+            × (piece.past ≡ past_within self.old span core)
+            × (piece.front ≡ self.old.clocks)) }
+        ensures none { IfNone result ((self.new ≡ self.old)
+            × ((self.old.lost ≡ true) ⊎ ¬ MayLend self.old core)) }
+    {
         if self.lost || !self.may_lend(core) {
             return None;
         }
         let first = self.clock(core);
-        let past = self.past(core);
+        let past = self.past_within(core, span);
         let front = self.clocks;
         let slot = mem::replace(&mut self.slots[core.0], Slot::Away(Loan { past, front }));
         let mail = mem::replace(&mut self.boxes[core.0], Mailbox::new(self.alloc));
@@ -79,14 +116,15 @@ impl Desk<Vec<Row>> {
         })
     }
 
-    // Of the cores that may be lent, lends the earliest. No idle time is skipped.
-    fn lend_now(&mut self) -> Option<Piece>
+    // Of the cores that may be lent, lends the earliest, for no more than so many moments. No idle time is skipped.
+    fn lend_now(&mut self, span: u64) -> Option<Piece>
+        requires { 1 ≤ span }
         ensures some { IfSome result (λ piece. (self.old.lost ≡ false)
             × IsChosen self.old piece.core
-            × (self.new ≡ lent_at self.old piece.core)) }
+            × (self.new ≡ lent_to self.old piece.core (past_within self.old span piece.core))) }
         ensures piece { IfSome result (λ piece. (piece.system ≡ self.old.system)
             × (piece.first ≡ clock_of self.old piece.core)
-            × (piece.past ≡ past_of self.old piece.core)
+            × (piece.past ≡ past_within self.old span piece.core)
             × (piece.front ≡ self.old.clocks)) }
         ensures none { IfNone result ((self.new ≡ self.old)
             × ((self.old.lost ≡ true) ⊎ ((c : ℕ) → ¬ MayLend self.old c))) }
@@ -96,7 +134,7 @@ impl Desk<Vec<Row>> {
             return None;
         }
         let core = self.choice()?;
-        self.lend_core(core)
+        self.lend_core_within(core, span)
     }
 
     /// Marks a piece as lost: nothing is lent from now on. All loans stay, and stretches that are away may still be settled.
@@ -107,7 +145,7 @@ impl Desk<Vec<Row>> {
     }
 
     // Why a stretch of the desk's system is not the one that its core is lent for.
-    fn fault_of(&self, done: &Done) -> Option<SettleFault>
+    fn fault_of(&self, done: &Done<S>) -> Option<SettleFault>
         requires { done.now.system ≡ self.now.system }
         ensures none { IfNone result (IsLoan self.now done.now) }
         ensures some { IfSome result (IsSettleFault self.now done.now) }
@@ -121,10 +159,12 @@ impl Desk<Vec<Row>> {
         }
         None
     }
+}
 
+impl<S: Append> Desk<S> {
     /// Takes a stretch back that was run: the core comes to its end, its signals go to their homes, and the mail that collected
     /// meanwhile joins its own. On each fault the desk is as it was, and the stretch is handed back. It compares the systems.
-    pub fn settle(&mut self, done: Done) -> Result<(), (SettleFault, Done)>
+    pub fn settle(&mut self, done: Done<S>) -> Result<(), (SettleFault, Done<S>)>
         ensures ok { OnOk result ((done.system ≡ self.old.system)
             × IsLoan self.old done
             × (self.new ≡ settled_at self.old done.core done.past)) }
@@ -139,7 +179,7 @@ impl Desk<Vec<Row>> {
     }
 
     /// Takes a stretch of the desk's system back, as `settle` does. It compares no systems, so that its cost does not grow with the system's size.
-    pub fn take_back(&mut self, done: Done) -> Result<(), (SettleFault, Done)>
+    pub fn take_back(&mut self, done: Done<S>) -> Result<(), (SettleFault, Done<S>)>
         requires { done.system ≡ self.old.system }
         ensures ok { OnOk result (IsLoan self.old done × (self.new ≡ settled_at self.old done.core done.past)) }
         ensures err { OnErr result (self.new ≡ self.old) }
@@ -154,8 +194,8 @@ impl Desk<Vec<Row>> {
         if make_room(&self.system, &mut self.boxes, &done.out).is_err() {
             return Err((SettleFault::NoMemory, done));
         }
-        let (collected, rows) = (&self.boxes[core], &mut self.told[core]);
-        if make_own_room(&mut done.mail, collected, rows, done.rows.len()).is_err() {
+        let (collected, told) = (&self.boxes[core], &mut self.told[core]);
+        if make_own_room(&mut done.mail, collected, told, &done.rows).is_err() {
             return Err((SettleFault::NoMemory, done));
         }
         let Done {
@@ -169,7 +209,7 @@ impl Desk<Vec<Row>> {
         } = done;
         put_box(&mut self.boxes, core, mail);
         deliver_reserved(&self.system, &mut self.boxes, &out);
-        put_rows(&mut self.told[core], rows);
+        self.told[core].append(rows);
         self.clocks[core] = past;
         self.slots[core] = Slot::Here {
             spare: system,

@@ -1,10 +1,12 @@
-ghost use Rattle.std.specs.Prelude.{◌≡◌, IfOk, IfErr};
+ghost use Rattle.std.specs.Prelude.{◌≡◌, ◌++◌, IfOk, IfErr, OnOk, List};
+ghost use Rattle.mcs_ticks.specs.declared.row.Row.{Row};
+ghost use Rattle.mcs_stretch.specs.Stretch.{rows_between};
 ghost use Rattle.mcs_window.specs.Pieces.{IsOf, IsWork, IsOutcome};
 
 use mcs_core::CoreState;
 use mcs_mail::{Mail, Mailbox};
 use mcs_system::System;
-use mcs_ticks::{CoreId, Row, Tick};
+use mcs_ticks::{Collector, CoreId, Nothing, Row, Tick};
 use std::alloc::Global;
 use std::marker::Model;
 use std::sync::Arc;
@@ -61,52 +63,33 @@ impl Model for Piece {
     }) };
 }
 
-/// A stretch that was run. The type keeps that all is as the core's turns leave it after the stretch.
+/// A stretch that was run. The type keeps that all is as the core's turns leave it after the stretch, and that `rows` holds their rows.
 #[derive(Drop)]
-pub struct Done {
+pub struct Done<S: Collector = Vec<Row>> {
     pub system: Arc<System>,
     pub core: CoreId,
     pub first: Tick,
     pub past: Tick,
     pub front: Front,
     pub state: CoreState,
-    /// The rows of the core's turns.
-    pub rows: Vec<Row>,
+    /// What the core's turns told.
+    pub rows: S,
     /// The signals that the turns made for other cores.
     pub out: Vec<Mail>,
     /// What remains of the piece's mail.
     pub mail: Mailbox,
 }
 
-impl Model for Done {
-    ghost use Rattle.std.specs.Arc.{arc_value};
-    ghost use Rattle.mcs_window.specs.Pieces.{Outcome, IsOutcome};
+impl<S: Collector> Model for Done<S> {
+    ghost use Rattle.mcs_window.specs.Pieces.{Outcome};
 
     ghost Value = { Outcome };
 
-    ghost view = { λ a. record {
-      system = arc_value a.system;
-      core = a.core;
-      first = a.first;
-      past = a.past;
-      front = a.front;
-      state = a.state;
-      rows = a.rows.items;
-      out = a.out.items;
-      mail = a.mail.mails;
-    } };
+    ghost use Rattle.mcs_window.specs.stored.Outcomes.{IsKept, outcome_of};
 
-    ghost invariant = { λ a. IsOutcome (record {
-      system = arc_value a.system;
-      core = a.core;
-      first = a.first;
-      past = a.past;
-      front = a.front;
-      state = a.state;
-      rows = a.rows.items;
-      out = a.out.items;
-      mail = a.mail.mails;
-    }) };
+    ghost view = { outcome_of };
+
+    ghost invariant = { IsKept S.holds };
 }
 
 /// A stretch for which there was no memory. Its state and mail are gone.
@@ -124,6 +107,26 @@ impl Piece {
         ensures lost { IfErr result
             (λ lost. (lost.core ≡ self.core) × (lost.first ≡ self.first) × (lost.past ≡ self.past)) }
     {
+        let Ok(mut rows) = Vec::with_capacity(self.alloc, ROWS) else {
+            return Err(Lost {
+                core: self.core,
+                first: self.first,
+                past: self.past,
+            });
+        };
+        let done = self.run_to(&mut rows)?;
+        Ok(done.with(rows))
+    }
+
+    /// Takes the turns of the stretch, and tells their rows to a collector, behind those that it held before. `Lost` is given only where there
+    /// was no memory, or where the collector refused a row, and then nothing is said of the collector.
+    pub fn run_to<T: Collector>(self, told: &mut T) -> Result<Done<Nothing>, Lost>
+        ensures told { (held : List Row) → T.holds told.old held
+            → OnOk result (T.holds told.new (held ++ rows_between self.system self.core self.first self.past)) }
+        ensures done { IfOk result (IsOf self) }
+        ensures lost { IfErr result
+            (λ lost. (lost.core ≡ self.core) × (lost.first ≡ self.first) × (lost.past ≡ self.past)) }
+    {
         let Piece {
             system,
             core,
@@ -135,13 +138,10 @@ impl Piece {
             alloc,
         } = self;
         let _parts = system.parts();
-        let Ok(mut rows) = Vec::with_capacity(alloc, ROWS) else {
-            return Err(Lost { core, first, past });
-        };
         let Ok(mut out) = Vec::with_capacity(alloc, SIGNALS) else {
             return Err(Lost { core, first, past });
         };
-        let Ok(()) = state.run(&system, &mut mail, past, &mut rows, &mut out) else {
+        let Ok(()) = state.run_to(&system, &mut mail, past, told, &mut out) else {
             return Err(Lost { core, first, past });
         };
         Ok(Done {
@@ -151,9 +151,40 @@ impl Piece {
             past,
             front,
             state,
-            rows,
+            rows: Nothing,
             out,
             mail,
         })
+    }
+}
+
+impl Done<Nothing> {
+    // The same stretch with a collector that holds its rows.
+    fn with<S: Collector>(self, rows: S) -> Done<S>
+        requires { S.holds rows (rows_between self.system self.core self.first self.past) }
+        ensures { result ≡ self }
+    {
+        let Done {
+            system,
+            core,
+            first,
+            past,
+            front,
+            state,
+            out,
+            mail,
+            ..
+        } = self;
+        Done {
+            system,
+            core,
+            first,
+            past,
+            front,
+            state,
+            rows,
+            out,
+            mail,
+        }
     }
 }

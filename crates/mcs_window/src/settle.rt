@@ -1,10 +1,12 @@
-ghost use Rattle.std.specs.Prelude.{◌≡◌, ◌↔◌, ◌++◌, ◌≤◌, ◌<◌, [], length, slice_index_or, vec_len, option_to_list, IfNone, IsTrue, OnOk};
+ghost use Rattle.std.specs.Prelude.{◌≡◌, ◌↔◌, ◌++◌, ◌≤◌, ◌<◌, [], length, slice_index_or, option_to_list, IfNone, IsTrue, OnOk, List};
 ghost use Rattle.mcs_mail.specs.Box.{put_all};
-ghost use Rattle.mcs_window.specs.stored.Delivery.{IsJoined, HasRoomFor};
+ghost use Rattle.mcs_ticks.specs.declared.row.Row.{Row};
+ghost use Rattle.mcs_window.specs.stored.Delivery.{IsJoined};
 
 use crate::Front;
+use crate::append::Append;
 use mcs_mail::{Mail, Mailbox};
-use mcs_ticks::{NoMemory, Row};
+use mcs_ticks::NoMemory;
 use std::mem;
 
 // Whether the clocks are the same.
@@ -14,23 +16,20 @@ pub(crate) fn same_front(one: &Front, other: &Front) -> bool
     one == other
 }
 
-// Makes room in the box of a stretch for the mail that was collected meanwhile, and in the list of rows for that many more.
-pub(crate) fn make_own_room(
+// Makes room in the box of a stretch for the mail that was collected meanwhile, and in what the core told for what it told in the stretch.
+pub(crate) fn make_own_room<S: Append>(
     mailbox: &mut Mailbox,
     collected: &Mailbox,
-    rows: &mut Vec<Row>,
-    more: usize,
+    told: &mut S,
+    more: &S,
 ) -> Result<(), NoMemory>
     ensures mails { mailbox.new.mails ≡ mailbox.old.mails }
-    ensures rows { rows.new.items ≡ rows.old.items }
+    ensures told { (held : List Row) → S.holds told.old held → S.holds told.new held }
     ensures mail_room { OnOk result (length collected.now.mails ≤ mailbox.new.spare) }
-    ensures row_room { OnOk result (HasRoomFor rows.new more) }
+    ensures told_room { OnOk result (S.has_room told.new more.now) }
 {
     mailbox.reserve(collected.len())?;
-    if !rows.is_empty() {
-        rows.reserve(more)?;
-    }
-    Ok(())
+    told.make_room(more)
 }
 
 // Takes the first mail.
@@ -63,18 +62,4 @@ pub(crate) fn put_box(boxes: &mut [Mailbox], core: usize, mailbox: Mailbox)
 {
     let mut collected = mem::replace(&mut boxes[core], mailbox);
     join(&mut boxes[core], &mut collected);
-}
-
-// Moves rows behind those that there are, where there is room for them. Where there are none the list is taken as it is.
-pub(crate) fn put_rows(rows: &mut Vec<Row>, more: Vec<Row>)
-    requires { HasRoomFor rows.old (vec_len more) }
-    ensures { rows.new.items ≡ rows.old.items ++ more.items }
-{
-    if rows.is_empty() {
-        *rows = more;
-        return;
-    }
-    let mut more = more;
-    let put = rows.append(&mut more).is_ok();
-    prove!(put);
 }

@@ -1,7 +1,7 @@
 -- What the clauses of a desk's calls say of it, as steps.
 use Rattle.std.specs.Prelude.{◌≡◌, ℕ, ◌-◌, ◌<◌, ◌≤◌, false, List, [], ◌∷◌, ◌++◌, replicate}
 use Rattle.mcs_system.specs.System.{System, TakesTime}
-use Rattle.mcs_window.specs.Desk.{Table, opening_table, AllAreHere, IsSkipped, IsAwake, MayLend, IsLent, IsLoan, IsLater, IsSpent, lent_at, settled_at, taken_at, with_lost}
+use Rattle.mcs_window.specs.Desk.{Table, opening_table, AllAreHere, IsSkipped, IsAwake, MayLend, IsLent, IsLentWithin, IsLoan, IsLater, IsSpent, lent_at, settled_at, taken_at, with_lost}
 use Rattle.mcs_window.specs.Pieces.{Outcome}
 use Rattle.mcs_window.specs.laws.Steps.{Step, Settle, Forfeit, TakeRows, after_steps, turns_of, turns_in, AreTaken, NoneGoes, NoneIsSpent}
 
@@ -17,6 +17,7 @@ IsByLoans before after = (steps : List Step) × IsBy before after steps × NoneG
 -- what calls that lend, skip idle time, settle, forfeit and take rows say
 pub record CallsAreSteps (before after : Table) : Type 0 where
   pub lent : (c : ℕ) → IsLent before c after → IsByLoans before after
+  pub lent_within : (span c : ℕ) → 1 ≤ span → IsLentWithin before span c after → IsByLoans before after
   pub core_lent : (c : ℕ) → before.lost ≡ false → MayLend before c → after ≡ lent_at before c → IsByLoans before after
   pub not_lent : IsAwake before after → IsByLoans before after
   pub skipped : AllAreHere before → IsSkipped before after → IsByLoans before after
