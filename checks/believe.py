@@ -51,8 +51,8 @@ class Root(NamedTuple):
 # another headline is a line more here, and its marks on the page
 ROOTS = (
     Root('headline', (
-        Clause('mcs_team/src/together.rt', 'simulate', 'headline', ('Headline',)),
-        Clause('mcs_team/src/alone.rt', 'simulate_alone', 'headline', ('Headline',)),
+        Clause('mcs_team/src/whole.rt', 'simulate', 'headline', ('Headline',)),
+        Clause('mcs_team/src/whole.rt', 'simulate_alone', 'headline', ('Headline',)),
         Clause('mcs_team/src/to_sink.rt', 'simulate_to', 'headline', ('Headline',)),
         Clause('mcs_team/src/to_sink.rt', 'schedule_to', 'headline', ('Headline',)),
         Clause('mcs_team/src/reporting.rt', 'report', 'headline', ('Headline',)),

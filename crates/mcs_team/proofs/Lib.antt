@@ -12,3 +12,4 @@ mod Retelling
 mod Opened
 mod Gathering
 mod OneCore
+mod Waking

@@ -7,7 +7,7 @@ use Rattle.mcs_report.specs.Tally.{added}
 use Rattle.mcs_system.specs.System.{System}
 use Rattle.mcs_ticks.specs.Given.{Given, GivenUntil, GivenSome}
 use Rattle.mcs_team.specs.Flow.{IsFlowFault}
-use Rattle.mcs_team.specs.declared.counted.Counted.{Counted}
+use Rattle.mcs_team.specs.declared.to_sink.Counted.{Counted}
 use Rattle.mcs_ticks.specs.declared.sink.FlowFault.{FlowFault}
 use Rattle.mcs_ticks.specs.declared.sink.FlowFault.TheVariants as fault
 use Rattle.mcs_team.specs.declared.whole.Kept.{Kept}

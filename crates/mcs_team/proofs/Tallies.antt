@@ -14,7 +14,7 @@ use Rattle.mcs_system.specs.System.{System}
 use Rattle.mcs_system.specs.WellFormed.{IsWellFormed}
 use Rattle.mcs_window.specs.Desk.{Table, clock_of, taken_of, AreEmpty, IsFinished}
 use Rattle.mcs_stretch.specs.Stretch.{rows_between}
-use Rattle.mcs_team.specs.Counts.{AreWhole}
+use Rattle.mcs_team.specs.Counts.{many_of, AreWhole}
 
 some-of : {S : Type 0} (xs : List S) (c : ℕ) → c < length xs → S
 some-of [] c l = absurd (omega arith)
@@ -34,8 +34,8 @@ each-more xs more many y P long each last e c x l = by (nat_lt c many) refl
         subst (P c) (sym (ap (λ zs. get_or zs c x) e ∙ get_or_push xs y x c (omega arith))) (subst (λ n. P n y) same last)
 
 -- tallies of no rows, for the cores below this number
-abbrev pub AreFirst : {S : Type 0} → List S → (S → CoreTally) → ℕ → Type 0
-AreFirst told tally_of many = AreEmpty (λ own rows. HoldsRows (tally_of own) rows) many told
+abbrev pub AreFirst : {S : Type 0} → List S → (S → CoreTally) → (S → ℕ) → ℕ → Type 0
+AreFirst told tally_of rows_of many = AreEmpty (λ own rows. HoldsRows (tally_of own) rows × (rows_of own ≡ many_of rows)) many told
 
 -- the tallies alone
 abbrev pub tallies_of : {S : Type 0} → List S → (S → CoreTally) → List CoreTally

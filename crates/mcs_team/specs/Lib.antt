@@ -3,3 +3,4 @@ pub mod Flow
 pub mod Headline
 pub mod NoSystem
 pub mod Telling
+pub mod stored

@@ -7,9 +7,9 @@ ghost use Rattle.mcs_ticks.specs.Given.{Given};
 ghost use Rattle.mcs_team.specs.Flow.{IsFlowFault};
 ghost use Rattle.mcs_team.specs.Headline.{Headline};
 
+use crate::fault::Stop;
 use crate::here::flow_here;
 use crate::rest::simulate_again;
-use crate::sink::Stop;
 use crate::stream::flow_beside;
 use crate::{FlowFault, Gate, Relay};
 use mcs_merge::Part;
@@ -59,7 +59,7 @@ where
     bandwidth_is_bounded();
     let workers = workers.min(plan.system.parts().cores);
     if workers < 2 {
-        flow_here(plan.alloc, plan.system, plan.horizon, relay, out)
+        flow_here(plan.alloc, plan.system, plan.horizon, relay, gate, out)
     } else {
         flow_team(rt, plan, workers, gate, relay, out)
     }

@@ -7,15 +7,14 @@ ghost use Rattle.mcs_ticks.specs.Given.{Given};
 ghost use Rattle.mcs_team.specs.Flow.{FailsFrom, IsClear, IsFlowFault, IsGivenBetween, Waits};
 ghost use Rattle.mcs_window.specs.Desk.{opening_table, AreEmpty};
 
-use crate::FlowFault;
-use crate::one_core::flow_one;
 use crate::outflow::Outflow;
 use crate::relay::{Relay, RowRelay};
 use crate::run::Run;
 use crate::whole::Kept;
+use crate::{FlowFault, Gate, Open};
 use mcs_merge::Part;
 use mcs_system::System;
-use mcs_ticks::{NoMemory, Row, Tick};
+use mcs_ticks::{CoreId, NoMemory, Row, Tick};
 use mcs_window::Desk;
 use std::alloc::Global;
 use std::marker::Brand;
@@ -25,10 +24,11 @@ use std::sync::Arc;
 const ENOUGH: usize = 2048;
 
 /// Takes the turns that are left in rounds, and gives out what was told in each round before the clocks of all cores.
-pub(crate) fn flow_rounds<B: Run, W: Relay>(
+pub(crate) fn flow_rounds<B: Run, W: Relay, G: Gate>(
     relay: &W,
     mut desk: Desk<W::Told>,
     mut flow: Outflow<W>,
+    gate: &G,
     out: &mut <W::Part as Part>::Out,
 ) -> Result<(), FlowFault>
     requires well_formed { IsWellFormed B.system }
@@ -48,31 +48,66 @@ pub(crate) fn flow_rounds<B: Run, W: Relay>(
         let Ok(()) = flow.pour::<B>(out) else {
             return Err(FlowFault::Sink);
         };
+        gate.reached(flow.reached());
     }
     Ok(())
 }
 
 // Takes the turns in rounds at a desk on which nothing has happened yet.
-fn flow_desk<B: Run, W: Relay>(
+fn flow_desk<B: Run, W: Relay, G: Gate>(
     alloc: Global,
     relay: &W,
     desk: Desk<W::Told>,
     system: &System,
-    horizon: Tick,
+    gate: &G,
     out: &mut <W::Part as Part>::Out,
 ) -> Result<(), FlowFault>
     requires system { system.now ≡ B.system }
-    requires horizon { (horizon ≡ B.horizon) × (horizon ≤ 2 ^ 40) }
     requires desk { desk ≡ opening_table B.system B.horizon }
     requires fits { W.fits relay.now out.old }
     ensures given { OnOk result (Given W.Part.Out.takes out.old (schedule B.system B.horizon) out.new) }
     ensures fault { IfErr result (IsFlowFault W.Part.Out.takes B.system B.horizon out.old out.new) }
 {
     let _parts = system.parts();
-    let Ok(flow) = Outflow::new(alloc, relay, system, horizon, Tick::ZERO) else {
+    let Ok(flow) = Outflow::new(alloc, relay, system, desk.horizon(), Tick::ZERO) else {
         return Err(FlowFault::NoMemory);
     };
-    flow_rounds::<B, W>(relay, desk, flow, out)
+    flow_rounds::<B, W, G>(relay, desk, flow, gate, out)
+}
+
+// Takes all turns in rounds at a desk with one core, on which nothing has happened yet, and gives what was told in each round to an output at
+// once.
+fn flow_one<W: Relay, G: Gate>(
+    relay: &W,
+    mut desk: Desk<W::Told>,
+    gate: &G,
+    out: &mut <W::Part as Part>::Out,
+) -> Result<(), FlowFault>
+    requires well_formed { IsWellFormed desk.system }
+    requires one { desk.system.cores ≡ 1 }
+    requires unused { desk ≡ opening_table desk.system desk.horizon }
+    requires fits { W.fits relay.now out.old }
+    ensures given { OnOk result (Given W.Part.Out.takes out.old (schedule desk.system desk.horizon) out.new) }
+    ensures fault { IfErr result (IsFlowFault W.Part.Out.takes desk.system desk.horizon out.old out.new) }
+{
+    let core = CoreId(0);
+    let horizon = desk.horizon();
+    let mut reached = Tick::ZERO;
+    let mut room = relay.empty();
+    'rounds: while reached <= horizon {
+        let Ok(()) = desk.go(ENOUGH) else {
+            return Err(FlowFault::NoMemory);
+        };
+        let _taken = desk.taken(core);
+        reached = desk.clock(core);
+        let mut told = desk.take(core, room);
+        let Ok(()) = relay.give(&mut told, out) else {
+            return Err(FlowFault::Sink);
+        };
+        room = told;
+        gate.reached(reached);
+    }
+    Ok(())
 }
 
 /// For each core what it tells its rows to. None was told yet.
@@ -106,11 +141,12 @@ fn desk_for<W: Relay>(
 }
 
 /// The whole simulation up to the horizon on this thread, given out to an output. Of one core nothing is merged.
-pub(crate) fn flow_here<W: Relay>(
+pub(crate) fn flow_here<W: Relay, G: Gate>(
     alloc: Global,
     system: Arc<System>,
     horizon: Tick,
     relay: &W,
+    gate: &G,
     out: &mut <W::Part as Part>::Out,
 ) -> Result<(), FlowFault>
     requires in_range { horizon ≤ 2 ^ 40 }
@@ -123,9 +159,9 @@ pub(crate) fn flow_here<W: Relay>(
         return Err(FlowFault::NoMemory);
     };
     if cores == 1 {
-        return flow_one(relay, desk, out);
+        return flow_one(relay, desk, gate, out);
     }
-    flow_desk::<Brand, W>(alloc, relay, desk, &system, horizon, out)
+    flow_desk::<Brand, W, G>(alloc, relay, desk, &system, gate, out)
 }
 
 /// All rows up to the horizon, of a run on this thread.
@@ -139,7 +175,7 @@ pub(crate) fn rows_here(
 {
     let mut kept = Kept::new(alloc);
     let relay = RowRelay::new(alloc);
-    let Ok(()) = flow_here(alloc, system, horizon, &relay, &mut kept) else {
+    let Ok(()) = flow_here(alloc, system, horizon, &relay, &Open, &mut kept) else {
         return Err(NoMemory);
     };
     Ok(kept.rows)

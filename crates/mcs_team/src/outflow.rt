@@ -10,7 +10,7 @@ ghost use Rattle.mcs_window.specs.Desk.{clock_of, taken_at};
 use crate::Relay;
 use crate::run::Run;
 use crate::telling::{Telling, Untold};
-use mcs_merge::{Part, PartMerger};
+use mcs_merge::{Merger, Part};
 use mcs_system::System;
 use mcs_ticks::{CoreId, NoMemory, Refused, Tick};
 use mcs_window::Desk;
@@ -19,7 +19,7 @@ use std::alloc::Global;
 /// What cores told, which waits to be given out by moments.
 #[derive(Drop)]
 pub(crate) struct Outflow<W: Relay> {
-    merger: PartMerger<W::Part>,
+    merger: Merger<W::Part>,
     /// For each core the moment before which all that it told was added.
     pub(crate) pasts: Vec<Tick>,
     /// All before it was given.
@@ -50,7 +50,7 @@ impl<W: Relay> Outflow<W> {
     {
         let cores = system.parts().cores;
         let parts = empty_parts(alloc, relay, cores)?;
-        let merger = PartMerger::new(alloc, parts)?;
+        let merger = Merger::new(alloc, parts)?;
         let pasts = vec![in alloc; at; cores]?;
         let spare = Vec::with_capacity(alloc, cores)?;
         let end = horizon.plus(1).unwrap();
@@ -68,6 +68,13 @@ impl<W: Relay> Outflow<W> {
         ensures { IsTrue result ↔ (self.now.reached ≡ self.now.end) }
     {
         self.reached == self.end
+    }
+
+    /// All before it was given.
+    pub(crate) fn reached(&self) -> Tick
+        ensures { result ≡ self.now.reached }
+    {
+        self.reached
     }
 
     /// Adds what a core told from where that was last added to before a moment.

@@ -1,12 +1,14 @@
 //! Tallies of the cores of one run, whose system and horizon the type knows.
-ghost use Rattle.std.specs.Prelude.{◌≡◌, ℕ, ◌<◌, [], length, slice_index_or, IfOk, IsTrue};
+ghost use Rattle.std.specs.Prelude.{◌≡◌, ℕ, ◌<◌, [], length, slice_index_or, IfOk, IsTrue, replicate, IfSome};
 ghost use Rattle.std.specs.Arc.{arc_value};
 ghost use Rattle.mcs_report.specs.CoreTally.{HoldsRows};
-ghost use Rattle.mcs_window.specs.Desk.{AreEmpty};
+ghost use Rattle.mcs_window.specs.Desk.{AreEmpty, AreTold};
 
 use crate::run::Run;
+use crate::telling::{Telling, Tellings};
 use mcs_report::{CoreTally, Places};
-use mcs_ticks::{Collector, CoreId, Measured, NoMemory, Refused, Row, Sink, Tick};
+use mcs_ticks::{Collector, CoreId, Measured, NoMemory, Nothing, Refused, Row, Sink, Tick};
+use mcs_window::Desk;
 use std::alloc::Global;
 use std::marker::PhantomData;
 use std::sync::Arc;
@@ -16,6 +18,7 @@ use std::sync::Arc;
 pub(crate) struct OwnTally<B: Run> {
     pub(crate) tally: CoreTally,
     core: CoreId,
+    rows: usize,
     of: PhantomData<B>,
     ghost ours: { (tally.system ≡ B.system) × (tally.core ≡ core) × (tally.horizon ≡ B.horizon) },
 }
@@ -29,12 +32,13 @@ impl<B: Run> OwnTally<B> {
         horizon: Tick,
     ) -> Result<OwnTally<B>, NoMemory>
         requires run { (arc_value places ≡ B.system) × (horizon ≡ B.horizon) }
-        ensures { IfOk result (λ own. HoldsRows own.tally []) }
+        ensures { IfOk result (λ own. HoldsRows own.tally [] × (own.rows ≡ 0)) }
     {
         let tally = CoreTally::new(alloc, places, core, horizon)?;
         Ok(OwnTally {
             tally,
             core,
+            rows: 0,
             of: PhantomData,
         })
     }
@@ -71,41 +75,94 @@ pub(crate) fn are_in_place<B: Run>(tallies: &[OwnTally<B>]) -> bool
 }
 
 impl<B: Run> Sink for OwnTally<B> {
+    ghost use Rattle.std.specs.Prelude.{◌≡◌, true};
     ghost use Rattle.mcs_report.specs.CoreTally.{CoreCounts};
+    ghost use Rattle.mcs_team.specs.Counts.{one_more};
 
-    ghost takes = { λ before row taken after. CoreCounts before.tally row taken after.tally };
+    ghost takes = { λ before row taken after. CoreCounts before.tally row taken after.tally
+        × (taken ≡ true → after.rows ≡ one_more before.rows) };
 
     #[inline(always)]
     fn row(&mut self, row: &Row) -> Result<(), Refused> {
-        self.tally.row(row)
+        self.tally.row(row)?;
+        self.rows = self.rows.saturating_add(1);
+        Ok(())
     }
 }
 
-/// It keeps no rows, so it has no size.
+/// Its size is how many rows were counted, at most `usize::MAX`.
 impl<B: Run> Measured for OwnTally<B> {
-    ghost size = { λ _. 0 };
+    ghost size = { λ own. own.rows };
 
     #[inline(always)]
     fn size(&self) -> usize {
-        0
+        self.rows
     }
 }
 
 /// It holds the rows that its tally does.
 impl<B: Run> Collector for OwnTally<B> {
-    ghost use Rattle.std.specs.Prelude.{refl};
+    ghost use Rattle.std.specs.Prelude.{◌≡◌};
     ghost use Rattle.mcs_report.specs.CoreTally.{HoldsRows};
-    ghost use Rattle.mcs_report.specs.stored.CoreTally.{holds_added};
+    ghost use Rattle.mcs_team.specs.Counts.{many_of};
+    ghost use Rattle.mcs_team.specs.stored.Counts.{counted_more};
 
-    ghost holds = { λ own rows. HoldsRows own.tally rows };
+    ghost holds = { λ own rows. HoldsRows own.tally rows × (own.rows ≡ many_of rows) };
 
-    ghost amount = { λ _. 0 };
+    ghost amount = { many_of };
 
     fn clear(&mut self) {
         self.tally.clear();
+        self.rows = 0;
     }
 
-    ghost holds_more = { λ before after held row holds counts. holds_added before.tally after.tally held row holds counts };
+    ghost holds_more = { λ before after held row holds counts. counted_more before.tally after.tally before.rows after.rows held row holds counts };
 
-    ghost is_measured = { λ _ _ _. refl };
+    ghost is_measured = { λ own held holds. holds.1 };
+}
+
+/// Each core tells its rows to a tally of its own, which has none yet.
+pub(crate) fn counting<B: Run>(
+    alloc: Global,
+    places: &Arc<Places>,
+    cores: usize,
+    horizon: Tick,
+) -> Result<Tellings<B, OwnTally<B>>, NoMemory>
+    requires run { (arc_value places.now ≡ B.system) × (horizon ≡ B.horizon) }
+{
+    let mut slots = Vec::with_capacity(alloc, cores)?;
+    for core in 0..cores {
+        let core = CoreId(core);
+        let tally = OwnTally::<B>::new(alloc, Arc::try_clone(places)?, core, horizon)?;
+        let telling = Telling::<B, OwnTally<B>>::new(core, Tick::ZERO, tally);
+        slots.push(Some(telling))?;
+    }
+    Ok(Tellings::<B, OwnTally<B>>::new(slots))
+}
+
+/// The tallies, from core 0 on, where each has counted the rows of its core from moment 0 up to the core's clock. Else None, which no run meets.
+pub(crate) fn counted<B: Run>(
+    alloc: Global,
+    mut tellings: Tellings<B, OwnTally<B>>,
+    desk: &Desk<Nothing>,
+) -> Result<Option<Vec<OwnTally<B>>>, NoMemory>
+    requires { desk.now.system ≡ B.system }
+    ensures { IfOk result (λ found. IfSome found (λ told.
+        AreTold ⟦<OwnTally<B> as Collector>⟧.holds (record desk.now { taken = replicate 64 0 }) told.items)) }
+{
+    let mut told = Vec::with_capacity(alloc, desk.cores())?;
+    for number in 0..desk.cores() {
+        let core = CoreId(number);
+        let Some(telling) = tellings.take(core) else {
+            return Ok(None);
+        };
+        if telling.core() != core
+            || telling.first() != Tick::ZERO
+            || telling.past() != desk.clock(core)
+        {
+            return Ok(None);
+        }
+        told.push_reserved(telling.into_told());
+    }
+    Ok(Some(told))
 }

@@ -7,23 +7,32 @@ ghost use Rattle.mcs_report.specs.Tally.{opened_tally};
 ghost use Rattle.mcs_report.specs.laws.Demand.{AreWithinDemand};
 ghost use Rattle.mcs_team.specs.Counts.{AreWhole};
 ghost use Rattle.mcs_team.specs.Headline.{Headline};
-ghost use Rattle.mcs_window.specs.Desk.{taken_of, AllAreHere};
+ghost use Rattle.mcs_window.specs.Desk.{taken_of, AllAreHere, IsFinished};
 
-use crate::counts::{counted, counting};
-use crate::own_tally::{OwnTally, are_in_place, tallies_of_cores};
+use crate::gate::reached;
+use crate::own_tally::{OwnTally, are_in_place, counted, counting, tallies_of_cores};
 use crate::run::Run;
-use crate::team::{Team, crew};
-use crate::telling::Untold;
-use crate::tellings::Tellings;
+use crate::shared_desk::Brim;
+use crate::team::{Team, crew, silent_desk};
+use crate::telling::{Tellings, Untold};
 use crate::{Gate, SimFault, simulate_alone};
 use mcs_report::{CoreTally, Places, Reports, Tally, core_tallies_give_reports, demand_is_bounded};
 use mcs_system::System;
-use mcs_ticks::{NoMemory, Tick};
+use mcs_ticks::{NoMemory, Nothing, Tick};
 use mcs_window::Desk;
 use std::alloc::Global;
 use std::marker::Brand;
 use std::sync::{Arc, Wait};
 use std::thread::Threads;
+
+// After so many rows more the gate is told how far the run is.
+const ENOUGH: usize = 16_384;
+
+// What was counted need not be taken, so there is never too much of it.
+const BRIM: Brim = Brim {
+    enough: usize::MAX,
+    full: usize::MAX,
+};
 
 /// The reports of the whole simulation up to the horizon, at most 2^40, of which nobody wants the rows: those of the schedule, for every
 /// number of workers. Each core counts its own rows where its turns are taken, and no row is merged or kept. Threads work at one desk, this
@@ -49,14 +58,19 @@ pub fn report<R: Threads + Wait + Sync, G: Gate + Sync>(
     demand_is_bounded();
     let workers = workers.min(system.parts().cores);
     if workers < 2 {
-        report_here(alloc, system, horizon)
+        report_here(alloc, system, horizon, gate)
     } else {
         report_team(rt, alloc, system, horizon, workers, gate)
     }
 }
 
 // The reports, on this thread, where each core counts its own rows.
-fn report_here(alloc: Global, system: Arc<System>, horizon: Tick) -> Result<Reports, NoMemory>
+fn report_here<G: Gate>(
+    alloc: Global,
+    system: Arc<System>,
+    horizon: Tick,
+    gate: &G,
+) -> Result<Reports, NoMemory>
     requires { horizon ≤ 2 ^ 40 }
     ensures { IfOk result
         (λ reports. reports ≡ reports_of (arc_value system) horizon (schedule (arc_value system) horizon)) }
@@ -64,7 +78,7 @@ fn report_here(alloc: Global, system: Arc<System>, horizon: Tick) -> Result<Repo
     let tally = Tally::new(alloc, &system, horizon)?;
     let places = Arc::new(alloc, Places::new(alloc, Arc::try_clone(&system)?)?)?;
     let shared = Arc::try_clone(&system)?;
-    let found = count_here::<Brand>(alloc, &places, shared, horizon)?;
+    let found = count_here::<Brand, G>(alloc, &places, shared, horizon, gate)?;
     put_together(alloc, tally, &places, found, system, horizon)
 }
 
@@ -96,11 +110,12 @@ fn put_together(
 }
 
 // The tallies of all cores of a run on this thread. None where they stand in another order, which no run meets.
-fn count_here<B: Run>(
+fn count_here<B: Run, G: Gate>(
     alloc: Global,
     places: &Arc<Places>,
     system: Arc<System>,
     horizon: Tick,
+    gate: &G,
 ) -> Result<Option<Vec<CoreTally>>, NoMemory>
     requires run { (arc_value system ≡ B.system) × (arc_value places.now ≡ B.system) × (horizon ≡ B.horizon) }
     requires in_range { horizon ≤ 2 ^ 40 }
@@ -109,14 +124,14 @@ fn count_here<B: Run>(
     let cores = system.parts().cores;
     let told = tallies_of_cores::<B>(alloc, places, cores, horizon)?;
     let desk = Desk::opened(alloc, system, horizon, told)?;
-    count_to_end(alloc, desk)
+    count_to_end(alloc, desk, gate)
 }
 
-// Takes all turns that are left, where each core counts its own rows, and all were told that were made before. Then the tallies alone, or None
-// where they stand in another order.
-fn count_to_end<B: Run>(
+// Takes all turns that are left, where each core counts its own rows, and all were told that were made before. Then the tallies alone.
+fn count_to_end<B: Run, G: Gate>(
     alloc: Global,
     mut desk: Desk<OwnTally<B>>,
+    gate: &G,
 ) -> Result<Option<Vec<CoreTally>>, NoMemory>
     requires run { (desk.system ≡ B.system) × (desk.horizon ≡ B.horizon) }
     requires sound { desk.lost ≡ false }
@@ -124,7 +139,38 @@ fn count_to_end<B: Run>(
     requires first { (c : ℕ) → c < desk.system.cores → taken_of desk c ≡ 0 }
     ensures { IfOk result (λ found. IfSome found (λ tallies. AreWhole B.system B.horizon tallies.items)) }
 {
-    desk.go(usize::MAX)?;
+    let mut enough = desk.kept().saturating_add(ENOUGH);
+    'rounds: loop {
+        let before = desk.kept();
+        desk.go(enough)?;
+        gate.reached(reached(&desk));
+        if desk.finished() {
+            return tallies_alone(alloc, desk);
+        }
+        enough = further(before, desk.kept(), desk.cores());
+    }
+}
+
+// How much is enough for the next round, of which so much was counted before and after the last one. A round ends where there is so much in
+// all, but each core stops only where it has counted so much by itself. Where that was far more than was asked for, the next round is to end
+// where each core has gone on.
+fn further(before: usize, counted: usize, cores: usize) -> usize {
+    if counted.saturating_sub(before) > 2 * ENOUGH {
+        return (counted / cores.max(1)).saturating_add(ENOUGH);
+    }
+    counted.saturating_add(ENOUGH)
+}
+
+// The tallies alone, where all turns were taken, or None where they stand in another order.
+fn tallies_alone<B: Run>(
+    alloc: Global,
+    desk: Desk<OwnTally<B>>,
+) -> Result<Option<Vec<CoreTally>>, NoMemory>
+    requires run { (desk.system ≡ B.system) × (desk.horizon ≡ B.horizon) }
+    requires finished { IsFinished desk }
+    requires first { (c : ℕ) → c < desk.system.cores → taken_of desk c ≡ 0 }
+    ensures { IfOk result (λ found. IfSome found (λ tallies. AreWhole B.system B.horizon tallies.items)) }
+{
     let told = desk.into_told();
     if !are_in_place(told.as_slice()) {
         return Ok(None);
@@ -148,7 +194,7 @@ fn report_team<R: Threads + Wait + Sync, G: Gate + Sync>(
 {
     let tally = Tally::new(alloc, &system, horizon)?;
     let places = Arc::new(alloc, Places::new(alloc, Arc::try_clone(&system)?)?)?;
-    let desk = Desk::new(alloc, Arc::try_clone(&system)?, horizon)?;
+    let desk = silent_desk(alloc, Arc::try_clone(&system)?, horizon)?;
     let found = count_beside::<Brand, R, G>(rt, alloc, &places, desk, workers, gate)?;
     put_together(alloc, tally, &places, found, system, horizon)
 }
@@ -159,7 +205,7 @@ fn count_beside<B: Run + Send + Sync, R: Threads + Wait + Sync, G: Gate + Sync>(
     rt: &R,
     alloc: Global,
     places: &Arc<Places>,
-    desk: Desk,
+    desk: Desk<Nothing>,
     workers: usize,
     gate: &G,
 ) -> Result<Option<Vec<CoreTally>>, NoMemory>
@@ -168,20 +214,21 @@ fn count_beside<B: Run + Send + Sync, R: Threads + Wait + Sync, G: Gate + Sync>(
     ensures { IfOk result (λ found. IfSome found (λ tallies. AreWhole B.system B.horizon tallies.items)) }
 {
     let tellings = counting::<B>(alloc, places, desk.cores(), desk.horizon())?;
-    let team = Team::<B, OwnTally<B>>::new(alloc, desk, tellings, workers);
-    crew(rt, &team, gate);
+    let team = Team::<B, OwnTally<B>>::new(alloc, desk, tellings, workers, BRIM);
+    crew(rt, &team, gate, true);
     match team.into_parts() {
-        Ok((desk, tellings)) => count_rest(alloc, desk, tellings),
+        Ok((desk, tellings)) => count_rest(alloc, desk, tellings, gate),
         Err(Untold::NoMemory) => Err(NoMemory),
         Err(Untold::Odd) => Ok(None),
     }
 }
 
 // Takes the turns that a team has left, after which the tallies are as `count_to_end` says.
-fn count_rest<B: Run>(
+fn count_rest<B: Run, G: Gate>(
     alloc: Global,
-    desk: Desk,
+    desk: Desk<Nothing>,
     tellings: Tellings<B, OwnTally<B>>,
+    gate: &G,
 ) -> Result<Option<Vec<CoreTally>>, NoMemory>
     requires run { (desk.system ≡ B.system) × (desk.horizon ≡ B.horizon) }
     requires sound { desk.lost ≡ false }
@@ -189,7 +236,7 @@ fn count_rest<B: Run>(
     ensures { IfOk result (λ found. IfSome found (λ tallies. AreWhole B.system B.horizon tallies.items)) }
 {
     match counted(alloc, tellings, &desk)? {
-        Some(told) => count_to_end(alloc, desk.retold([Tick::ZERO; 64], told)),
+        Some(told) => count_to_end(alloc, desk.retold([Tick::ZERO; 64], told), gate),
         None => Ok(None),
     }
 }

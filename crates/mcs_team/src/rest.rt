@@ -7,15 +7,15 @@ ghost use Rattle.mcs_team.specs.Flow.{AreAtClocks, AreTakenTo, FailsFrom, IsClea
 ghost use Rattle.mcs_window.specs.Desk.{clock_of, taken_at, taken_of, IsFinished};
 
 use crate::by_core::Plan;
+use crate::fault::Stop;
 use crate::here::{empty_told, flow_rounds};
 use crate::outflow::Outflow;
 use crate::run::Run;
-use crate::sink::Stop;
 use crate::team::Team;
 use crate::telling::{Telling, Untold};
-use crate::{FlowFault, Relay};
+use crate::{FlowFault, Gate, Relay};
 use mcs_merge::Part;
-use mcs_ticks::{Collector, CoreId, Limits, NoMemory, Refused, Row, Tick};
+use mcs_ticks::{Collector, CoreId, Limits, NoMemory, Nothing, Refused, Row, Tick};
 use mcs_window::{Desk, Front};
 use std::marker::Brand;
 use std::sync::Arc;
@@ -31,7 +31,7 @@ pub(crate) fn stop_at(untold: Untold, reached: Tick) -> Stop
 }
 
 // The clocks of the desk, where these moments are the clocks of its cores.
-fn clocks_at(desk: &Desk, moments: &[Tick]) -> Option<Front>
+fn clocks_at(desk: &Desk<Nothing>, moments: &[Tick]) -> Option<Front>
     ensures many { IfSome result (λ front. length moments.now ≡ desk.now.system.cores) }
     ensures long { IfSome result (λ front. length front ≡ 64) }
     ensures front { IfSome result (λ front. AreAtClocks front desk.now) }
@@ -52,7 +52,11 @@ fn clocks_at(desk: &Desk, moments: &[Tick]) -> Option<Front>
 }
 
 // The cores of a desk, which tell by this relay from now on, where all that they told before these moments was added.
-fn retold<W: Relay>(relay: &W, desk: Desk, moments: &Vec<Tick>) -> Result<Desk<W::Told>, Untold>
+fn retold<W: Relay>(
+    relay: &W,
+    desk: Desk<Nothing>,
+    moments: &Vec<Tick>,
+) -> Result<Desk<W::Told>, Untold>
     ensures desk { IfOk result (λ told. told ≡ record desk { taken = told.taken }) }
     ensures long { IfOk result (λ told. length told.taken ≡ 64) }
     ensures taken { IfOk result (AreTakenTo moments.now.items) }
@@ -107,10 +111,11 @@ fn gathered<B: Run, W: Relay>(
 }
 
 /// Takes the turns that a team has left, and gives out what is told.
-pub(crate) fn go_on_alone<B: Run, W: Relay>(
+pub(crate) fn go_on_alone<B: Run, W: Relay, G: Gate>(
     relay: &W,
     team: Team<B, W::Told>,
     mut flow: Outflow<W>,
+    gate: &G,
     out: &mut <W::Part as Part>::Out,
 ) -> Result<(), Stop>
     requires well_formed { IsWellFormed B.system }
@@ -124,7 +129,7 @@ pub(crate) fn go_on_alone<B: Run, W: Relay>(
         Ok(desk) => desk,
         Err(untold) => return Err(stop_at(untold, flow.reached)),
     };
-    match flow_rounds::<B, W>(relay, desk, flow, out) {
+    match flow_rounds::<B, W, G>(relay, desk, flow, gate, out) {
         Ok(()) => Ok(()),
         Err(fault) => Err(Stop::Fault(fault)),
     }

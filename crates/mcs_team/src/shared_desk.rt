@@ -1,113 +1,128 @@
 //! The desk of one run, which the threads share. Its system is known by the type.
-ghost use Rattle.std.specs.Prelude.{◌≡◌, ◌⊎◌, false, IfOk, OnErr};
-ghost use Rattle.mcs_window.specs.Desk.{settled_at, taken_at, with_lost, AllAreHere};
+ghost use Rattle.std.specs.Prelude.{◌≡◌, ◌⊎◌, ◌≤◌, ℕ, ◌<◌, [], false, slice_index, IfOk, IfSome, OnErr};
+ghost use Rattle.mcs_stretch.specs.Stretch.{rows_between};
+ghost use Rattle.mcs_window.specs.Desk.{clock_of, settled_at, with_lost, AllAreHere};
 
-use crate::errand::{Errand, Told};
+use crate::gate::reached;
+use crate::pace::Pace;
 use crate::run::Run;
-use crate::telling::{Telling, Untold};
-use crate::tellings::Tellings;
-use mcs_ticks::{Collector, CoreId, Tick};
-use mcs_window::{Desk, Done, Lost, SettleFault};
+use crate::telling::{Errand, Telling, Tellings, Told, Untold};
+use mcs_ticks::{Collector, CoreId, Limits, Nothing, Tick};
+use mcs_window::{Desk, Done, Front, Lost, Piece, SettleFault};
 use std::alloc::Global;
 use std::marker::PhantomData;
 
-// Where so many rows wait it is time to take them.
-const ENOUGH: usize = 4096;
-
-// Where so many rows wait no piece is lent until they were taken.
-const FULL: usize = 65_536;
-
-// So many pieces a thread takes at most under one lock, and only where they have no more rows than that.
+// So many pieces a thread takes at most under one lock.
 const MOST: usize = 8;
 
-const SHORT: usize = 1024;
+/// How much waits before the caller's thread takes it: where there is enough it is time, and where it is full no piece is lent until it was taken.
+#[derive(Clone, Copy, Drop)]
+pub(crate) struct Brim {
+    pub(crate) enough: usize,
+    pub(crate) full: usize,
+}
 
-// After so many pieces it is asked whether they were worth it.
-const PIECES: usize = 1024;
-
-// With fewer rows from so many pieces, 128 of each, it may cost less to run them than to lend them. Then the team ends, and the caller's thread
-// takes the turns that are left.
-const ROWS: usize = 128 * PIECES;
-
-/// A desk for the system and the horizon of the run, and what its cores told of their rows, of which none lies on the desk.
+/// A desk for the system and the horizon of the run, on which no row lies, and what its cores told of their rows.
 #[derive(Drop)]
 pub(crate) struct SharedDesk<B: Run, S: Collector + Drop> {
-    desk: Desk,
+    desk: Desk<Nothing>,
     tellings: Tellings<B, S>,
+    brim: Brim,
+    pace: Pace,
     // how many threads share it, and how many pieces are away
     workers: usize,
     away: usize,
-    // how many pieces were lent since that was asked last, how many came back, and how many rows these told
-    pieces: usize,
-    back: usize,
-    rows: usize,
     // whether a thread has begun to work, and how many wait for a piece
     begun: bool,
     idle: usize,
-    // whether the team has ended
-    ended: bool,
     // why nothing is lent any more, where something was lost
     lost: Option<Untold>,
     of: PhantomData<B>,
     ghost ours: { (desk.system ≡ B.system) × (desk.horizon ≡ B.horizon) },
 }
 
+// The clocks of all cores, of which a system has at most 64.
+fn clocks(desk: &Desk<Nothing>) -> Front
+    ensures { (c : ℕ) → c < desk.now.system.cores → c < 64 → slice_index result c ≡ clock_of desk.now c }
+{
+    let mut front = [Tick::ZERO; 64];
+    for core in 0..desk.cores().min(Limits::CORES) {
+        front[core] = desk.clock(CoreId(core));
+    }
+    front
+}
+
 impl<B: Run, S: Collector + Drop> SharedDesk<B, S> {
-    /// The desk, which is one of the run.
-    pub(crate) fn new(desk: Desk, tellings: Tellings<B, S>, workers: usize) -> SharedDesk<B, S>
+    /// The desk, which is one of the run, and what its cores tell to, for so many threads.
+    pub(crate) fn new(
+        desk: Desk<Nothing>,
+        tellings: Tellings<B, S>,
+        workers: usize,
+        brim: Brim,
+    ) -> SharedDesk<B, S>
         requires { (desk.system ≡ B.system) × (desk.horizon ≡ B.horizon) }
     {
         SharedDesk {
             desk,
             tellings,
+            brim,
+            pace: Pace::new(),
             workers,
             away: 0,
-            pieces: 0,
-            back: 0,
-            rows: 0,
             begun: false,
             idle: 0,
-            ended: false,
             lost: None,
             of: PhantomData,
         }
     }
 
-    /// A piece, if one is to be had now: none where too many rows wait, or where the team has ended.
+    /// A piece, if one is to be had now: none where too much waits, or where the team has ended.
     pub(crate) fn lend(&mut self) -> Option<Errand<B, S>> {
-        if self.is_full() || self.ended {
+        if self.is_full() || self.pace.is_over() {
             return None;
         }
-        let piece = self.desk.lend()?;
+        let piece = self.lend_piece()?;
         self.away = self.away.saturating_add(1);
-        self.count_piece();
-        match self.take_telling(piece.core) {
-            Ok(telling) => Some(Errand { piece, telling }),
-            Err(why) => {
-                self.lose(why);
+        self.pace.lend();
+        match self.tellings.take(piece.core) {
+            Some(telling) => Some(Errand { piece, telling }),
+            None => {
+                self.lose(Untold::Odd);
                 None
             }
         }
     }
 
-    // What a core tells to. It is behind the core where idle time was skipped on the desk since, in which no row was made: then it catches up.
-    fn take_telling(&mut self, core: CoreId) -> Result<Telling<B, S>, Untold> {
-        if core.0 >= self.desk.cores() {
-            return Err(Untold::Odd);
+    // A piece of the desk. Where no core is lent idle time is skipped first, and what the cores tell to passes it.
+    fn lend_piece(&mut self) -> Option<Piece>
+        ensures { IfSome result (λ piece. piece.system ≡ B.system) }
+    {
+        let span = self.pace.span();
+        if self.away > 0 {
+            return self.desk.lend_within(span);
         }
-        let (from, past) = (self.desk.taken(core), self.desk.clock(core));
-        let rows = self.desk.take_rows(core);
-        let Some(telling) = self.tellings.take(core) else {
-            return Err(Untold::Odd);
-        };
-        telling.tell(core, from, past, rows.as_slice())
+        self.desk.idle_is_silent();
+        let before = clocks(&self.desk);
+        let piece = self.desk.lend_within(span);
+        if let Err(why) = self.catch_up(&before) {
+            self.lose(why);
+            return None;
+        }
+        piece
     }
 
-    // What each core tells to catches up with it.
-    fn catch_up(&mut self) -> Result<(), Untold> {
-        for core in 0..self.desk.cores() {
-            let telling = self.take_telling(CoreId(core))?;
-            self.tellings.put(telling);
+    // What each core tells to goes on from these moments to the core's clock.
+    fn catch_up(&mut self, before: &Front) -> Result<(), Untold>
+        requires { (c : ℕ) → c < self.old.desk.system.cores → c < 64
+            → (slice_index before.now c ≤ clock_of self.old.desk c)
+            × (rows_between B.system c (slice_index before.now c) (clock_of self.old.desk c) ≡ []) }
+    {
+        for number in 0..self.desk.cores().min(Limits::CORES) {
+            let (core, from) = (CoreId(number), before[number]);
+            let past = self.desk.clock(core);
+            if from != past {
+                self.tellings.pass(core, from, past)?;
+            }
         }
         Ok(())
     }
@@ -127,9 +142,9 @@ impl<B: Run, S: Collector + Drop> SharedDesk<B, S> {
         errands
     }
 
-    // How many pieces a thread takes at once: one where they have many rows, since a piece keeps its rows until it is settled.
+    // How many pieces a thread takes at once: one until it is known how many rows they have.
     fn share(&self) -> usize {
-        if self.back == 0 || self.rows / self.back > SHORT {
+        if !self.pace.is_known() {
             return 1;
         }
         let home = self.desk.cores().saturating_sub(self.away);
@@ -138,7 +153,7 @@ impl<B: Run, S: Collector + Drop> SharedDesk<B, S> {
 
     /// Whether a further piece is to be had now, for which a thread waits.
     pub(crate) fn can_lend(&self) -> bool {
-        self.idle > 0 && !self.is_full() && !self.ended && self.desk.can_lend()
+        self.idle > 0 && !self.is_full() && !self.pace.is_over() && self.desk.can_lend()
     }
 
     /// A thread begins to wait for a piece.
@@ -151,31 +166,24 @@ impl<B: Run, S: Collector + Drop> SharedDesk<B, S> {
         self.idle = self.idle.saturating_sub(1);
     }
 
-    // One piece more was lent: the team ends with it where the pieces were not worth it.
-    fn count_piece(&mut self)
-        ensures { self.new.desk ≡ self.old.desk }
-    {
-        self.pieces = self.pieces.saturating_add(1);
-        if self.pieces >= PIECES {
-            self.ended = self.rows < ROWS;
-            self.pieces = 0;
-            self.back = 0;
-            self.rows = 0;
-        }
-    }
-
     /// Takes what a piece of this run has come to. Nothing is lent any more where it was lost, or is of no loan, or where there was no memory.
     pub(crate) fn settle(&mut self, ran: Result<Told<B, S>, Untold>)
         ensures ok { IfOk ran (λ told.
-            (self.new.desk ≡ taken_at (settled_at self.old.desk told.done.core told.done.past) told.done.core)
+            (self.new.desk ≡ settled_at self.old.desk told.done.core told.done.past)
             ⊎ (self.new.desk ≡ with_lost self.old.desk)) }
         ensures err { OnErr ran (self.new.desk ≡ with_lost self.old.desk) }
     {
         self.away = self.away.saturating_sub(1);
         match ran {
-            Ok(Told { done, telling }) => {
-                self.back = self.back.saturating_add(1);
-                self.rows = self.rows.saturating_add(done.rows.len());
+            Ok(
+                Told {
+                    done,
+                    telling,
+                    rows,
+                },
+            ) => {
+                let moments = done.past.get().saturating_sub(done.first.get());
+                self.pace.settle(moments, rows, self.desk.cores());
                 self.tellings.put(telling);
                 self.take_back(done);
             }
@@ -193,15 +201,14 @@ impl<B: Run, S: Collector + Drop> SharedDesk<B, S> {
         }
     }
 
-    // Takes a stretch back, and its rows from the desk, which were told.
-    fn take_back(&mut self, done: Done)
+    // Takes a stretch back.
+    fn take_back(&mut self, done: Done<Nothing>)
         requires { done.system ≡ B.system }
-        ensures { (self.new.desk ≡ taken_at (settled_at self.old.desk done.core done.past) done.core)
+        ensures { (self.new.desk ≡ settled_at self.old.desk done.core done.past)
             ⊎ (self.new.desk ≡ with_lost self.old.desk) }
     {
-        let core = done.core;
         match self.desk.take_back(done) {
-            Ok(()) => drop(self.desk.take_rows(core)),
+            Ok(()) => {}
             Err((SettleFault::NoMemory, _)) => self.lose(Untold::NoMemory),
             Err(_) => self.lose(Untold::Odd),
         }
@@ -221,17 +228,22 @@ impl<B: Run, S: Collector + Drop> SharedDesk<B, S> {
 
     /// Whether no piece is to be had any more.
     pub(crate) fn is_over(&self) -> bool {
-        self.ended || self.desk.finished() || self.desk.lost()
+        self.pace.is_over() || self.desk.finished() || self.desk.lost()
     }
 
-    /// Whether no piece is lent until rows were taken.
+    /// Whether no piece is lent until what waits was taken.
     pub(crate) fn is_full(&self) -> bool {
-        self.tellings.waiting() >= FULL
+        self.tellings.waiting() >= self.brim.full
     }
 
-    /// Whether it is time for the caller's thread to take rows.
+    /// Whether it is time for the caller's thread to take what waits.
     pub(crate) fn is_due(&self) -> bool {
-        self.tellings.waiting() >= ENOUGH || self.is_over()
+        self.tellings.waiting() >= self.brim.enough || self.is_over()
+    }
+
+    /// A moment before which all turns were taken and settled.
+    pub(crate) fn reached(&self) -> Tick {
+        reached(&self.desk)
     }
 
     /// A thread has begun to work.
@@ -255,19 +267,18 @@ impl<B: Run, S: Collector + Drop> SharedDesk<B, S> {
     }
 
     /// The desk and what was told, once all threads have ended. The desk has nothing lent and nothing lost.
-    pub(crate) fn into_parts(mut self) -> Result<(Desk, Tellings<B, S>), Untold>
+    pub(crate) fn into_parts(self) -> Result<(Desk<Nothing>, Tellings<B, S>), Untold>
         ensures run { IfOk result (λ parts. (parts.0.system ≡ B.system) × (parts.0.horizon ≡ B.horizon)) }
         ensures whole { IfOk result (λ parts. (parts.0.lost ≡ false) × AllAreHere parts.0) }
     {
         if let Some(why) = self.lost {
             return Err(why);
         }
-        self.catch_up()?;
         self.parts()
     }
 
     // The desk and what was told, where nothing is lent and nothing is lost.
-    fn parts(self) -> Result<(Desk, Tellings<B, S>), Untold>
+    fn parts(self) -> Result<(Desk<Nothing>, Tellings<B, S>), Untold>
         ensures run { IfOk result (λ parts. (parts.0.system ≡ B.system) × (parts.0.horizon ≡ B.horizon)) }
         ensures whole { IfOk result (λ parts. (parts.0.lost ≡ false) × AllAreHere parts.0) }
     {

@@ -5,20 +5,25 @@ ghost use Rattle.mcs_system.specs.WellFormed.{IsWellFormed};
 ghost use Rattle.mcs_team.specs.Flow.{IsGivenBetween, IsStop, Waits};
 
 use crate::by_core::Plan;
+use crate::fault::Stop;
 use crate::outflow::Outflow;
 use crate::rest::{go_on_alone, stop_at};
 use crate::run::Run;
-use crate::sink::Stop;
-use crate::team::{Team, crew};
-use crate::telling::Telling;
-use crate::tellings::Tellings;
+use crate::shared_desk::Brim;
+use crate::team::{Team, crew, silent_desk};
+use crate::telling::{Telling, Tellings};
 use crate::{FlowFault, Gate, Relay};
 use mcs_merge::Part;
 use mcs_ticks::{Collector, CoreId, NoMemory, Tick};
-use mcs_window::Desk;
 use std::alloc::Global;
 use std::sync::{Arc, Wait};
 use std::thread::{Threads, join_mut};
+
+// Where so many rows wait it is time to take them, and no piece is lent until they were taken.
+const BRIM: Brim = Brim {
+    enough: 4096,
+    full: 32_768,
+};
 
 // What was taken from a team, and room for what its cores tell next.
 #[derive(Drop)]
@@ -102,6 +107,7 @@ fn give_out<B: Run, R: Wait, G: Gate, W: Relay>(
         if let Err(stop) = give::<B, W>(relay, &mut basket.told, flow, out) {
             return Err(stop);
         }
+        gate.reached(flow.reached);
         if is_over {
             return Ok(());
         }
@@ -131,7 +137,7 @@ where
 {
     let ((), ended) = join_mut(
         rt,
-        &mut || crew(rt, team, gate),
+        &mut || crew(rt, team, gate, false),
         &mut || -> Result<(), Stop>
             requires { IsWellFormed B.system
                 × (flow.now.end ≡ B.horizon + 1)
@@ -176,9 +182,10 @@ fn team_for<B: Run, W: Relay>(
     requires in_range { plan.now.horizon ≤ 2 ^ 40 }
 {
     let shared = Arc::try_clone(&plan.system)?;
-    let desk = Desk::new(plan.alloc, shared, plan.horizon)?;
+    let desk = silent_desk(plan.alloc, shared, plan.horizon)?;
     let tellings = tellings_for::<B, W>(plan.alloc, relay, desk.cores())?;
-    Ok(Team::<B, W::Told>::new(plan.alloc, desk, tellings, workers))
+    let team = Team::<B, W::Told>::new(plan.alloc, desk, tellings, workers, BRIM);
+    Ok(team)
 }
 
 /// The whole simulation, of which threads take the turns and this one gives out what the cores tell; once no piece is to be had any more it takes
@@ -210,5 +217,5 @@ where
     if let Err(stop) = work_and_give(rt, gate, &team, relay, &mut flow, out) {
         return Err(stop);
     }
-    go_on_alone(relay, team, flow, out)
+    go_on_alone(relay, team, flow, gate, out)
 }

@@ -1,17 +1,17 @@
 //! Threads that work at one desk.
-ghost use Rattle.std.specs.Prelude.{◌≡◌, false, IfOk};
-ghost use Rattle.mcs_window.specs.Desk.{AllAreHere};
+ghost use Rattle.std.specs.Prelude.{◌≡◌, ◌≤◌, ◌^◌, false, IfOk};
+ghost use Rattle.std.specs.Arc.{arc_value};
+ghost use Rattle.mcs_window.specs.Desk.{opening_table, AllAreHere};
 
 use crate::Gate;
-use crate::errand::{Errand, Told};
 use crate::run::Run;
-use crate::shared_desk::SharedDesk;
-use crate::telling::{Telling, Untold};
-use crate::tellings::Tellings;
-use mcs_ticks::Collector;
+use crate::shared_desk::{Brim, SharedDesk};
+use crate::telling::{Errand, Telling, Tellings, Told, Untold};
+use mcs_system::System;
+use mcs_ticks::{Collector, NoMemory, Nothing, Tick};
 use mcs_window::Desk;
 use std::alloc::Global;
-use std::sync::{Condvar, Mutex, Wait};
+use std::sync::{Arc, Condvar, Mutex, Wait};
 use std::thread;
 use std::thread::{Parker, Threads};
 use std::time::Duration;
@@ -35,14 +35,15 @@ impl<B: Run, S: Collector + Drop> Team<B, S> {
     /// So many threads are to work at the desk, of which none has begun.
     pub(crate) fn new(
         alloc: Global,
-        desk: Desk,
+        desk: Desk<Nothing>,
         tellings: Tellings<B, S>,
         workers: usize,
+        brim: Brim,
     ) -> Team<B, S>
         requires { (desk.system ≡ B.system) × (desk.horizon ≡ B.horizon) }
     {
         Team {
-            desk: Mutex::new(SharedDesk::<B, S>::new(desk, tellings, workers)),
+            desk: Mutex::new(SharedDesk::<B, S>::new(desk, tellings, workers, brim)),
             workers,
             alloc,
             free: Condvar::new(),
@@ -96,12 +97,25 @@ impl<B: Run, S: Collector + Drop> Team<B, S> {
     }
 
     /// The desk and what was told, once all threads have ended. The desk has nothing lent and nothing lost.
-    pub(crate) fn into_parts(self) -> Result<(Desk, Tellings<B, S>), Untold>
+    pub(crate) fn into_parts(self) -> Result<(Desk<Nothing>, Tellings<B, S>), Untold>
         ensures run { IfOk result (λ parts. (parts.0.system ≡ B.system) × (parts.0.horizon ≡ B.horizon)) }
         ensures whole { IfOk result (λ parts. (parts.0.lost ≡ false) × AllAreHere parts.0) }
     {
         self.desk.into_inner().into_parts()
     }
+}
+
+/// All cores at moment 0, on a desk that keeps no rows.
+pub(crate) fn silent_desk(
+    alloc: Global,
+    system: Arc<System>,
+    horizon: Tick,
+) -> Result<Desk<Nothing>, NoMemory>
+    requires { horizon ≤ 2 ^ 40 }
+    ensures { IfOk result (λ desk. desk ≡ opening_table (arc_value system) horizon) }
+{
+    let told = vec![in alloc; Nothing; system.parts().cores]?;
+    Desk::opened(alloc, system, horizon, told)
 }
 
 // Runs pieces, one after another.
@@ -121,8 +135,13 @@ fn run_all<B: Run, S: Collector + Drop, G: Gate>(
 }
 
 // Takes pieces until none is to be had any more. Who takes some wakes another thread only where a further piece is to be had, for which one
-// waits.
-fn work<B: Run, S: Collector + Drop, R: Wait, G: Gate>(rt: &R, team: &Team<B, S>, gate: &G) {
+// waits. Where it is to tell so, the gate is told how far the run is.
+fn work<B: Run, S: Collector + Drop, R: Wait, G: Gate>(
+    rt: &R,
+    team: &Team<B, S>,
+    gate: &G,
+    tells: bool,
+) {
     let mut guard = team.desk.lock(rt);
     guard.begin();
     for _ in rt.forever() {
@@ -140,9 +159,13 @@ fn work<B: Run, S: Collector + Drop, R: Wait, G: Gate>(rt: &R, team: &Team<B, S>
             continue;
         }
         let more = guard.can_lend();
+        let reached = if tells { Some(guard.reached()) } else { None };
         drop(guard);
         if more {
             team.free.notify_one();
+        }
+        if let Some(moment) = reached {
+            gate.reached(moment);
         }
         let ran = run_all(team.alloc, errands, gate);
         guard = team.desk.lock(rt);
@@ -153,18 +176,18 @@ fn work<B: Run, S: Collector + Drop, R: Wait, G: Gate>(rt: &R, team: &Team<B, S>
     }
 }
 
-/// Lets threads work, this one among them, and waits until they have ended. A thread that can't be started is done
-/// without.
+/// Lets threads work, this one among them, and waits until they have ended. A thread that can't be started is done without. Where this one is
+/// the caller's it tells the gate how far the run is.
 pub(crate) fn crew<
     B: Run + Send + Sync,
     S: Collector + Drop + Send,
     R: Threads + Wait + Sync,
     G: Gate + Sync,
->(rt: &R, team: &Team<B, S>, gate: &G) {
+>(rt: &R, team: &Team<B, S>, gate: &G, is_callers: bool) {
     thread::scope(thread::scope_env(), rt, |scope| {
         for _ in 1..team.workers {
-            let _started = scope.spawn(move || work(rt, team, gate)).is_ok();
+            let _started = scope.spawn(move || work(rt, team, gate, false)).is_ok();
         }
-        work(rt, team, gate);
+        work(rt, team, gate, is_callers);
     });
 }

@@ -1,3 +1,4 @@
+//! Whole simulations whose rows go to a sink.
 ghost use Rattle.std.specs.Prelude.{◌≡◌, ◌≤◌, ◌^◌, IfErr, IfOk, OnOk};
 ghost use Rattle.std.specs.Arc.{arc_value};
 ghost use Rattle.mcs_core.specs.Clock.{schedule};
@@ -9,12 +10,11 @@ ghost use Rattle.mcs_team.specs.Flow.{IsFlowFault};
 ghost use Rattle.mcs_team.specs.Headline.{Headline};
 
 use crate::by_core::{Plan, schedule_by_core};
-use crate::counted::Counted;
 use crate::relay::RowRelay;
-use crate::{FlowFault, Gate, Sink};
+use crate::{FlowFault, Gate, Refused, Sink};
 use mcs_report::{Reports, Tally, demand_is_bounded, schedules_are_reported};
 use mcs_system::System;
-use mcs_ticks::Tick;
+use mcs_ticks::{Row, Tick};
 use std::alloc::Global;
 use std::sync::{Arc, Wait};
 use std::thread::Threads;
@@ -85,4 +85,40 @@ pub fn schedule_to<R: Threads + Wait + Sync, G: Gate + Sync, S: Sink>(
         horizon,
     };
     schedule_by_core(rt, plan, workers, gate, &relay, sink)
+}
+
+/// Gives rows to a sink, and counts those that it takes.
+#[derive(Drop)]
+pub(crate) struct Counted<'a, S: Sink> {
+    sink: &'a mut S,
+    tally: &'a mut Tally,
+}
+
+impl<'a, S: Sink> Counted<'a, S> {
+    /// Gives rows to this sink, and counts them by this tally.
+    pub(crate) fn new(sink: &'a mut S, tally: &'a mut Tally) -> Counted<'a, S>
+        ensures sink { result.sink.ghost_name ≡ sink.entry.ghost_name }
+        ensures sink_now { result.sink.now ≡ sink.old }
+        ensures tally { result.tally.ghost_name ≡ tally.entry.ghost_name }
+        ensures tally_now { result.tally.now ≡ tally.old }
+    {
+        Counted { sink, tally }
+    }
+}
+
+impl<S: Sink> Sink for Counted<'_, S> {
+    ghost use Rattle.std.specs.Prelude.{◌≡◌, true};
+    ghost use Rattle.mcs_report.specs.Tally.{added};
+
+    ghost takes = { λ before row taken after.
+        (after.sink.ghost_name ≡ before.sink.ghost_name)
+        × (after.tally.ghost_name ≡ before.tally.ghost_name)
+        × S.takes before.sink.now row taken after.sink.now
+        × (taken ≡ true → after.tally.now ≡ added before.tally.now row) };
+
+    fn row(&mut self, row: &Row) -> Result<(), Refused> {
+        self.sink.row(row)?;
+        self.tally.add(row);
+        Ok(())
+    }
 }

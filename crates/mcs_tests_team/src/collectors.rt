@@ -25,8 +25,8 @@ fn told_on(alloc: Global, desk: Desk) -> Result<Desk, Fail>
     Ok(desk.retold(taken, told))
 }
 
-// A desk of two cores, of which nothing is kept from now on.
-fn told_to_none(alloc: Global, desk: Desk) -> Result<Desk<Nothing>, Fail>
+/// A desk of two cores, of which nothing is kept from now on.
+pub(crate) fn told_to_none(alloc: Global, desk: Desk) -> Result<Desk<Nothing>, Fail>
     requires { desk.system.cores ≡ 2 }
     ensures { IfOk result (λ on. on.system ≡ desk.system) }
 {
@@ -49,8 +49,8 @@ fn go<S: Collector + Drop>(desk: Desk<S>, enough: usize) -> Result<Desk<S>, Fail
     Ok(desk)
 }
 
-// The moments of rows.
-fn are_at(rt: &impl Abort, rows: &[Row], moments: &[u64]) {
+/// The moments of rows.
+pub(crate) fn are_at(rt: &impl Abort, rows: &[Row], moments: &[u64]) {
     assert_eq!(rt; rows.len(), moments.len());
     for (row, moment) in rows.iter().zip(moments) {
         assert_eq!(rt; row.moment.get(), *moment);

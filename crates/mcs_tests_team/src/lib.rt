@@ -30,4 +30,6 @@ mod systems;
 #[cfg(test)]
 mod team;
 #[cfg(test)]
+mod telling;
+#[cfg(test)]
 mod whole;

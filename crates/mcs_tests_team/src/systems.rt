@@ -144,3 +144,19 @@ thread = [
     { name = "B", context = "b", priority = 5, script = ["compute 1", "signal m 1"] },
 ]
 "#;
+
+/// The same with a delay of a million.
+pub const FAR_APART: &str = r#"
+version = 1
+cores = 2
+delay = 1000000
+context = [
+    { name = "a", core = 0, budget = 2, period = 3 },
+    { name = "b", core = 1, budget = 2, period = 3 },
+]
+note = [{ name = "n", core = 1 }, { name = "m", core = 0 }]
+thread = [
+    { name = "A", context = "a", priority = 5, script = ["compute 1", "signal n 1"] },
+    { name = "B", context = "b", priority = 5, script = ["compute 1", "signal m 1"] },
+]
+"#;

@@ -1,6 +1,6 @@
 //! Teams of all sizes, and workers at work at once.
 
-use super::systems::{LONG_DELAY, SIGNALS, TWO_MAKERS, moment, system};
+use super::systems::{DEPLETES, FAR_APART, LONG_DELAY, SIGNALS, TWO_MAKERS, moment, system};
 use mcs_team::{Gate, Open, Whole, report, simulate, simulate_alone};
 use mcs_ticks::{CoreId, Tick};
 use std::alloc::Global;
@@ -55,6 +55,8 @@ impl Gate for Both {
     }
 
     fn after(&self, _core: CoreId, _past: Tick) {}
+
+    fn reached(&self, _moment: Tick) {}
 }
 
 // A run that lends one piece at a time, or that holds the lock while a piece runs, ends with a piece that waited alone.
@@ -93,6 +95,8 @@ impl Gate for Counts {
     fn after(&self, _core: CoreId, _past: Tick) {
         self.after.fetch_add(1, Ordering::SeqCst);
     }
+
+    fn reached(&self, _moment: Tick) {}
 }
 
 // Counts from 0.
@@ -180,5 +184,76 @@ fn a_team_with_long_pieces_goes_on(rt: HostRuntime) -> Result<(), Fail> {
     let (begun, ended) = counted(&gate);
     assert!(rt; begun > 1024);
     assert_eq!(rt; begun, ended);
+    Ok(())
+}
+
+// No piece is longer than 512 moments here, though the cores may go on for much longer by themselves.
+#[test]
+fn pieces_are_bounded(rt: HostRuntime) -> Result<(), Fail> {
+    let alloc = rt.alloc();
+    let horizon = moment(5_119)?;
+    let alone = simulate_alone(alloc, system(alloc, FAR_APART)?, horizon)?;
+    let gate = zero_counts();
+    let system = system(alloc, FAR_APART)?;
+    let whole = simulate(&rt, alloc, system, horizon, 2, &gate)?;
+    assert!(rt; are_same(&whole, &alone));
+    let (begun, ended) = counted(&gate);
+    assert!(rt; begun >= 20);
+    assert_eq!(rt; begun, ended);
+    Ok(())
+}
+
+/// Keeps the moment that it was told last, and how often it was told an earlier one than before.
+#[derive(Drop)]
+struct Far {
+    last: AtomicU64,
+    fell: AtomicU64,
+}
+
+impl Gate for Far {
+    fn before(&self, _core: CoreId, _first: Tick) {}
+
+    fn after(&self, _core: CoreId, _past: Tick) {}
+
+    fn reached(&self, moment: Tick) {
+        if moment.get() < self.last.load(Ordering::SeqCst) {
+            self.fell.fetch_add(1, Ordering::SeqCst);
+        }
+        self.last.store(moment.get(), Ordering::SeqCst);
+    }
+}
+
+// Nothing was told yet.
+fn nothing_told() -> Far {
+    Far {
+        last: AtomicU64::new(0),
+        fell: AtomicU64::new(0),
+    }
+}
+
+// The moment that was told last, where they never fell.
+fn last_of(gate: &Far) -> Option<u64> {
+    if gate.fell.load(Ordering::SeqCst) > 0 {
+        return None;
+    }
+    Some(gate.last.load(Ordering::SeqCst))
+}
+
+#[test]
+fn a_gate_is_told_how_far_a_run_is(rt: HostRuntime) -> Result<(), Fail> {
+    let alloc = rt.alloc();
+    let horizon = moment(5_000)?;
+    for text in [DEPLETES, SIGNALS, TWO_MAKERS, LONG_DELAY, FAR_APART] {
+        for workers in [1, 2] {
+            let gate = nothing_told();
+            let it = system(alloc, text)?;
+            simulate(&rt, alloc, it, horizon, workers, &gate)?;
+            assert_eq!(rt; last_of(&gate), Some(5_001), "{workers} workers");
+            let gate = nothing_told();
+            let it = system(alloc, text)?;
+            report(&rt, alloc, it, horizon, workers, &gate)?;
+            assert_eq!(rt; last_of(&gate), Some(5_001), "{workers} workers");
+        }
+    }
     Ok(())
 }

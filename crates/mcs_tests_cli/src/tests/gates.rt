@@ -19,6 +19,8 @@ impl Gate for Pieces {
     fn after(&self, _core: CoreId, _past: Tick) {
         self.ended.fetch_add(1, Ordering::SeqCst);
     }
+
+    fn reached(&self, _moment: Tick) {}
 }
 
 // With two workers each of the two cores is lent at least once. With one no piece is lent.

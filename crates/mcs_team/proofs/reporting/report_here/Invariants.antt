@@ -3,4 +3,4 @@ use Rattle.mcs_team.proofs.reporting.report_here.Given as goal
 
 -- the system and the horizon of the run
 abbrev pub ghosts-count_here : goal.ghosts-count_here
-ghosts-count_here a = record { system = arc_value a.system; horizon = a.horizon }
+ghosts-count_here g a = record { system = arc_value a.system; horizon = a.horizon }
