@@ -6,19 +6,16 @@ a second whose standard error is a terminal shows a line of how far it is, and w
 not; a pipe sees nothing of that."""
 from __future__ import annotations
 
-import contextlib
 import json
 import os
 import pathlib
-import pty
 import re
 import resource
 import subprocess
 import sys
 import tempfile
-import threading
 from collections.abc import Iterator
-from typing import BinaryIO, NamedTuple
+from typing import NamedTuple
 
 sys.dont_write_bytecode = True
 import common
@@ -26,6 +23,7 @@ import performance
 from common import TOP, Count, Ran
 from faults import DOUBLE_NAME, LONGEST, NOTHING, Case, begins, exactly, ran
 from pages import blocks_in
+from progress import WIPED, Command, terminal
 
 NAME = 'mcscheck'
 CLEAN = 'missed 0 overdue 0 lost 0 never 0 merged 0 allowed 0 hints %d\n'
@@ -38,7 +36,6 @@ EMPTY = b'version = 1\ncores = 1\ndelay = 1\ncontext = [{ name = "a", core = 0, 
 NOTES = EMPTY + b'note = [{ name = "tick", core = 0 }, { name = "tock", core = 0 }]\n'
 # so little that a text of this many bytes has no room
 SPACE, LARGE = 48 * 2**20, 40 * 2**20
-WIPED = '\r\x1b[K'
 # a thread that misses its deadline once in some 10^6 ticks
 SELDOM_LATE = '''
 [[context]]
@@ -54,8 +51,6 @@ priority = 255
 deadline = 10
 script = ["compute 2"]
 '''
-# the horizons with which the search for a long run begins, and ends
-SHORT, FAR = 2**21, 2**31
 
 
 class Example(NamedTuple):
@@ -189,55 +184,6 @@ def try_without_memory(program: pathlib.Path, count: Count) -> None:
     count.expect(f'little memory: {ended}', ended.status == 4 and NOTHING(ended.stdout) and NO_MEMORY(ended.stderr))
 
 
-@contextlib.contextmanager
-def terminal() -> Iterator[tuple[int, bytearray]]:
-    """A terminal: the end that a program writes to, and what has been written once that is closed."""
-    ours, theirs = pty.openpty()
-    seen = bytearray()
-
-    def read() -> None:
-        # it has no end of file: reading fails once nobody has the other end
-        with contextlib.suppress(OSError):
-            while part := os.read(ours, 1 << 16):
-                seen.extend(part)
-
-    reader = threading.Thread(target=read)
-    reader.start()
-    try:
-        yield theirs, seen
-    finally:
-        os.close(theirs)
-        reader.join()
-        os.close(ours)
-
-
-def on_terminal(program: pathlib.Path, file: pathlib.Path, horizon: int, target: BinaryIO) -> tuple[int, str]:
-    """The status of a run, and what a terminal shows of its standard error."""
-    with terminal() as (theirs, seen):
-        command = [program, file, '--horizon', str(horizon), '--show', 'findings']
-        status = subprocess.run(command, stdin=subprocess.DEVNULL, stdout=target, stderr=theirs).returncode
-    return status, seen.decode()
-
-
-def is_progress(text: str, horizon: int, after: str = '') -> bool:
-    """Whether a text is lines of how far a run is, each over the one before and further, wiped at the end, with this behind it."""
-    line = rf'\rmcscheck: (\d+) of {horizon}\x1b\[K'
-    moments = [int(moment) for moment in re.findall(line, text)]
-    whole = re.fullmatch(rf'(?:{line})+{re.escape(WIPED + after)}', text)
-    return bool(whole) and moments == sorted(set(moments)) and moments[-1] <= horizon
-
-
-def long_run(program: pathlib.Path, file: pathlib.Path, target: pathlib.Path) -> tuple[int, int, str]:
-    """A horizon to which a run shows how far it is, its status, and what the terminal shows; the last of those that were tried where none does."""
-    horizon = SHORT
-    while True:
-        with open(target, 'wb') as device:
-            status, text = on_terminal(program, file, horizon, device)
-        if WIPED in text or horizon >= FAR:
-            return horizon, status, text
-        horizon *= 2
-
-
 def try_progress_among_findings(program: pathlib.Path, folder: pathlib.Path, horizon: int, count: Count) -> None:
     """One terminal shows findings and how far the run is: each finding stands in a line of its own."""
     file = folder / 'seldom.toml'
@@ -255,17 +201,18 @@ def try_progress_among_findings(program: pathlib.Path, folder: pathlib.Path, hor
 def try_progress(program: pathlib.Path, folder: pathlib.Path, count: Count) -> None:
     file, out = folder / 'long.toml', folder / 'out'
     file.write_text(performance.crowd(1, 8))
+    command = Command(program, file, ('--show', 'findings'))
     with open(out, 'wb') as target:
-        count.expect('a short run shows something', on_terminal(program, file, 1000, target) == (0, ''))
-    horizon, status, text = long_run(program, file, out)
+        count.expect('a short run shows something', command.on_terminal(1000, target) == (0, ''))
+    long = command.long_run(out)
     wanted = (CLEAN % 0).encode()
-    good = status == 0 and is_progress(text, horizon) and out.read_bytes() == wanted
-    count.expect(f'progress up to {horizon}: {text[:60]!r}..{text[-60:]!r}', good)
-    horizon, status, text = long_run(program, file, pathlib.Path('/dev/full'))
-    good = status == 3 and is_progress(text, horizon, 'mcscheck: write failed\r\n')
-    count.expect(f'progress up to {horizon} of a run that cannot write: {text[-80:]!r}', good)
-    try_progress_among_findings(program, folder, horizon, count)
-    count.expect('a pipe sees progress', common.run([program, file, '--horizon', str(2 * horizon), '--show', 'findings']) == Ran(0, wanted, b''))
+    good = long.status == 0 and command.is_progress(long) and out.read_bytes() == wanted
+    count.expect(f'progress up to {long.horizon}: {long.shown[:60]!r}..{long.shown[-60:]!r}', good)
+    long = command.long_run(pathlib.Path('/dev/full'))
+    good = long.status == 3 and command.is_progress(long, 'mcscheck: write failed\r\n')
+    count.expect(f'progress up to {long.horizon} of a run that cannot write: {long.shown[-80:]!r}', good)
+    try_progress_among_findings(program, folder, long.horizon, count)
+    count.expect('a pipe sees progress', common.run(command.line(2 * long.horizon)) == Ran(0, wanted, b''))
 
 
 def main() -> None:

@@ -59,6 +59,7 @@ CHECKS = (
     Check('believe', tries_program=False),
     Check('faults'),
     Check('checker'),
+    Check('progress'),
     Check('manual'),
     Check('mended'),
     Check('pages'),

@@ -1,8 +1,11 @@
 //! The program: it reads its words, opens the file or takes standard input, and ends with the status of what happened.
 #![tactic(auto)]
 
-use mcs_cli::{FromRead, IntoWrite, Open, WordsFault, options, run_with};
-use std::io::ErrorKind;
+mod meter;
+
+use mcs_cli::{FromRead, IntoWrite, Options, RunFault, Show, WordsFault, options, run_with};
+use meter::Meter;
+use std::io::{ErrorKind, IsTerminal};
 use std::process::ExitCode;
 use std::{env, io};
 
@@ -19,21 +22,37 @@ fn main(rt: HostRuntime) -> ExitCode {
         Err(_) => return fail(&rt, NOT_UTF_8, 2),
     };
     match options(rt.alloc(), words.as_slice()) {
-        Ok(options) => match run_with(
-            &rt,
-            rt.alloc(),
-            &mut FromRead::new(rt.stdin()),
-            &mut IntoWrite::new(rt.stdout()),
-            &options,
-            &Open,
-        ) {
-            Ok(()) => ExitCode::SUCCESS,
-            Err(fault) => {
-                let _ = rt.eprintln(fault);
-                ExitCode::from(fault.status())
-            }
-        },
+        Ok(options) => {
+            let meter = Meter::new(&rt, options.horizon, shows_progress(&rt, &options));
+            let ran = run_with(
+                &rt,
+                rt.alloc(),
+                &mut FromRead::new(rt.stdin()),
+                &mut IntoWrite::new(rt.stdout()),
+                &options,
+                &meter,
+            );
+            meter.wipe();
+            end(&rt, ran)
+        }
         Err(fault) => tell(&rt, &fault),
+    }
+}
+
+/// Whether it is shown how far the run is: on a terminal, but not where the schedule is written to one, which shows it by itself.
+fn shows_progress(rt: &HostRuntime, options: &Options) -> bool {
+    rt.stderr().is_terminal() && (options.show == Show::Reports || !rt.stdout().is_terminal())
+}
+
+/// The status of a run, of whose fault a line tells.
+fn end(rt: &HostRuntime, ran: Result<(), RunFault>) -> ExitCode {
+    match ran {
+        Ok(()) => ExitCode::SUCCESS,
+        Err(fault) => {
+            let status = fault.status();
+            let _ = rt.eprintln(fault);
+            ExitCode::from(status)
+        }
     }
 }
 
