@@ -50,6 +50,14 @@ def terminal() -> Iterator[tuple[int, bytearray]]:
         os.close(ours)
 
 
+def is_progress(name: str, horizon: int, text: str, after: str = '') -> bool:
+    """Whether a text is lines of how far a run of this program is, each over the one before and further, wiped at the end, with this behind it."""
+    line = rf'\r{name}: (\d+) of {horizon}\x1b\[K'
+    moments = [int(moment) for moment in re.findall(line, text)]
+    whole = re.fullmatch(rf'(?:{line})+{re.escape(WIPED + after)}', text)
+    return bool(whole) and moments == sorted(set(moments)) and moments[-1] <= horizon
+
+
 class Long(NamedTuple):
     """A run that shows how far it is, or the last one that was tried where none does."""
 
@@ -85,11 +93,7 @@ class Command(NamedTuple):
             horizon *= 2
 
     def is_progress(self, long: Long, after: str = '') -> bool:
-        """Whether a terminal shows lines of how far the run is, each over the one before and further, wiped at the end, with this behind it."""
-        line = rf'\r{self.program.name}: (\d+) of {long.horizon}\x1b\[K'
-        moments = [int(moment) for moment in re.findall(line, long.shown)]
-        whole = re.fullmatch(rf'(?:{line})+{re.escape(WIPED + after)}', long.shown)
-        return bool(whole) and moments == sorted(set(moments)) and moments[-1] <= long.horizon
+        return is_progress(self.program.name, long.horizon, long.shown, after)
 
 
 def try_run(command: Command, target: pathlib.Path, count: Count) -> Long:

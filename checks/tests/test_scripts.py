@@ -15,12 +15,12 @@ CHECKS = pathlib.Path(__file__).resolve().parent.parent
 sys.path.insert(0, str(CHECKS))
 import analyses
 import bandwidth
-import checker
 import common
 import faults
 import manual
 import mended
 import pages
+import progress
 import random_systems
 import refused_runs
 import stress
@@ -52,6 +52,10 @@ class WrongPrograms(unittest.TestCase):
 
     def test_a_program_that_says_nothing_answers_no_fault(self) -> None:
         self.assertEqual(self.tally('faults', 'exit 0'), (0, 16, 0))
+
+    def test_a_program_that_says_nothing_shows_no_progress(self) -> None:
+        # it shows nothing of a short run, and writes the same with a terminal as without one
+        self.assertEqual(self.tally('progress', 'exit 0'), (6, 6, 0))
 
     def test_a_checker_that_says_nothing_has_nothing_of_its_page(self) -> None:
         # all but a system, and a terminal, of which nothing is to be said
@@ -234,12 +238,15 @@ class Rules(unittest.TestCase):
         self.assertEqual(manual.written_in('$ mcsim x\na b\n  c d   (one line)\ne\n'), ('mcsim x', 'a b c d\ne\n'))
 
     def test_progress_goes_on_and_is_wiped(self) -> None:
+        def good(text: str, horizon: int = 90, after: str = '') -> bool:
+            return progress.is_progress('mcscheck', horizon, text, after)
+
         first, second = '\rmcscheck: 5 of 90\x1b[K', '\rmcscheck: 60 of 90\x1b[K'
-        self.assertTrue(checker.is_progress(f'{first}{second}\r\x1b[K', 90))
-        self.assertTrue(checker.is_progress(f'{first}\r\x1b[Ksaid\r\n', 90, 'said\r\n'))
+        self.assertTrue(good(f'{first}{second}\r\x1b[K'))
+        self.assertTrue(good(f'{first}\r\x1b[Ksaid\r\n', after='said\r\n'))
         for text in ('', first, f'{second}{first}\r\x1b[K', f'{first}\r\x1b[Kmore', f'{first}{first}\r\x1b[K'):
-            self.assertFalse(checker.is_progress(text, 90))
-        self.assertFalse(checker.is_progress(f'{first}\r\x1b[K', 91))
+            self.assertFalse(good(text))
+        self.assertFalse(good(f'{first}\r\x1b[K', 91))
 
     def test_waves_that_are_read_back(self) -> None:
         dump = '$scope module core0 $end\n$var string 1 ! runs $end\n$upscope $end\n$dumpvars\ns- !\n$end\n#3\nsA !\n#5\ns- !\n'
