@@ -1,4 +1,4 @@
-use mcs_ticks::{Limits, NoMemory};
+use mcs_ticks::{Limits, NoMemory, Soonest, Tick};
 use std::test::Fail;
 
 #[test]
@@ -43,4 +43,13 @@ fn want_of_memory_says_so(rt: HostRuntime) -> Result<(), Fail> {
     let text = NoMemory.to_string(rt.alloc())?;
     assert_eq!(rt; text.as_str(), "no memory");
     Ok(())
+}
+
+#[test]
+fn a_moment_in_range_is_made_and_is_sooner_than_never(rt: HostRuntime) {
+    let moment = Tick::at(1 << 42);
+    assert_eq!(rt; Some(moment), Tick::new(Limits::TICK));
+    assert!(rt; !Soonest::at(moment).is_never());
+    assert!(rt; Soonest::never().is_never());
+    assert_eq!(rt; Soonest::at(Tick::ZERO).before(moment), Some(Tick::ZERO));
 }

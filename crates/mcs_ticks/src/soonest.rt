@@ -31,6 +31,14 @@ impl Soonest {
         Soonest { number: u64::MAX }
     }
 
+    /// Whether it is never.
+    #[inline(always)]
+    pub fn is_never(self) -> bool
+        ensures { IsTrue result ↔ (self ≡ None) }
+    {
+        self.number == u64::MAX
+    }
+
     /// This moment.
     #[inline(always)]
     pub fn at(moment: Tick) -> Self
@@ -91,7 +99,7 @@ impl Soonest {
         ensures { result ≡ before to self }
     {
         if self.number < to.get() {
-            Tick::new(self.number)
+            Some(Tick::at(self.number))
         } else {
             None
         }

@@ -37,6 +37,15 @@ impl Tick {
         }
     }
 
+    /// The moment with this number of ticks before it, where that is known to be at most 2^42.
+    #[inline(always)]
+    pub fn at(ticks: u64) -> Self
+        requires { ticks ≤ 2 ^ 42 }
+        ensures { result ≡ ticks }
+    {
+        Tick { ticks }
+    }
+
     /// The number of ticks before this moment, at most 2^42.
     pub fn get(self) -> u64
         ensures value { result ≡ self }
