@@ -1,27 +1,37 @@
--- The greatest priority of a set, where one enters the set or leaves it.
-use Rattle.std.proofs.Common.{◌≡◌, ℕ, ◌+◌, ◌*◌, ◌/◌, ◌^◌, ◌<◌, ◌≤◌, ◌==◌, if◌then◌else◌, true, false, List, Option, Some, None, get_or, refl, ◌∙◌, inl, inr, arith}
+-- The end of a set, where a priority enters the set or leaves it.
+use Rattle.std.proofs.Common.{◌≡◌, ℕ, ◌+◌, ◌-◌, ◌*◌, ◌/◌, ◌^◌, ◌<◌, ◌≤◌, ◌==◌, if◌then◌else◌, true, false, List, Option, Some, None, get_or, refl, ◌∙◌, inl, inr, arith}
 use Rattle.std.specs.Prelude.{max}
 use Rattle.std.proofs.lemmas.Bool.{cases_lt, eq-eqb, ne_eqb}
-use Rattle.mcs_ready.specs.stored.Priorities.{has, greater, IsGreatest}
+use Rattle.mcs_ready.specs.stored.Priorities.{has, end_behind, IsEnd, IsGreatest}
 use Rattle.mcs_ready.proofs.Marks.{has-highest, has_above}
+
+-- a set ends behind its greatest priority, and where it ends tells the greatest
+pub IsEnd-behind : (words : List ℕ) (g : Option ℕ) → end_behind g ≤ 256 → IsGreatest words g → IsEnd words (end_behind g)
+IsEnd-behind words None few none = (few, λ q _. none q, λ above. absurd (omega (arith, above)))
+IsEnd-behind words (Some g) few found =
+    let it : g + 1 - 1 ≡ g = omega arith in
+    (few, λ q past. found.1 q (omega arith), λ _. rw it found.0)
+
+pub IsGreatest-none : (words : List ℕ) (e : ℕ) → IsEnd words e → e ≡ 0 → IsGreatest words None
+IsGreatest-none words e end none = λ q. end.1 q (omega arith)
+
+pub IsGreatest-before : (words : List ℕ) (e : ℕ) → IsEnd words e → 0 < e → IsGreatest words (Some (e - 1))
+IsGreatest-before words e end some = (end.2 some, λ q above. end.1 q (omega arith))
 
 module _ (words words' : List ℕ) (p : ℕ) where
   -- one enters
-  pub greatest-set : (g : Option ℕ) → IsGreatest words g → ((q : ℕ) → has words' q ≡ (if q == p then true else has words q)) → IsGreatest words' (Some (greater g p))
-  greatest-set None none is = (
-    is p ∙ rw (eq-eqb p p refl) refl,
-    λ q above. is q ∙ rw (ne_eqb q p (omega arith)) (none q),
-  )
-  greatest-set (Some g) found is = (
-    elim (cases_lt p g) [
-      | inl below ↦
-          let it : max g p ≡ g = omega arith in
-          rw it (is g ∙ rw (ne_eqb g p (omega arith)) found.0)
+  pub IsEnd-set : (e : ℕ) → IsEnd words e → p < 256 → ((q : ℕ) → has words' q ≡ (if q == p then true else has words q)) → IsEnd words' (max e (p + 1))
+  IsEnd-set e end below is = (
+    omega (arith, end.0),
+    λ q past. is q ∙ rw (ne_eqb q p (omega arith)) (end.1 q (omega arith)),
+    λ some. elim (cases_lt (p + 1) e) [
+      | inl before ↦
+          let it : max e (p + 1) ≡ e = omega arith in
+          rw it (is (e - 1) ∙ rw (ne_eqb (e - 1) p (omega arith)) (end.2 (omega arith)))
       | inr above ↦
-          let it : max g p ≡ p = omega arith in
+          let it : max e (p + 1) - 1 ≡ p = omega arith in
           rw it (is p ∙ rw (eq-eqb p p refl) refl)
     ],
-    λ q above. is q ∙ rw (ne_eqb q p (omega arith)) (found.1 q (omega arith)),
   )
 
   -- the greatest one leaves, and its word still has one: the highest of that word is the greatest

@@ -1,5 +1,5 @@
 ghost use Rattle.std.specs.Prelude.{◌≡◌, ℕ, ◌*◌, ◌≤◌, ◌==◌, if◌then◌else◌, true, false, Some};
-ghost use Rattle.mcs_ready.specs.stored.Priorities.{has, greater, IsGreatest, IsGreatestBelow};
+ghost use Rattle.mcs_ready.specs.stored.Priorities.{has, end_behind, IsGreatest, IsGreatestBelow};
 
 use std::marker::Model;
 
@@ -7,19 +7,19 @@ use std::marker::Model;
 #[derive(Debug, Drop)]
 pub(crate) struct Priorities {
     words: [u64; 4],
-    // The greatest priority in the set.
-    greatest: Option<u8>,
+    // One more than the greatest priority in the set, and 0 where the set is empty.
+    end: u16,
 }
 
 impl Model for Priorities {
     ghost use Rattle.std.specs.Prelude.{ℕ, List};
-    ghost use Rattle.mcs_ready.specs.stored.Priorities.{IsGreatest};
+    ghost use Rattle.mcs_ready.specs.stored.Priorities.{IsEnd};
 
     ghost Value = { List ℕ };
 
     ghost view = { λ a. a.words };
 
-    ghost invariant = { λ a. IsGreatest a.words a.greatest };
+    ghost invariant = { λ a. IsEnd a.words a.end };
 }
 
 impl Priorities {
@@ -29,16 +29,17 @@ impl Priorities {
     {
         Priorities {
             words: [0; 4],
-            greatest: None,
+            end: 0,
         }
     }
 
     /// The set with `priority` in it.
+    #[inline(always)]
     pub(crate) fn insert(&mut self, priority: u8)
         ensures { (q : ℕ) → has self.new q ≡ (if q == priority then true else has self.old q) }
     {
         self.words[priority as usize / 64] |= 1 << (priority % 64);
-        self.greatest = Some(greater(self.greatest, priority));
+        self.end = self.end.max(u16::from(priority) + 1);
     }
 
     /// The set without `priority`, which is its greatest.
@@ -51,27 +52,32 @@ impl Priorities {
         let bits = self.words[word as usize] & !(1 << (priority % 64));
         self.words[word as usize] = bits;
         if bits == 0 {
-            self.greatest = highest_below(&self.words, word);
+            self.end = end_behind(highest_below(&self.words, word));
         } else {
-            self.greatest = Some(word * 64 + bits.ilog2() as u8);
+            self.end = end_behind(Some(word * 64 + bits.ilog2() as u8));
         }
     }
 
     /// The greatest priority in the set.
+    #[inline(always)]
     pub(crate) fn greatest(&self) -> Option<u8>
         ensures { IsGreatest self.now result }
     {
-        self.greatest
+        match self.end {
+            0 => None,
+            end => Some((end - 1) as u8),
+        }
     }
 }
 
-/// The greater of the priorities.
-fn greater(greatest: Option<u8>, priority: u8) -> u8
-    ensures { result ≡ greater greatest priority }
+/// One more than the priority, and 0 for none.
+#[inline(always)]
+fn end_behind(greatest: Option<u8>) -> u16
+    ensures { result ≡ end_behind greatest }
 {
     match greatest {
-        Some(other) if priority < other => other,
-        _ => priority,
+        Some(priority) => u16::from(priority) + 1,
+        None => 0,
     }
 }
 

@@ -1,5 +1,5 @@
 -- A set of priorities as words of 64 bits.
-use Rattle.std.specs.Prelude.{◌≡◌, ℕ, ◌<◌, ◌/◌, ◌%◌, ◌==◌, Bool, true, false, List, slice_index, Option, Some, None, max, MatchOption}
+use Rattle.std.specs.Prelude.{◌≡◌, ℕ, ◌+◌, ◌-◌, ◌<◌, ◌≤◌, ◌/◌, ◌%◌, ◌==◌, Bool, true, false, List, slice_index, Option, Some, None, MatchOption}
 use Rattle.std.specs.Int.{bit_at}
 
 -- whether the priority is in the set: its bit is 1
@@ -16,6 +16,12 @@ abbrev pub IsGreatestBelow : ℕ → List ℕ → Option ℕ → Type 0
 IsGreatestBelow end words found =
     MatchOption found ((q : ℕ) → q < end → has words q ≡ false) (λ p. (has words p ≡ true) × ((q : ℕ) → p < q → q < end → has words q ≡ false))
 
-abbrev pub greater : Option ℕ → ℕ → ℕ
-greater None priority = priority
-greater (Some greatest) priority = max greatest priority
+-- one more than the priority, and 0 for none
+abbrev pub end_behind : Option ℕ → ℕ
+end_behind None = 0
+end_behind (Some greatest) = greatest + 1
+
+-- the set ends here: no priority from here on is in it, and the one before is, where there is one
+abbrev pub IsEnd : List ℕ → ℕ → Type 0
+IsEnd words end =
+    (end ≤ 256) × ((q : ℕ) → end ≤ q → has words q ≡ false) × (0 < end → has words (end - 1) ≡ true)
