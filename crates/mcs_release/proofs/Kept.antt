@@ -1,6 +1,5 @@
 -- What a release queue keeps, through each call.
 use Rattle.std.proofs.Common.{◌≡◌, ℕ, zero, suc, ◌+◌, ◌^◌, ◌<◌, ◌≤◌, Bool, true, false, List, [], ◌∷◌, ◌++◌, length, get_or, set, Option, Some, None, refl, sym, ap, subst, ◌∙◌, inl, inr, arith, get_or-set_other, length-set}
-use Rattle.std.specs.Option.{is_some}
 use Rattle.std.specs.Prelude.{nat_lt}
 use Rattle.std.proofs.lemmas.Bool.{cases_eq, ltb-true, lt-ltb}
 use Rattle.mcs_ticks.specs.Soonest.{sooner}
@@ -178,10 +177,6 @@ pub same_value : (queue queue' : List Dated) (room room' : ℕ) → queue ≡ qu
     let new : ReleaseQueue = record { queue = queue'; room = room' } in
     old ≡ new
 same_value queue queue' room room' e f = cc
-
-pub none_from : {X : Type 0} (r : Option X) → is_some r ≡ false → r ≡ None
-none_from None e = refl
-none_from (Some x) e = cc
 
 -- behind a lone one all places are empty
 pub AreEmptyFrom-lone : (lone : Option Dated) (x : Dated) (places : List (Option Dated)) → IsAlone lone places → lone ≡ Some x → AreEmptyFrom 1 (set places 0 (Some x))

@@ -128,7 +128,7 @@ impl Releases {
             thread: x,
             date: at,
         };
-        if self.soonest.moment().is_none() {
+        if self.soonest.is_never() {
             self.soonest = Soonest::at(at);
             self.lone = Some(entry);
             return;
@@ -144,8 +144,8 @@ impl Releases {
         ensures { self.new ≡ record self.old { queue = self.old.queue ++ entry ∷ [] } }
     {
         let at = Soonest::at(entry.date);
-        let lone = self.lone.take();
-        let place = place_behind(&mut self.places, lone, self.end);
+        let place = place_behind(&mut self.places, self.lone, self.end);
+        self.lone = None;
         self.places.put(place, entry);
         self.end = place + 1;
         self.soonest = self.soonest.or(at);
