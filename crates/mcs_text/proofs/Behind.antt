@@ -1,5 +1,5 @@
 -- Bytes up to the end of a text that was written into them.
-use Rattle.std.proofs.Common.{◌≡◌, ℕ, ◌+◌, ◌-◌, ◌/◌, ◌^◌, ◌<◌, ◌≤◌, List, [], ◌∷◌, ◌++◌, length, take, drop, set, refl, subst, ap, sym, ◌∙◌, length-append, arith, append_assoc}
+use Rattle.std.proofs.Common.{◌≡◌, ℕ, suc, ◌+◌, ◌-◌, ◌/◌, ◌^◌, ◌<◌, ◌≤◌, List, [], ◌∷◌, ◌++◌, length, take, drop, set, get_or, get_or-take, drop-cons, refl, subst, ap, sym, ◌∙◌, length-append, arith, append_assoc}
 use Rattle.std.proofs.Math.Seq.{set-append_seam, take-set-lt, take-append-add, take-append_seam, take-length}
 use Rattle.std.proofs.lemmas.List.{drop-set-add, length-drop, set-append_right, take-append-le, take-append-drop, take_more_set, length-set, length-take-le}
 use Rattle.std.specs.Fmt.{decimal}
@@ -50,6 +50,18 @@ pub take_short : (blank word : List ℕ) (k : ℕ) → take 1 blank ≡ 32 ∷ [
 take_short blank word k first long =
     let all : take (length word) word ≡ word = take-length word in
     take_part blank word 1 k (length word) long (omega arith) ∙ ap (λ zs. zs ++ take (length word) word) first ∙ ap (λ w. 32 ∷ w) all
+
+-- digits in a block of spaces, with the space before them
+pub take_digits : (blank block digits rest : List ℕ) (start : ℕ) → start + 1 ≤ length block → get_or blank start 0 ≡ 32 →
+    take (start + 1) block ≡ take (start + 1) blank → drop (start + 1) block ≡ digits ++ rest → take (suc (length digits)) (drop start block) ≡ 32 ∷ digits
+take_digits blank block digits rest start within space before behind =
+    let first : get_or block start 0 ≡ 32 =
+    sym (get_or-take (start + 1) block start 0 (omega arith)) ∙ ap (λ xs. get_or xs start 0) before
+    ∙ get_or-take (start + 1) blank start 0 (omega arith) ∙ space
+    in
+    let next : suc start ≡ start + 1 = omega arith in
+    ap (take (suc (length digits))) (drop-cons block start 0 (omega arith)) ∙ ap (λ x. x ∷ take (length digits) (drop (suc start) block)) first
+    ∙ ap (λ xs. 32 ∷ take (length digits) xs) (ap (λ i. drop i block) next ∙ behind) ∙ ap (λ xs. 32 ∷ xs) (take-append_seam digits rest)
 
 -- the last two digits of a block are others
 pub last_two : (block upper : List ℕ) (start p q a b : ℕ) → start ≤ 16 → 16 ≤ length block →

@@ -9,6 +9,9 @@ use itoa::write_digits;
 /// words, spaces and line feed (138 at most).
 pub(crate) const LINE: usize = 144;
 
+// The most bytes of a space and a number.
+const NUMBER: usize = 21;
+
 /// Writes a space and a word.
 #[inline(always)]
 pub(crate) fn write_word(bytes: &mut [u8], at: usize, word: &str) -> usize
@@ -94,15 +97,19 @@ fn write_two_digits(bytes: &mut [u8], at: usize, number: u8) -> usize
     at + 3
 }
 
-/// Writes a space and a number of any length.
+/// Writes a space and a number of any length, in a block that is copied whole.
 #[inline(never)]
 fn write_digits_behind(bytes: &mut [u8], at: usize, number: u64) -> usize
     requires { at + 21 ≤ length bytes.old }
     ensures short { result ≤ at + 21 }
     ensures written { take result bytes.new ≡ take at bytes.old ++ 32 ∷ decimal number }
 {
-    bytes[at] = b' ';
-    write_decimal(bytes, at + 1, number)
+    let mut block = [b' '; 2 * NUMBER];
+    let start = write_digits(number, &mut block, NUMBER) - 1;
+    let mut text = [0; NUMBER];
+    text.copy_from_slice(&block[start..start + NUMBER]);
+    bytes[at..at + NUMBER].copy_from_slice(&text);
+    at + (NUMBER - start)
 }
 
 /// Writes a number.
