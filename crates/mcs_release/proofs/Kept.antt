@@ -178,7 +178,15 @@ pub same_value : (queue queue' : List Dated) (room room' : ℕ) → queue ≡ qu
     old ≡ new
 same_value queue queue' room room' e f = cc
 
--- behind a lone one all places are empty
+-- a lone one in the first place is all that waits, and all places behind it are empty
+pub entered-lone : (lone : Option Dated) (x : Dated) (places : List (Option Dated)) → IsAlone lone places → lone ≡ Some x → 0 < length places →
+    entered (set places 0 (Some x)) ≡ waiting lone places
+entered-lone None x places alone e room = cc
+entered-lone (Some y) x places alone e room =
+    let it : y ≡ x = cc in
+    entered-push places 0 x room (λ i from. empty_from places i alone) ∙ ap (λ (xs : List Dated). xs ++ x ∷ []) alone
+    ∙ sym (ap (λ (xs : List Dated). y ∷ xs) alone ∙ ap (λ (z : Dated). z ∷ []) it)
+
 pub AreEmptyFrom-lone : (lone : Option Dated) (x : Dated) (places : List (Option Dated)) → IsAlone lone places → lone ≡ Some x → AreEmptyFrom 1 (set places 0 (Some x))
 AreEmptyFrom-lone None x places alone e i from = cc
 AreEmptyFrom-lone (Some y) x places alone e i from = get_or-set_other places 0 i (Some x) None (omega arith) ∙ empty_from places i alone

@@ -144,8 +144,7 @@ impl Releases {
         ensures { self.new ≡ record self.old { queue = self.old.queue ++ entry ∷ [] } }
     {
         let at = Soonest::at(entry.date);
-        let place = place_behind(&mut self.places, self.lone, self.end);
-        self.lone = None;
+        let place = place_behind(&mut self.places, &mut self.lone, self.end);
         self.places.put(place, entry);
         self.end = place + 1;
         self.soonest = self.soonest.or(at);
@@ -155,16 +154,18 @@ impl Releases {
 /// An empty place behind all: the lone one, if any, gets the first place, and where the last place is taken, all move to the front.
 /// By then, since the last time, the threads of at least a fifth of the places have left.
 #[inline(always)]
-fn place_behind(places: &mut Places, lone: Option<Dated>, end: usize) -> usize
-    requires alone { IsAlone lone places.old }
+fn place_behind(places: &mut Places, lone: &mut Option<Dated>, end: usize) -> usize
+    requires alone { IsAlone lone.old places.old }
     requires behind { AreEmptyFrom end places.old }
-    requires room { length (waiting lone places.old) < length places.old }
-    ensures entered { entered places.new ≡ waiting lone places.old }
+    requires room { length (waiting lone.old places.old) < length places.old }
+    ensures none { lone.new ≡ None }
+    ensures entered { entered places.new ≡ waiting lone.old places.old }
     ensures within { result < length places.new }
     ensures behind { AreEmptyFrom result places.new }
     ensures len { length places.new ≡ length places.old }
 {
-    if let Some(only) = lone {
+    if let Some(only) = *lone {
+        *lone = None;
         places.put(0, only);
         return 1;
     }

@@ -13,7 +13,7 @@ overflow_add-self c = omega (arith, c.place_behind-place.ensures.within, c.place
 
 pub invariant_of-self : goal.invariant_of-self
 invariant_of-self c =
-    rw (c.or-self-inside.ensures, c.at-at.ensures, c.put.ensures) (
+    rw (c.or-self-inside.ensures, c.at-at.ensures, c.place_behind-place.ensures.none, c.put.ensures) (
     IsKept-entered _ _ _ _ _ c.self.invariant c.args.entry (rw (ap (λ (v : ReleaseQueue). v.room) c.self.view_is) c.requires.below)
     (ap (λ (v : ReleaseQueue). is_held c.args.entry.thread v.queue) c.self.view_is ∙ c.requires.free)
     _ _ c.place_behind-place.ensures.entered c.place_behind-place.ensures.within c.place_behind-place.ensures.behind c.place_behind-place.ensures.len
@@ -21,7 +21,7 @@ invariant_of-self c =
 
 pub returns : goal.returns
 returns c =
-    rw c.put.ensures (
+    rw (c.place_behind-place.ensures.none, c.put.ensures) (
     same_value _ _ _ _ (
     entered-more _ _ _ _ _ c.self.invariant c.args.entry (rw (ap (λ (v : ReleaseQueue). v.room) c.self.view_is) c.requires.below)
     (ap (λ (v : ReleaseQueue). is_held c.args.entry.thread v.queue) c.self.view_is ∙ c.requires.free)
