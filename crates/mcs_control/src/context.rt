@@ -95,6 +95,7 @@ impl Context {
 
     /// Charges ticks of the head, by kind: the first ticks of the refills return a period later, and then the head has at least
     /// `min_budget`; a slice that is used up is full again.
+    #[inline(always)]
     pub fn charge(&mut self, ticks: u64, min_budget: u64)
         requires some { 1 ≤ ticks }
         requires in_head { ticks ≤ head_amount self.old.context }

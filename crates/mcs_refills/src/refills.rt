@@ -99,6 +99,7 @@ impl Refills {
     /// Charges the first `ticks` of the head, which return a period later: where the list is full, its last refill first moves
     /// later until they touch it. Then, while the head has fewer than `min_budget` ticks, it moves later and joins the next
     /// refill.
+    #[inline(always)]
     pub fn charge(&mut self, ticks: u64, min_budget: u64)
         requires some { 1 ≤ ticks }
         requires in_head { ticks ≤ head_amount self.old.dates }

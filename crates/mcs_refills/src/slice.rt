@@ -44,6 +44,7 @@ impl Slice {
     }
 
     /// Charges ticks that were used. Where none is left, the slice is full again.
+    #[inline(always)]
     pub fn charge(&mut self, ticks: u64)
         requires some { 1 ≤ ticks }
         requires within { ticks ≤ self.old.left }

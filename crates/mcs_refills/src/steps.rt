@@ -51,23 +51,6 @@ pub fn give_back(refills: &mut Line, back: Refill, max_refills: usize)
     }
 }
 
-/// Takes ticks from the head and gives a refill back. An only refill that is wholly used is written over.
-pub fn spend(refills: &mut Line, ticks: u64, back: Refill, max_refills: usize)
-    requires in_head { ticks ≤ first_amount refills.old.items }
-    requires early { first_moment refills.old.items + first_amount refills.old.items < 2 ^ 63 }
-    requires fits { max_refills ≤ refills.old.capacity }
-    requires later { last_end (taken ticks refills.old.items) ≤ back.begins }
-    requires in_range { back.begins + back.amount < 2 ^ 63 }
-    ensures { refills.new ≡ buffer (given_back max_refills back (taken ticks refills.old.items)) refills.old.capacity }
-{
-    if ticks == refills.first().amount && refills.len() == 1 {
-        refills.set_first(back);
-    } else {
-        take(refills, ticks);
-        give_back(refills, back, max_refills);
-    }
-}
-
 /// While the head has fewer than `min_budget` ticks, it moves to the next refill and joins it.
 pub fn gather(refills: &mut Line, min_budget: u64)
     requires apart { AreApart refills.old.items }
@@ -91,7 +74,9 @@ pub fn gather(refills: &mut Line, min_budget: u64)
     refills.set_first(head);
 }
 
-/// A charge: the first ticks of the head are used and return a period later, and then there is enough at the head.
+/// A charge: the first ticks of the head are used and return a period later, and then there is enough at the head. An only refill
+/// that is wholly used is written over.
+#[inline(always)]
 pub fn charge_list(refills: &mut Line, period: u64, max_refills: usize, ticks: u64, min_budget: u64)
     requires kept { IsKept refills.old.items period max_refills }
     requires fits { max_refills ≤ refills.old.capacity }
@@ -101,11 +86,35 @@ pub fn charge_list(refills: &mut Line, period: u64, max_refills: usize, ticks: u
     ensures { refills.new
         ≡ buffer (after_charge ticks min_budget period max_refills refills.old.items) refills.old.capacity }
 {
+    let head = refills.first();
+    if ticks == head.amount && refills.len() == 1 {
+        refills.set_first(Refill {
+            begins: head.begins + period,
+            amount: ticks,
+        });
+    } else {
+        charge_part(refills, period, max_refills, ticks, min_budget);
+    }
+}
+
+/// A charge that leaves some ticks besides those that return.
+#[inline(never)]
+fn charge_part(refills: &mut Line, period: u64, max_refills: usize, ticks: u64, min_budget: u64)
+    requires kept { IsKept refills.old.items period max_refills }
+    requires fits { max_refills ≤ refills.old.capacity }
+    requires some { 1 ≤ ticks }
+    requires in_head { ticks ≤ first_amount refills.old.items }
+    requires left { 1 ≤ length (taken ticks refills.old.items) }
+    requires early { first_moment refills.old.items ≤ 2 ^ 40 }
+    ensures { refills.new
+        ≡ buffer (after_charge ticks min_budget period max_refills refills.old.items) refills.old.capacity }
+{
     let back = Refill {
         begins: refills.first().begins + period,
         amount: ticks,
     };
-    spend(refills, ticks, back, max_refills);
+    take(refills, ticks);
+    give_back(refills, back, max_refills);
     gather(refills, min_budget);
 }
 
