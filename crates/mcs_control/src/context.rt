@@ -194,7 +194,7 @@ impl Context {
         ensures { result ≡ head_moment self.now.context }
     {
         match &self.budget {
-            Budget::Sporadic(refills) => Tick::new(refills.head().begins).unwrap(),
+            Budget::Sporadic(refills) => Tick::at(refills.head().begins),
             Budget::RoundRobin(_) => Tick::ZERO,
         }
     }
