@@ -13,7 +13,7 @@ use Rattle.mcs_control.specs.declared.config.Mode.{Mode}
 use Rattle.mcs_control.specs.declared.config.Kind.{Kind}
 use Rattle.mcs_control.specs.declared.config.Kind.TheVariants.{Sporadic, RoundRobin}
 use Rattle.mcs_control.specs.Control.{kind_of}
-use Rattle.mcs_control.specs.Context.{Context, WithRoom, new_context, first_budget, head_moment, moment_of}
+use Rattle.mcs_control.specs.Context.{Context, new_context, first_budget, head_moment, moment_of}
 use Rattle.mcs_notify.specs.Note.{Note, quiet_note}
 use Rattle.mcs_release.specs.declared.dated.Dated.{Dated}
 use Rattle.mcs_system.specs.declared.part.ContextPart.{ContextPart}
@@ -22,7 +22,7 @@ use Rattle.mcs_system.specs.declared.part.ThreadPart.{ThreadPart}
 use Rattle.mcs_core.specs.declared.standing.Standing.TheVariants.{Pending, Elsewhere}
 use Rattle.mcs_core.specs.declared.standing.Thread.{Thread}
 use Rattle.mcs_system.specs.System.{System, context_part, thread_part, no_context, no_thread, core_of, start_of}
-use Rattle.mcs_core.specs.stored.Contexts.{seen_contexts, HasRoom, HaveRoom}
+use Rattle.mcs_core.specs.stored.Contexts.{Kept, unboxed, seen_contexts, HasRoom, HaveRoom}
 use Rattle.mcs_core.specs.Contexts.{no_server, is_some, is_own}
 use Rattle.mcs_core.specs.Core.{Core, no_state, thread_of, context_of, opening_thread, opening_releases, opening_contexts, opening_core}
 use Rattle.mcs_core.specs.stored.Sound.{times_ready, times_pending, times_blocked, is_here, may_run, has_context, IsPlaced, AreEarly, IsContextOf, IsSound}
@@ -296,21 +296,21 @@ module _ (system : System) (c : ℕ) where
   next-context n k (y ∷ contexts) (suc i) x l e f =
       ap (λ os. cond (y.core == c) (Some (new_context y.config y.mode (start_of system.threads n))) None ∷ os) (next-context (n + 1) k contexts i x (omega arith) e (omega arith))
 
-  pub made-next : (contexts : List ContextPart) (i : ℕ) (x : ContextPart) (kept : List (Option WithRoom)) (more : Option WithRoom) → i < length contexts → x ≡ get_or contexts i x →
+  pub made-next : (contexts : List ContextPart) (i : ℕ) (x : ContextPart) (kept : List (Option Kept)) (more : Option Kept) → i < length contexts → x ≡ get_or contexts i x →
       seen_contexts kept ≡ opening_contexts system c 0 (take i contexts) →
-      option_map (λ own. own.context) more ≡ cond (x.core == c) (Some (new_context x.config x.mode (start_of system.threads i))) None →
+      option_map (λ own. own.context) (unboxed more) ≡ cond (x.core == c) (Some (new_context x.config x.mode (start_of system.threads i))) None →
       seen_contexts (kept ++ more ∷ []) ≡ opening_contexts system c 0 (take (i + 1) contexts)
   made-next contexts i x kept more l e f g =
       rw add-one
-      (seen-append kept more ∙ ap (λ xs. xs ++ option_map (λ own. own.context) more ∷ []) f
+      (seen-append kept more ∙ ap (λ xs. xs ++ option_map (λ own. own.context) (unboxed more) ∷ []) f
       ∙ ap (λ o. opening_contexts system c 0 (take i contexts) ++ o ∷ []) g ∙ sym (next-context 0 i contexts i x l e (omega arith)))
     where
-      seen-append : (xs : List (Option WithRoom)) (y : Option WithRoom) → seen_contexts (xs ++ y ∷ []) ≡ seen_contexts xs ++ option_map (λ own. own.context) y ∷ []
+      seen-append : (xs : List (Option Kept)) (y : Option Kept) → seen_contexts (xs ++ y ∷ []) ≡ seen_contexts xs ++ option_map (λ own. own.context) (unboxed y) ∷ []
       seen-append [] y = refl
-      seen-append (x ∷ xs) y = ap (λ ys. option_map (λ own. own.context) x ∷ ys) (seen-append xs y)
+      seen-append (x ∷ xs) y = ap (λ ys. option_map (λ own. own.context) (unboxed x) ∷ ys) (seen-append xs y)
 
 -- each with its room
-pub room-next : (kept : List (Option WithRoom)) (more : Option WithRoom) → HaveRoom kept → HasRoom more → HaveRoom (kept ++ more ∷ [])
+pub room-next : (kept : List (Option Kept)) (more : Option Kept) → HaveRoom kept → HasRoom (unboxed more) → HaveRoom (kept ++ more ∷ [])
 room-next [] more h r = (r, tt)
 room-next (x ∷ kept) more h r = (h.0, room-next kept more h.1 r)
 

@@ -10,10 +10,10 @@ use mcs_ticks::{ContextId, NoMemory, Tick};
 use std::alloc::Global;
 use std::marker::Model;
 
-/// The contexts of a system by number, of which a core holds its own.
+/// The contexts of a system by number, of which a core holds its own. One of another core takes a word.
 #[derive(Drop)]
 pub(crate) struct Contexts {
-    contexts: Vec<Option<Context>>,
+    contexts: Vec<Option<Box<Context>>>,
 }
 
 impl Model for Contexts {
@@ -61,6 +61,7 @@ impl Contexts {
     {
         match &mut self.contexts[number.0] {
             Some(context) => {
+                let context = context.as_mut();
                 context.charge(ticks, min_budget);
                 date_from(context, moment)
             }
@@ -114,7 +115,7 @@ impl Contexts {
         ensures { result ≡ date_from moment (held number self.now) }
     {
         match &self.contexts[number.0] {
-            Some(context) => date_from(context, moment),
+            Some(context) => date_from(context.as_ref(), moment),
             None => unreachable!(),
         }
     }
@@ -132,7 +133,7 @@ impl Contexts {
     }
 
     /// These contexts, each with room for as many refills as any configuration may ask for.
-    pub(crate) fn from_parts(contexts: Vec<Option<Context>>) -> Self
+    pub(crate) fn from_parts(contexts: Vec<Option<Box<Context>>>) -> Self
         requires { HaveRoom contexts.items }
         ensures { result ≡ seen_contexts contexts.items }
     {
@@ -144,7 +145,7 @@ impl Contexts {
         requires known { number < length self.now }
         ensures { option_map (λ kept. kept.context) (option_copied result) ≡ get_or self.now number None }
     {
-        self.contexts[number.0].as_ref()
+        self.contexts[number.0].as_deref()
     }
 
     /// What there is to see of a context, if the core holds it. `NoMemory` is answered where the list of refills is

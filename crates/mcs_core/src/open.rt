@@ -1,7 +1,7 @@
 ghost use Rattle.std.specs.Prelude.{◌≡◌, ℕ, ◌^◌, ◌==◌, ◌<◌, ◌≤◌, if◌then◌else◌, length, get_or, insert, map, option_map, IfOk, OnOk, Some, None};
 ghost use Rattle.mcs_control.specs.Context.{new_context};
 ghost use Rattle.mcs_control.specs.Control.{IsConfig, IsModeOf, kind_of};
-ghost use Rattle.mcs_core.specs.stored.Contexts.{HasRoom};
+ghost use Rattle.mcs_core.specs.stored.Contexts.{unboxed, HasRoom};
 ghost use Rattle.mcs_core.specs.Core.{opening_thread, opening_releases, opening_contexts, opening_core};
 ghost use Rattle.mcs_core.specs.Orders.{by_moment, orders_of};
 ghost use Rattle.mcs_system.specs.System.{context_part, start_of};
@@ -106,6 +106,16 @@ fn opening_context(
     Ok(Some(context))
 }
 
+/// A context, if there is one, where a core keeps it.
+fn boxed(alloc: Global, context: Option<Context>) -> Result<Option<Box<Context>>, NoMemory>
+    ensures { IfOk result (λ kept. unboxed kept ≡ context) }
+{
+    match context {
+        Some(context) => Ok(Some(Box::new(alloc, context)?)),
+        None => Ok(None),
+    }
+}
+
 fn opening_contexts(alloc: Global, system: &SystemParts, core: CoreId) -> Result<Contexts, NoMemory>
     requires { IsWellFormed system.now }
     ensures { IfOk result (λ contexts. contexts ≡ opening_contexts system.now core 0 system.now.contexts) }
@@ -115,7 +125,8 @@ fn opening_contexts(alloc: Global, system: &SystemParts, core: CoreId) -> Result
     let mut contexts = Vec::with_capacity(alloc, parts.len())?;
     for (k, part) in parts.iter().enumerate() {
         let context = opening_context(alloc, core, part, starts[k])?;
-        contexts.push(context)?;
+        let kept = boxed(alloc, context)?;
+        contexts.push(kept)?;
     }
     Ok(Contexts::from_parts(contexts))
 }

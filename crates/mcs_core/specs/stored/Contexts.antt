@@ -1,15 +1,23 @@
--- The contexts of a core as they are kept, each with room for its refills.
+-- The contexts of a core as they are kept: each behind a pointer, with room for its refills.
 use Rattle.std.specs.Prelude.{◌≡◌, List, [], ◌∷◌, map, Option, Some, None, option_map}
+use Rattle.std.specs.Global.{Box}
 use Rattle.mcs_control.specs.Context.{Context, WithRoom}
 
-abbrev pub seen_contexts : List (Option WithRoom) → List (Option Context)
-seen_contexts contexts = map (option_map (λ kept. kept.context)) contexts
+-- a context where it is kept
+abbrev pub Kept : Type 0
+Kept = Box WithRoom
+
+abbrev pub unboxed : Option Kept → Option WithRoom
+unboxed kept = option_map (λ box. box.value) kept
+
+abbrev pub seen_contexts : List (Option Kept) → List (Option Context)
+seen_contexts contexts = map (λ kept. option_map (λ own. own.context) (unboxed kept)) contexts
 
 -- there is room for as many refills as any configuration may ask for
 abbrev pub HasRoom : Option WithRoom → Type 0
 HasRoom None = Unit {0}
 HasRoom (Some kept) = kept.room ≡ 66
 
-abbrev pub HaveRoom : List (Option WithRoom) → Type 0
+abbrev pub HaveRoom : List (Option Kept) → Type 0
 HaveRoom [] = Unit {0}
-HaveRoom (kept ∷ others) = HasRoom kept × HaveRoom others
+HaveRoom (kept ∷ others) = HasRoom (unboxed kept) × HaveRoom others

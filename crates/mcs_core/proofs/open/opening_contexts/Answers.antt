@@ -1,5 +1,7 @@
 use Rattle.std.proofs.Common.{◌≡◌, ◌<◌, length, get_or, ◌∙◌, arith, ap}
+use Rattle.std.specs.Prelude.{option_map}
 use Rattle.std.proofs.lemmas.List.{get_or_default}
+use Rattle.mcs_control.specs.Context.{WithRoom}
 use Rattle.mcs_system.specs.declared.part.ContextPart.{ContextPart}
 use Rattle.mcs_core.specs.stored.Contexts.{seen_contexts}
 use Rattle.mcs_system.specs.System.{start_of}
@@ -25,7 +27,7 @@ loop-k-preserved c =
     record {
       contexts =
           ap seen_contexts c.in_ok-push.ensures.items
-          ∙ made-next c.args.system.now c.args.core c.args.system.now.contexts c.loop-k.k x c.loop-k.contexts.items c.in_ok-context.context l at c.loop-k.invariant.contexts
-          (rw start at c.in_ok-context.ensures.context);
-      room = rw c.in_ok-push.ensures.items (room-next c.loop-k.contexts.items c.in_ok-context.context c.loop-k.invariant.room c.in_ok-context.ensures.room);
+          ∙ made-next c.args.system.now c.args.core c.args.system.now.contexts c.loop-k.k x c.loop-k.contexts.items c.in_ok-kept.kept l at c.loop-k.invariant.contexts
+          (ap (option_map (λ (own : WithRoom). own.context)) c.in_ok-kept.ensures ∙ rw start at c.in_ok-context.ensures.context);
+      room = rw c.in_ok-push.ensures.items (room-next c.loop-k.contexts.items c.in_ok-kept.kept c.loop-k.invariant.room (rw c.in_ok-kept.ensures c.in_ok-context.ensures.room));
     }

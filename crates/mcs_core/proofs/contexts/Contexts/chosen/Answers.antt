@@ -4,12 +4,12 @@ use Rattle.mcs_core.proofs.contexts.Contexts.chosen.Goals as goal
 
 pub invariant_of-self : goal.invariant_of-self
 invariant_of-self c =
-    changed-room c.number.inside.0 c.args.number c.self.inside.contexts.items c.args.self.now c.in-Some.context c.chosen.new.self
+    changed-room c.number.inside.0 c.args.number c.self.inside.contexts.items c.args.self.now c.in-Some.context c.deref_mut.result.now c.chosen.new.self
     (found c.number.inside.0 c.args.number c.self.inside.contexts.items c.args.self.now c.index_mut.result.now c.in-Some.context c.number.view_is c.self.view_is c.requires.own c.index_mut.ensures.value c.in-Some.is)
-    c.self.invariant c.chosen.ensures.room
+    c.self.invariant c.deref_mut.ensures.value c.chosen.ensures.room
 
 pub returns : goal.returns
 returns c =
-    changed-seen c.number.inside.0 c.args.number c.self.inside.contexts.items c.args.self.now c.in-Some.context c.chosen.new.self (context_chosen c.args.moment) c.number.view_is
+    changed-seen c.number.inside.0 c.args.number c.self.inside.contexts.items c.args.self.now c.in-Some.context c.deref_mut.result.now c.chosen.new.self (context_chosen c.args.moment) c.number.view_is
     (found c.number.inside.0 c.args.number c.self.inside.contexts.items c.args.self.now c.index_mut.result.now c.in-Some.context c.number.view_is c.self.view_is c.requires.own c.index_mut.ensures.value c.in-Some.is)
-    c.chosen.ensures.context
+    c.deref_mut.ensures.value c.chosen.ensures.context
