@@ -56,7 +56,7 @@ impl CoreState {
         let mut log = Log { sink, signals };
         self.local
             .turn(&here, quiet, &mut self.agenda, mail, &mut log)?;
-        self.clock = moment.plus(1).unwrap();
+        self.clock = Tick::at(moment.get() + 1);
         Ok(())
     }
 

@@ -18,7 +18,7 @@ use crate::log::{Here, Log};
 use mcs_mail::Mail;
 use mcs_notify::Waited;
 use mcs_script::{Item, Moved};
-use mcs_ticks::{FlowFault, NoteId, Sink, ThreadId, What};
+use mcs_ticks::{FlowFault, NoteId, Sink, ThreadId, Tick, What};
 
 impl Local {
     /// What follows a wait: the thread blocks where the word is 0.
@@ -210,7 +210,7 @@ fn mail_to(here: &Here<'_>, note: NoteId, badge: u32) -> Mail
     let home = here.system.note(note).core;
     let delay = here.delays[home.0];
     Mail {
-        arrives: here.moment.plus(delay).unwrap(),
+        arrives: Tick::at(here.moment.get() + delay),
         made: here.moment,
         maker: here.core,
         note,

@@ -39,7 +39,7 @@ module _ (g : _) (c : goal.After-self-1 g) where
   kept = record { number = c.self.inside.number; clock = c.self.inside.clock; core = c.self.inside.local; orders = c.self.inside.agenda; delays = c.self.inside.delays; failed = c.self.inside.failed }
 
   abbrev left : State
-  left = record { number = c.self.inside.number; clock = c.unwrap-self-inside.result; core = c.turn.new.self; orders = c.turn.new.agenda; delays = c.self.inside.delays; failed = c.self.inside.failed }
+  left = record { number = c.self.inside.number; clock = c.at-self-inside.result; core = c.turn.new.self; orders = c.turn.new.agenda; delays = c.self.inside.delays; failed = c.self.inside.failed }
 
   abbrev quiets : ℕ
   quiets = c.get.result - c.get-2.result
@@ -61,7 +61,7 @@ module _ (g : _) (c : goal.After-self-1 g) where
   many : quiets ≡ c.args.moment - kept.clock
   many = omega arith
 
-  next : c.unwrap-self-inside.result ≡ c.args.moment + 1
+  next : c.at-self-inside.result ≡ c.args.moment + 1
   next = search rules
 
   made : c.turn.new.self
@@ -75,7 +75,7 @@ returns-clause-state g c =
     let P : State → Type 0 = λ s. left g c ≡ state_after (skipped c.args.system.now c.args.moment s) (c.args.moment + 1) (made_by c.args.system.now (skipped c.args.system.now c.args.moment s) (c.args.moment + 1) c.args.mail.now.mails) in
     subst P c.self.view_is
     (turned-state c.args.system.now c.parts.ensures.well_formed (kept g c) c.args.moment c.args.mail.now.mails (fits g c) (going g c) (later g c) c.requires.in_time (quiet g c)
-    c.unwrap-self-inside.result c.turn.new.self c.turn.new.agenda (next g c) (quiets g c) (many g c) (made g c) c.in_ok-turn.ensures.agenda)
+    c.at-self-inside.result c.turn.new.self c.turn.new.agenda (next g c) (quiets g c) (many g c) (made g c) c.in_ok-turn.ensures.agenda)
 
 pub returns-clause-rows : goal.returns-clause-rows
 returns-clause-rows g c =
@@ -101,5 +101,5 @@ pub returns-clause-fits : goal.returns-clause-fits
 returns-clause-fits g c =
     let P : System → Type 0 = λ s. IsSound s (kept g c).number (c.args.moment + 1) Between None c.turn.new.self in
     turned-fits c.args.system.now c.parts.ensures.well_formed (kept g c) c.args.moment c.args.mail.now.mails (fits g c) (going g c) (later g c) c.requires.in_time (quiet g c)
-    c.unwrap-self-inside.result c.turn.new.self c.turn.new.agenda (next g c) (quiets g c) (many g c) (made g c) c.in_ok-turn.ensures.agenda
+    c.at-self-inside.result c.turn.new.self c.turn.new.agenda (next g c) (quiets g c) (many g c) (made g c) c.in_ok-turn.ensures.agenda
     (subst P c.parts.ensures.same c.in_ok-turn.ensures.sound)
