@@ -1,6 +1,7 @@
 -- Entries move to the front, one after another.
-use Rattle.std.proofs.Common.{◌≡◌, ℕ, suc, ◌+◌, ◌<◌, ◌≤◌, List, length, get_or, set, take, Option, Some, None, refl, ap, ◌∙◌, inl, inr, arith, get_or-set_same, get_or-set_other}
-use Rattle.std.proofs.lemmas.Bool.{cases_eq, cases_lt}
+use Rattle.std.proofs.Common.{◌≡◌, ℕ, suc, ◌+◌, ◌<◌, ◌≤◌, List, length, get_or, set, take, Option, Some, None, refl, ap, ◌∙◌, inl, inr, arith}
+use Rattle.std.proofs.lemmas.Bool.{cases_lt}
+use Rattle.std.proofs.lemmas.Grind.{common_steps}
 use Rattle.std.proofs.lemmas.List.{get_or_past}
 use Rattle.mcs_release.specs.declared.dated.Dated.{Dated}
 use Rattle.mcs_release.specs.stored.Places.{entered, AreEmptyFrom}
@@ -19,10 +20,7 @@ module _ (start places : List (Option Dated)) (front i : ℕ) (closing : IsClosi
   IsClosing-skip none = record {
     kept = closing.kept;
     before = omega (arith, closing.before);
-    gap = λ j from under. elim (cases_eq j i) [
-      | inl e ↦ ap (λ (k : ℕ). get_or places k None) e ∙ none
-      | inr ne ↦ closing.gap j from (omega arith)
-    ];
+    gap = λ j from under. grind (arith, none, closing.gap j from);
     filled = closing.filled;
   }
 
@@ -32,10 +30,7 @@ module _ (start places : List (Option Dated)) (front i : ℕ) (closing : IsClosi
   IsClosing-move x below e = record {
     kept = entered-moved places i front x e closing.before closing.gap ∙ closing.kept;
     before = omega (arith, closing.before);
-    gap = λ j from under. get_or-set_other (set places i None) front j (Some x) None (omega arith) ∙ elim (cases_eq j i) [
-      | inl e ↦ ap (λ (k : ℕ). get_or (set places i None) k None) e ∙ get_or-set_same places i None None below
-      | inr ne ↦ get_or-set_other places i j None None ne ∙ closing.gap j (omega arith) (omega arith)
-    ];
+    gap = λ j from under. grind (arith, common_steps, closing.gap j);
     filled = omega (
       arith,
       closing.filled,

@@ -2,6 +2,7 @@
 use Rattle.std.proofs.Common.{◌≡◌, ℕ, zero, suc, ◌<◌, ◌≤◌, Bool, true, false, cond, List, [], ◌∷◌, ◌++◌, get_or, Option, Some, None, refl, sym, ap, ◌∙◌, inl, inr, arith}
 use Rattle.std.specs.Prelude.{nat_lt, nat_le, filter, option_map, IfSome, IsSome}
 use Rattle.std.proofs.lemmas.Bool.{cases_lt, le-leb, lt-leb, lt-ltb, le-ltb, eq-eqb}
+use Rattle.std.proofs.lemmas.Bool.Decides.{nat_tests}
 use Rattle.mcs_ticks.specs.Soonest.{sooner, HasCome}
 use Rattle.mcs_release.specs.declared.dated.Dated.{Dated}
 use Rattle.mcs_release.specs.stored.Places.{entered}
@@ -11,21 +12,22 @@ earlier-first : (x : Dated) (r : Option Dated) → IfSome r (λ y. x.date ≤ y.
 earlier-first x None h = refl
 earlier-first x (Some y) h = rw (le-ltb y.date x.date h) refl
 
+-- what holds of both holds of the earlier one
+pub earlier-keeps : (P : Dated → Type 0) (x : Dated) (r : Option Dated) → P x → IfSome r P → P (earlier x r)
+earlier-keeps P x None h k = h
+earlier-keeps P x (Some y) h k = by (nat_lt y.date x.date)
+  where
+    by : (b : Bool) → P (cond b y x)
+    by true = k
+    by false = h
+
 -- where no date is less than this one, that of the earliest is not
 earliest-least : (places : List (Option Dated)) (date : ℕ) → ((i : ℕ) (y : Dated) → get_or places i None ≡ Some y → date ≤ y.date) →
     IfSome (earliest (entered places)) (λ y. date ≤ y.date)
 earliest-least [] date all = tt
 earliest-least (None ∷ places) date all = earliest-least places date (λ i y e. all (suc i) y e)
 earliest-least (Some x ∷ places) date all =
-    go (earliest (entered places)) (earliest-least places date (λ i y e. all (suc i) y e)) (all zero x refl)
-  where
-    chosen : (b : Bool) (y : Dated) → date ≤ x.date → date ≤ y.date → date ≤ (cond b y x).date
-    chosen true y h k = k
-    chosen false y h k = h
-
-    go : (r : Option Dated) → IfSome r (λ y. date ≤ y.date) → date ≤ x.date → IfSome (Some (earlier x r)) (λ y. date ≤ y.date)
-    go None k h = h
-    go (Some y) k h = chosen (nat_lt y.date x.date) y h k
+    earlier-keeps (λ (y : Dated). date ≤ y.date) x (earliest (entered places)) (all zero x refl) (earliest-least places date (λ i y e. all (suc i) y e))
 
 -- the one before which no other comes, by dates and then by places, is the earliest
 pub earliest-place : (places : List (Option Dated)) (k : ℕ) (x : Dated) → get_or places k None ≡ Some x →
@@ -49,45 +51,10 @@ abbrev due_only : ℕ → Option Dated → Option Dated
 due_only t None = None
 due_only t (Some x) = cond (nat_le x.date t) (Some x) None
 
-due_only-none : (t : ℕ) → due_only t None ≡ None
-due_only-none t = refl
-
-due_only-yes : (t : ℕ) (x : Dated) → x.date ≤ t → due_only t (Some x) ≡ Some x
-due_only-yes t x h = rw (le-leb x.date t h) refl
-
-due_only-no : (t : ℕ) (x : Dated) → t < x.date → due_only t (Some x) ≡ None
-due_only-no t x h = rw (lt-leb x.date t h) refl
-
 due-step : (t : ℕ) (x : Dated) (r : Option Dated) (dues : List Dated) → earliest dues ≡ due_only t r →
     earliest (cond (nat_le x.date t) (x ∷ dues) dues) ≡ due_only t (Some (earlier x r))
-due-step t x None dues e = elim (cases_lt t x.date) [
-  | inl later ↦ rw (lt-leb x.date t later) e
-  | inr come ↦ rw (le-leb x.date t come) (ap (λ (r : Option Dated). Some (earlier x r)) e)
-]
-due-step t x (Some y) dues e = elim (cases_lt t x.date) [
-  | inl later ↦ elim (cases_lt t y.date) [
-    | inl later_y ↦ rw (lt-leb x.date t later) (e ∙ due_only-no t y later_y ∙ sym (by (nat_lt y.date x.date) later later_y))
-    | inr come_y ↦ rw (lt-leb x.date t later, lt-ltb y.date x.date (omega arith)) e
-  ]
-  | inr come ↦ elim (cases_lt t y.date) [
-    | inl later_y ↦
-        rw (le-leb x.date t come, le-ltb y.date x.date (omega arith)) (
-        ap (λ (r : Option Dated). Some (earlier x r)) (e ∙ due_only-no t y later_y) ∙ sym (due_only-yes t x come)
-        )
-    | inr come_y ↦
-        rw (le-leb x.date t come) (
-        ap (λ (r : Option Dated). Some (earlier x r)) (e ∙ due_only-yes t y come_y) ∙ sym (yes (nat_lt y.date x.date) come come_y)
-        )
-  ]
-]
-  where
-    by : (b : Bool) → t < x.date → t < y.date → due_only t (Some (cond b y x)) ≡ None
-    by true h k = due_only-no t y k
-    by false h k = due_only-no t x h
-
-    yes : (b : Bool) → x.date ≤ t → y.date ≤ t → due_only t (Some (cond b y x)) ≡ Some (cond b y x)
-    yes true h k = due_only-yes t y k
-    yes false h k = due_only-yes t x h
+due-step t x None dues e = grind (arith, nat_tests)
+due-step t x (Some y) dues e = grind (arith, nat_tests)
 
 first_due-earliest : (t : ℕ) (queue : List Dated) → first_due t queue ≡ due_only t (earliest queue)
 first_due-earliest t [] = refl
@@ -99,14 +66,14 @@ first_due-come t queue come = first_due-earliest t queue ∙ by (earliest queue)
   where
     by : (r : Option Dated) → HasCome t (option_map (λ x. x.date) r) → due_only t r ≡ r
     by None h = absurd h
-    by (Some x) h = due_only-yes t x h
+    by (Some x) h = rw (le-leb x.date t h) refl
 
 pub first_due-later : (t : ℕ) (queue : List Dated) → (HasCome t (next_date queue) → ⊥) → first_due t queue ≡ None
 first_due-later t queue later = first_due-earliest t queue ∙ by (earliest queue) later
   where
     by : (r : Option Dated) → (HasCome t (option_map (λ x. x.date) r) → ⊥) → due_only t r ≡ None
-    by None h = due_only-none t
-    by (Some x) h = elim (cases_lt t x.date) [ inl less ↦ due_only-no t x less | inr more ↦ absurd (h more) ]
+    by None h = refl
+    by (Some x) h = elim (cases_lt t x.date) [ inl less ↦ rw (lt-leb x.date t less) refl | inr more ↦ absurd (h more) ]
 
 pub earliest-come : (t : ℕ) (queue : List Dated) → HasCome t (next_date queue) → IsSome (earliest queue)
 earliest-come t queue come = by (earliest queue) come
@@ -119,26 +86,13 @@ earliest-come t queue come = by (earliest queue) come
 next_date-cons : (x : Dated) (queue : List Dated) → next_date (x ∷ queue) ≡ sooner (Some x.date) (next_date queue)
 next_date-cons x queue = by (earliest queue)
   where
-    chosen : (b : Bool) (y : Dated) → (cond b y x).date ≡ cond b y.date x.date
-    chosen true y = refl
-    chosen false y = refl
-
     by : (r : Option Dated) → option_map (λ (z : Dated). z.date) (Some (earlier x r)) ≡ sooner (Some x.date) (option_map (λ (z : Dated). z.date) r)
     by None = refl
-    by (Some y) = ap (λ (date : ℕ). Some date) (chosen (nat_lt y.date x.date) y)
+    by (Some y) = grind (arith, nat_tests)
 
 sooner-assoc : (a c : ℕ) (r : Option ℕ) → sooner (Some a) (sooner r (Some c)) ≡ sooner (sooner (Some a) r) (Some c)
 sooner-assoc a c None = refl
-sooner-assoc a c (Some b) = ap (λ (date : ℕ). Some date) (elim (cases_lt c b) [
-  | inl cb ↦ elim (cases_lt b a) [
-    | inl ba ↦ rw (lt-ltb c b cb, lt-ltb b a ba, lt-ltb c b cb, lt-ltb c a (omega arith)) refl
-    | inr ab ↦ rw (lt-ltb c b cb, le-ltb b a ab) refl
-  ]
-  | inr bc ↦ elim (cases_lt b a) [
-    | inl ba ↦ rw (le-ltb c b bc, lt-ltb b a ba, le-ltb c b bc) refl
-    | inr ab ↦ rw (le-ltb c b bc, le-ltb b a ab, le-ltb c a (omega arith)) refl
-  ]
-])
+sooner-assoc a c (Some b) = grind (arith, nat_tests)
 
 pub next_date-entered : (queue : List Dated) (x : Dated) → next_date (queue ++ x ∷ []) ≡ sooner (next_date queue) (Some x.date)
 next_date-entered [] x = refl

@@ -8,11 +8,8 @@ use Rattle.mcs_release.proofs.Times.{times-cons_same}
 
 pub entered-none : (places : List (Option Dated)) → ((i : ℕ) → get_or places i None ≡ None) → entered places ≡ []
 entered-none [] none = refl
-entered-none (place ∷ places) none = by place (none zero) (entered-none places (λ i. none (suc i)))
-  where
-    by : (place : Option Dated) → place ≡ None → entered places ≡ [] → entered (place ∷ places) ≡ []
-    by None e ih = ih
-    by (Some x) e ih = cc
+entered-none (None ∷ places) none = entered-none places (λ i. none (suc i))
+entered-none (Some x ∷ places) none = (let no = none zero in cc)
 
 -- what stands before empty places
 pub entered-before : (places : List (Option Dated)) (past : ℕ) → ((i : ℕ) → past ≤ i → get_or places i None ≡ None) →
@@ -38,13 +35,9 @@ entered-push (place ∷ places) zero x h behind =
     let none : entered (place ∷ places) ≡ [] = entered-none (place ∷ places) (λ i. behind i (omega arith)) in
     let rest : entered places ≡ [] = entered-none places (λ i. behind (suc i) (omega arith)) in
     rw (none, rest) refl
-entered-push (place ∷ places) (suc k) x h behind =
-    by place (entered-push places k x (omega arith) (λ i above. behind (suc i) (omega arith)))
-  where
-    by : (place : Option Dated) → entered (set places k (Some x)) ≡ entered places ++ x ∷ [] →
-        entered (place ∷ set places k (Some x)) ≡ entered (place ∷ places) ++ x ∷ []
-    by None ih = ih
-    by (Some y) ih = ap (λ (xs : List Dated). y ∷ xs) ih
+entered-push (None ∷ places) (suc k) x h behind = entered-push places k x (omega arith) (λ i above. behind (suc i) (omega arith))
+entered-push (Some y ∷ places) (suc k) x h behind =
+    ap (λ (xs : List Dated). y ∷ xs) (entered-push places k x (omega arith) (λ i above. behind (suc i) (omega arith)))
 
 -- a thread stands where it stands
 pub times-stands : (places : List (Option Dated)) (k : ℕ) (x : Dated) → get_or places k None ≡ Some x → 1 ≤ times x.thread (entered places)
@@ -82,9 +75,7 @@ first-moved : (places : List (Option Dated)) (i : ℕ) (x : Dated) → get_or pl
     x ∷ entered (set places i None) ≡ entered places
 first-moved [] i x e gap = cc
 first-moved (None ∷ places) zero x e gap = cc
-first-moved (Some y ∷ places) zero x e gap =
-    let same : y ≡ x = cc in
-    rw same refl
+first-moved (Some y ∷ places) zero x e gap = cc
 first-moved (None ∷ places) (suc i) x e gap = first-moved places i x e (λ j h. gap (suc j) (omega arith))
 first-moved (Some y ∷ places) (suc i) x e gap = let no : Some y ≡ None = gap zero (omega arith) in cc
 

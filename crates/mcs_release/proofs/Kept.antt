@@ -1,28 +1,34 @@
 -- What a release queue keeps, through each call.
-use Rattle.std.proofs.Common.{◌≡◌, ℕ, zero, suc, ◌+◌, ◌^◌, ◌<◌, ◌≤◌, Bool, true, false, List, [], ◌∷◌, ◌++◌, length, get_or, set, Option, Some, None, refl, sym, ap, subst, ◌∙◌, inl, inr, arith, get_or-set_other, length-set}
+use Rattle.std.proofs.Common.{◌≡◌, ℕ, zero, suc, ◌+◌, ◌^◌, ◌<◌, ◌≤◌, false, List, [], ◌∷◌, ◌++◌, length, get_or, set, Option, Some, None, refl, sym, ap, ◌∙◌, arith, get_or-set_other, length-set}
 use Rattle.std.specs.Prelude.{nat_lt}
-use Rattle.std.proofs.lemmas.Bool.{cases_eq, ltb-true, lt-ltb}
+use Rattle.std.proofs.lemmas.Bool.Decides.{nat_tests}
+use Rattle.std.proofs.lemmas.Grind.{common_steps}
+use Rattle.std.proofs.lemmas.List.{get_or_past}
 use Rattle.mcs_ticks.specs.Soonest.{sooner}
 use Rattle.mcs_release.specs.declared.dated.Dated.{Dated}
 use Rattle.mcs_release.specs.stored.Places.{entered, times, one_if, waiting, AreEmptyFrom, IsAlone, IsKept, IsTaken}
 use Rattle.mcs_release.specs.Release.{ReleaseQueue, is_held, earliest, next_date, thread_of, when_left, AreBelow, AreDistinct}
 use Rattle.mcs_release.proofs.Earliest.{next_date-entered, next_date-none}
 use Rattle.mcs_release.proofs.Entered.{empty_from, entered-none, entered-push, entered-left, times-left}
-use Rattle.mcs_release.proofs.Times.{times-append, times-cons_same, times-cons_other, times-free, one_if-le-one, length-le-room}
+use Rattle.mcs_release.proofs.Times.{times-append, times-cons_same, times-free, one_if-le-one, length-le-room}
 
 -- with no thread
 pub entered-new : (places : List (Option Dated)) → AreEmptyFrom 0 places → entered places ≡ []
 entered-new places empty = entered-none places (λ place. empty place (omega arith))
 
-pub IsKept-new : (places : List (Option Dated)) (room : ℕ) → AreEmptyFrom 0 places → room < length places → length places ≤ 2 ^ 21 → IsKept None None places 0 room
-IsKept-new places room empty wide few = record {
-  first = sym (ap next_date (entered-new places empty));
+IsKept-empty : (places : List (Option Dated)) (end room : ℕ) → entered places ≡ [] → AreEmptyFrom end places → room < length places → length places ≤ 2 ^ 21 →
+    IsKept None None places end room
+IsKept-empty places end room none behind wide few = record {
+  first = sym (ap next_date none);
   alone = tt;
-  behind = empty;
-  once = λ thread. omega (arith, ap (times thread) (entered-new places empty));
+  behind = behind;
+  once = λ thread. omega (arith, ap (times thread) none);
   wide = wide;
   few = few;
 }
+
+pub IsKept-new : (places : List (Option Dated)) (room : ℕ) → AreEmptyFrom 0 places → room < length places → length places ≤ 2 ^ 21 → IsKept None None places 0 room
+IsKept-new places room empty wide few = IsKept-empty places 0 room (entered-new places empty) empty wide few
 
 -- where none waits, no place has a thread
 pub entered-nil : (lone : Option Dated) (places : List (Option Dated)) → waiting lone places ≡ [] → entered places ≡ []
@@ -33,12 +39,7 @@ entered-nil (Some x) places e = cc
 module _ (soonest : Option ℕ) (lone : Option Dated) (places : List (Option Dated)) (end room : ℕ) (kept : IsKept soonest lone places end room) (x : Dated)
     (x_below : x.thread < room) (free : is_held x.thread (waiting lone places) ≡ false) where
   once-more : (thread : ℕ) → times thread (x ∷ waiting lone places) ≤ one_if (nat_lt thread room)
-  once-more thread = elim (cases_eq thread x.thread) [
-    | inl e ↦
-        let Once : ℕ → Type 0 = λ t. times t (x ∷ waiting lone places) ≤ one_if (nat_lt t room) in
-        subst Once (sym e) (omega (arith, times-cons_same x (waiting lone places), times-free x.thread (waiting lone places) free, ap one_if (lt-ltb x.thread room x_below)))
-    | inr ne ↦ omega (arith, times-cons_other thread x (waiting lone places) (λ e. ne (sym e)), kept.once thread)
-  ]
+  once-more thread = grind (arith, nat_tests, times-free x.thread (waiting lone places) free, kept.once thread)
 
   -- there is a place for one more
   pub fewer-than-places : length (waiting lone places) < length places
@@ -89,14 +90,7 @@ module _ (soonest : Option ℕ) (lone : Option Dated) (places : List (Option Dat
 pub IsKept-none : (soonest : Option ℕ) (lone : Option Dated) (x : Dated) (places : List (Option Dated)) (end room : ℕ) → IsKept soonest lone places end room →
     lone ≡ Some x → IsKept None None places end room
 IsKept-none soonest None x places end room kept e = cc
-IsKept-none soonest (Some y) x places end room kept e = record {
-  first = sym (ap next_date kept.alone);
-  alone = tt;
-  behind = kept.behind;
-  once = λ thread. omega (arith, ap (times thread) kept.alone);
-  wide = kept.wide;
-  few = kept.few;
-}
+IsKept-none soonest (Some y) x places end room kept e = IsKept-empty places end room kept.alone kept.behind kept.wide kept.few
 
 pub waiting-alone : (soonest : Option ℕ) (lone : Option Dated) (x : Dated) (places : List (Option Dated)) (end room : ℕ) → IsKept soonest lone places end room →
     lone ≡ Some x → (waiting lone places ≡ x ∷ []) × (entered places ≡ [])
@@ -104,6 +98,10 @@ waiting-alone soonest None x places end room kept e = cc
 waiting-alone soonest (Some y) x places end room kept e =
     let it : y ≡ x = cc in
     (ap (λ (xs : List Dated). y ∷ xs) kept.alone ∙ ap (λ (z : Dated). z ∷ []) it, kept.alone)
+
+-- an empty place stays so where one is emptied
+still : (places : List (Option Dated)) (k i : ℕ) → get_or places i None ≡ None → get_or (set places k None) i None ≡ None
+still places k i e = grind (arith, common_steps, get_or_past (set places k None) i None)
 
 -- the earliest leaves its place
 module _ (soonest : Option ℕ) (lone : Option Dated) (places : List (Option Dated)) (end room : ℕ) (kept : IsKept soonest lone places end room) (places' : List (Option Dated))
@@ -128,7 +126,7 @@ module _ (soonest : Option ℕ) (lone : Option Dated) (places : List (Option Dat
   IsKept-left = record {
     first = refl;
     alone = tt;
-    behind = λ i from. ap (λ (ps : List (Option Dated)). get_or ps i None) taken.left ∙ still i (kept.behind i from);
+    behind = λ i from. ap (λ (ps : List (Option Dated)). get_or ps i None) taken.left ∙ still places taken.place i (kept.behind i from);
     once = λ t. omega (
       arith,
       ap (λ (ps : List (Option Dated)). times t (entered ps)) taken.left,
@@ -139,17 +137,6 @@ module _ (soonest : Option ℕ) (lone : Option Dated) (places : List (Option Dat
     wide = omega (arith, ap length taken.left, length-set places taken.place None, kept.wide);
     few = omega (arith, ap length taken.left, length-set places taken.place None, kept.few);
   }
-    where
-      still : (i : ℕ) → get_or places i None ≡ None → get_or (set places taken.place None) i None ≡ None
-      still i e = elim (cases_eq i taken.place) [
-        | inl same ↦ ap (λ (k : ℕ). get_or (set places k None) i None) (sym same) ∙ emptied places i
-        | inr ne ↦ get_or-set_other places taken.place i None None ne ∙ e
-      ]
-        where
-          emptied : (places : List (Option Dated)) (i : ℕ) → get_or (set places i None) i None ≡ None
-          emptied [] i = refl
-          emptied (place ∷ places) zero = refl
-          emptied (place ∷ places) (suc i) = emptied places i
 
 -- no thread stands twice, and none above what there is room for
 times-get_or : (xs : List Dated) (i : ℕ) (d : Dated) → i < length xs → 1 ≤ times (get_or xs i d).thread xs
@@ -166,11 +153,7 @@ AreDistinct-once (x ∷ xs) once (suc i) (suc j) d before h same =
     AreDistinct-once xs (λ thread. omega (arith, once thread)) i j d (omega arith) (omega arith) same
 
 pub AreBelow-once : (xs : List Dated) (room : ℕ) → ((thread : ℕ) → times thread xs ≤ one_if (nat_lt thread room)) → AreBelow room xs
-AreBelow-once xs room once k d h = ltb-true (get_or xs k d).thread room (by (nat_lt (get_or xs k d).thread room) (once (get_or xs k d).thread) (times-get_or xs k d h))
-  where
-    by : {n : ℕ} (b : Bool) → n ≤ one_if b → 1 ≤ n → b ≡ true
-    by true e h = refl
-    by false e h = absurd (omega arith)
+AreBelow-once xs room once k d h = grind (arith, nat_tests, once (get_or xs k d).thread, times-get_or xs k d h)
 
 pub same_value : (queue queue' : List Dated) (room room' : ℕ) → queue ≡ queue' → room ≡ room' →
     let old : ReleaseQueue = record { queue = queue; room = room } in

@@ -1,24 +1,18 @@
 -- Threads of one date leave in the order in which they entered.
 use Rattle.std.proofs.Common.{◌≡◌, ℕ, zero, suc, ◌<◌, Bool, true, false, cond, not, List, [], ◌∷◌, length, drop, get_or, Option, Some, None, refl, sym, ap, ◌∙◌, arith}
-use Rattle.std.specs.Prelude.{nat_lt, filter, slice_get, All, IfSome}
+use Rattle.std.specs.Prelude.{filter, slice_get, All, IfSome}
 use Rattle.std.proofs.lemmas.Bool.{le-ltb, ne_eqb, eq-eqb}
 use Rattle.std.proofs.lemmas.List.Elements.{All-head, All-tail}
 use Rattle.mcs_release.specs.declared.dated.Dated.{Dated}
+use Rattle.mcs_release.proofs.Earliest.{earlier-keeps}
 use Rattle.mcs_release.specs.Release.{earlier, earliest, is_due, without, when_left, first_due, without_first_due, AreDistinct, LeaveInOrder}
 
 -- of entries with one date the first is the earliest
 earliest-date : (date : ℕ) (xs : List Dated) → All (λ x. x.date ≡ date) xs → IfSome (earliest xs) (λ x. x.date ≡ date)
 earliest-date date [] all = tt
 earliest-date date (x ∷ xs) all =
-    by (earliest xs) (All-head (λ (x : Dated). x.date ≡ date) x xs all) (earliest-date date xs (All-tail (λ (x : Dated). x.date ≡ date) x xs all))
-  where
-    chosen : (b : Bool) (y : Dated) → x.date ≡ date → y.date ≡ date → (cond b y x).date ≡ date
-    chosen true y h k = k
-    chosen false y h k = h
-
-    by : (r : Option Dated) → x.date ≡ date → IfSome r (λ y. y.date ≡ date) → (earlier x r).date ≡ date
-    by None h k = h
-    by (Some y) h k = chosen (nat_lt y.date x.date) y h k
+    let Has : Dated → Type 0 = λ y. y.date ≡ date in
+    earlier-keeps Has x (earliest xs) (All-head Has x xs all) (earliest-date date xs (All-tail Has x xs all))
 
 earliest-first : (date : ℕ) (xs : List Dated) → All (λ x. x.date ≡ date) xs → earliest xs ≡ slice_get xs 0
 earliest-first date [] all = refl

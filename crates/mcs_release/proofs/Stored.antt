@@ -1,10 +1,10 @@
 -- Places as they are stored: by numbers, which tell their dates, and by threads.
-use Rattle.std.proofs.Common.{◌≡◌, ℕ, zero, suc, ◌+◌, ◌-◌, ◌*◌, ◌/◌, ◌%◌, ◌^◌, ◌<◌, ◌≤◌, ◌≢◌, List, [], ◌∷◌, ◌++◌, length, get_or, set, take, replicate, Option, Some, None, refl, sym, ap, subst, ◌∙◌, inl, inr, arith, get_or-set_same, get_or-set_other, length-set}
+use Rattle.std.proofs.Common.{◌≡◌, ℕ, zero, suc, ◌+◌, ◌-◌, ◌*◌, ◌/◌, ◌%◌, ◌^◌, ◌<◌, ◌≤◌, List, [], ◌∷◌, ◌++◌, length, get_or, set, take, replicate, Option, Some, None, refl, sym, ap, subst, ◌∙◌, inl, inr, arith, length-set}
 use Rattle.std.specs.Prelude.{option_map, IsSome}
-use Rattle.std.proofs.lemmas.Bool.{cases_eq, cases_lt, le-leb}
-use Rattle.std.proofs.lemmas.List.{drop-set-add, get_or_default, get_or_past, get_or-drop, length-drop, length-replicate}
+use Rattle.std.proofs.lemmas.Bool.{cases_lt, le-leb}
+use Rattle.std.proofs.lemmas.Grind.{common_steps}
+use Rattle.std.proofs.lemmas.List.{drop-set-add, set-get_or, get_or_default, get_or_past, get_or-drop, length-drop, length-replicate}
 use Rattle.std.proofs.lemmas.Nat.{div-mul-add}
-use Rattle.mcs_ticks.specs.Soonest.{moment_of}
 use Rattle.mcs_release.specs.declared.dated.Dated.{Dated}
 use Rattle.mcs_release.specs.Release.{dated, earliest, next_date}
 use Rattle.mcs_release.specs.stored.Least.{empty, leaves, least, IsLeast}
@@ -21,10 +21,7 @@ pub key-place : (date place : ℕ) → place < 2 ^ 21 → key date place % 2 ^ 2
 key-place date place below = omega arith
 
 pub date_of-key : (date place : ℕ) → date ≤ 2 ^ 42 → place < 2 ^ 21 → date_of (key date place) ≡ Some date
-date_of-key date place range below = ap moment_of (key-date date place below) ∙ moment date range
-  where
-    moment : (date : ℕ) → date ≤ 2 ^ 42 → moment_of date ≡ Some date
-    moment date h = rw (le-leb date (2 ^ 42) h) refl
+date_of-key date place range below = rw (key-date date place below, le-leb date (2 ^ 42) range) refl
 
 pub in_place-key : (date place thread : ℕ) → date ≤ 2 ^ 42 → place < 2 ^ 21 → in_place (key date place) thread ≡ Some (dated thread date)
 in_place-key date place thread range below = ap (option_map (dated thread)) (date_of-key date place range below)
@@ -52,76 +49,40 @@ places_of-put (n ∷ numbers) (t ∷ threads) (suc place) number thread =
     ap (λ (places : List (Option Dated)). in_place n t ∷ places) (places_of-put numbers threads place number thread)
 
 pub places_of-clear : (numbers threads : List ℕ) (place : ℕ) → places_of (set numbers place empty) threads ≡ set (places_of numbers threads) place None
-places_of-clear [] threads place = refl
-places_of-clear (n ∷ numbers) [] zero = refl
-places_of-clear (n ∷ numbers) [] (suc place) = refl
-places_of-clear (n ∷ numbers) (t ∷ threads) zero = refl
-places_of-clear (n ∷ numbers) (t ∷ threads) (suc place) =
-    ap (λ (places : List (Option Dated)). in_place n t ∷ places) (places_of-clear numbers threads place)
+places_of-clear numbers threads place =
+    ap (places_of (set numbers place empty)) (sym (set-get_or threads place 0)) ∙ places_of-put numbers threads place empty (get_or threads place 0)
 
 -- numbers stay those of their places
-pub AreOfPlaces-clear : (numbers : List ℕ) (place : ℕ) → AreOfPlaces numbers → AreOfPlaces (set numbers place empty)
-AreOfPlaces-clear numbers place all i = elim (cases_eq i place) [
-  | inl e ↦ elim (cases_lt i (length numbers)) [
-    | inl below ↦ inl (ap (λ (k : ℕ). get_or (set numbers k empty) i empty) (sym e) ∙ get_or-set_same numbers i empty empty below)
-    | inr past ↦ inl (get_or_past (set numbers place empty) i empty (omega (arith, length-set numbers place empty)))
-  ]
-  | inr ne ↦ subst (IsOfPlace i) (sym (get_or-set_other numbers place i empty empty ne)) (all i)
-]
-
-pub AreOfPlaces-put : (numbers : List ℕ) (place date : ℕ) → AreOfPlaces numbers → date ≤ 2 ^ 42 → AreOfPlaces (set numbers place (key date place))
-AreOfPlaces-put numbers place date all range i = elim (cases_eq i place) [
-  | inl e ↦ elim (cases_lt i (length numbers)) [
-    | inl below ↦ inr (date, range, ap (λ (k : ℕ). get_or (set numbers k (key date k)) i empty) (sym e) ∙ get_or-set_same numbers i (key date i) empty below)
-    | inr past ↦ inl (get_or_past (set numbers place (key date place)) i empty (omega (arith, length-set numbers place (key date place))))
-  ]
-  | inr ne ↦ subst (IsOfPlace i) (sym (get_or-set_other numbers place i (key date place) empty ne)) (all i)
-]
+pub AreOfPlaces-set : (numbers : List ℕ) (place number : ℕ) → AreOfPlaces numbers → IsOfPlace place number → AreOfPlaces (set numbers place number)
+AreOfPlaces-set numbers place number all it i = grind (arith, common_steps, all i, get_or_past (set numbers place number) i empty)
 
 -- a place with a number has its date
 module _ (numbers threads : List ℕ) (same : length numbers ≡ length threads) (few : length numbers ≤ 2 ^ 21) (all : AreOfPlaces numbers) where
   pub place-empty : (place : ℕ) → get_or numbers place empty ≡ empty → get_or (places_of numbers threads) place None ≡ None
   place-empty place e = places_of-get numbers threads place same ∙ ap (λ (n : ℕ). in_place n (get_or threads place 0)) e
 
-  pub place-within : (place : ℕ) → get_or numbers place empty ≢ empty → place < 2 ^ 21
-  place-within place ne = elim (cases_lt place (length numbers)) [
-    | inl below ↦ omega arith
-    | inr past ↦ absurd (ne (get_or_past numbers place empty past))
-  ]
-
   -- a place that is not empty
   pub place-number : (place : ℕ) (x : Dated) → get_or (places_of numbers threads) place None ≡ Some x →
       (place < 2 ^ 21) × (get_or numbers place empty ≡ key x.date place)
-  place-number place x e = elim (cases_eq (get_or numbers place empty) empty) [
-    | inl none ↦ absurd (no x (sym (place-empty place none) ∙ e))
-    | inr ne ↦ elim (all place) [
-      | inl none ↦ absurd (ne none)
+  place-number place x e = elim (cases_lt place (length numbers)) [
+    | inl below ↦ elim (all place) [
+      | inl none ↦ (let no = sym (place-empty place none) ∙ e in cc)
       | inr found ↦
-          let within = place-within place ne in
-          let there = sym (in_place-key found.0 place (get_or threads place 0) found.1 within)
+          let there : Some (dated (get_or threads place 0) found.0) ≡ Some x =
+          sym (in_place-key found.0 place (get_or threads place 0) found.1 (omega arith))
           ∙ ap (λ (n : ℕ). in_place n (get_or threads place 0)) (sym found.2) ∙ sym (places_of-get numbers threads place same) ∙ e in
-          (within, found.2 ∙ ap (λ (date : ℕ). key date place) (date_is (get_or threads place 0) found.0 x there))
+          let date : found.0 ≡ x.date = cc in
+          (omega arith, found.2 ∙ ap (λ (date : ℕ). key date place) date)
     ]
+    | inr past ↦ (let no = sym (place-empty place (get_or_past numbers place empty past)) ∙ e in cc)
   ]
-    where
-      no : (x : Dated) → None ≡ Some x → ⊥
-      no x e = cc
-
-      date_is : (thread date : ℕ) (x : Dated) → Some (dated thread date) ≡ Some x → date ≡ x.date
-      date_is thread date x e = let it : dated thread date ≡ x = cc in ap (λ (y : Dated). y.date) it
 
   -- where the least number is none, all places are empty
   pub entered-least_none : least numbers ≡ empty → entered (places_of numbers threads) ≡ []
-  entered-least_none e = entered-none (places_of numbers threads) (λ place. place-empty place (none place (all place)))
+  entered-least_none e = entered-none (places_of numbers threads) (λ place. place-empty place (none place))
     where
-      none : (place : ℕ) → IsOfPlace place (get_or numbers place empty) → get_or numbers place empty ≡ empty
-      none place h = elim h [
-        | inl it ↦ it
-        | inr found ↦ elim (cases_eq (get_or numbers place empty) empty) [
-          | inl it ↦ it
-          | inr ne ↦ absurd (omega (arith, least-lower numbers place, place-within place ne, found.1, found.2))
-        ]
-      ]
+      none : (place : ℕ) → get_or numbers place empty ≡ empty
+      none place = grind (arith, all place, least-lower numbers place, get_or_past numbers place empty)
 
   -- else it is that of the earliest
   pub record IsLeastPlace : Type 0 where
@@ -134,34 +95,23 @@ module _ (numbers threads : List ℕ) (same : length numbers ≡ length threads)
     pub is_earliest : earliest (entered (places_of numbers threads)) ≡ Some (dated (get_or threads place 0) date)
 
   pub least-place : least numbers < empty → IsLeastPlace
-  least-place some = by (all place)
-    where
-      place : ℕ
-      place = (least-found numbers some).0
-
-      within : place < length numbers
-      within = (least-found numbers some).1
-
-      read : get_or numbers place empty ≡ least numbers
-      read = (least-found numbers some).2
-
-      by : IsOfPlace place (get_or numbers place empty) → IsLeastPlace
-      by h = elim h [
-        | inl none ↦ absurd (omega (arith, read))
-        | inr found ↦
-            let at : least numbers ≡ key found.0 place = sym read ∙ found.2 in
-            let stood = places_of-get numbers threads place same ∙ ap (λ (n : ℕ). in_place n (get_or threads place 0)) found.2
-            ∙ in_place-key found.0 place (get_or threads place 0) found.1 (omega (arith, within)) in
+  least-place some =
+      let found = least-found numbers some in
+      elim (all found.0) [
+        | inl none ↦ absurd (omega (arith, found.2))
+        | inr is ↦
+            let stood = places_of-get numbers threads found.0 same ∙ ap (λ (n : ℕ). in_place n (get_or threads found.0 0)) is.2
+            ∙ in_place-key is.0 found.0 (get_or threads found.0 0) is.1 (omega (arith, found.1)) in
             record {
-              place = place;
-              date = found.0;
-              at = at;
-              within = within;
-              range = found.1;
+              place = found.0;
+              date = is.0;
+              at = sym found.2 ∙ is.2;
+              within = found.1;
+              range = is.1;
               stood = stood;
-              is_earliest = earliest-place (places_of numbers threads) place (dated (get_or threads place 0) found.0) stood (λ i y e.
+              is_earliest = earliest-place (places_of numbers threads) found.0 (dated (get_or threads found.0 0) is.0) stood (λ i y e.
                   let other = place-number i y e in
-                  (omega (arith, least-lower numbers i, other.0, other.1, within), λ before. omega (arith, least-lower numbers i, other.0, other.1, within)));
+                  (omega (arith, least-lower numbers i, other.0, other.1, found.1, found.2, is.2), λ before. omega (arith, least-lower numbers i, other.0, other.1, found.1, found.2, is.2)));
             }
       ]
 
@@ -196,13 +146,13 @@ module _ (inner : ℕ) (nodes threads : List ℕ) (stored : IsStored inner nodes
           ap next_date (entered-least_none (leaves inner nodes) threads same-length few-leaves stored.numbered it) ∙ sym (ap date_of (root-is ∙ it))
     ]
 
-    module _ (some : IsSome (earliest (entered (places_of (leaves inner nodes) threads)))) where
+    module _ (places : List (Option Dated)) (are : places_of (leaves inner nodes) threads ≡ places) (some : IsSome (earliest (entered places))) where
       pub first-stored : IsLeastPlace (leaves inner nodes) threads same-length few-leaves stored.numbered
       first-stored = elim (cases_lt (least (leaves inner nodes)) empty) [
         | inl less ↦ least-place (leaves inner nodes) threads same-length few-leaves stored.numbered less
         | inr none ↦
             let it : least (leaves inner nodes) ≡ empty = omega (arith, least-le-empty (leaves inner nodes)) in
-            let no : IsSome (earliest []) = subst (λ (xs : List Dated). IsSome (earliest xs)) (entered-least_none (leaves inner nodes) threads same-length few-leaves stored.numbered it) some in
+            let no : IsSome (earliest []) = subst (λ (xs : List Dated). IsSome (earliest xs)) (ap entered (sym are) ∙ entered-least_none (leaves inner nodes) threads same-length few-leaves stored.numbered it) some in
             cc
       ]
 
@@ -216,8 +166,8 @@ module _ (inner : ℕ) (nodes threads : List ℕ) (stored : IsStored inner nodes
 
       pub IsTaken-stored : (nodes' : List ℕ) (thread : ℕ) → leaves inner nodes' ≡ set (leaves inner nodes) (root % 2 ^ 21) empty →
           thread ≡ get_or threads (root % 2 ^ 21) thread →
-          IsTaken (places_of (leaves inner nodes) threads) (places_of (leaves inner nodes') threads) thread
-      IsTaken-stored nodes' thread cleared it = record {
+          IsTaken places (places_of (leaves inner nodes') threads) thread
+      IsTaken-stored nodes' thread cleared it = subst (λ (ps : List (Option Dated)). IsTaken ps (places_of (leaves inner nodes') threads) thread) are (record {
         place = first-stored.place;
         first = dated (get_or threads first-stored.place 0) first-stored.date;
         stood = first-stored.stood;
@@ -225,15 +175,7 @@ module _ (inner : ℕ) (nodes threads : List ℕ) (stored : IsStored inner nodes
         left = ap (λ (ns : List ℕ). places_of ns threads) (cleared ∙ ap (λ (k : ℕ). set (leaves inner nodes) k empty) first-place)
             ∙ places_of-clear (leaves inner nodes) threads first-stored.place;
         it = it ∙ get_or_default threads (root % 2 ^ 21) thread 0 first-within ∙ ap (λ (k : ℕ). get_or threads k 0) first-place;
-      }
-
-  pub IsStored-clear : (nodes' : List ℕ) (place : ℕ) → IsLeast inner nodes' → leaves inner nodes' ≡ set (leaves inner nodes) place empty → IsStored inner nodes' threads
-  IsStored-clear nodes' place tree cleared = record {
-    tree = tree;
-    numbered = subst AreOfPlaces (sym cleared) (AreOfPlaces-clear (leaves inner nodes) place stored.numbered);
-    wide = stored.wide;
-    few = stored.few;
-  }
+      })
 
   pub IsStored-closed : (nodes' threads' : List ℕ) → IsLeast inner nodes' → AreOfPlaces (leaves inner nodes') → length threads' ≡ length threads →
       IsStored inner nodes' threads'
@@ -244,44 +186,40 @@ module _ (inner : ℕ) (nodes threads : List ℕ) (stored : IsStored inner nodes
     few = stored.few;
   }
 
+  pub IsStored-clear : (nodes' : List ℕ) (place : ℕ) → IsLeast inner nodes' → leaves inner nodes' ≡ set (leaves inner nodes) place empty → IsStored inner nodes' threads
+  IsStored-clear nodes' place tree cleared =
+      IsStored-closed nodes' threads tree (subst AreOfPlaces (sym cleared) (AreOfPlaces-set (leaves inner nodes) place empty stored.numbered (inl refl))) refl
+
   module _ (place date thread : ℕ) (range : date ≤ 2 ^ 42) where
     pub IsStored-put : (nodes' : List ℕ) → IsLeast inner nodes' → leaves inner nodes' ≡ set (leaves inner nodes) place (key date place) →
         IsStored inner nodes' (set threads place thread)
-    IsStored-put nodes' tree put = record {
-      tree = tree;
-      numbered = subst AreOfPlaces (sym put) (AreOfPlaces-put (leaves inner nodes) place date stored.numbered range);
-      wide = omega (arith, length-set threads place thread, stored.wide);
-      few = stored.few;
-    }
+    IsStored-put nodes' tree put =
+        IsStored-closed nodes' (set threads place thread) tree
+        (subst AreOfPlaces (sym put) (AreOfPlaces-set (leaves inner nodes) place (key date place) stored.numbered (inr (date, range, refl)))) (length-set threads place thread)
 
-    module _ (within : place < length (places_of (leaves inner nodes) threads)) where
+    module _ (places : List (Option Dated)) (are : places_of (leaves inner nodes) threads ≡ places) (within : place < length places) where
       pub put-within : place < length threads
-      put-within = omega (arith, within, count-stored)
+      put-within = omega (arith, within, ap length are, count-stored)
 
       pub put-few : place < 2 ^ 21
       put-few = omega (arith, put-within, stored.wide, stored.few)
 
       pub put-stored : (nodes' : List ℕ) → leaves inner nodes' ≡ set (leaves inner nodes) place (key date place) →
-          places_of (leaves inner nodes') (set threads place thread) ≡ set (places_of (leaves inner nodes) threads) place (Some (dated thread date))
+          places_of (leaves inner nodes') (set threads place thread) ≡ set places place (Some (dated thread date))
       put-stored nodes' put =
           ap (λ (ns : List ℕ). places_of ns (set threads place thread)) put ∙ places_of-put (leaves inner nodes) threads place (key date place) thread
           ∙ ap (set (places_of (leaves inner nodes) threads) place) (in_place-key date place thread range put-few)
+          ∙ ap (λ (ps : List (Option Dated)). set ps place (Some (dated thread date))) are
 
       -- in an empty place it is lower
-      pub put-lower : get_or (places_of (leaves inner nodes) threads) place None ≡ None → key date place ≤ get_or (leaves inner nodes) place empty
-      put-lower none = by (get_or (leaves inner nodes) place empty) (stored.numbered place) (sym (places_of-get (leaves inner nodes) threads place same-length) ∙ none)
+      pub put-lower : get_or places place None ≡ None → key date place ≤ get_or (leaves inner nodes) place empty
+      put-lower none = by (get_or (leaves inner nodes) place empty) (stored.numbered place) (sym (places_of-get (leaves inner nodes) threads place same-length) ∙ ap (λ (ps : List (Option Dated)). get_or ps place None) are ∙ none)
         where
-          no : (x : Dated) → Some x ≡ None → ⊥
-          no x e = cc
-
           by : (number : ℕ) → IsOfPlace place number → in_place number (get_or threads place 0) ≡ None → key date place ≤ number
           by number h e = elim h [
             | inl it ↦ omega (arith, it, put-few, range)
-            | inr found ↦ absurd (
-                no (dated (get_or threads place 0) found.0) (
-                sym (in_place-key found.0 place (get_or threads place 0) found.1 put-few) ∙ sym (ap (λ (n : ℕ). in_place n (get_or threads place 0)) found.2) ∙ e
-                )
-                )
+            | inr found ↦
+                (let no = sym (in_place-key found.0 place (get_or threads place 0) found.1 put-few) ∙ sym (ap (λ (n : ℕ). in_place n (get_or threads place 0)) found.2) ∙ e in cc)
           ]
 
 -- with all places empty
@@ -353,4 +291,5 @@ module _ (inner : ℕ) (nodes threads : List ℕ) (place front date thread : ℕ
   pub AreOfPlaces-moved : AreOfPlaces (leaves inner nodes) →
       AreOfPlaces (leaves inner (set (set nodes (inner + 3 + place) empty) (inner + 3 + front) (key date front)))
   AreOfPlaces-moved all =
-      subst AreOfPlaces (sym leaves-moved) (AreOfPlaces-put (set (leaves inner nodes) place empty) front date (AreOfPlaces-clear (leaves inner nodes) place all) range)
+      subst AreOfPlaces (sym leaves-moved) (AreOfPlaces-set (set (leaves inner nodes) place empty) front (key date front)
+      (AreOfPlaces-set (leaves inner nodes) place empty all (inl refl)) (inr (date, range, refl)))

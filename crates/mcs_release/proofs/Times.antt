@@ -1,9 +1,11 @@
 -- How often a thread stands among entries, and how many entries there can be.
-use Rattle.std.proofs.Common.{◌≡◌, ℕ, zero, suc, ◌+◌, ◌≤◌, ◌==◌, Bool, true, false, cond, List, [], ◌∷◌, ◌++◌, length, get_or, set, replicate, refl, sym, ◌∙◌, inl, inr, arith, get_or-set_other}
+use Rattle.std.proofs.Common.{◌≡◌, ℕ, ◌+◌, ◌<◌, ◌≤◌, ◌==◌, Bool, true, false, cond, List, [], ◌∷◌, ◌++◌, length, map, eqb, refl, sym, inl, inr, arith}
 use Rattle.std.specs.Prelude.{nat_lt, ◌||◌}
+use Rattle.std.specs.List.{list_any, AllByRecursion, IsDistinct}
 use Rattle.std.proofs.lemmas.Bool.{cases_eq, eq-eqb, ne_eqb}
 use Rattle.std.proofs.lemmas.Bool.Decides.{nat_tests}
-use Rattle.std.proofs.lemmas.List.{length-replicate}
+use Rattle.std.proofs.lemmas.List.{length-map}
+use Rattle.std.proofs.lemmas.Map.Steps.{length-le_from_distinct_below}
 use Rattle.mcs_release.specs.declared.dated.Dated.{Dated}
 use Rattle.mcs_release.specs.stored.Places.{times, one_if}
 use Rattle.mcs_release.specs.Release.{is_held}
@@ -31,55 +33,33 @@ pub one_if-le-one : (b : Bool) → one_if b ≤ 1
 one_if-le-one true = omega arith
 one_if-le-one false = omega arith
 
--- how many are held
-trues : List Bool → ℕ
-trues [] = 0
-trues (b ∷ bs) = one_if b + trues bs
+-- the numbers of the threads
+abbrev threads_of : List Dated → List ℕ
+threads_of = map (λ x. x.thread)
 
-trues-le-length : (held : List Bool) → trues held ≤ length held
-unfolding trues
-trues-le-length [] = omega arith
-trues-le-length (true ∷ held) = omega (arith, trues-le-length held)
-trues-le-length (false ∷ held) = omega (arith, trues-le-length held)
+apart : (x : ℕ) (ys : List Dated) → times x ys ≡ 0 → AllByRecursion (λ y. (x == y) ≡ false) (threads_of ys)
+apart x [] none = tt
+apart x (y ∷ ys) none = (ne_eqb x y.thread (λ e. absurd (omega (arith, rw (eq-eqb y.thread x (sym e)) at none))), apart x ys (omega arith))
 
-trues-set : (held : List Bool) (y : ℕ) → get_or held y false ≡ true → trues (set held y false) + 1 ≡ trues held
-unfolding trues
-trues-set [] y e = cc
-trues-set (b ∷ held) zero e = rw e (omega arith)
-trues-set (b ∷ held) (suc y) e = omega (arith, trues-set held y e)
+distinct : (xs : List Dated) → ((x : ℕ) → times x xs ≤ 1) → IsDistinct eqb (threads_of xs)
+unfolding IsDistinct
+distinct [] once = tt
+distinct (x ∷ xs) once = (apart x.thread xs (omega (arith, once x.thread, times-cons_same x xs)), distinct xs (λ t. omega (arith, once t)))
 
-get_or-set_false : (held : List Bool) (y : ℕ) → get_or (set held y false) y false ≡ false
-get_or-set_false [] y = refl
-get_or-set_false (b ∷ held) zero = refl
-get_or-set_false (b ∷ held) (suc y) = get_or-set_false held y
-
-length-le-trues : (xs : List Dated) (held : List Bool) → ((x : ℕ) → times x xs ≤ one_if (get_or held x false)) → length xs ≤ trues held
-length-le-trues [] held once = omega arith
-length-le-trues (y ∷ ys) held once = by (get_or held y.thread false) refl (once y.thread) (λ e. length-le-trues ys (set held y.thread false) (rest e))
-  where
-    rest : get_or held y.thread false ≡ true → (x : ℕ) → times x ys ≤ one_if (get_or (set held y.thread false) x false)
-    rest e x = elim (cases_eq x y.thread) [
-      | inl same ↦
-          rw (same, get_or-set_false held y.thread) (
-          let one : times y.thread (y ∷ ys) ≤ one_if true = rw e at (once y.thread) in
-          omega (arith, times-cons_same y ys)
-          )
-      | inr ne ↦
-          rw (get_or-set_other held y.thread x false false ne) (rw (times-cons_other x y ys (λ e. ne (sym e))) at (once x))
-    ]
-
-    by : (b : Bool) → get_or held y.thread false ≡ b → times y.thread (y ∷ ys) ≤ one_if b → (get_or held y.thread false ≡ true → length ys ≤ trues (set held y.thread false)) →
-        length (y ∷ ys) ≤ trues held
-    by true e h fewer = omega (arith, trues-set held y.thread e, fewer e)
-    by false e h fewer = absurd (omega (arith, times-cons_same y ys))
-
-all_true : (room x : ℕ) → get_or (replicate room true) x false ≡ nat_lt x room
-all_true zero x = grind (arith, nat_tests)
-all_true (suc room) zero = grind (arith, nat_tests)
-all_true (suc room) (suc x) = all_true room x ∙ grind (arith, nat_tests)
+times-stands : (x : ℕ) (ys : List Dated) → list_any (eqb x) (threads_of ys) ≡ true → 1 ≤ times x ys
+times-stands x [] e = cc
+times-stands x (y ∷ ys) e = elim (cases_eq y.thread x) [
+  | inl same ↦ rw (eq-eqb y.thread x same) (omega arith)
+  | inr ne ↦ omega (arith, times-stands x ys (rw (ne_eqb x y.thread (λ e. ne (sym e))) at e))
+]
 
 -- entries of different threads below the number that there is room for are no more than that
 pub length-le-room : (xs : List Dated) (room : ℕ) → ((x : ℕ) → times x xs ≤ one_if (nat_lt x room)) → length xs ≤ room
 length-le-room xs room once =
-    let at : (x : ℕ) → times x xs ≤ one_if (get_or (replicate room true) x false) = λ x. rw (all_true room x) (once x) in
-    omega (arith, length-le-trues xs (replicate room true) at, trues-le-length (replicate room true), length-replicate room true)
+    omega (arith, length-map xs (λ (x : Dated). x.thread), length-le_from_distinct_below (threads_of xs) room (distinct xs at_most) below)
+  where
+    at_most : (x : ℕ) → times x xs ≤ 1
+    at_most x = omega (arith, once x, one_if-le-one (nat_lt x room))
+
+    below : (x : ℕ) → list_any (eqb x) (threads_of xs) ≡ true → x < room
+    below x e = grind (arith, nat_tests, once x, times-stands x xs e)

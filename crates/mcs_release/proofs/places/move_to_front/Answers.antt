@@ -42,19 +42,15 @@ loop-place-preserved c =
           )
     ]
 
-pub returns-clause-entered : goal.returns-clause-entered
-returns-clause-entered c = c.loop-place.invariant.0.kept
-
-pub returns-clause-count : goal.returns-clause-count
-returns-clause-count c =
+pub returns : goal.returns
+returns c =
     let size : length c.loop-place.nodes ≡ 4 * c.args.inner + 4 = omega (arith, c.loop-place.auto.nodes, c.requires.size) in
     let wide : length c.loop-place.threads ≡ 3 * c.args.inner + 1 = omega (arith, c.loop-place.auto.threads, c.requires.wide) in
     let same = leaves-length _ _ _ size wide in
-    count-closed _ _ _ _ c.loop-place.invariant.0 (omega (arith, places_of-length _ _ same, same))
-
-pub returns-clause-behind : goal.returns-clause-behind
-returns-clause-behind c =
-    let size : length c.loop-place.nodes ≡ 4 * c.args.inner + 4 = omega (arith, c.loop-place.auto.nodes, c.requires.size) in
-    let wide : length c.loop-place.threads ≡ 3 * c.args.inner + 1 = omega (arith, c.loop-place.auto.threads, c.requires.wide) in
-    let same = leaves-length _ _ _ size wide in
-    AreEmptyFrom-closed _ _ _ _ c.loop-place.invariant.0 (omega (arith, places_of-length _ _ same, same))
+    let closing = c.loop-place.invariant.0 in
+    record {
+      entered = closing.kept;
+      count = count-closed _ _ _ _ closing (omega (arith, places_of-length _ _ same, same));
+      behind = AreEmptyFrom-closed _ _ _ _ closing (omega (arith, places_of-length _ _ same, same));
+      numbered = c.loop-place.invariant.1;
+    }

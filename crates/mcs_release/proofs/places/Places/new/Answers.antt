@@ -9,20 +9,9 @@ invariant_of-result c =
     let threads : length c.in_ok-threads.threads.items ≡ 3 * (c.args.wanted / 3 + 1) + 1 = omega (arith, c.in_ok-threads.ensures.len) in
     IsStored-new _ _ _ nodes threads (omega arith)
 
-pub returns-clause-empty : goal.returns-clause-empty
-returns-clause-empty c =
+pub returns : goal.returns
+returns c =
     let nodes : c.in_ok-nodes.nodes.items ≡ replicate (4 * (c.args.wanted / 3 + 1) + 4) empty = c.in_ok-nodes.ensures.items_if_clones_equal (search rules) in
     let threads : length c.in_ok-threads.threads.items ≡ 3 * (c.args.wanted / 3 + 1) + 1 = omega (arith, c.in_ok-threads.ensures.len) in
-    AreEmptyFrom-new _ _ _ nodes threads (omega arith)
-
-pub returns-clause-wide : goal.returns-clause-wide
-returns-clause-wide c =
-    let nodes : c.in_ok-nodes.nodes.items ≡ replicate (4 * (c.args.wanted / 3 + 1) + 4) empty = c.in_ok-nodes.ensures.items_if_clones_equal (search rules) in
-    let threads : length c.in_ok-threads.threads.items ≡ 3 * (c.args.wanted / 3 + 1) + 1 = omega (arith, c.in_ok-threads.ensures.len) in
-    omega (arith, count-stored _ _ _ (IsStored-new _ _ _ nodes threads (omega arith)))
-
-pub returns-clause-few : goal.returns-clause-few
-returns-clause-few c =
-    let nodes : c.in_ok-nodes.nodes.items ≡ replicate (4 * (c.args.wanted / 3 + 1) + 4) empty = c.in_ok-nodes.ensures.items_if_clones_equal (search rules) in
-    let threads : length c.in_ok-threads.threads.items ≡ 3 * (c.args.wanted / 3 + 1) + 1 = omega (arith, c.in_ok-threads.ensures.len) in
-    omega (arith, count-stored _ _ _ (IsStored-new _ _ _ nodes threads (omega arith)))
+    let count = count-stored _ _ _ (IsStored-new _ _ _ nodes threads (omega arith)) in
+    record { empty = AreEmptyFrom-new _ _ _ nodes threads (omega arith); wide = omega (arith, count); few = omega (arith, count) }

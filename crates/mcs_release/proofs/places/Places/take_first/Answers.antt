@@ -1,24 +1,17 @@
-use Rattle.std.proofs.Common.{◌≡◌, ◌<◌, ◌^◌, arith, length, subst, sym, List, Option}
+use Rattle.std.proofs.Common.{◌≡◌, ◌<◌, ◌^◌, arith, length}
 use Rattle.std.proofs.lemmas.List.{take_at}
-use Rattle.std.specs.Prelude.{IsSome}
-use Rattle.mcs_release.specs.declared.dated.Dated.{Dated}
-use Rattle.mcs_release.specs.Release.{earliest}
-use Rattle.mcs_release.specs.stored.Places.{entered, places_of, IsTaken}
-use Rattle.mcs_release.specs.stored.Least.{leaves}
 use Rattle.mcs_release.proofs.Stored.{IsStored-clear, IsTaken-stored, first-within}
 use Rattle.mcs_release.proofs.places.Places.take_first.Goals as goal
 
 pub clear-requires-clause-within : goal.clear-requires-clause-within
 clear-requires-clause-within c =
     let fits : c.index.result.now < 2 ^ 64 = omega arith in
-    let some = subst (λ (places : List (Option Dated)). IsSome (earliest (entered places))) (sym c.self.view_is) c.requires in
-    omega (arith, first-within _ _ _ c.self.invariant c.index.result.now c.index.ensures (omega arith) some, c.self.invariant.wide)
+    omega (arith, first-within _ _ _ c.self.invariant c.index.result.now c.index.ensures (omega arith) _ c.self.view_is c.requires, c.self.invariant.wide)
 
 pub index-requires-2 : goal.index-requires-2
 index-requires-2 c =
     let fits : c.index.result.now < 2 ^ 64 = omega arith in
-    let some = subst (λ (places : List (Option Dated)). IsSome (earliest (entered places))) (sym c.self.view_is) c.requires in
-    omega (arith, first-within _ _ _ c.self.invariant c.index.result.now c.index.ensures (omega arith) some)
+    omega (arith, first-within _ _ _ c.self.invariant c.index.result.now c.index.ensures (omega arith) _ c.self.view_is c.requires)
 
 pub invariant_of-self : goal.invariant_of-self
 invariant_of-self c =
@@ -33,10 +26,6 @@ returns c =
     let len = c.self.inside.nodes.len in
     let all : length c.clear.new.nodes ≡ len = omega (arith, c.clear.auto.nodes, c.deref_mut.ensures.len) in
     let fits : c.index.result.now < 2 ^ 64 = omega arith in
-    let some = subst (λ (places : List (Option Dated)). IsSome (earliest (entered places))) (sym c.self.view_is) c.requires in
-    let Taken : List (Option Dated) → Type 0 = λ places. IsTaken places (places_of (leaves c.self.inside.inner c.clear.new.nodes) c.self.inside.threads.items) c.index-2.result.now in
     rw (take_at c.clear.new.nodes _ len all) (
-    subst Taken c.self.view_is (
-    IsTaken-stored _ _ _ c.self.invariant c.index.result.now c.index.ensures (omega arith) some _ _ (rw c.deref_mut.ensures.value at c.clear.ensures.leaves) c.index-2.ensures
-    )
+    IsTaken-stored _ _ _ c.self.invariant c.index.result.now c.index.ensures (omega arith) _ c.self.view_is c.requires _ _ (rw c.deref_mut.ensures.value at c.clear.ensures.leaves) c.index-2.ensures
     )
