@@ -1,7 +1,9 @@
 -- What the places keep, through each call.
 use Rattle.std.proofs.Common.{◌≡◌, ◌≢◌, ℕ, zero, suc, ◌+◌, ◌<◌, ◌≤◌, ◌==◌, if◌then◌else◌, Bool, true, false, List, [], ◌∷◌, ◌++◌, length, map, get_or, set, refl, sym, ap, subst, ◌∙◌, inl, inr, arith, get_or-set_same, get_or-set_other, length-set, replicate}
-use Rattle.std.specs.Prelude.{nat_lt, not, Option, None, Some, MatchOption}
+use Rattle.std.specs.Prelude.{nat_lt, Option, None, Some, MatchOption}
 use Rattle.std.proofs.Math.ListN.{get_or-map as get_or-map_at}
+use Rattle.std.proofs.lemmas.Bool.Decides.{nat_tests}
+use Rattle.std.proofs.lemmas.Grind.{common_steps}
 use Rattle.std.proofs.lemmas.Bool.{cases_eq, cases_lt, eq-eqb, ne_eqb, false≢true}
 use Rattle.std.proofs.lemmas.List.{length-map, get_or-map, get_or_past, get_or_read, length-replicate, set-get_or}
 use Rattle.mcs_ticks.specs.declared.queue.Queued.{Queued}
@@ -11,7 +13,7 @@ use Rattle.mcs_ready.specs.stored.Priorities.{has}
 use Rattle.mcs_ready.specs.Ready.{AreBelow, AreDistinct, ReadyQueue, queued, is_held, priority_of, thread_of}
 use Rattle.mcs_ready.proofs.Lines.{last-stands, lines-changed, threads-back, threads-front, threads-other, threads-rest}
 use Rattle.mcs_ready.proofs.Queues.{queue-back, queue-front, queue-first, queue-none}
-use Rattle.mcs_ready.proofs.Times.{times-append, times-cons_same, times-cons_other, times-elsewhere, times-le-times_in, times_in-set, is_held-queue_from, length-le-room, length-lt-room, times-queue_from, times-get_or, distinct_from_once}
+use Rattle.mcs_ready.proofs.Times.{times-append, times-elsewhere, times-le-times_in, times_in-set, is_held-queue_from, length-le-room, length-lt-room, times-queue_from, times-get_or, names-below, distinct_from_once}
 
 -- what a thread names, once a place is written
 names-same : (next : List ℕ) (y v : ℕ) → y < length next → v ≢ no_thread → names_one (set next y v) y ≡ true
@@ -22,15 +24,6 @@ names-none next y below = rw (get_or-set_same next y no_thread no_thread below) 
 
 names-other : (next : List ℕ) (y v x : ℕ) → x ≢ y → names_one (set next y v) x ≡ names_one next x
 names-other next y v x ne = rw (get_or-set_other next y x v no_thread ne) refl
-
--- a thread that names one has a number that there is room for
-names-below : (next : List ℕ) (x : ℕ) → names_one next x ≡ true → x < length next
-names-below next x names = elim (cases_lt x (length next)) [
-  | inl below ↦ below
-  | inr past ↦
-      let none : names_one next x ≡ false = ap (λ (n : ℕ). not (n == no_thread)) (get_or_past next x no_thread past) in
-      absurd (false≢true (sym none ∙ names))
-]
 
 one_if-le-one : (b : Bool) → one_if b ≤ 1
 one_if-le-one true = omega arith
@@ -46,10 +39,7 @@ module _ (words words' lasts next next' : List ℕ) (p last : ℕ) (threads : Li
   IsKept-changed kept below room now marks moved = record {
     count = length-set lasts p last ∙ kept.count;
     few = rw room kept.few;
-    marked = λ q. rw (now, marks q) (elim (cases_eq q p) [
-      | inl e ↦ rw (e, eq-eqb p p refl, get_or-set_same olds p threads [] among) refl
-      | inr ne ↦ rw (ne_eqb q p ne, get_or-set_other olds p q threads [] ne) (kept.marked q)
-    ]);
+    marked = λ q. rw (now, marks q) (grind (arith, common_steps, nat_tests, kept.marked q));
     once = λ x. rw now (omega (arith, times_in-set x p olds threads among, moved x, kept.once x));
   }
     where
@@ -83,11 +73,7 @@ module _ (words lasts next : List ℕ) (kept : IsKept words lasts next) where
 
   -- a thread that stands there names one, and has a number that there is room for
   stands-names : (q x : ℕ) → 1 ≤ times x (line q) → names_one next x ≡ true
-  stands-names q x stands = by (names_one next x) (once-at q x)
-    where
-      by : (b : Bool) → times x (line q) ≤ one_if b → b ≡ true
-      by true h = refl
-      by false h = absurd (omega arith)
+  stands-names q x stands = grind (arith, once-at q x)
 
   stands-below : (q x : ℕ) → 1 ≤ times x (line q) → x < length next
   stands-below q x stands = names-below next x (stands-names q x stands)
@@ -175,12 +161,7 @@ module _ (words lasts next : List ℕ) (kept : IsKept words lasts next) where
       moved : (next' threads : List ℕ) → ((y : ℕ) → times y threads ≡ times y (line p) + times y (x ∷ [])) →
           names_one next' x ≡ true → ((y : ℕ) → y ≢ x → names_one next' y ≡ names_one next y) →
           (y : ℕ) → times y threads + one_if (names_one next y) ≡ times y (get_or (all_threads next lasts) p []) + one_if (names_one next' y)
-      moved next' threads entered mine others y = rw (line-at p) (elim (cases_eq y x) [
-        | inl e ↦
-            let Moved : ℕ → Type 0 = λ (y : ℕ). times y threads + one_if (names_one next y) ≡ times y (line p) + one_if (names_one next' y) in
-            subst Moved (sym e) (omega (arith, entered x, times-cons_same x [], ap one_if free, ap one_if mine))
-        | inr ne ↦ rw (others y ne) (omega (arith, entered y, times-cons_other y x [] (λ e. ne (sym e))))
-      ])
+      moved next' threads entered mine others y = rw (line-at p) (grind (arith, nat_tests, entered y, others y))
 
       -- it has none
       module _ (empty : get_or lasts p no_thread ≡ no_thread) where
@@ -239,20 +220,10 @@ module _ (words lasts next : List ℕ) (kept : IsKept words lasts next) where
         names-x = names-other (set next x first) last x x other ∙ names-same next x first x_below (below-some first (first-below p some))
 
         names-others : (y : ℕ) → y ≢ x → names_one after y ≡ names_one next y
-        names-others y ne = elim (cases_eq y last) [
-          | inl e ↦
-              rw e (
-              names-same (set next x first) last x (rw (length-set next x first) (last-below p some)) (below-some x x_below)
-              ∙ sym (stands-names p last (last-stands_at p some))
-              )
-          | inr ne' ↦ names-other (set next x first) last x y ne' ∙ names-other next x first y ne
-        ]
+        names-others y ne = grind (arith, common_steps, nat_tests, below-some x x_below, last-below p some, stands-names p last (last-stands_at p some))
 
         marks : (threads : List ℕ) → is_some_in threads ≡ true → (q : ℕ) → has words q ≡ (if q == p then is_some_in threads else has words q)
-        marks threads e q = elim (cases_eq q p) [
-          | inl same ↦ rw (eq-eqb q p same, e, same) (kept.marked p ∙ ap is_some_in (line-at p) ∙ is_some)
-          | inr ne ↦ rw (ne_eqb q p ne) refl
-        ]
+        marks threads e q = grind (arith, nat_tests, kept.marked q, line-at q, is_some)
           where
             is_some : is_some_in (line p) ≡ true
             is_some = rw (ne_eqb last no_thread some) refl
@@ -315,12 +286,7 @@ module _ (words lasts next : List ℕ) (kept : IsKept words lasts next) where
 
     left : (next' rest : List ℕ) → line p ≡ head ∷ rest → names_one next' head ≡ false → ((y : ℕ) → y ≢ head → names_one next' y ≡ names_one next y) →
         (y : ℕ) → times y rest + one_if (names_one next y) ≡ times y (get_or (all_threads next lasts) p []) + one_if (names_one next' y)
-    left next' rest split mine others y = rw (line-at p, split) (elim (cases_eq y head) [
-      | inl e ↦
-          let Left : ℕ → Type 0 = λ (y : ℕ). times y rest + one_if (names_one next y) ≡ times y (head ∷ rest) + one_if (names_one next' y) in
-          subst Left (sym e) (omega (arith, times-cons_same head rest, ap one_if (stands-names p head (first-stands p some)), ap one_if mine))
-      | inr ne ↦ rw (others y ne, times-cons_other y head rest (λ e. ne (sym e))) refl
-    ])
+    left next' rest split mine others y = rw (line-at p, split) (grind (arith, nat_tests, others y, stands-names p head (first-stands p some)))
 
     -- as a call reads its last thread, the place of that, and the first
     module _ (last : ℕ) (read : last ≡ get_or lasts p last) (place : ℕ) (at : place ≡ last) where
@@ -404,20 +370,10 @@ module _ (words lasts next : List ℕ) (kept : IsKept words lasts next) where
       some_behind = rw (ne_eqb end no_thread some) refl
 
       marks_behind : (q : ℕ) → has words q ≡ (if q == p then is_some_in behind else has words q)
-      marks_behind q = elim (cases_eq q p) [
-        | inl same ↦ rw (eq-eqb q p same, some_behind, same) (kept.marked p ∙ ap is_some_in (line-at p ∙ split))
-        | inr ne ↦ rw (ne_eqb q p ne) refl
-      ]
+      marks_behind q = grind (arith, nat_tests, kept.marked q, line-at q, split, some_behind)
 
       names-rest : (y : ℕ) → y ≢ head → names_one closed y ≡ names_one next y
-      names-rest y ne = names-other (set next end (get_or next head 0)) head no_thread y ne ∙ elim (cases_eq y end) [
-        | inl e ↦
-            rw e (
-            names-same next end (get_or next head 0) (last-below p some) (below-some (get_or next head 0) (stands-below p (get_or next head 0) second-stands))
-            ∙ sym (stands-names p end (last-stands_at p some))
-            )
-        | inr ne' ↦ names-other next end (get_or next head 0) y ne'
-      ]
+      names-rest y ne = grind (arith, common_steps, nat_tests, below-some (get_or next head 0) (stands-below p (get_or next head 0) second-stands), last-below p some, stands-names p end (last-stands_at p some))
 
       pub IsKept-rest : IsKept words lasts closed
       IsKept-rest =
@@ -528,8 +484,4 @@ module _ (words lasts next : List ℕ) (kept : IsKept words lasts next) where
       let e = get_or-map (λ (q : Queued). q.thread) queue k d 0 below in
       let among : k < length threads = omega (arith, length-map queue (λ (q : Queued). q.thread)) in
       let IsBelow : ℕ → Type 0 = λ x. x < length next in
-      subst IsBelow e (names-below next (get_or threads k 0) (by (names_one next (get_or threads k 0)) (times-queue (get_or threads k 0)) (times-get_or threads k among)))
-    where
-      by : {n : ℕ} (b : Bool) → n ≡ one_if b → 1 ≤ n → b ≡ true
-      by true e h = refl
-      by false e h = absurd (omega arith)
+      subst IsBelow e (names-below next (get_or threads k 0) (grind (arith, times-queue (get_or threads k 0), times-get_or threads k among)))

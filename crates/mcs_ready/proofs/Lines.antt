@@ -1,82 +1,41 @@
 -- The threads of a line, each named by the one before it, the first by the last.
-use Rattle.std.proofs.Common.{◌≡◌, ◌≢◌, ℕ, zero, suc, ◌<◌, ◌≤◌, ◌==◌, Bool, true, false, cond, List, [], ◌∷◌, ◌++◌, length, get_or, set, refl, sym, ap, subst, ◌∙◌, inl, inr, arith, get_or-set_same, get_or-set_other, length-set}
+use Rattle.std.proofs.Common.{◌≡◌, ◌≢◌, ℕ, zero, suc, ◌<◌, ◌≤◌, List, [], ◌∷◌, ◌++◌, length, get_or, set, refl, sym, ap, ◌∙◌, inl, inr, arith, get_or-set_same, get_or-set_other, length-set}
 use Rattle.std.proofs.lemmas.Bool.{cases_eq, eq-eqb, ne_eqb}
+use Rattle.std.proofs.lemmas.Bool.Decides.{nat_tests}
+use Rattle.std.proofs.lemmas.Grind.{common_steps}
 use Rattle.mcs_ready.specs.stored.Lines.{no_thread, line_to, threads_of, all_threads, times}
 use Rattle.mcs_ready.proofs.Times.{times-cons_same}
 
 -- where there are fewer than there may be, one more may be: the last is reached
 pub line-more : (next : List ℕ) (last n x : ℕ) → length (line_to next last n x) < n → line_to next last (suc n) x ≡ line_to next last n x
 line-more next last zero x few = absurd (omega arith)
-line-more next last (suc n) x few = by (x == last) few (line-more next last n (get_or next x 0))
-  where
-    by : (b : Bool) → length (x ∷ cond b [] (line_to next last n (get_or next x 0))) < suc n →
-        (length (line_to next last n (get_or next x 0)) < n → line_to next last (suc n) (get_or next x 0) ≡ line_to next last n (get_or next x 0)) →
-        x ∷ cond b [] (line_to next last (suc n) (get_or next x 0)) ≡ x ∷ cond b [] (line_to next last n (get_or next x 0))
-    by true few e = refl
-    by false few e = ap (λ (xs : List ℕ). x ∷ xs) (e (omega arith))
+line-more next last (suc n) x few = grind (arith, line-more next last n (get_or next x 0))
 
 -- and one fewer
 pub line-less : (next : List ℕ) (last n x : ℕ) → length (line_to next last (suc n) x) ≤ n → line_to next last (suc n) x ≡ line_to next last n x
 line-less next last zero x few = absurd (omega arith)
-line-less next last (suc n) x few = by (x == last) few (line-less next last n (get_or next x 0))
-  where
-    by : (b : Bool) → length (x ∷ cond b [] (line_to next last (suc n) (get_or next x 0))) ≤ suc n →
-        (length (line_to next last (suc n) (get_or next x 0)) ≤ n → line_to next last (suc n) (get_or next x 0) ≡ line_to next last n (get_or next x 0)) →
-        x ∷ cond b [] (line_to next last (suc n) (get_or next x 0)) ≡ x ∷ cond b [] (line_to next last n (get_or next x 0))
-    by true few e = refl
-    by false few e = ap (λ (xs : List ℕ). x ∷ xs) (e (omega arith))
+line-less next last (suc n) x few = grind (arith, line-less next last n (get_or next x 0))
 
 -- so the last one stands there
 pub line-stands : (next : List ℕ) (last n x : ℕ) → length (line_to next last n x) < n → 1 ≤ times last (line_to next last n x)
 line-stands next last zero x few = absurd (omega arith)
-line-stands next last (suc n) x few = elim (cases_eq x last) [
-  | inl e ↦ rw (eq-eqb x last e) (omega arith)
-  | inr ne ↦
-      let fewer : length (x ∷ line_to next last n (get_or next x 0)) < suc n = rw (ne_eqb x last ne) at few in
-      rw (ne_eqb x last ne) (omega (arith, line-stands next last n (get_or next x 0) (omega arith)))
-]
+line-stands next last (suc n) x few = grind (arith, nat_tests, line-stands next last n (get_or next x 0))
 
 -- a thread that does not stand there names another one
 pub line-other : (next : List ℕ) (last n x y z : ℕ) → times y (line_to next last n x) ≡ 0 → line_to (set next y z) last n x ≡ line_to next last n x
 line-other next last zero x y z none = refl
-line-other next last (suc n) x y z none =
-    let Stands : ℕ → Type 0 = λ (w : ℕ). 1 ≤ times y (w ∷ cond (x == last) [] (line_to next last n (get_or next x 0))) in
-    let ne : x ≢ y = λ e. absurd (omega (arith, subst Stands (sym e) (omega (arith, times-cons_same y (cond (x == last) [] (line_to next last n (get_or next x 0))))))) in
-    rw (get_or-set_other next y x z 0 ne) (by (x == last) none (line-other next last n (get_or next x 0) y z))
-  where
-    by : (b : Bool) → times y (x ∷ cond b [] (line_to next last n (get_or next x 0))) ≡ 0 →
-        (times y (line_to next last n (get_or next x 0)) ≡ 0 → line_to (set next y z) last n (get_or next x 0) ≡ line_to next last n (get_or next x 0)) →
-        x ∷ cond b [] (line_to (set next y z) last n (get_or next x 0)) ≡ x ∷ cond b [] (line_to next last n (get_or next x 0))
-    by true none e = refl
-    by false none e = ap (λ (xs : List ℕ). x ∷ xs) (e (omega arith))
+line-other next last (suc n) x y z none = grind (arith, nat_tests, common_steps, line-other next last n (get_or next x 0) y z)
 
 -- the last one names another one
 pub line-last : (next : List ℕ) (last n x z : ℕ) → line_to (set next last z) last n x ≡ line_to next last n x
 line-last next last zero x z = refl
-line-last next last (suc n) x z = elim (cases_eq x last) [
-  | inl e ↦ rw (eq-eqb x last e) refl
-  | inr ne ↦
-      rw (ne_eqb x last ne, get_or-set_other next last x z 0 ne) (ap (λ (xs : List ℕ). x ∷ xs) (line-last next last n (get_or next x 0) z))
-]
+line-last next last (suc n) x z = grind (arith, nat_tests, common_steps, line-last next last n (get_or next x 0) z)
 
 -- the last one names x, which is the last now
 pub line-back : (next : List ℕ) (last n first x : ℕ) → last < length next → length (line_to next last n first) < n →
     times x (line_to next last n first) ≡ 0 → line_to (set next last x) x (suc n) first ≡ line_to next last n first ++ x ∷ []
 line-back next last zero first x below few none = absurd (omega arith)
-line-back next last (suc n) first x below few none =
-    let Stands : ℕ → Type 0 = λ (w : ℕ). 1 ≤ times x (w ∷ cond (first == last) [] (line_to next last n (get_or next first 0))) in
-    let other : first ≢ x = λ e. absurd (omega (arith, subst Stands (sym e) (omega (arith, times-cons_same x (cond (first == last) [] (line_to next last n (get_or next first 0))))))) in
-    rw (ne_eqb first x other) (elim (cases_eq first last) [
-      | inl e ↦
-          let second : get_or (set next last x) first 0 ≡ x = ap (λ (y : ℕ). get_or (set next last x) y 0) e ∙ get_or-set_same next last x 0 below in
-          rw (eq-eqb first last e, second, eq-eqb x x refl) refl
-      | inr ne ↦
-          let fewer : length (first ∷ line_to next last n (get_or next first 0)) < suc n = rw (ne_eqb first last ne) at few in
-          let none_behind : times x (first ∷ line_to next last n (get_or next first 0)) ≡ 0 = rw (ne_eqb first last ne) at none in
-          rw (ne_eqb first last ne, get_or-set_other next last first x 0 ne) (
-          ap (λ (xs : List ℕ). first ∷ xs) (line-back next last n (get_or next first 0) x below (omega arith) (omega arith))
-          )
-    ])
+line-back next last (suc n) first x below few none = grind (arith, nat_tests, common_steps, line-back next last n (get_or next first 0) x below)
 
 -- the last one of a line that has no more threads than there is room for stands in it
 pub last-stands : (next : List ℕ) (last : ℕ) → last ≢ no_thread → length (threads_of next last) ≤ length next → 1 ≤ times last (threads_of next last)

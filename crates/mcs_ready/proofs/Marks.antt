@@ -1,7 +1,7 @@
 -- Bits of a set of priorities, set, cleared and found.
-use Rattle.std.proofs.Common.{◌≡◌, ◌≢◌, ℕ, suc, ◌+◌, ◌-◌, ◌*◌, ◌/◌, ◌%◌, ◌^◌, ◌<◌, ◌≤◌, ◌==◌, if◌then◌else◌, Bool, true, false, List, length, get_or, set, bit_and, bit_or, sym, ap, ◌∙◌, inl, inr, arith, get_or-set_same, get_or-set_other}
+use Rattle.std.proofs.Common.{◌≡◌, ◌≢◌, ℕ, suc, ◌+◌, ◌-◌, ◌*◌, ◌/◌, ◌%◌, ◌^◌, ◌<◌, ◌≤◌, ◌==◌, if◌then◌else◌, Bool, true, false, List, length, get_or, set, bit_and, bit_or, ap, ◌∙◌, arith, get_or-set_same, get_or-set_other}
 use Rattle.std.specs.Int.{w64, bit_at, bit_not}
-use Rattle.std.proofs.lemmas.Bool.{cases_eq, eq-eqb, ne_eqb}
+use Rattle.std.proofs.lemmas.Bool.Decides.{nat_tests}
 use Rattle.std.proofs.lemmas.Nat.Bits.{bit_at_set_same, bit_at_set_other, bit_at_clear_same, bit_at_clear_other, bit_at_above}
 use Rattle.std.proofs.Math.Nat.{pow-suc}
 use Rattle.std.proofs.lemmas.Nat.{shr_high}
@@ -20,19 +20,7 @@ has-same words p q word below e =
 has-changed : (b : Bool) (words : List ℕ) (p q word : ℕ) → p / 64 < length words → (bit_at word (p % 64) == 1) ≡ b →
     ((i : ℕ) → i < 64 → i ≢ p % 64 → bit_at word i ≡ bit_at (get_or words (p / 64) 0) i) →
     has (set words (p / 64) word) q ≡ (if q == p then b else has words q)
-has-changed b words p q word below at_p others = elim (cases_eq (q / 64) (p / 64)) [
-  | inr ne ↦ rw (ne_eqb q p (λ e. ne (ap (λ (n : ℕ). n / 64) e))) (has-other words p q word ne)
-  | inl e ↦ elim (cases_eq (q % 64) (p % 64)) [
-    | inl m ↦
-        let same : q ≡ p = omega arith in
-        rw (eq-eqb q p same) (has-same words p q word below e ∙ ap (λ (i : ℕ). bit_at word i == 1) m ∙ at_p)
-    | inr ne ↦
-        rw (ne_eqb q p (λ e. ne (ap (λ (n : ℕ). n % 64) e))) (
-        has-same words p q word below e ∙ ap (λ (bit : ℕ). bit == 1) (others (q % 64) (omega arith) ne)
-        ∙ ap (λ (k : ℕ). bit_at (get_or words k 0) (q % 64) == 1) (sym e)
-        )
-  ]
-]
+has-changed b words p q word below at_p others = grind (arith, nat_tests, has-other words p q word, has-same words p q word below, others (q % 64))
 
 -- the bit of a priority is set, and cleared
 pub has-set : (words : List ℕ) (p q : ℕ) → p / 64 < length words →

@@ -1,6 +1,5 @@
 -- The lines of all priorities as one queue: what it is to change one of them.
-use Rattle.std.proofs.Common.{◌≡◌, ℕ, zero, suc, ◌+◌, ◌<◌, ◌≤◌, Bool, true, false, cond, List, [], ◌∷◌, ◌++◌, length, get_or, set, refl, sym, ap, ◌∙◌, arith}
-use Rattle.std.specs.Prelude.{nat_lt}
+use Rattle.std.proofs.Common.{◌≡◌, ℕ, zero, suc, ◌+◌, ◌<◌, ◌≤◌, List, [], ◌∷◌, ◌++◌, length, get_or, set, refl, sym, ap, ◌∙◌, arith}
 use Rattle.std.proofs.lemmas.Bool.{lt-ltb, le-ltb}
 use Rattle.std.proofs.lemmas.List.{append_assoc, append-nil, map_push}
 use Rattle.mcs_ticks.specs.declared.queue.Queued.{Queued}
@@ -29,12 +28,7 @@ back_above : (x : Queued) (above : List Queued) (p : ℕ) (ys : List ℕ) → p 
     entered_back x (above ++ queued_at p ys) ≡ entered_back x above ++ queued_at p ys
 back_above x [] p [] h = refl
 back_above x [] p (y ∷ ys) h = rw (lt-ltb p x.priority h) refl
-back_above x (z ∷ above) p ys h = by (nat_lt z.priority x.priority) (back_above x above p ys h)
-  where
-    by : (b : Bool) → entered_back x (above ++ queued_at p ys) ≡ entered_back x above ++ queued_at p ys →
-        cond b (x ∷ z ∷ (above ++ queued_at p ys)) (z ∷ entered_back x (above ++ queued_at p ys)) ≡ cond b (x ∷ z ∷ above) (z ∷ entered_back x above) ++ queued_at p ys
-    by true e = refl
-    by false e = ap (λ (us : List Queued). z ∷ us) e
+back_above x (z ∷ above) p ys h = grind (arith, back_above x above p ys h)
 
 -- a thread at the back of its line is at the back of its priority
 pub queue-back : (lines : List (List ℕ)) (p i x : ℕ) → i < length lines →
@@ -82,12 +76,7 @@ front_above : (x : Queued) (above : List Queued) (p : ℕ) (ys : List ℕ) → p
     entered_front x (above ++ queued_at p ys) ≡ entered_front x above ++ queued_at p ys
 front_above x [] p [] h = refl
 front_above x [] p (y ∷ ys) h = rw (le-ltb x.priority p (omega arith)) refl
-front_above x (z ∷ above) p ys h = by (nat_lt x.priority z.priority) (front_above x above p ys h)
-  where
-    by : (b : Bool) → entered_front x (above ++ queued_at p ys) ≡ entered_front x above ++ queued_at p ys →
-        cond b (z ∷ entered_front x (above ++ queued_at p ys)) (x ∷ z ∷ (above ++ queued_at p ys)) ≡ cond b (z ∷ entered_front x above) (x ∷ z ∷ above) ++ queued_at p ys
-    by true e = ap (λ (us : List Queued). z ∷ us) e
-    by false e = refl
+front_above x (z ∷ above) p ys h = grind (arith, front_above x above p ys h)
 
 -- a thread at the front of its line is at the front of its priority
 pub queue-front : (lines : List (List ℕ)) (p i x : ℕ) → i < length lines →

@@ -1,10 +1,12 @@
 -- How often a thread stands in lines.
-use Rattle.std.proofs.Common.{◌≡◌, ℕ, zero, suc, ◌+◌, ◌<◌, ◌≤◌, ◌==◌, Bool, true, false, cond, List, [], ◌∷◌, ◌++◌, length, map, get_or, set, refl, sym, ap, ◌∙◌, inl, inr, arith, get_or-set_other}
-use Rattle.std.specs.Prelude.{nat_lt, not, ◌||◌}
-use Rattle.std.proofs.Math.ListN.{get_or-map}
+use Rattle.std.proofs.Common.{◌≡◌, ℕ, zero, suc, ◌+◌, ◌<◌, ◌≤◌, ◌==◌, Bool, true, false, cond, List, [], ◌∷◌, ◌++◌, length, map, get_or, set, eqb, refl, sym, ap, ◌∙◌, inl, inr, arith}
+use Rattle.std.specs.Prelude.{nat_lt, ◌||◌}
+use Rattle.std.specs.List.{list_any, AllByRecursion, IsDistinct}
 use Rattle.std.proofs.lemmas.Bool.{cases_eq, eq-eqb, ne_eqb}
 use Rattle.std.proofs.lemmas.Bool.Decides.{nat_tests}
-use Rattle.std.proofs.lemmas.List.{length-map, map-append}
+use Rattle.std.proofs.lemmas.List.{get_or_past, map-append}
+use Rattle.std.proofs.lemmas.List.Folds.{list_any-append}
+use Rattle.std.proofs.lemmas.Map.Steps.{length-le_from_distinct_below}
 use Rattle.mcs_ticks.specs.declared.queue.Queued.{Queued}
 use Rattle.mcs_ready.specs.stored.Lines.{no_thread, names_one, queued_at, queue_from, times, times_in, one_if}
 use Rattle.mcs_ready.specs.Ready.{is_held}
@@ -43,14 +45,6 @@ times-elsewhere x (suc i) zero (line ∷ lines) ne = omega (arith, times-le-time
 times-elsewhere x (suc i) (suc j) (line ∷ lines) ne = omega (arith, times-elsewhere x i j lines (λ e. ne (ap suc e)))
 
 -- the thread stands in the queue where it stands in a line
-is_held-append : (x : ℕ) (us vs : List Queued) → is_held x (us ++ vs) ≡ (is_held x us || is_held x vs)
-is_held-append x [] vs = refl
-is_held-append x (u ∷ us) vs = by (u.thread == x) (is_held-append x us vs)
-  where
-    by : (b : Bool) → is_held x (us ++ vs) ≡ (is_held x us || is_held x vs) → (b || is_held x (us ++ vs)) ≡ ((b || is_held x us) || is_held x vs)
-    by true e = refl
-    by false e = e
-
 is_held-queued_at : (x p : ℕ) (ys : List ℕ) → is_held x (queued_at p ys) ≡ nat_lt 0 (times x ys)
 is_held-queued_at x p [] = refl
 is_held-queued_at x p (y ∷ ys) = by (y == x) (is_held-queued_at x p ys)
@@ -62,86 +56,56 @@ is_held-queued_at x p (y ∷ ys) = by (y == x) (is_held-queued_at x p ys)
 pub is_held-queue_from : (x p : ℕ) (lines : List (List ℕ)) → is_held x (queue_from p lines) ≡ nat_lt 0 (times_in x lines)
 is_held-queue_from x p [] = refl
 is_held-queue_from x p (ys ∷ lines) =
-    is_held-append x (queue_from (suc p) lines) (queued_at p ys)
+    list_any-append (λ (q : Queued). q.thread == x) (queue_from (suc p) lines) (queued_at p ys)
     ∙ rw (is_held-queue_from x (suc p) lines, is_held-queued_at x p ys) (by (times_in x lines) (times x ys))
   where
     by : (m n : ℕ) → (nat_lt 0 m || nat_lt 0 n) ≡ nat_lt 0 (n + m)
     by m n = grind (arith, nat_tests)
 
--- how many are held
-trues : List Bool → ℕ
-trues [] = 0
-trues (b ∷ bs) = one_if b + trues bs
+-- a thread that names one has a number that there is room for
+pub names-below : (next : List ℕ) (x : ℕ) → names_one next x ≡ true → x < length next
+names-below next x names = grind (arith, nat_tests, get_or_past next x no_thread)
 
-trues-le-length : (held : List Bool) → trues held ≤ length held
-unfolding trues
-trues-le-length [] = omega arith
-trues-le-length (true ∷ held) = omega (arith, trues-le-length held)
-trues-le-length (false ∷ held) = omega (arith, trues-le-length held)
+apart : (x : ℕ) (ys : List ℕ) → times x ys ≡ 0 → AllByRecursion (λ y. (x == y) ≡ false) ys
+apart x [] none = tt
+apart x (y ∷ ys) none = (grind (arith, nat_tests), apart x ys (omega arith))
 
-trues-set : (held : List Bool) (y : ℕ) → get_or held y false ≡ true → trues (set held y false) + 1 ≡ trues held
-unfolding trues
-trues-set [] y e = cc
-trues-set (b ∷ held) zero e = rw e (omega arith)
-trues-set (b ∷ held) (suc y) e = omega (arith, trues-set held y e)
+distinct : (xs : List ℕ) → ((x : ℕ) → times x xs ≤ 1) → IsDistinct eqb xs
+unfolding IsDistinct
+distinct [] once = tt
+distinct (x ∷ xs) once = (apart x xs (omega (arith, once x, times-cons_same x xs)), distinct xs (λ y. omega (arith, once y)))
 
-pub get_or-set_false : (held : List Bool) (y : ℕ) → get_or (set held y false) y false ≡ false
-get_or-set_false [] y = refl
-get_or-set_false (b ∷ held) zero = refl
-get_or-set_false (b ∷ held) (suc y) = get_or-set_false held y
-
-length-le-trues : (xs : List ℕ) (held : List Bool) → ((x : ℕ) → times x xs ≤ one_if (get_or held x false)) → length xs ≤ trues held
-length-le-trues [] held once = omega arith
-length-le-trues (y ∷ ys) held once = by (get_or held y false) refl (once y) (λ e. length-le-trues ys (set held y false) (rest e))
-  where
-    rest : get_or held y false ≡ true → (x : ℕ) → times x ys ≤ one_if (get_or (set held y false) x false)
-    rest e x = elim (cases_eq x y) [
-      | inl same ↦
-          rw (same, get_or-set_false held y) (
-          let one : times y (y ∷ ys) ≤ one_if true = rw e at (once y) in
-          omega (arith, times-cons_same y ys)
-          )
-      | inr ne ↦
-          rw (get_or-set_other held y x false false ne) (rw (times-cons_other x y ys (λ e. ne (sym e))) at (once x))
-    ]
-
-    by : (b : Bool) → get_or held y false ≡ b → times y (y ∷ ys) ≤ one_if b → (get_or held y false ≡ true → length ys ≤ trues (set held y false)) →
-        length (y ∷ ys) ≤ trues held
-    by true e h fewer = omega (arith, trues-set held y e, fewer e)
-    by false e h fewer = absurd (omega (arith, times-cons_same y ys))
-
-trues-lt-length : (held : List Bool) (y : ℕ) → y < length held → get_or held y false ≡ false → trues held < length held
-unfolding trues
-trues-lt-length [] y below e = absurd (omega arith)
-trues-lt-length (b ∷ held) zero below e = rw e (omega (arith, trues-le-length held))
-trues-lt-length (true ∷ held) (suc y) below e = omega (arith, trues-lt-length held y (omega arith) e)
-trues-lt-length (false ∷ held) (suc y) below e = omega (arith, trues-lt-length held y (omega arith) e)
-
--- the places whose thread names one
-named : List ℕ → List Bool
-named next = map (λ (n : ℕ). not (n == no_thread)) next
-
-get_or-named : (next : List ℕ) (x : ℕ) → get_or (named next) x false ≡ names_one next x
-unfolding named
-get_or-named next x = get_or-map (λ (n : ℕ). not (n == no_thread)) next x no_thread
-
-length-named : (next : List ℕ) → length (named next) ≡ length next
-unfolding named
-length-named next = length-map next (λ (n : ℕ). not (n == no_thread))
+stands : (x : ℕ) (ys : List ℕ) → list_any (eqb x) ys ≡ true → 1 ≤ times x ys
+stands x [] e = cc
+stands x (y ∷ ys) e = elim (cases_eq y x) [
+  | inl same ↦ rw (eq-eqb y x same) (omega arith)
+  | inr ne ↦ omega (arith, stands x ys (rw (ne_eqb x y (λ e. ne (sym e))) at e))
+]
 
 -- threads of which each names one, and each stands once, are no more than there is room for
 module _ (xs next : List ℕ) (once : (x : ℕ) → times x xs ≤ one_if (names_one next x)) where
-  few : length xs ≤ trues (named next)
-  few = length-le-trues xs (named next) (λ x. rw (get_or-named next x) (once x))
+  at_most : (x : ℕ) → times x xs ≤ 1
+  at_most x = grind (arith, once x)
+
+  within : (x : ℕ) → list_any (eqb x) xs ≡ true → x < length next
+  within x e = names-below next x (grind (arith, once x, stands x xs e))
 
   pub length-le-room : length xs ≤ length next
-  length-le-room = omega (arith, few, trues-le-length (named next), length-named next)
+  length-le-room = length-le_from_distinct_below xs (length next) (distinct xs at_most) within
 
   -- and fewer, where one that there is room for names none
   pub length-lt-room : (x : ℕ) → x < length next → names_one next x ≡ false → length xs < length next
-  length-lt-room x below free =
-      let within : x < length (named next) = omega (arith, length-named next) in
-      omega (arith, few, trues-lt-length (named next) x within (get_or-named next x ∙ free), length-named next)
+  unfolding IsDistinct
+  length-lt-room x below free = omega (arith, length-le_from_distinct_below (x ∷ xs) (length next) both all)
+    where
+      both : IsDistinct eqb (x ∷ xs)
+      both = (apart x xs (omega (arith, once x, ap one_if free)), distinct xs at_most)
+
+      all : (y : ℕ) → list_any (eqb y) (x ∷ xs) ≡ true → y < length next
+      all y e = elim (cases_eq y x) [
+        | inl same ↦ omega arith
+        | inr ne ↦ within y (rw (ne_eqb y x ne) at e)
+      ]
 
 -- the queue holds a thread as often as the lines do
 times-queued_at : (x p : ℕ) (ys : List ℕ) → times x (map (λ (q : Queued). q.thread) (queued_at p ys)) ≡ times x ys
