@@ -1,11 +1,7 @@
 -- The reports of a tally are those of the rows added.
-use Rattle.std.proofs.Common.{◌≡◌, ℕ, suc, ◌+◌, Bool, true, false, eqb, cond, ◌==◌, List, [], ◌∷◌, map, filter, fold, Option, refl, ap, ◌∙◌, arith}
+use Rattle.std.proofs.Common.{◌≡◌, ℕ, suc, ◌+◌, eqb, cond, List, [], ◌∷◌, map, fold, refl, ap, ◌∙◌, arith}
 use Rattle.std.specs.List.{range_with_len}
 use Rattle.mcs_ticks.specs.declared.row.Row.{Row}
-use Rattle.mcs_ticks.specs.declared.row.What.{What}
-use Rattle.mcs_ticks.specs.declared.row.What.TheVariants as row
-use Rattle.mcs_ticks.specs.declared.row.Why.{Why}
-use Rattle.mcs_ticks.specs.declared.row.Why.TheVariants as why
 use Rattle.mcs_system.specs.declared.part.ThreadPart.{ThreadPart}
 use Rattle.mcs_system.specs.System.{System, core_of}
 use Rattle.mcs_report.specs.declared.account.Account.{Account}
@@ -13,9 +9,9 @@ use Rattle.mcs_report.specs.declared.reports.ThreadReport.{ThreadReport}
 use Rattle.mcs_report.specs.declared.reports.Reports.{Reports}
 use Rattle.mcs_ticks.specs.Capped.{capped}
 use Rattle.mcs_report.specs.Reports.{responses, least, thread_report, thread_reports, ran_on, core_report_of, reports_of}
-use Rattle.mcs_report.specs.Tally.{Tally, no_report, opened, report_at, ran_by, begun, stopped, responded, opened_tally, finished}
+use Rattle.mcs_report.specs.Tally.{Tally, no_report, opened, report_at, ran_by, opened_tally, finished}
 use Rattle.mcs_report.specs.laws.Agreement.{RunsApart, tally_of, but_ran}
-use Rattle.mcs_report.proofs.Alone.{alone, told_alone, each_from, accounts-fold, horizon-fold, cores-fold}
+use Rattle.mcs_report.proofs.Alone.{told_alone, reopened-alone, each_from, accounts-fold, horizon-fold, cores-fold}
 use Rattle.mcs_report.proofs.Counts.{IsGiven, least_after, counts-fold}
 use Rattle.mcs_report.proofs.Runs.{ran-fold}
 
@@ -64,33 +60,9 @@ report-account : (h : ℕ) (rows : List Row) (x core deadline : ℕ) → RunsApa
 report-account h rows x core deadline apart =
     with_ran _ _ (ran-account h rows x core deadline apart) (but_ran-account h rows x core deadline)
 
-same_core : (b : Bool) (f : Account → Account) (a : Account) → (f a).core ≡ a.core → (cond b (f a) a).core ≡ a.core
-same_core true f a e = e
-same_core false f a e = refl
-
-core-stopped : (h m : ℕ) (cause : Why) (until : Option ℕ) (a : Account) → (stopped h m cause until a).core ≡ a.core
-core-stopped h m why.Spent until a = refl
-core-stopped h m why.Yield until a = refl
-core-stopped h m why.Wait until a = refl
-core-stopped h m why.Done until a = refl
-core-stopped h m why.Preempt until a = refl
-core-stopped h m why.Order until a = refl
-
-core-alone : (h x m : ℕ) (what : What) (a : Account) → (alone h x m what a).core ≡ a.core
-core-alone h x m (row.Release y) a = refl
-core-alone h x m (row.Run y) a = same_core (eqb y x) (begun m) a refl
-core-alone h x m (row.Stop y cause charged until) a = same_core (eqb y x) (stopped h m cause until) a (core-stopped h m cause until a)
-core-alone h x m (row.Signal y note badge) a = refl
-core-alone h x m (row.Arrive note badge maker) a = refl
-core-alone h x m (row.Wake y note word) a = refl
-core-alone h x m (row.Hold note word) a = refl
-core-alone h x m (row.Got y note word) a = refl
-core-alone h x m (row.Round y number response) a = same_core (eqb y x) (responded response) a refl
-core-alone h x m (row.Order context) a = refl
-
 core-fold : (h x : ℕ) (rows : List Row) (a : Account) → (fold (told_alone h x) a rows).core ≡ a.core
 core-fold h x [] a = refl
-core-fold h x (r ∷ rows) a = core-fold h x rows (told_alone h x a r) ∙ core-alone h x r.moment r.what a
+core-fold h x (r ∷ rows) a = core-fold h x rows (told_alone h x a r) ∙ ap (λ (b : Account). b.core) (reopened-alone h x r.moment r.what a)
 
 -- the accounts of these threads, numbered from n, after these rows
 abbrev accounts_of : System → ℕ → List Row → ℕ → List ThreadPart → List Account
@@ -117,12 +89,7 @@ reports-all system h rows apart n (thread ∷ threads) =
 
 ran_by-cons : (h : ℕ) (a : Account) (rest : List Account) (c : ℕ)
     → ran_by h (a ∷ rest) c ≡ cond (eqb a.core c) ((report_at h a).ran ∷ ran_by h rest c) (ran_by h rest c)
-ran_by-cons h a rest c = by (eqb a.core c)
-  where
-    by : (b : Bool) → map (λ account. (report_at h account).ran) (cond b (a ∷ filter (λ account. account.core == c) rest) (filter (λ account. account.core == c) rest))
-        ≡ cond b ((report_at h a).ran ∷ ran_by h rest c) (ran_by h rest c)
-    by true = refl
-    by false = refl
+ran_by-cons h a rest c = grind arith
 
 same_choice : (k l c x y : ℕ) (xs ys : List ℕ) → k ≡ l → x ≡ y → xs ≡ ys → cond (eqb k c) (x ∷ xs) xs ≡ cond (eqb l c) (y ∷ ys) ys
 same_choice k l c x y xs ys e f g = cc

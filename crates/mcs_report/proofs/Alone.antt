@@ -1,10 +1,13 @@
 -- What a row does to the accounts, it does to each account alone.
-use Rattle.std.proofs.Common.{◌≡◌, ℕ, suc, zero, ◌+◌, ◌<◌, eqb, cond, if◌then◌else◌, ◌==◌, List, [], ◌∷◌, get_or, set, fold, refl, sym, ap, ◌∙◌, arith}
+use Rattle.std.proofs.Common.{◌≡◌, ℕ, suc, zero, ◌+◌, ◌<◌, Bool, true, false, Option, eqb, cond, if◌then◌else◌, ◌==◌, List, [], ◌∷◌, get_or, set, fold, refl, sym, ap, ◌∙◌, arith}
 use Rattle.std.proofs.lemmas.Bool.Decides.{nat_tests}
 use Rattle.mcs_ticks.specs.declared.row.Row.{Row}
 use Rattle.mcs_ticks.specs.declared.row.What.{What}
 use Rattle.mcs_ticks.specs.declared.row.What.TheVariants as row
+use Rattle.mcs_ticks.specs.declared.row.Why.{Why}
+use Rattle.mcs_ticks.specs.declared.row.Why.TheVariants as why
 use Rattle.mcs_report.specs.declared.account.Account.{Account}
+use Rattle.mcs_report.specs.stored.CoreTally.{reopened}
 use Rattle.mcs_report.specs.Tally.{Tally, no_account, begun, stopped, responded, told, added}
 
 -- one row for the account with this number
@@ -16,6 +19,21 @@ alone horizon number moment _ account = account
 
 abbrev pub told_alone : ℕ → ℕ → Account → Row → Account
 told_alone horizon number account r = alone horizon number r.moment r.what account
+
+-- a row changes neither core nor deadline of an account
+reopened_if : (b : Bool) (a c : Account) → reopened a ≡ reopened c → reopened (cond b a c) ≡ reopened c
+reopened_if true a c e = e
+reopened_if false a c e = refl
+
+pub reopened-stopped : (h m : ℕ) (cause : Why) (until : Option ℕ) (a : Account) → reopened (stopped h m cause until a) ≡ reopened a
+reopened-stopped h m why.Spent until a = refl
+reopened-stopped h m cause until a = refl
+
+pub reopened-alone : (h x m : ℕ) (what : What) (a : Account) → reopened (alone h x m what a) ≡ reopened a
+reopened-alone h x m (row.Run y) a = reopened_if (eqb y x) (begun m a) a refl
+reopened-alone h x m (row.Stop y cause charged until) a = reopened_if (eqb y x) (stopped h m cause until a) a (reopened-stopped h m cause until a)
+reopened-alone h x m (row.Round y number response) a = reopened_if (eqb y x) (responded response a) a refl
+reopened-alone h x m what a = refl
 
 -- each element with its number
 abbrev pub each_from : {A B : Type 0} → ℕ → (ℕ → A → B) → List A → List B
@@ -31,46 +49,22 @@ each_from_twice : {A B C : Type 0} (n : ℕ) (f : ℕ → A → B) (g : ℕ → 
 each_from_twice n f g [] = refl
 each_from_twice n f g (x ∷ xs) = ap (λ ys. g n (f n x) ∷ ys) (each_from_twice (suc n) f g xs)
 
-not_here : {A : Type 0} (a b : ℕ) (x y : A) → a < b → cond (eqb a b) x y ≡ y
-not_here a b x y h = grind (arith, nat_tests)
-
-not_there : {A : Type 0} (a b : ℕ) (x y : A) → b < a → cond (eqb a b) x y ≡ y
-not_there a b x y h = grind (arith, nat_tests)
-
-here : {A : Type 0} (a b : ℕ) (x y : A) → a ≡ b → cond (eqb a b) x y ≡ x
-here a b x y h = grind (arith, nat_tests)
-
 each_from_before : {A : Type 0} (f : A → A) (t n : ℕ) (xs : List A) → t < n → each_from n (λ i x. if t == i then f x else x) xs ≡ xs
 each_from_before f t n [] h = refl
-each_from_before f t n (x ∷ xs) h =
-    let first : cond (eqb t n) (f x) x ≡ x = not_here t n (f x) x h in
-    let rest : each_from (suc n) (λ i y. cond (eqb t i) (f y) y) xs ≡ xs = each_from_before f t (suc n) xs (omega arith) in
-    cc
+each_from_before f t n (x ∷ xs) h = grind (arith, nat_tests, each_from_before f t (suc n) xs (omega arith))
 
 set_each : {A : Type 0} (f : A → A) (d : A) (t n y : ℕ) (xs : List A) → t ≡ n + y
     → set xs y (f (get_or xs y d)) ≡ each_from n (λ i x. if t == i then f x else x) xs
 set_each f d t n y [] e = refl
-set_each f d t n zero (x ∷ xs) e =
-    let first : cond (eqb t n) (f x) x ≡ f x = here t n (f x) x (omega arith) in
-    let rest : each_from (suc n) (λ i y. cond (eqb t i) (f y) y) xs ≡ xs = each_from_before f t (suc n) xs (omega arith) in
-    cc
-set_each f d t n (suc y) (x ∷ xs) e =
-    let first : cond (eqb t n) (f x) x ≡ x = not_there t n (f x) x (omega arith) in
-    let rest : set xs y (f (get_or xs y d)) ≡ each_from (suc n) (λ i y. cond (eqb t i) (f y) y) xs = set_each f d t (suc n) y xs (omega arith) in
-    cc
+set_each f d t n zero (x ∷ xs) e = grind (arith, nat_tests, each_from_before f t (suc n) xs (omega arith))
+set_each f d t n (suc y) (x ∷ xs) e = grind (arith, nat_tests, set_each f d t (suc n) y xs (omega arith))
 
 told_each : (horizon moment : ℕ) (what : What) (accounts : List Account)
     → told horizon moment what accounts ≡ each_from 0 (λ i account. alone horizon i moment what account) accounts
 told_each horizon moment (row.Run x) accounts = set_each (begun moment) no_account x 0 x accounts (omega arith)
 told_each horizon moment (row.Stop x cause charged until) accounts = set_each (stopped horizon moment cause until) no_account x 0 x accounts (omega arith)
 told_each horizon moment (row.Round x number response) accounts = set_each (responded response) no_account x 0 x accounts (omega arith)
-told_each horizon moment (row.Release x) accounts = sym (each_from_same 0 accounts)
-told_each horizon moment (row.Signal x note badge) accounts = sym (each_from_same 0 accounts)
-told_each horizon moment (row.Arrive note badge maker) accounts = sym (each_from_same 0 accounts)
-told_each horizon moment (row.Wake x note word) accounts = sym (each_from_same 0 accounts)
-told_each horizon moment (row.Hold note word) accounts = sym (each_from_same 0 accounts)
-told_each horizon moment (row.Got x note word) accounts = sym (each_from_same 0 accounts)
-told_each horizon moment (row.Order context) accounts = sym (each_from_same 0 accounts)
+told_each horizon moment what accounts = sym (each_from_same 0 accounts)
 
 -- all rows
 pub accounts-fold : (rows : List Row) (tally : Tally)

@@ -27,12 +27,7 @@ module _ (system : System) (well : IsWellFormed system) (m : ℕ) where
   of-whats : (c t : ℕ) (whats : List What) → rows_up_to m (map (λ what. record { moment = t; core = c; what = what }) whats)
       ≡ cond (nat_le t m) (map (λ what. record { moment = t; core = c; what = what }) whats) []
   of-whats c t [] = same-rows (nat_le t m) []
-  of-whats c t (what ∷ whats) = by (nat_le t m) (map (λ what. record { moment = t; core = c; what = what }) whats) (rows_up_to m (map (λ what. record { moment = t; core = c; what = what }) whats)) (of-whats c t whats)
-    where
-      by : (b : Bool) (rows kept : List Row) → kept ≡ cond b rows [] →
-          cond b (record { moment = t; core = c; what = what } ∷ kept) kept ≡ cond b (record { moment = t; core = c; what = what } ∷ rows) []
-      by true rows kept e = ap (λ rs. record { moment = t; core = c; what = what } ∷ rs) e
-      by false rows kept e = e
+  of-whats c t (what ∷ whats) = grind (arith, of-whats c t whats)
 
   abbrev all-at : ℕ → List ℕ → List Row
   all-at t cs = flat_map (λ c. rows_of system c t) cs

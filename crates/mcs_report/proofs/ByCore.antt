@@ -79,13 +79,7 @@ module _ (h x : ℕ) where
   row-silent m (row.Run y) a e f g = rw e refl
   row-silent m (row.Stop y cause charged until) a e f g = rw f refl
   row-silent m (row.Round y number response) a e f g = rw g refl
-  row-silent m (row.Release y) a e f g = refl
-  row-silent m (row.Signal y note badge) a e f g = refl
-  row-silent m (row.Arrive note badge maker) a e f g = refl
-  row-silent m (row.Wake y note word) a e f g = refl
-  row-silent m (row.Hold note word) a e f g = refl
-  row-silent m (row.Got y note word) a e f g = refl
-  row-silent m (row.Order context) a e f g = refl
+  row-silent m what a e f g = refl
 
   rows-silent : (c t : ℕ) (whats : List What) → ArePlain x whats → AreRoundless x whats → (a : Account) → fold (told_alone h x) a (stamped c t whats) ≡ a
   rows-silent c t [] plain roundless a = refl
@@ -127,10 +121,9 @@ account-rows system h x rows known = account-fold rows (opened_tally system h) x
 module _ (system : System) (takes_time : TakesTime system) (h x : ℕ) where
   turn-silent : (t c : ℕ) → c < system.cores → c ≢ own_core system x → (a : Account) → fold (told_alone h x) a (clocks.rows_of system c t) ≡ a
   turn-silent t c known other a =
-      let P : Turn → Type 0 = λ made. AreRoundless x made.rows in
       rows-silent h x c t (clocks.turn_of system c t).rows
       (turn-plain system takes_time x t c known other)
-      (subst P (sym (turn_of-kept system c t))
+      (subst (λ (made : Turn). AreRoundless x made.rows) (sym (turn_of-kept system c t))
       (turn-roundless system c t x (filter (clocks.arrives_at system t c) (clocks.world system t).mails) (clocks.core_shown system (clocks.world system t) c) (away system takes_time x t c known other)))
       a
 

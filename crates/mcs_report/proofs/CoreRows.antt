@@ -35,13 +35,7 @@ length-told : (system : System) (c h m : ℕ) (what : What) (accounts : List Acc
 length-told system c h m (row.Run y) accounts = length-changed (place_on system c y) (begun m) accounts
 length-told system c h m (row.Stop y cause charged until) accounts = length-changed (place_on system c y) (stopped h m cause until) accounts
 length-told system c h m (row.Round y number response) accounts = length-changed (place_on system c y) (responded response) accounts
-length-told system c h m (row.Release y) accounts = refl
-length-told system c h m (row.Signal y note badge) accounts = refl
-length-told system c h m (row.Arrive note badge maker) accounts = refl
-length-told system c h m (row.Wake y note word) accounts = refl
-length-told system c h m (row.Hold note word) accounts = refl
-length-told system c h m (row.Got y note word) accounts = refl
-length-told system c h m (row.Order context) accounts = refl
+length-told system c h m what accounts = refl
 
 -- thread x and its core
 module _ (system : System) (x : ℕ) (known : x < length system.threads) where
@@ -78,13 +72,7 @@ module _ (system : System) (x : ℕ) (known : x < length system.threads) where
   told-place h m (row.Run y) accounts within = changed-place y (begun m) accounts within
   told-place h m (row.Stop y cause charged until) accounts within = changed-place y (stopped h m cause until) accounts within
   told-place h m (row.Round y number response) accounts within = changed-place y (responded response) accounts within
-  told-place h m (row.Release y) accounts within = refl
-  told-place h m (row.Signal y note badge) accounts within = refl
-  told-place h m (row.Arrive note badge maker) accounts within = refl
-  told-place h m (row.Wake y note word) accounts within = refl
-  told-place h m (row.Hold note word) accounts within = refl
-  told-place h m (row.Got y note word) accounts within = refl
-  told-place h m (row.Order context) accounts within = refl
+  told-place h m what accounts within = refl
 
   core-fold : (h : ℕ) (rows : List Row) (accounts : List Account) → place_of system x < length accounts
       → get_or (fold core_added (record { system = system; core = core_of system (thread_part system x); horizon = h; accounts = accounts }) rows).accounts (place_of system x) no_account

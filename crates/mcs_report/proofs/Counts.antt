@@ -1,18 +1,17 @@
 -- What the rows say of one thread, but for the ticks that it ran.
-use Rattle.std.proofs.Common.{◌≡◌, ℕ, ◌+◌, ◌-◌, ◌≤◌, ◌^◌, min, max, Bool, true, false, eqb, cond, if◌then◌else◌, ◌==◌, List, [], ◌∷◌, ◌++◌, length, fold, sum, count_by, Option, Some, None, length-append, refl, sym, ap, subst, ◌∙◌, arith}
+use Rattle.std.proofs.Common.{◌≡◌, ℕ, ◌+◌, ◌-◌, ◌≤◌, ◌^◌, min, max, Bool, true, false, eqb, cond, if◌then◌else◌, ◌==◌, List, [], ◌∷◌, ◌++◌, length, fold, sum, count_by, Some, None, length-append, refl, sym, ap, subst, ◌∙◌, arith}
 use Rattle.std.proofs.lemmas.Bool.Decides.{nat_tests}
-use Rattle.std.proofs.lemmas.List.Sums.{sum_by-cons, sum_by-append}
+use Rattle.std.proofs.lemmas.List.Sums.{fold-append, sum_by-cons, sum_by-append}
 use Rattle.mcs_ticks.specs.declared.row.Row.{Row}
 use Rattle.mcs_ticks.specs.declared.row.What.{What}
 use Rattle.mcs_ticks.specs.declared.row.What.TheVariants as row
-use Rattle.mcs_ticks.specs.declared.row.Why.{Why}
 use Rattle.mcs_ticks.specs.declared.row.Why.TheVariants as why
 use Rattle.mcs_report.specs.declared.reports.ThreadReport.{ThreadReport}
 use Rattle.mcs_report.specs.declared.account.Account.{Account}
 use Rattle.mcs_ticks.specs.Capped.{capped}
 use Rattle.mcs_report.specs.Reports.{is_late, response_in, wait_in, is_spent, responses, waits}
-use Rattle.mcs_report.specs.Tally.{begun, ended, waited, stopped, responded}
-use Rattle.mcs_report.proofs.Alone.{alone, told_alone}
+use Rattle.mcs_report.specs.Tally.{begun, ended, waited, responded}
+use Rattle.mcs_report.proofs.Alone.{alone, told_alone, reopened-alone}
 
 -- each number is one that is given
 pub record IsGiven (a : ThreadReport) : Type 0 where
@@ -37,42 +36,14 @@ pub record Counts (deadline : ℕ) (a b : ThreadReport) (responses waits : List 
   pub throttled : b.throttled ≡ capped (a.throttled + sum waits)
   pub longest : b.longest ≡ fold max a.longest waits
 
-kept : (n : ℕ) → n ≤ 2 ^ 64 - 1 → n ≡ capped (n + 0)
-kept n h = omega arith
-
 pub nothing : (d : ℕ) (a : ThreadReport) → IsGiven a → Counts d a a [] [] 0
-nothing d a g = record {
-  rounds = kept a.rounds g.rounds;
-  least = refl;
-  greatest = refl;
-  total = kept a.total g.total;
-  late = kept a.late g.late;
-  spent = kept a.spent g.spent;
-  throttled = kept a.throttled g.throttled;
-  longest = refl;
-}
-
-given : (n m : ℕ) → n ≡ capped m → n ≤ 2 ^ 64 - 1
-given n m e = omega arith
+nothing d a g = grind arith
 
 pub is_given : {d : ℕ} {a b : ThreadReport} {rs ws : List ℕ} {s : ℕ} → Counts d a b rs ws s → IsGiven b
-is_given {d} {a} {b} {rs} {ws} {s} c = record {
-  rounds = given b.rounds _ c.rounds;
-  total = given b.total _ c.total;
-  late = given b.late _ c.late;
-  spent = given b.spent _ c.spent;
-  throttled = given b.throttled _ c.throttled;
-}
-
-added_up : (a x y : ℕ) → capped (capped (a + x) + y) ≡ capped (a + (x + y))
-added_up a x y = omega arith
+is_given {d} {a} {b} {rs} {ws} {s} c = grind arith
 
 capped_twice : (a b c x y z : ℕ) → b ≡ capped (a + x) → c ≡ capped (b + y) → z ≡ x + y → c ≡ capped (a + z)
 capped_twice a b c x y z e f g = omega arith
-
-fold-append : (f : ℕ → ℕ → ℕ) (a : ℕ) (xs ys : List ℕ) → fold f a (xs ++ ys) ≡ fold f (fold f a xs) ys
-fold-append f a [] ys = refl
-fold-append f a (x ∷ xs) ys = fold-append f (f a x) xs ys
 
 past_first : (a b least x : ℕ) (xs ys : List ℕ) → b ≡ capped (a + length (x ∷ xs)) → least_after b least ys ≡ fold min least ys
 past_first a b least x xs [] e = refl
@@ -108,115 +79,36 @@ abbrev Step : ℕ → ℕ → ℕ → What → Account → Type 0
 Step h x m what a =
     Counts a.deadline a.report (alone h x m what a).report (response_in x what) (wait_in h x m what) (spent_in x what)
 
-ran_alone : (d ran : ℕ) (a : ThreadReport) → IsGiven a → Counts d a (record a { ran = ran }) [] [] 0
-ran_alone d ran a g = record {
-  rounds = kept a.rounds g.rounds;
-  least = refl;
-  greatest = refl;
-  total = kept a.total g.total;
-  late = kept a.late g.late;
-  spent = kept a.spent g.spent;
-  throttled = kept a.throttled g.throttled;
-  longest = refl;
-}
-
 step_run : (b : Bool) (m : ℕ) (a : Account) → IsGiven a.report → Counts a.deadline a.report (cond b (begun m a) a).report [] [] 0
 step_run true m a g = nothing a.deadline a.report g
 step_run false m a g = nothing a.deadline a.report g
 
 step_end : (b : Bool) (m : ℕ) (a : Account) → IsGiven a.report → Counts a.deadline a.report (cond b (ended m a) a).report [] [] 0
-step_end true m a g = ran_alone a.deadline (ended m a).report.ran a.report g
+step_end true m a g = grind arith
 step_end false m a g = nothing a.deadline a.report g
-
-at_least_none : (n : ℕ) → max n 0 ≡ n
-at_least_none n = omega arith
 
 step_spent : (b : Bool) (m : ℕ) (a : Account) → IsGiven a.report
     → Counts a.deadline a.report (cond b (waited 0 (ended m a)) a).report [] [] (cond b 1 0)
-step_spent true m a g = record {
-  rounds = kept a.report.rounds g.rounds;
-  least = refl;
-  greatest = refl;
-  total = kept a.report.total g.total;
-  late = kept a.report.late g.late;
-  spent = refl;
-  throttled = refl;
-  longest = at_least_none a.report.longest;
-}
+step_spent true m a g = grind arith
 step_spent false m a g = nothing a.deadline a.report g
-
-one_more : (n w : ℕ) → capped (n + w) ≡ capped (n + (0 + w))
-one_more n w = omega arith
 
 step_wait : (b : Bool) (wait m : ℕ) (a : Account) → IsGiven a.report
     → Counts a.deadline a.report (cond b (waited wait (ended m a)) a).report [] (cond b (wait ∷ []) []) (cond b 1 0)
-step_wait true wait m a g = record {
-  rounds = kept a.report.rounds g.rounds;
-  least = refl;
-  greatest = refl;
-  total = kept a.report.total g.total;
-  late = kept a.report.late g.late;
-  spent = refl;
-  throttled = one_more a.report.throttled wait;
-  longest = refl;
-}
+step_wait true wait m a g = grind arith
 step_wait false wait m a g = nothing a.deadline a.report g
 
 step_round : (b : Bool) (response : ℕ) (a : Account) → IsGiven a.report
     → Counts a.deadline a.report (cond b (responded response a) a).report (cond b (response ∷ []) []) [] 0
-step_round true response a g = record {
-  rounds = refl;
-  least = refl;
-  greatest = refl;
-  total = one_more a.report.total response;
-  late = one_more a.report.late (if is_late a.deadline response then 1 else 0);
-  spent = kept a.report.spent g.spent;
-  throttled = kept a.report.throttled g.throttled;
-  longest = refl;
-}
+step_round true response a g = grind arith
 step_round false response a g = nothing a.deadline a.report g
 
 pub step : (h x m : ℕ) (what : What) (a : Account) → IsGiven a.report → Step h x m what a
-step h x m (row.Release y) a g = nothing a.deadline a.report g
 step h x m (row.Run y) a g = step_run (eqb y x) m a g
 step h x m (row.Stop y why.Spent charged None) a g = step_spent (eqb y x) m a g
 step h x m (row.Stop y why.Spent charged (Some until)) a g = step_wait (eqb y x) (min until h - m) m a g
-step h x m (row.Stop y why.Yield charged until) a g = step_end (eqb y x) m a g
-step h x m (row.Stop y why.Wait charged until) a g = step_end (eqb y x) m a g
-step h x m (row.Stop y why.Done charged until) a g = step_end (eqb y x) m a g
-step h x m (row.Stop y why.Preempt charged until) a g = step_end (eqb y x) m a g
-step h x m (row.Stop y why.Order charged until) a g = step_end (eqb y x) m a g
-step h x m (row.Signal y note badge) a g = nothing a.deadline a.report g
-step h x m (row.Arrive note badge maker) a g = nothing a.deadline a.report g
-step h x m (row.Wake y note word) a g = nothing a.deadline a.report g
-step h x m (row.Hold note word) a g = nothing a.deadline a.report g
-step h x m (row.Got y note word) a g = nothing a.deadline a.report g
+step h x m (row.Stop y cause charged until) a g = step_end (eqb y x) m a g
 step h x m (row.Round y number response) a g = step_round (eqb y x) response a g
-step h x m (row.Order context) a g = nothing a.deadline a.report g
-
-same_deadline : (b : Bool) (f : Account → Account) (a : Account) → (f a).deadline ≡ a.deadline → (cond b (f a) a).deadline ≡ a.deadline
-same_deadline true f a e = e
-same_deadline false f a e = refl
-
-deadline-stopped : (h m : ℕ) (cause : Why) (until : Option ℕ) (a : Account) → (stopped h m cause until a).deadline ≡ a.deadline
-deadline-stopped h m why.Spent until a = refl
-deadline-stopped h m why.Yield until a = refl
-deadline-stopped h m why.Wait until a = refl
-deadline-stopped h m why.Done until a = refl
-deadline-stopped h m why.Preempt until a = refl
-deadline-stopped h m why.Order until a = refl
-
-pub deadline-alone : (h x m : ℕ) (what : What) (a : Account) → (alone h x m what a).deadline ≡ a.deadline
-deadline-alone h x m (row.Release y) a = refl
-deadline-alone h x m (row.Run y) a = same_deadline (eqb y x) (begun m) a refl
-deadline-alone h x m (row.Stop y cause charged until) a = same_deadline (eqb y x) (stopped h m cause until) a (deadline-stopped h m cause until a)
-deadline-alone h x m (row.Signal y note badge) a = refl
-deadline-alone h x m (row.Arrive note badge maker) a = refl
-deadline-alone h x m (row.Wake y note word) a = refl
-deadline-alone h x m (row.Hold note word) a = refl
-deadline-alone h x m (row.Got y note word) a = refl
-deadline-alone h x m (row.Round y number response) a = same_deadline (eqb y x) (responded response) a refl
-deadline-alone h x m (row.Order context) a = refl
+step h x m what a g = nothing a.deadline a.report g
 
 -- all rows
 pub counts-fold : (h x : ℕ) (rows : List Row) (a : Account) → IsGiven a.report
@@ -225,11 +117,8 @@ counts-fold h x [] a g = nothing a.deadline a.report g
 counts-fold h x (r ∷ rows) a g =
     let next : Account = alone h x r.moment r.what a in
     let first : Counts a.deadline a.report next.report (response_in x r.what) (wait_in h x r.moment r.what) (spent_in x r.what) = step h x r.moment r.what a g in
-    let rest : Counts next.deadline next.report (fold (told_alone h x) next rows).report (responses x rows) (waits h x rows) (count_by (λ r. is_spent x r.what) rows) =
-    counts-fold h x rows next (is_given first)
-    in
-    let P : ℕ → Type 0 =
-    λ d. Counts d next.report (fold (told_alone h x) next rows).report (responses x rows) (waits h x rows) (count_by (λ r. is_spent x r.what) rows)
-    in
-    let rest' : P a.deadline = subst P (deadline-alone h x r.moment r.what a) rest in
-    rw (sum_by-cons (λ q. cond (is_spent x q.what) 1 0) r rows) (then_counts g first rest')
+    let same : next.deadline ≡ a.deadline = ap (λ (b : Account). b.deadline) (reopened-alone h x r.moment r.what a) in
+    rw (sum_by-cons (λ q. cond (is_spent x q.what) 1 0) r rows)
+    (then_counts g first
+    (subst (λ d. Counts d next.report (fold (told_alone h x) next rows).report (responses x rows) (waits h x rows) (count_by (λ r. is_spent x r.what) rows))
+    same (counts-fold h x rows next (is_given first))))

@@ -1,10 +1,11 @@
 -- The place of each thread among those of its core.
-use Rattle.std.proofs.Common.{◌≡◌, ◌≢◌, ℕ, zero, suc, ◌+◌, ◌<◌, ◌≤◌, Bool, true, false, cond, ◌==◌, ◌⊎◌, inl, inr, List, [], ◌∷◌, ◌++◌, length, get_or, take, map, replicate, slice_index, slice_set, refl, sym, ap, ◌∙◌, Some, None, arith}
+use Rattle.std.proofs.Common.{◌≡◌, ◌≢◌, ℕ, zero, suc, ◌+◌, ◌<◌, ◌≤◌, Bool, true, false, cond, ◌⊎◌, inl, inr, List, [], ◌∷◌, ◌++◌, length, get_or, take, map, replicate, slice_index, slice_set, sym, ap, ◌∙◌, Some, None, arith}
 use Rattle.std.specs.Prelude.{filter, count_by, nat_lt, ◌&&◌}
 use Rattle.std.specs.List.{range_with_len}
 use Rattle.std.proofs.lemmas.Bool.{cases_lt}
 use Rattle.std.proofs.lemmas.Bool.Decides.{nat_tests}
-use Rattle.std.proofs.lemmas.List.{get_or-replicate, length-replicate, length-set, length-take, get_or_default, get_or-set_same, get_or-set_other}
+use Rattle.std.proofs.lemmas.Grind.{common_steps}
+use Rattle.std.proofs.lemmas.List.{get_or-replicate, length-replicate, length-set, length-take, get_or_default}
 use Rattle.std.proofs.lemmas.List.FromFn.{get_or-map-range_with_len, length-map-range_with_len, map-range_with_len_more}
 use Rattle.std.proofs.lemmas.List.Sums.{sum_by-cons, sum_by-take-le, count_by_more_yes, count_by_more_no, count_by-le-length, length-filter}
 use Rattle.mcs_system.specs.declared.part.ThreadPart.{ThreadPart}
@@ -147,24 +148,15 @@ module _ (system : System) (well : IsWellFormed system) (many : List ℕ) (n : �
   pub one-counted : AreCounted system (slice_set many (core_of system thread) (slice_index many (core_of system thread) + 1)) (n + 1)
   one-counted = record {
     room = length-set many (core_of system thread) _ ∙ counted.room;
-    each = λ c l. by c l (core_of system thread == c) refl;
+    each = λ c l. grind (
+      arith,
+      common_steps,
+      nat_tests,
+      its-home,
+      core-known system well thread,
+      counted.room,
+      counted.each c l,
+      count_by_more_yes (is_on system c) system.threads n no_thread known,
+      count_by_more_no (is_on system c) system.threads n no_thread known,
+    );
   }
-    where
-      by : (c : ℕ) → c < 64 → (b : Bool) → (core_of system thread == c) ≡ b
-          → slice_index (slice_set many (core_of system thread) (slice_index many (core_of system thread) + 1)) c ≡ count_by (is_on system c) (take (n + 1) system.threads)
-      by c l true e =
-          let same : core_of system thread ≡ c = grind (arith, nat_tests) in
-          let passes : is_on system c (get_or system.threads n no_thread) ≡ true = grind (arith, nat_tests, its-home) in
-          let put : slice_index (slice_set many (core_of system thread) (slice_index many (core_of system thread) + 1)) (core_of system thread) ≡ slice_index many (core_of system thread) + 1 =
-          get_or-set_same many (core_of system thread) _ 0 (omega (arith, core-known system well thread, counted.room)) in
-          ap (λ k. slice_index (slice_set many (core_of system thread) (slice_index many (core_of system thread) + 1)) k) (sym same)
-          ∙ put
-          ∙ ap (λ k. slice_index many k + 1) same
-          ∙ ap (λ m. m + 1) (counted.each c l)
-          ∙ sym (count_by_more_yes (is_on system c) system.threads n no_thread known passes)
-      by c l false e =
-          let other : c ≢ core_of system thread = grind (arith, nat_tests) in
-          let fails : is_on system c (get_or system.threads n no_thread) ≡ false = grind (arith, nat_tests, its-home) in
-          get_or-set_other many (core_of system thread) c _ 0 other
-          ∙ counted.each c l
-          ∙ sym (count_by_more_no (is_on system c) system.threads n no_thread known fails)

@@ -1,13 +1,12 @@
 -- The accounts of one core.
-use Rattle.std.proofs.Common.{◌≡◌, ◌≢◌, ℕ, ◌+◌, ◌<◌, ◌≤◌, Bool, true, false, cond, ◌==◌, List, [], ◌∷◌, length, get_or, set, map, refl, sym, ap, subst, ◌∙◌, Option, Some, None, arith}
+use Rattle.std.proofs.Common.{◌≡◌, ℕ, ◌+◌, ◌<◌, ◌≤◌, Bool, true, false, cond, List, [], ◌∷◌, length, get_or, set, map, refl, sym, ap, subst, ◌∙◌, Option, Some, None, arith}
 use Rattle.std.specs.Prelude.{nat_lt, ◌&&◌}
 use Rattle.std.proofs.Math.Seq.{map-set_same}
 use Rattle.std.proofs.lemmas.Bool.Decides.{nat_tests}
-use Rattle.std.proofs.lemmas.List.{length-map, length-set, get_or-map, get_or_default, get_or-set_same, get_or-set_other, ext_get_or}
+use Rattle.std.proofs.lemmas.Grind.{common_steps}
+use Rattle.std.proofs.lemmas.List.{length-map, length-set, get_or-map, get_or_default, get_or-set_other, ext_get_or}
 use Rattle.mcs_ticks.specs.declared.row.What.{What}
 use Rattle.mcs_ticks.specs.declared.row.What.TheVariants as row
-use Rattle.mcs_ticks.specs.declared.row.Why.{Why}
-use Rattle.mcs_ticks.specs.declared.row.Why.TheVariants as why
 use Rattle.mcs_system.specs.declared.part.ThreadPart.{ThreadPart}
 use Rattle.mcs_system.specs.System.{System, thread_part, core_of}
 use Rattle.mcs_report.specs.declared.account.Account.{Account}
@@ -15,6 +14,7 @@ use Rattle.mcs_report.specs.Tally.{no_account, opened, begun, stopped, responded
 use Rattle.mcs_report.specs.Places.{is_on, threads_on, place_of, place_on}
 use Rattle.mcs_report.specs.CoreTally.{opened_on}
 use Rattle.mcs_report.specs.stored.CoreTally.{reopened}
+use Rattle.mcs_report.proofs.Alone.{reopened-stopped}
 use Rattle.mcs_report.proofs.Homes.{place-within}
 
 -- a thread with a place on a core
@@ -31,15 +31,6 @@ placed system c x place e = by (nat_lt x (length system.threads) && is_on system
     by true passes e = record { known = grind (arith, nat_tests); home = grind (arith, nat_tests); at = cc }
     by false fails e = absurd (cc)
 
--- what a row says changes neither core nor deadline of an account
-stopped-reopened : (h m : ℕ) (cause : Why) (until : Option ℕ) (a : Account) → reopened (stopped h m cause until a) ≡ reopened a
-stopped-reopened h m why.Spent until a = refl
-stopped-reopened h m why.Yield until a = refl
-stopped-reopened h m why.Wait until a = refl
-stopped-reopened h m why.Done until a = refl
-stopped-reopened h m why.Preempt until a = refl
-stopped-reopened h m why.Order until a = refl
-
 changed-reopened : (o : Option ℕ) (f : Account → Account) (accounts : List Account) → ((a : Account) → reopened (f a) ≡ reopened a)
     → map reopened (changed_at o f accounts) ≡ map reopened accounts
 changed-reopened None f accounts same = refl
@@ -48,15 +39,9 @@ changed-reopened (Some place) f accounts same =
 
 pub told-reopened : (place : ℕ → Option ℕ) (h m : ℕ) (what : What) (accounts : List Account) → map reopened (told_at place h m what accounts) ≡ map reopened accounts
 told-reopened place h m (row.Run x) accounts = changed-reopened (place x) (begun m) accounts (λ a. refl)
-told-reopened place h m (row.Stop x cause charged until) accounts = changed-reopened (place x) (stopped h m cause until) accounts (stopped-reopened h m cause until)
+told-reopened place h m (row.Stop x cause charged until) accounts = changed-reopened (place x) (stopped h m cause until) accounts (reopened-stopped h m cause until)
 told-reopened place h m (row.Round x number response) accounts = changed-reopened (place x) (responded response) accounts (λ a. refl)
-told-reopened place h m (row.Release x) accounts = refl
-told-reopened place h m (row.Signal x note badge) accounts = refl
-told-reopened place h m (row.Arrive note badge maker) accounts = refl
-told-reopened place h m (row.Wake x note word) accounts = refl
-told-reopened place h m (row.Hold note word) accounts = refl
-told-reopened place h m (row.Got x note word) accounts = refl
-told-reopened place h m (row.Order context) accounts = refl
+told-reopened place h m what accounts = refl
 
 -- so the accounts are always those of the core's threads
 module _ (system : System) (c : ℕ) (accounts : List Account) (own : map reopened accounts ≡ opened_on system c) where
@@ -83,21 +68,9 @@ pub reopened-more : (before now : List Account) (n : ℕ) (a other : Account) �
 reopened-more before now n a other are within is =
     record {
       many = length-set now n a ∙ are.many;
-      first = λ k l. by k l (k == n) refl;
+      first = λ k l. grind (arith, common_steps, is, are.first k, are.rest n (omega arith), get_or_default now n other no_account within);
       rest = λ k l. get_or-set_other now n k a no_account (omega arith) ∙ are.rest k (omega arith);
     }
-  where
-    by : (k : ℕ) → k < n + 1 → (b : Bool) → (k == n) ≡ b → get_or (set now n a) k no_account ≡ reopened (get_or before k no_account)
-    by k l true e =
-        let same : k ≡ n = grind (arith, nat_tests) in
-        ap (λ i. get_or (set now n a) i no_account) same
-        ∙ get_or-set_same now n a no_account within
-        ∙ is
-        ∙ ap reopened (get_or_default now n other no_account within ∙ are.rest n (omega arith))
-        ∙ ap (λ i. reopened (get_or before i no_account)) (sym same)
-    by k l false e =
-        let differ : k ≢ n = grind (arith, nat_tests) in
-        get_or-set_other now n k a no_account differ ∙ are.first k (omega (arith, l, differ))
 
 pub reopened-all : (before now : List Account) (n : ℕ) → AreReopened before now n → length now ≤ n → now ≡ map reopened before
 reopened-all before now n are all =

@@ -65,14 +65,8 @@ module _ (x : ℕ) where
   waiting notes note = omega (arith, set-waiting x notes note quiet_note)
 
   another : (y word badge note : ℕ) (k : Core) → places x k ≡ 0 → posted badge (note_of k note) ≡ Woke y word → (y == x) ≡ false
-  another y word badge note k none e = by (y == x) refl
-    where
-      by : (b : Bool) → (y == x) ≡ b → b ≡ false
-      by true f =
-          let same : y ≡ x = grind (arith, nat_tests) in
-          let waits = woke y word badge (note_of k note).word (note_of k note).waiters e in
-          absurd (omega (arith, waits, ap (λ z. times_queued z (note_of k note).waiters) same, waiting k.notes note))
-      by false f = refl
+  another y word badge note k none e =
+      grind (arith, nat_tests, woke y word badge (note_of k note).word (note_of k note).waiters e, waiting k.notes note)
 
 still_none : (a b : ℕ) → a ≤ b → b ≡ 0 → a ≡ 0
 still_none a b p q = omega arith

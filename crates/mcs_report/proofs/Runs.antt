@@ -44,11 +44,7 @@ move_run false m a = stays m a
 
 ends : (h m : ℕ) (cause : Why) (until : Option ℕ) (a : Account) → Ends m false true a (stopped h m cause until a)
 ends h m why.Spent until a = record { run = refl; stop = refl; since = refl; ran = refl }
-ends h m why.Yield until a = record { run = refl; stop = refl; since = refl; ran = refl }
-ends h m why.Wait until a = record { run = refl; stop = refl; since = refl; ran = refl }
-ends h m why.Done until a = record { run = refl; stop = refl; since = refl; ran = refl }
-ends h m why.Preempt until a = record { run = refl; stop = refl; since = refl; ran = refl }
-ends h m why.Order until a = record { run = refl; stop = refl; since = refl; ran = refl }
+ends h m cause until a = record { run = refl; stop = refl; since = refl; ran = refl }
 
 move_stop : (t : Bool) (h m : ℕ) (cause : Why) (until : Option ℕ) (a : Account) → Moves m false t a (cond t (stopped h m cause until a) a)
 move_stop true h m cause until a = inl (inr (ends h m cause until a))
@@ -59,16 +55,10 @@ move_round true m response a = inr record { run = refl; stop = refl; since = ref
 move_round false m response a = stays m a
 
 move : (h x m : ℕ) (what : What) (a : Account) → Moves m (runs x what) (stops x what) a (alone h x m what a)
-move h x m (row.Release y) a = stays m a
 move h x m (row.Run y) a = move_run (eqb y x) m a
 move h x m (row.Stop y cause charged until) a = move_stop (eqb y x) h m cause until a
-move h x m (row.Signal y note badge) a = stays m a
-move h x m (row.Arrive note badge maker) a = stays m a
-move h x m (row.Wake y note word) a = stays m a
-move h x m (row.Hold note word) a = stays m a
-move h x m (row.Got y note word) a = stays m a
 move h x m (row.Round y number response) a = move_round (eqb y x) m response a
-move h x m (row.Order context) a = stays m a
+move h x m what a = stays m a
 
 -- the rest of the open run
 abbrev pub open_run : ℕ → ℕ → Option ℕ → List Row → ℕ
@@ -117,43 +107,23 @@ pub run_lengths-other : (h x : ℕ) (r : Row) (rows : List Row) → runs x r.wha
 run_lengths-other h x r rows e =
     ap (λ t. sum (cond t ((next_stop h x rows - r.moment) ∷ run_lengths h x rows) (run_lengths h x rows))) e
 
-ran_begins : (h x : ℕ) (r : Row) (rows : List Row) (a b : Account) (total : ℕ) → Begins r.moment (runs x r.what) (stops x r.what) a b
-    → RunsApart x (r ∷ rows) → IsOpen x a.since (r ∷ rows)
-    → (IsOpen x b.since rows → total ≡ capped (b.report.ran + open_run h x b.since rows + sum (run_lengths h x rows)))
-    → total ≡ capped (a.report.ran + open_run h x a.since (r ∷ rows) + sum (run_lengths h x (r ∷ rows)))
-ran_begins h x r rows a b total begins apart was_open rest =
-    let P : Option ℕ → Type 0 = λ since. IsOpen x since rows in
-    let e = rest (subst P (sym begins.since) (apart.0 begins.run)) in
-    let before : open_run h x a.since (r ∷ rows) ≡ 0 = ap (λ since. open_run h x since (r ∷ rows)) (not_open x a.since r rows begins.run was_open) in
-    let after : open_run h x b.since rows ≡ next_stop h x rows - r.moment = ap (λ since. open_run h x since rows) begins.since in
-    omega (arith, e, begins.ran, before, after, run_lengths-run h x r rows begins.run)
-
-ran_ends : (h x : ℕ) (r : Row) (rows : List Row) (a b : Account) (total : ℕ) → Ends r.moment (runs x r.what) (stops x r.what) a b
-    → (IsOpen x b.since rows → total ≡ capped (b.report.ran + open_run h x b.since rows + sum (run_lengths h x rows)))
-    → total ≡ capped (a.report.ran + open_run h x a.since (r ∷ rows) + sum (run_lengths h x (r ∷ rows)))
-ran_ends h x r rows a b total ends rest =
-    let P : Option ℕ → Type 0 = λ since. IsOpen x since rows in
-    let e = rest (subst P (sym ends.since) tt) in
-    let after : open_run h x b.since rows ≡ 0 = ap (λ since. open_run h x since rows) ends.since in
-    omega (arith, e, ends.ran, open_run-stop h x a.since r rows ends.stop, after, run_lengths-other h x r rows ends.run)
-
-ran_stays : (h x : ℕ) (r : Row) (rows : List Row) (a b : Account) (total : ℕ) → Stays (runs x r.what) (stops x r.what) a b
-    → IsOpen x a.since (r ∷ rows)
-    → (IsOpen x b.since rows → total ≡ capped (b.report.ran + open_run h x b.since rows + sum (run_lengths h x rows)))
-    → total ≡ capped (a.report.ran + open_run h x a.since (r ∷ rows) + sum (run_lengths h x (r ∷ rows)))
-ran_stays h x r rows a b total stays was_open rest =
-    let P : Option ℕ → Type 0 = λ since. IsOpen x since rows in
-    let e = rest (subst P (sym stays.since) (still_open x a.since r rows stays.stop was_open)) in
-    let after : open_run h x b.since rows ≡ open_run h x a.since rows = ap (λ since. open_run h x since rows) stays.since in
-    omega (arith, e, stays.ran, open_run-other h x a.since r rows stays.stop, after, run_lengths-other h x r rows stays.run)
-
 ran_moves : (h x : ℕ) (r : Row) (rows : List Row) (a b : Account) (total : ℕ) → Moves r.moment (runs x r.what) (stops x r.what) a b
     → RunsApart x (r ∷ rows) → IsOpen x a.since (r ∷ rows)
     → (IsOpen x b.since rows → total ≡ capped (b.report.ran + open_run h x b.since rows + sum (run_lengths h x rows)))
     → total ≡ capped (a.report.ran + open_run h x a.since (r ∷ rows) + sum (run_lengths h x (r ∷ rows)))
-ran_moves h x r rows a b total (inl (inl begins)) apart was_open rest = ran_begins h x r rows a b total begins apart was_open rest
-ran_moves h x r rows a b total (inl (inr ends)) apart was_open rest = ran_ends h x r rows a b total ends rest
-ran_moves h x r rows a b total (inr stays) apart was_open rest = ran_stays h x r rows a b total stays was_open rest
+ran_moves h x r rows a b total (inl (inl begins)) apart was_open rest =
+    let e = rest (subst (λ since. IsOpen x since rows) (sym begins.since) (apart.0 begins.run)) in
+    let before : open_run h x a.since (r ∷ rows) ≡ 0 = ap (λ since. open_run h x since (r ∷ rows)) (not_open x a.since r rows begins.run was_open) in
+    let after : open_run h x b.since rows ≡ next_stop h x rows - r.moment = ap (λ since. open_run h x since rows) begins.since in
+    omega (arith, e, begins.ran, before, after, run_lengths-run h x r rows begins.run)
+ran_moves h x r rows a b total (inl (inr ends)) apart was_open rest =
+    let e = rest (subst (λ since. IsOpen x since rows) (sym ends.since) tt) in
+    let after : open_run h x b.since rows ≡ 0 = ap (λ since. open_run h x since rows) ends.since in
+    omega (arith, e, ends.ran, open_run-stop h x a.since r rows ends.stop, after, run_lengths-other h x r rows ends.run)
+ran_moves h x r rows a b total (inr stays) apart was_open rest =
+    let e = rest (subst (λ since. IsOpen x since rows) (sym stays.since) (still_open x a.since r rows stays.stop was_open)) in
+    let after : open_run h x b.since rows ≡ open_run h x a.since rows = ap (λ since. open_run h x since rows) stays.since in
+    omega (arith, e, stays.ran, open_run-other h x a.since r rows stays.stop, after, run_lengths-other h x r rows stays.run)
 
 pub ran-fold : (h x : ℕ) (rows : List Row) (a : Account) → RunsApart x rows → IsOpen x a.since rows → Ran h x rows a
 ran-fold h x [] a apart was_open = at_end h x a

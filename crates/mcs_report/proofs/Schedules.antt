@@ -1,7 +1,8 @@
 -- In a schedule each run of a thread is stopped before the next one.
-use Rattle.std.proofs.Common.{◌≡◌, ◌≢◌, ℕ, zero, suc, ◌+◌, ◌<◌, ◌≤◌, Bool, true, false, cond, ◌==◌, ◌⊎◌, inl, inr, List, [], ◌∷◌, ◌++◌, map, Option, Some, None, refl, sym, ap, subst, ◌∙◌, arith}
+use Rattle.std.proofs.Common.{◌≡◌, ◌≢◌, ℕ, zero, suc, ◌+◌, ◌<◌, ◌≤◌, Bool, true, false, cond, ◌⊎◌, inl, inr, List, [], ◌∷◌, ◌++◌, map, Option, Some, None, refl, sym, ap, subst, ◌∙◌, arith}
 use Rattle.std.specs.Prelude.{filter, flat_map}
 use Rattle.std.specs.List.{range_with_len}
+use Rattle.std.proofs.lemmas.Bool.Decides.{nat_tests}
 use Rattle.std.proofs.lemmas.Bool.{cases_lt}
 use Rattle.std.proofs.lemmas.List.{map-append}
 use Rattle.std.proofs.lemmas.List.FromFn.{get_or-map-range_with_len}
@@ -15,7 +16,7 @@ use Rattle.mcs_core.specs.Turn.{Turn}
 use Rattle.mcs_core.specs.Clock as clocks
 use Rattle.mcs_core.proofs.Clock.{turn_of-kept, core_shown-world, core_shown-kept, rows-clock}
 use Rattle.mcs_laws.specs.Places.{times_running, places}
-use Rattle.mcs_laws.proofs.Homes.{one_if, own_core, own_core_known, away}
+use Rattle.mcs_laws.proofs.Homes.{own_core, own_core_known, away}
 use Rattle.mcs_report.specs.Reports.{runs, stops}
 use Rattle.mcs_report.specs.laws.Agreement.{StopsFirst, RunsApart}
 use Rattle.mcs_report.specs.laws.Schedules.{SchedulesRunApart, SchedulesAreReported}
@@ -46,11 +47,7 @@ apart-walks x (r ∷ rows) before last walks =
 -- a thread that has no place on a core does not run there
 shut : (x : ℕ) (running : Option Chosen) → times_running x running ≡ 0 → is_open x running ≡ false
 shut x None e = refl
-shut x (Some chosen) e = by (chosen.thread == x) e
-  where
-    by : (b : Bool) → one_if b ≡ 0 → b ≡ false
-    by true e = absurd (omega arith)
-    by false e = refl
+shut x (Some chosen) e = grind (arith, nat_tests)
 
 pub absent : (x : ℕ) (k : Core) → places x k ≡ 0 → is_open x k.running ≡ false
 absent x k e = shut x k.running (omega arith)
@@ -66,22 +63,18 @@ module _ (system : System) (takes_time : TakesTime system) (x : ℕ) where
   turn-walks : (t c : ℕ) → c < system.cores → Walks x (going t c) (clocks.turn_of system c t).rows (going (suc t) c)
   unfolding going
   turn-walks t c known =
-      let P : Turn → Type 0 = λ made. Walks x (going t c) made.rows (is_open x made.core.running) in
-      let Q : Core → Type 0 = λ k. Walks x (going t c) (clocks.turn_of system c t).rows (is_open x k.running) in
-      subst Q (sym (core_shown-world system takes_time t c known))
-      (subst P (sym (turn_of-kept system c t))
+      subst (λ (k : Core). Walks x (going t c) (clocks.turn_of system c t).rows (is_open x k.running)) (sym (core_shown-world system takes_time t c known))
+      (subst (λ (made : Turn). Walks x (going t c) made.rows (is_open x made.core.running)) (sym (turn_of-kept system c t))
       (turn-turns system c t x (filter (clocks.arrives_at system t c) (clocks.world system t).mails) (clocks.core_shown system (clocks.world system t) c)).walks)
 
   pub turn-plain : (t c : ℕ) → c < system.cores → c ≢ own_core system x → ArePlain x (clocks.turn_of system c t).rows
   turn-plain t c known other =
       let turn = turn-turns system c t x (filter (clocks.arrives_at system t c) (clocks.world system t).mails) (clocks.core_shown system (clocks.world system t) c) in
       let after = absent x (clocks.core_shown system (clocks.world system (suc t)) c) (away system takes_time x (suc t) c known other) in
-      let P : Turn → Type 0 = λ made. ArePlain x made.rows in
-      let Q : Core → Type 0 = λ k. is_open x k.running ≡ false in
-      subst P (sym (turn_of-kept system c t))
+      subst (λ (made : Turn). ArePlain x made.rows) (sym (turn_of-kept system c t))
       (turn.plain
       (absent x (clocks.core_shown system (clocks.world system t) c) (away system takes_time x t c known other))
-      (subst Q (core_shown-kept system takes_time t c known) after))
+      (subst (λ (k : Core). is_open x k.running ≡ false) (core_shown-kept system takes_time t c known) after))
 
   same_whats : (t c : ℕ) (ws : List What) → whats (map (λ what. record { moment = t; core = c; what = what }) ws) ≡ ws
   same_whats t c [] = refl
@@ -101,8 +94,7 @@ module _ (system : System) (takes_time : TakesTime system) (x : ℕ) where
   unfolding rows_from
   walks-past t zero a past within b = refl
   walks-past t (suc n) a past within b =
-      let P : List What → Type 0 = λ ws. Walks x b ws b in
-      subst P (sym (whats-rows t a (flat_map (λ c. clocks.rows_of system c t) (range_with_len (a + 1) n))))
+      subst (λ (ws : List What). Walks x b ws b) (sym (whats-rows t a (flat_map (λ c. clocks.rows_of system c t) (range_with_len (a + 1) n))))
       (walks-append x (clocks.turn_of system a t).rows (whats (flat_map (λ c. clocks.rows_of system c t) (range_with_len (a + 1) n))) b b b
       (walks-plain x (clocks.turn_of system a t).rows b (turn-plain t a (omega arith) (λ e. omega arith)))
       (walks-past t n (a + 1) (omega arith) (omega arith) b))
@@ -113,8 +105,7 @@ module _ (system : System) (takes_time : TakesTime system) (x : ℕ) where
   unfolding rows_from
   walks-from t zero a before after within = absurd (omega arith)
   walks-from t (suc n) a before after within =
-      let P : List What → Type 0 = λ ws. Walks x (going t (own_core system x)) ws (going (suc t) (own_core system x)) in
-      subst P (sym (whats-rows t a (flat_map (λ c. clocks.rows_of system c t) (range_with_len (a + 1) n))))
+      subst (λ (ws : List What). Walks x (going t (own_core system x)) ws (going (suc t) (own_core system x))) (sym (whats-rows t a (flat_map (λ c. clocks.rows_of system c t) (range_with_len (a + 1) n))))
       (by (cases_lt a (own_core system x)) (λ less. walks-from t n (a + 1) (omega arith) (omega arith) (omega arith)))
     where
       others : List What
@@ -122,8 +113,7 @@ module _ (system : System) (takes_time : TakesTime system) (x : ℕ) where
 
       here : a ≡ own_core system x → Walks x (going t (own_core system x)) (clocks.turn_of system a t).rows (going (suc t) (own_core system x))
       here e =
-          let P : ℕ → Type 0 = λ c. Walks x (going t c) (clocks.turn_of system a t).rows (going (suc t) c) in
-          subst P e (turn-walks t a (omega arith))
+          subst (λ (c : ℕ). Walks x (going t c) (clocks.turn_of system a t).rows (going (suc t) c)) e (turn-walks t a (omega arith))
 
       by : (a < own_core system x) ⊎ (own_core system x ≤ a)
           → (a < own_core system x → Walks x (going t (own_core system x)) others (going (suc t) (own_core system x)))
@@ -142,8 +132,7 @@ module _ (system : System) (takes_time : TakesTime system) (x : ℕ) where
   walks-clock known zero =
       rw (get_or-map-range_with_len (opening_core system) 0 system.cores (own_core system x) (own_core system x) (opening_core system (own_core system x)) known (omega arith)) refl
   walks-clock known (suc t) =
-      let P : List What → Type 0 = λ ws. Walks x false ws (going (suc t) (own_core system x)) in
-      subst P (sym (ap whats (rows-clock system takes_time t) ∙ map-append (λ (r : Row). r.what) (clocks.clock system t).rows (rows_from t 0 system.cores)))
+      subst (λ (ws : List What). Walks x false ws (going (suc t) (own_core system x))) (sym (ap whats (rows-clock system takes_time t) ∙ map-append (λ (r : Row). r.what) (clocks.clock system t).rows (rows_from t 0 system.cores)))
       (walks-append x (whats (clocks.clock system t).rows) (whats (rows_from t 0 system.cores)) false (going t (own_core system x)) (going (suc t) (own_core system x))
       (walks-clock known t)
       (walks-from t system.cores 0 (omega arith) (omega arith) (omega arith)))

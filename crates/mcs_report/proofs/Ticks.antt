@@ -30,16 +30,8 @@ says : (x : ℕ) (what : What) → Says x what
 says x what = by (runs x what) (stops x what) refl refl (apart what)
   where
     apart : (what : What) → runs x what ≡ true → stops x what ≡ false
-    apart (row.Run y) e = refl
     apart (row.Stop y cause charged until) e = cc
-    apart (row.Release y) e = refl
-    apart (row.Signal y note badge) e = refl
-    apart (row.Arrive note badge maker) e = refl
-    apart (row.Wake y note word) e = refl
-    apart (row.Hold note word) e = refl
-    apart (row.Got y note word) e = refl
-    apart (row.Round y number response) e = refl
-    apart (row.Order context) e = refl
+    apart what e = refl
 
     by : (a b : Bool) → runs x what ≡ a → stops x what ≡ b → (runs x what ≡ true → stops x what ≡ false) → Says x what
     by true b e f h = Begins e (h e)
@@ -76,26 +68,17 @@ module _ (x : ℕ) where
   -- whether a run is open is what the walk says
   open-next : (since : Option ℕ) (r : Row) → is_some (next_since since r) ≡ after_row x r.what (is_some since)
   unfolding next_since
-  open-next since r = by (runs x r.what) (stops x r.what)
-    where
-      by : (a b : Bool) → is_some (cond a (Some r.moment) (cond b None since)) ≡ cond a true (cond b false (is_some since))
-      by true b = refl
-      by false true = refl
-      by false false = refl
+  open-next since r = grind arith
 
   open-after : (since : Option ℕ) (rows : List Row) (last : Bool) → Walks x (is_some since) (whats rows) last → is_some (since_after since rows) ≡ last
   unfolding since_after
   open-after since [] last walks = walks
   open-after since (r ∷ rows) last walks =
-      let P : Bool → Type 0 = λ b. Walks x b (whats rows) last in
-      open-after (next_since since r) rows last (subst P (sym (open-next since r)) walks.1)
+      open-after (next_since since r) rows last (subst (λ (b : Bool). Walks x b (whats rows) last) (sym (open-next since r)) walks.1)
 
   not_open : (since : Option ℕ) → is_some since ≡ false → since ≡ None
   not_open None e = refl
-  not_open (Some begin) e = absurd (no e)
-    where
-      no : true ≡ false → ⊥
-      no e = cc
+  not_open (Some begin) e = cc
 
   -- the runs of rows: those that end in them, and the open one, which lasts to the horizon
   total : (h : ℕ) (since : Option ℕ) (rows : List Row) (last : Bool) → Walks x (is_some since) (whats rows) last →
@@ -104,8 +87,7 @@ module _ (x : ℕ) where
   total h None [] last walks = refl
   total h (Some begin) [] last walks = omega arith
   total h since (r ∷ rows) last walks =
-      let P : Bool → Type 0 = λ b. Walks x b (whats rows) last in
-      by (says x r.what) (total h (next_since since r) rows last (subst P (sym (open-next since r)) walks.1))
+      by (says x r.what) (total h (next_since since r) rows last (subst (λ (b : Bool). Walks x b (whats rows) last) (sym (open-next since r)) walks.1))
     where
       by : Says x r.what →
           open_run h x (next_since since r) rows + sum (run_lengths h x rows) ≡ ran_in (next_since since r) rows + ticks_since h (since_after (next_since since r) rows) →
@@ -173,8 +155,7 @@ module _ (x : ℕ) where
   unfolding since_after ran_in
   same-ticks t since [] last h walks = omega arith
   same-ticks t since (r ∷ rows) last h walks =
-      let P : Bool → Type 0 = λ b. Walks x b (whats rows) last in
-      omega (arith, no-ticks t since r h.0 walks.0, same-ticks t (next_since since r) rows last h.1 (subst P (sym (open-next since r)) walks.1))
+      omega (arith, no-ticks t since r h.0 walks.0, same-ticks t (next_since since r) rows last h.1 (subst (λ (b : Bool). Walks x b (whats rows) last) (sym (open-next since r)) walks.1))
 
   -- from one moment to the next an open run lasts one tick more
   tick-more : (t : ℕ) (since : Option ℕ) → IsBegun t since → ticks_since (suc t) since ≡ ticks_since t since + one_if (is_some since)
@@ -225,8 +206,7 @@ module _ (system : System) (takes_time : TakesTime system) (x : ℕ) (known : ow
   unfolding since since_after IsBegun rows_at rows_from
   begun zero = tt
   begun (suc t) =
-      let P : Option ℕ → Type 0 = IsBegun x (suc t) in
-      subst P (sym (since-next t)) (begun-later x t (since_after x (since t) (rows_at t)) (begun-after x t (since t) (rows_at t) (are-of t system.cores 0) (begun t)))
+      subst (IsBegun x (suc t)) (sym (since-next t)) (begun-later x t (since_after x (since t) (rows_at t)) (begun-after x t (since t) (rows_at t) (are-of t system.cores 0) (begun t)))
 
   -- what ran in the rows before a moment, with the open run
   ran-now : (t : ℕ) → ran_in x None (clocks.clock system (suc t)).rows + ticks_since t (since (suc t)) ≡ ran_in x None (clocks.clock system t).rows + ticks_since t (since t)
@@ -258,8 +238,7 @@ module _ (system : System) (takes_time : TakesTime system) (x : ℕ) (known : ow
     where
       before : IsBegun x t (since (suc t))
       before =
-          let P : Option ℕ → Type 0 = IsBegun x t in
-          subst P (sym (since-next t)) (begun-after x t (since t) (rows_at t) (are-of t system.cores 0) (begun t))
+          subst (IsBegun x t) (sym (since-next t)) (begun-after x t (since t) (rows_at t) (are-of t system.cores 0) (begun t))
 
   ticks : (h : ℕ) → sum (run_lengths h x (clocks.schedule system h)) ≡ ticks_run system x h
   unfolding since

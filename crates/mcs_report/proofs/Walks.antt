@@ -1,5 +1,5 @@
 -- On each core no thread runs before the one that runs has stopped.
-use Rattle.std.proofs.Common.{◌≡◌, ℕ, ◌+◌, Bool, true, false, not, cond, ◌==◌, List, [], ◌∷◌, ◌++◌, Option, Some, None, refl, sym, ap, subst, ◌∙◌}
+use Rattle.std.proofs.Common.{◌≡◌, ℕ, ◌+◌, Bool, true, false, not, cond, ◌==◌, List, [], ◌∷◌, ◌++◌, Option, Some, None, refl, sym, ap, subst, ◌∙◌, arith}
 use Rattle.std.specs.Prelude.{filter, nat_lt}
 use Rattle.mcs_ticks.specs.Queue.{by_priority, first_of}
 use Rattle.mcs_ticks.specs.declared.queue.Queued.{Queued}
@@ -60,8 +60,7 @@ module _ (x : ℕ) where
   pub walks-plain : (rows : List What) (going : Bool) → ArePlain rows → Walks going rows going
   walks-plain [] going plain = refl
   walks-plain (what ∷ rows) going plain =
-      let P : Bool → Type 0 = λ b. Walks b rows going in
-      (λ e. absurd (let h = plain.0 in cc), subst P (sym (plain_row what going plain.0 plain.1)) (walks-plain rows going plain.2))
+      (λ e. absurd (let h = plain.0 in cc), subst (λ (b : Bool). Walks b rows going) (sym (plain_row what going plain.0 plain.1)) (walks-plain rows going plain.2))
 
   -- whether the thread is the one that runs
   abbrev pub is_open : Option Chosen → Bool
@@ -84,8 +83,7 @@ module _ (x : ℕ) where
   plain-quits : (k : Core) (turn : Turn) → Plain k turn → Quits k turn
   plain-quits k turn p =
       let same : is_open turn.core.running ≡ is_open k.running = ap is_open p.running in
-      let P : Bool → Type 0 = λ b. Walks (is_open k.running) turn.rows b in
-      record { walks = subst P (sym same) (walks-plain turn.rows (is_open k.running) p.rows); plain = λ e. (same ∙ e, p.rows) }
+      record { walks = subst (λ (b : Bool). Walks (is_open k.running) turn.rows b) (sym same) (walks-plain turn.rows (is_open k.running) p.rows); plain = λ e. (same ∙ e, p.rows) }
 
   quits-then : (k : Core) (first : Turn) (part : Core → Turn) → Quits k first → Quits first.core (part first.core) → Quits k (first followed_by part)
   quits-then k first part p q =
@@ -118,11 +116,9 @@ module _ (x : ℕ) where
   quits-stop y k using cause date from turn e rows gone =
       let s = stop_row y k cause date from.running using e in
       let shut : is_open turn.core.running ≡ false = ap is_open gone in
-      let P : List What → Type 0 = λ ws. Walks (is_open from.running) ws (is_open turn.core.running) in
-      let Q : List What → Type 0 = ArePlain in
       record {
-        walks = subst P (sym rows) (λ f. cc, s.0 ∙ sym shut);
-        plain = λ f. (shut, subst Q (sym rows) (refl, s.1 f, tt));
+        walks = subst (λ (ws : List What). Walks (is_open from.running) ws (is_open turn.core.running)) (sym rows) (λ f. cc, s.0 ∙ sym shut);
+        plain = λ f. (shut, subst ArePlain (sym rows) (refl, s.1 f, tt));
       }
 
 -- the parts of a turn
@@ -286,8 +282,7 @@ module _ (system : System) (c t x : ℕ) where
 
   same_runner : (k from : Core) (turn : Turn) → is_open x from.running ≡ is_open x k.running → Quits x from turn → Quits x k turn
   same_runner k from turn e q =
-      let P : Bool → Type 0 = λ b. Walks x b turn.rows (is_open x turn.core.running) in
-      record { walks = subst P e q.walks; plain = λ f. q.plain (e ∙ f) }
+      record { walks = subst (λ (b : Bool). Walks x b turn.rows (is_open x turn.core.running)) e q.walks; plain = λ f. q.plain (e ∙ f) }
 
   tick_of-quits : (o : Option Chosen) (k : Core) → k.running ≡ o → Quits x k (turns.tick_of by_priority system c t o k)
   tick_of-quits None k e = silent-quits system t x k k refl
@@ -312,11 +307,7 @@ module _ (system : System) (c t x : ℕ) where
       }
 
   run_row : (y : ℕ) (before : Bool) → before ≡ false → after_row x (row.Run y) before ≡ (y == x)
-  run_row y before e = by (y == x)
-    where
-      by : (b : Bool) → cond b true before ≡ b
-      by true = refl
-      by false = e
+  run_row y before e = grind arith
 
   chooses_of-turns : (o : Option Chosen) (best : Option Queued) (k : Core) → k.running ≡ o → Turns k (turns.chooses_of by_priority system t o best k)
   chooses_of-turns (Some chosen) best k e = quits-turns k (silent k) (silent-quits system t x k k refl)
