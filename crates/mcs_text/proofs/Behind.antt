@@ -1,21 +1,10 @@
 -- Bytes up to the end of a text that was written into them.
 use Rattle.std.proofs.Common.{◌≡◌, ℕ, suc, ◌+◌, ◌-◌, ◌/◌, ◌^◌, ◌<◌, ◌≤◌, List, [], ◌∷◌, ◌++◌, length, take, drop, set, get_or, get_or-take, drop-cons, refl, subst, ap, sym, ◌∙◌, length-append, arith, append_assoc}
 use Rattle.std.proofs.Math.Seq.{set-append_seam, take-set-lt, take-append-add, take-append_seam, take-length}
-use Rattle.std.proofs.lemmas.List.{drop-set-add, length-drop, set-append_right, take-append-le, take-append-drop, take_more_set, length-set, length-take-le}
+use Rattle.std.proofs.lemmas.List.{drop-set-add, length-drop, set-append_right, take-append-le, take_more_set, length-set, length-take-le}
 use Rattle.std.specs.Fmt.{decimal}
 use Rattle.itoa.proofs.Decimal.{length_one, length_pair, length_two, length_four as length_fours}
 use borrow.Rule.Slice.PartMut.{put_mid, post_of}
-
--- a text behind another one
-pub take_behind : (xs ys rest : List ℕ) (at : ℕ) → at ≤ length xs → drop at xs ≡ ys ++ rest →
-    take (at + length ys) xs ≡ take at xs ++ ys
-take_behind xs ys rest at long e =
-    let n : length (take at xs) ≡ at = length-take-le at xs long in
-    let split : xs ≡ take at xs ++ (ys ++ rest) = sym (take-append-drop at xs) ∙ ap (λ zs. take at xs ++ zs) e in
-    let first : take (length (take at xs) + length ys) (take at xs ++ (ys ++ rest)) ≡ take at xs ++ take (length ys) (ys ++ rest) =
-    take-append-add (take at xs) (ys ++ rest) (length ys) in
-    ap (λ zs. take (at + length ys) zs) split ∙ ap (λ k. take (k + length ys) (take at xs ++ (ys ++ rest))) (sym n) ∙ first
-    ∙ ap (λ zs. take at xs ++ zs) (take-append_seam ys rest)
 
 -- the first bytes of a block that was copied
 pub take_part : (bytes block : List ℕ) (at k n : ℕ) → at ≤ length bytes → n ≤ length block →

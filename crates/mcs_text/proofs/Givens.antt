@@ -11,11 +11,11 @@ given_to_lines before after [] g = sym g
 given_to_lines before after (row ∷ rows) g =
     given_to_lines g.0 after rows g.2 ∙ ap (λ lines. fold with_row lines rows) g.1
 
-system_kept : (lines : Lines) (rows : List Row) → (fold with_row lines rows).system ≡ lines.system
+pub system_kept : (lines : Lines) (rows : List Row) → (fold with_row lines rows).system ≡ lines.system
 system_kept lines [] = refl
 system_kept lines (row ∷ rows) = system_kept (with_row lines row) rows
 
-bytes_grown : (lines : Lines) (rows : List Row) → (fold with_row lines rows).bytes ≡ lines.bytes ++ schedule_text lines.system rows
+pub bytes_grown : (lines : Lines) (rows : List Row) → (fold with_row lines rows).bytes ≡ lines.bytes ++ schedule_text lines.system rows
 bytes_grown lines [] = sym (append-nil lines.bytes)
 bytes_grown lines (row ∷ rows) =
     bytes_grown (with_row lines row) rows ∙ append_assoc lines.bytes (row_text lines.system row) (schedule_text lines.system rows)

@@ -2,6 +2,7 @@
 use Rattle.std.proofs.Common.{◌≡◌, ◌≢◌, ℕ, zero, suc, ◌+◌, ◌-◌, ◌<◌, ◌≤◌, inl, inr, List, [], ◌∷◌, length, refl, sym, ap, subst, ◌∙◌, append-nil, append_assoc, arith}
 use Rattle.std.specs.Prelude.{Some, None, IfSome, IsSome, option_map, slice_get}
 use Rattle.std.proofs.lemmas.Bool.{cases_lt, cases_eq}
+use Rattle.std.proofs.lemmas.Option.{slice_get-get_or, slice_get_past}
 use Rattle.mcs_ticks.specs.declared.row.Row.{Row}
 use Rattle.mcs_ticks.specs.Given.{Given, GivenUntil}
 use Rattle.mcs_merge.specs.Merge.{rows_at, AreFrom, DoNotFall}
@@ -42,31 +43,11 @@ some-at row rows e =
     cc
 
 -- the first mark that waits
-mark-known : (marks : List Mark) (place : ℕ) → place < length marks → (mark : Mark) × (slice_get marks place ≡ Some mark) × (mark.moment ≡ moment_of marks place)
-mark-known [] place l = absurd (omega arith)
-mark-known (mark ∷ marks) zero l = (mark, refl, refl)
-mark-known (mark ∷ marks) (suc place) l = mark-known marks place (omega arith)
-
-mark-past : (marks : List Mark) (place : ℕ) → length marks ≤ place → slice_get marks place ≡ None
-mark-past [] place l = refl
-mark-past (mark ∷ marks) zero l = absurd (omega arith)
-mark-past (mark ∷ marks) (suc place) l = mark-past marks place (omega arith)
-
 pub next-known : (marks : List Mark) (place : ℕ) → place < length marks → option_map (λ (mark : Mark). mark.moment) (slice_get marks place) ≡ Some (moment_of marks place)
-next-known marks place l =
-    let known = mark-known marks place l in
-    ap (option_map (λ (mark : Mark). mark.moment)) known.1 ∙ ap Some known.2
+next-known marks place l = ap (option_map (λ (mark : Mark). mark.moment)) (slice_get-get_or marks place (record { moment = 0; start = 0 }) l)
 
 next-past : (marks : List Mark) (place : ℕ) → length marks ≤ place → option_map (λ (mark : Mark). mark.moment) (slice_get marks place) ≡ None
-next-past marks place l = ap (option_map (λ (mark : Mark). mark.moment)) (mark-past marks place l)
-
--- something waits where there is a next moment
-pub next-within : (marks : List Mark) (place t : ℕ) → option_map (λ (mark : Mark). mark.moment) (slice_get marks place) ≡ Some t → (place < length marks) × (moment_of marks place ≡ t)
-next-within marks place t e =
-    elim (cases_lt place (length marks)) [
-      | inl l ↦ (let is = next-known marks place l in let same : Some (moment_of marks place) ≡ Some t = sym is ∙ e in (l, cc))
-      | inr l ↦ (let is = next-past marks place l in cc)
-    ]
+next-past marks place l = ap (option_map (λ (mark : Mark). mark.moment)) (slice_get_past marks place l)
 
 -- of lines that wait, the first moment is that of the first row
 module _ (marks : List Mark) (place : ℕ) (rising : (k : ℕ) → place ≤ k → k + 1 < length marks → moment_of marks k < moment_of marks (k + 1)) where

@@ -1,8 +1,7 @@
 -- Where moments begin and end among lines.
-use Rattle.std.proofs.Common.{◌≡◌, ℕ, ◌+◌, ◌-◌, ◌<◌, ◌≤◌, Bool, true, false, inl, inr, List, [], ◌∷◌, ◌++◌, length, take, drop, get_or, refl, sym, ap, subst, ◌∙◌, length-append, append_assoc, arith, take-take}
+use Rattle.std.proofs.Common.{◌≡◌, ℕ, ◌+◌, ◌-◌, ◌<◌, ◌≤◌, Bool, true, false, List, [], ◌∷◌, ◌++◌, length, take, drop, get_or, refl, sym, ap, subst, ◌∙◌, length-append, append_assoc, arith, take-take}
 use Rattle.std.specs.Prelude.{Option, Some, None, if◌then◌else◌}
 use Rattle.std.specs.List.{last_or}
-use Rattle.std.proofs.lemmas.Bool.{cases_lt}
 use Rattle.std.proofs.lemmas.List.{get_or_append_left, get_or_default, get_or_past, drop-take, length-take, length-take-le}
 use Rattle.std.proofs.Math.Seq.{get_or-append_seam}
 use Rattle.std.proofs.lemmas.Bool.{eqb-true}
@@ -41,18 +40,7 @@ end_last end marks place h = ap (λ (m : Mark). m.start) (get_or_past marks (pla
 
 pub order_more : (used more : ℕ) (marks : List Mark) → used ≤ more → AreInOrder used marks → AreInOrder more marks
 order_more used more marks le h place lt =
-    elim (cases_lt (place + 1) (length marks)) [
-      | inl next ↦
-          let old = end_known used marks place next in
-          let new = end_known more marks place next in
-          let o = h place lt in
-          (omega arith, omega arith)
-      | inr last ↦
-          let old = end_last used marks place last in
-          let new = end_last more marks place last in
-          let o = h place lt in
-          (omega arith, omega arith)
-    ]
+    grind (arith, h place lt, end_known used marks place, end_known more marks place, end_last used marks place, end_last more marks place)
 
 pub start-append : (marks rest : List Mark) (place : ℕ) → place < length marks → start_of (marks ++ rest) place ≡ start_of marks place
 start-append marks rest place lt = ap (λ (m : Mark). m.start) (get_or_append_left marks rest (mark_at 0 0) place lt)
@@ -63,44 +51,19 @@ start-last marks moment used = ap (λ (m : Mark). m.start) (get_or-append_seam m
 pub order_marked : (used more moment : ℕ) (marks : List Mark) → used ≤ more → AreInOrder used marks →
     AreInOrder more (marks ++ mark_at moment used ∷ [])
 order_marked used more moment marks le h place lt =
-    let all = marks ++ mark_at moment used ∷ [] in
-    let long : length all ≡ length marks + 1 = length-append marks (mark_at moment used ∷ []) in
-    elim (cases_lt place (length marks)) [
-      | inl known ↦
-          let o = h place known in
-          let start = start-append marks (mark_at moment used ∷ []) place known in
-          let end = end_known more all place (omega arith) in
-          elim (cases_lt (place + 1) (length marks)) [
-            | inl next ↦
-                let old = end_known used marks place next in
-                let same = start-append marks (mark_at moment used ∷ []) (place + 1) next in
-                (omega arith, omega arith)
-            | inr last ↦
-                let old = end_last used marks place last in
-                let seam : place + 1 ≡ length marks = omega arith in
-                let new : start_of all (place + 1) ≡ used = subst (λ n. start_of all n ≡ used) (sym seam) (start-last marks moment used) in
-                (omega arith, omega arith)
-          ]
-      | inr new ↦
-          let seam : place ≡ length marks = omega arith in
-          let start : start_of all place ≡ used = subst (λ n. start_of all n ≡ used) (sym seam) (start-last marks moment used) in
-          let end = end_last more all place (omega arith) in
-          (omega arith, omega arith)
-    ]
-
--- a mark ends where it ended, after one more that begins there
-pub end_marked : (used more moment : ℕ) (marks : List Mark) (place : ℕ) → place < length marks →
-    end_of more (marks ++ mark_at moment used ∷ []) place ≡ end_of used marks place
-end_marked used more moment marks place known =
-    let all = marks ++ mark_at moment used ∷ [] in
-    let long : length all ≡ length marks + 1 = length-append marks (mark_at moment used ∷ []) in
-    let end = end_known more all place (omega arith) in
-    elim (cases_lt (place + 1) (length marks)) [
-      | inl next ↦ end ∙ start-append marks (mark_at moment used ∷ []) (place + 1) next ∙ sym (end_known used marks place next)
-      | inr last ↦
-          let seam : place + 1 ≡ length marks = omega arith in
-          end ∙ subst (λ n. start_of all n ≡ used) (sym seam) (start-last marks moment used) ∙ sym (end_last used marks place last)
-    ]
+    let new = mark_at moment used ∷ [] in
+    grind (
+      arith,
+      h place,
+      length-append marks new,
+      start-append marks new place,
+      start-append marks new (place + 1),
+      start-last marks moment used,
+      end_known used marks place,
+      end_last used marks place,
+      end_known more (marks ++ new) place,
+      end_last more (marks ++ new) place,
+    )
 
 reached_same : (more moment : ℕ) (last : Option Mark) → 0 < more → is_of moment last ≡ true → IsReached more moment last
 reached_same more moment None lt h = cc
