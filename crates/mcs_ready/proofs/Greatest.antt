@@ -1,7 +1,8 @@
 -- The end of a set, where a priority enters the set or leaves it.
-use Rattle.std.proofs.Common.{◌≡◌, ℕ, ◌+◌, ◌-◌, ◌*◌, ◌/◌, ◌^◌, ◌<◌, ◌≤◌, ◌==◌, if◌then◌else◌, true, false, List, Option, Some, None, get_or, refl, ◌∙◌, inl, inr, arith}
+use Rattle.std.proofs.Common.{◌≡◌, ℕ, ◌+◌, ◌-◌, ◌*◌, ◌/◌, ◌^◌, ◌<◌, ◌≤◌, ◌==◌, if◌then◌else◌, true, false, List, Option, Some, None, get_or, ◌∙◌, inl, inr, arith}
 use Rattle.std.specs.Prelude.{max}
-use Rattle.std.proofs.lemmas.Bool.{cases_lt, eq-eqb, ne_eqb}
+use Rattle.std.proofs.lemmas.Bool.{cases_lt, ne_eqb}
+use Rattle.std.proofs.lemmas.Bool.Decides.{nat_tests}
 use Rattle.mcs_ready.specs.stored.Priorities.{has, end_behind, IsEnd, IsGreatest}
 use Rattle.mcs_ready.proofs.Marks.{has-highest, has_above}
 
@@ -24,14 +25,7 @@ module _ (words words' : List ℕ) (p : ℕ) where
   IsEnd-set e end below is = (
     omega (arith, end.0),
     λ q past. is q ∙ rw (ne_eqb q p (omega arith)) (end.1 q (omega arith)),
-    λ some. elim (cases_lt (p + 1) e) [
-      | inl before ↦
-          let it : max e (p + 1) ≡ e = omega arith in
-          rw it (is (e - 1) ∙ rw (ne_eqb (e - 1) p (omega arith)) (end.2 (omega arith)))
-      | inr above ↦
-          let it : max e (p + 1) - 1 ≡ p = omega arith in
-          rw it (is p ∙ rw (eq-eqb p p refl) refl)
-    ],
+    λ some. grind (arith, nat_tests, is (max e (p + 1) - 1), end.2),
   )
 
   -- the greatest one leaves, and its word still has one: the highest of that word is the greatest

@@ -399,11 +399,7 @@ module _ (words lasts next : List ℕ) (kept : IsKept words lasts next) where
 
   -- a thread stands in the queue where it names one
   pub is_held-kept : (x : ℕ) → is_held x (queue_from 0 (all_threads next lasts)) ≡ names_one next x
-  is_held-kept x = is_held-queue_from x 0 (all_threads next lasts) ∙ ap (nat_lt 0) (kept.once x) ∙ by (names_one next x)
-    where
-      by : (b : Bool) → nat_lt 0 (one_if b) ≡ b
-      by true = refl
-      by false = refl
+  is_held-kept x = is_held-queue_from x 0 (all_threads next lasts) ∙ ap (nat_lt 0) (kept.once x) ∙ grind (arith, nat_tests)
 
   pub queue_unmarked : ((q : ℕ) → has words q ≡ false) → queue_from 0 (all_threads next lasts) ≡ []
   queue_unmarked none = queue-none (all_threads next lasts) 0 (λ q. nil_from_none _ (sym (kept.marked q) ∙ none q))

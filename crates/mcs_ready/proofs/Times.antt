@@ -1,8 +1,8 @@
 -- How often a thread stands in lines.
-use Rattle.std.proofs.Common.{◌≡◌, ℕ, zero, suc, ◌+◌, ◌<◌, ◌≤◌, ◌==◌, Bool, true, false, cond, List, [], ◌∷◌, ◌++◌, length, map, get_or, set, eqb, refl, sym, ap, ◌∙◌, inl, inr, arith}
+use Rattle.std.proofs.Common.{◌≡◌, ℕ, zero, suc, ◌+◌, ◌<◌, ◌≤◌, ◌==◌, true, false, List, [], ◌∷◌, ◌++◌, length, map, get_or, set, eqb, refl, ap, ◌∙◌, arith}
 use Rattle.std.specs.Prelude.{nat_lt, ◌||◌}
 use Rattle.std.specs.List.{list_any, AllByRecursion, IsDistinct}
-use Rattle.std.proofs.lemmas.Bool.{cases_eq, eq-eqb, ne_eqb}
+use Rattle.std.proofs.lemmas.Bool.{eq-eqb, ne_eqb}
 use Rattle.std.proofs.lemmas.Bool.Decides.{nat_tests}
 use Rattle.std.proofs.lemmas.List.{get_or_past, map-append}
 use Rattle.std.proofs.lemmas.List.Folds.{list_any-append}
@@ -47,11 +47,7 @@ times-elsewhere x (suc i) (suc j) (line ∷ lines) ne = omega (arith, times-else
 -- the thread stands in the queue where it stands in a line
 is_held-queued_at : (x p : ℕ) (ys : List ℕ) → is_held x (queued_at p ys) ≡ nat_lt 0 (times x ys)
 is_held-queued_at x p [] = refl
-is_held-queued_at x p (y ∷ ys) = by (y == x) (is_held-queued_at x p ys)
-  where
-    by : (b : Bool) → is_held x (queued_at p ys) ≡ nat_lt 0 (times x ys) → (b || is_held x (queued_at p ys)) ≡ nat_lt 0 (cond b 1 0 + times x ys)
-    by true e = grind (arith, nat_tests)
-    by false e = e ∙ grind (arith, nat_tests)
+is_held-queued_at x p (y ∷ ys) = grind (arith, nat_tests, is_held-queued_at x p ys)
 
 pub is_held-queue_from : (x p : ℕ) (lines : List (List ℕ)) → is_held x (queue_from p lines) ≡ nat_lt 0 (times_in x lines)
 is_held-queue_from x p [] = refl
@@ -77,10 +73,7 @@ distinct (x ∷ xs) once = (apart x xs (omega (arith, once x, times-cons_same x 
 
 stands : (x : ℕ) (ys : List ℕ) → list_any (eqb x) ys ≡ true → 1 ≤ times x ys
 stands x [] e = cc
-stands x (y ∷ ys) e = elim (cases_eq y x) [
-  | inl same ↦ rw (eq-eqb y x same) (omega arith)
-  | inr ne ↦ omega (arith, stands x ys (rw (ne_eqb x y (λ e. ne (sym e))) at e))
-]
+stands x (y ∷ ys) e = grind (arith, nat_tests, stands x ys)
 
 -- threads of which each names one, and each stands once, are no more than there is room for
 module _ (xs next : List ℕ) (once : (x : ℕ) → times x xs ≤ one_if (names_one next x)) where
@@ -102,10 +95,7 @@ module _ (xs next : List ℕ) (once : (x : ℕ) → times x xs ≤ one_if (names
       both = (apart x xs (omega (arith, once x, ap one_if free)), distinct xs at_most)
 
       all : (y : ℕ) → list_any (eqb y) (x ∷ xs) ≡ true → y < length next
-      all y e = elim (cases_eq y x) [
-        | inl same ↦ omega arith
-        | inr ne ↦ within y (rw (ne_eqb y x ne) at e)
-      ]
+      all y e = grind (arith, nat_tests, within y)
 
 -- the queue holds a thread as often as the lines do
 times-queued_at : (x p : ℕ) (ys : List ℕ) → times x (map (λ (q : Queued). q.thread) (queued_at p ys)) ≡ times x ys

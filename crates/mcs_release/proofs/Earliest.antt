@@ -1,7 +1,7 @@
 -- The earliest of places and of queues, and those that are due.
 use Rattle.std.proofs.Common.{◌≡◌, ℕ, zero, suc, ◌<◌, ◌≤◌, Bool, true, false, cond, List, [], ◌∷◌, ◌++◌, get_or, Option, Some, None, refl, sym, ap, ◌∙◌, inl, inr, arith}
 use Rattle.std.specs.Prelude.{nat_lt, nat_le, filter, option_map, IfSome, IsSome}
-use Rattle.std.proofs.lemmas.Bool.{cases_lt, le-leb, lt-leb, lt-ltb, le-ltb, eq-eqb}
+use Rattle.std.proofs.lemmas.Bool.{cases_lt, le-leb, lt-leb, le-ltb, eq-eqb}
 use Rattle.std.proofs.lemmas.Bool.Decides.{nat_tests}
 use Rattle.mcs_ticks.specs.Soonest.{sooner, HasCome}
 use Rattle.mcs_release.specs.declared.dated.Dated.{Dated}
@@ -42,9 +42,12 @@ earliest-place (Some y ∷ places) zero x e first =
 earliest-place (None ∷ places) (suc k) x e first =
     earliest-place places k x e (λ i z at. ((first (suc i) z at).0, λ before. (first (suc i) z at).1 (omega arith)))
 earliest-place (Some y ∷ places) (suc k) x e first =
-    let rest = earliest-place places k x e (λ i z at. ((first (suc i) z at).0, λ before. (first (suc i) z at).1 (omega arith))) in
-    let later : x.date < y.date = (first zero y refl).1 (omega arith) in
-    rw (rest, lt-ltb x.date y.date later) refl
+    grind (
+      arith,
+      nat_tests,
+      (first zero y refl).1 (omega arith),
+      earliest-place places k x e (λ i z at. ((first (suc i) z at).0, λ before. (first (suc i) z at).1 (omega arith))),
+    )
 
 -- the earliest, where its date has come
 abbrev due_only : ℕ → Option Dated → Option Dated

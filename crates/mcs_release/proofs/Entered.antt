@@ -3,8 +3,7 @@ use Rattle.std.proofs.Common.{◌≡◌, ℕ, zero, suc, ◌<◌, ◌≤◌, Lis
 use Rattle.mcs_release.specs.declared.dated.Dated.{Dated}
 use Rattle.mcs_release.specs.stored.Places.{entered, times}
 use Rattle.mcs_release.specs.Release.{without}
-use Rattle.std.proofs.lemmas.Bool.{ne_eqb, eq-eqb}
-use Rattle.mcs_release.proofs.Times.{times-cons_same}
+use Rattle.std.proofs.lemmas.Bool.Decides.{nat_tests}
 
 pub entered-none : (places : List (Option Dated)) → ((i : ℕ) → get_or places i None ≡ None) → entered places ≡ []
 entered-none [] none = refl
@@ -32,9 +31,7 @@ pub entered-push : (places : List (Option Dated)) (k : ℕ) (x : Dated) → k < 
     entered (set places k (Some x)) ≡ entered places ++ x ∷ []
 entered-push [] k x h behind = absurd (omega arith)
 entered-push (place ∷ places) zero x h behind =
-    let none : entered (place ∷ places) ≡ [] = entered-none (place ∷ places) (λ i. behind i (omega arith)) in
-    let rest : entered places ≡ [] = entered-none places (λ i. behind (suc i) (omega arith)) in
-    rw (none, rest) refl
+    rw (entered-none (place ∷ places) (λ i. behind i (omega arith)), entered-none places (λ i. behind (suc i) (omega arith))) refl
 entered-push (None ∷ places) (suc k) x h behind = entered-push places k x (omega arith) (λ i above. behind (suc i) (omega arith))
 entered-push (Some y ∷ places) (suc k) x h behind =
     ap (λ (xs : List Dated). y ∷ xs) (entered-push places k x (omega arith) (λ i above. behind (suc i) (omega arith)))
@@ -43,9 +40,7 @@ entered-push (Some y ∷ places) (suc k) x h behind =
 pub times-stands : (places : List (Option Dated)) (k : ℕ) (x : Dated) → get_or places k None ≡ Some x → 1 ≤ times x.thread (entered places)
 times-stands [] k x e = cc
 times-stands (None ∷ places) zero x e = cc
-times-stands (Some y ∷ places) zero x e =
-    let same : y ≡ x = cc in
-    rw same (omega (arith, times-cons_same x (entered places)))
+times-stands (Some y ∷ places) zero x e = grind (arith, nat_tests)
 times-stands (None ∷ places) (suc k) x e = times-stands places k x e
 times-stands (Some y ∷ places) (suc k) x e = omega (arith, times-stands places k x e)
 
@@ -61,14 +56,9 @@ pub entered-left : (places : List (Option Dated)) (k : ℕ) (x : Dated) → get_
     without x.thread (entered places) ≡ entered (set places k None)
 entered-left [] k x e once = cc
 entered-left (None ∷ places) zero x e once = cc
-entered-left (Some y ∷ places) zero x e once =
-    let same : y ≡ x = cc in
-    rw (same, eq-eqb x.thread x.thread refl) refl
+entered-left (Some y ∷ places) zero x e once = grind (arith, nat_tests)
 entered-left (None ∷ places) (suc k) x e once = entered-left places k x e once
-entered-left (Some y ∷ places) (suc k) x e once =
-    let stands = times-stands places k x e in
-    let ne : y.thread ≡ x.thread → ⊥ = λ same. absurd (omega (arith, stands, rw (eq-eqb y.thread x.thread same) at once)) in
-    rw (ne_eqb y.thread x.thread ne) (ap (λ (xs : List Dated). y ∷ xs) (entered-left places k x e (omega arith)))
+entered-left (Some y ∷ places) (suc k) x e once = grind (arith, nat_tests, times-stands places k x e, entered-left places k x e)
 
 -- an entry that has no other before it goes to the front
 first-moved : (places : List (Option Dated)) (i : ℕ) (x : Dated) → get_or places i None ≡ Some x → ((j : ℕ) → j < i → get_or places j None ≡ None) →

@@ -1,7 +1,8 @@
 -- Threads of one date leave in the order in which they entered.
-use Rattle.std.proofs.Common.{◌≡◌, ℕ, zero, suc, ◌<◌, Bool, true, false, cond, not, List, [], ◌∷◌, length, drop, get_or, Option, Some, None, refl, sym, ap, ◌∙◌, arith}
+use Rattle.std.proofs.Common.{◌≡◌, ◌≢◌, ℕ, zero, suc, ◌<◌, Bool, true, false, cond, not, List, [], ◌∷◌, length, drop, get_or, Option, Some, None, refl, sym, ap, ◌∙◌, arith}
 use Rattle.std.specs.Prelude.{filter, slice_get, All, IfSome}
-use Rattle.std.proofs.lemmas.Bool.{le-ltb, ne_eqb, eq-eqb}
+use Rattle.std.proofs.lemmas.Bool.{le-ltb}
+use Rattle.std.proofs.lemmas.Bool.Decides.{nat_tests}
 use Rattle.std.proofs.lemmas.List.Elements.{All-head, All-tail}
 use Rattle.mcs_release.specs.declared.dated.Dated.{Dated}
 use Rattle.mcs_release.proofs.Earliest.{earlier-keeps}
@@ -37,29 +38,19 @@ first-stands t (y ∷ queue) x e = by (is_due t y) e (first-stands t queue x)
 AreDistinct-tail : (y : Dated) (queue : List Dated) → AreDistinct (y ∷ queue) → AreDistinct queue
 AreDistinct-tail y queue distinct i j d before below = distinct (suc i) (suc j) d (omega arith) (omega arith)
 
+-- so a thread before it is another one
+first-apart : (t : ℕ) (y : Dated) (queue : List Dated) (x : Dated) → AreDistinct (y ∷ queue) → slice_get (filter (is_due t) queue) 0 ≡ Some x → y.thread ≢ x.thread
+first-apart t y queue x distinct e same =
+    let found = first-stands t queue x e in
+    distinct zero (suc found.0) x (omega arith) (omega (arith, found.1)) (same ∙ ap (λ (z : Dated). z.thread) (sym found.2))
+
 -- the first that is due leaves
 filters-left : (t : ℕ) (queue : List Dated) (x : Dated) → AreDistinct queue → slice_get (filter (is_due t) queue) 0 ≡ Some x →
     (filter (is_due t) (without x.thread queue) ≡ drop 1 (filter (is_due t) queue))
     × (filter (λ y. not (is_due t y)) (without x.thread queue) ≡ filter (λ y. not (is_due t y)) queue)
 filters-left t [] x distinct e = cc
 filters-left t (y ∷ queue) x distinct e =
-    by (is_due t y) refl e (filters-left t queue x (AreDistinct-tail y queue distinct)) (first-stands t queue x)
-  where
-    by : (b : Bool) → is_due t y ≡ b → slice_get (cond b (y ∷ filter (is_due t) queue) (filter (is_due t) queue)) 0 ≡ Some x →
-        (slice_get (filter (is_due t) queue) 0 ≡ Some x →
-        (filter (is_due t) (without x.thread queue) ≡ drop 1 (filter (is_due t) queue))
-        × (filter (λ y. not (is_due t y)) (without x.thread queue) ≡ filter (λ y. not (is_due t y)) queue)) →
-        (slice_get (filter (is_due t) queue) 0 ≡ Some x → (k : ℕ) × (k < length queue) × (get_or queue k x ≡ x)) →
-        (filter (is_due t) (without x.thread (y ∷ queue)) ≡ drop 1 (cond b (y ∷ filter (is_due t) queue) (filter (is_due t) queue)))
-        × (filter (λ y. not (is_due t y)) (without x.thread (y ∷ queue)) ≡ cond (not b) (y ∷ filter (λ y. not (is_due t y)) queue) (filter (λ y. not (is_due t y)) queue))
-    by true test e rest stands =
-        let same : y ≡ x = cc in
-        rw (eq-eqb y.thread x.thread (ap (λ (z : Dated). z.thread) same)) (refl, refl)
-    by false test e rest stands =
-        let found = stands e in
-        let apart = distinct zero (suc found.0) x (omega arith) (omega (arith, found.1)) in
-        let ne : y.thread ≡ x.thread → ⊥ = λ same. apart (same ∙ ap (λ (z : Dated). z.thread) (sym found.2)) in
-        rw (ne_eqb y.thread x.thread ne, test) ((rest e).0, ap (λ (xs : List Dated). y ∷ xs) (rest e).1)
+    grind (arith, nat_tests, filters-left t queue x (AreDistinct-tail y queue distinct), first-apart t y queue x distinct)
 
 nil_from_get : (xs : List Dated) → slice_get xs 0 ≡ None → xs ≡ []
 nil_from_get [] e = refl

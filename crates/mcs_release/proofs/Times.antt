@@ -1,8 +1,8 @@
 -- How often a thread stands among entries, and how many entries there can be.
-use Rattle.std.proofs.Common.{◌≡◌, ℕ, ◌+◌, ◌<◌, ◌≤◌, ◌==◌, Bool, true, false, cond, List, [], ◌∷◌, ◌++◌, length, map, eqb, refl, sym, inl, inr, arith}
-use Rattle.std.specs.Prelude.{nat_lt, ◌||◌}
+use Rattle.std.proofs.Common.{◌≡◌, ℕ, ◌+◌, ◌<◌, ◌≤◌, ◌==◌, Bool, true, false, List, [], ◌∷◌, ◌++◌, length, map, eqb, refl, arith}
+use Rattle.std.specs.Prelude.{nat_lt}
 use Rattle.std.specs.List.{list_any, AllByRecursion, IsDistinct}
-use Rattle.std.proofs.lemmas.Bool.{cases_eq, eq-eqb, ne_eqb}
+use Rattle.std.proofs.lemmas.Bool.{eq-eqb, ne_eqb}
 use Rattle.std.proofs.lemmas.Bool.Decides.{nat_tests}
 use Rattle.std.proofs.lemmas.List.{length-map}
 use Rattle.std.proofs.lemmas.Map.Steps.{length-le_from_distinct_below}
@@ -23,11 +23,7 @@ times-cons_other x y ys ne = rw (ne_eqb y.thread x ne) (omega arith)
 -- a thread that is not held stands nowhere
 pub times-free : (x : ℕ) (ys : List Dated) → is_held x ys ≡ false → times x ys ≡ 0
 times-free x [] free = refl
-times-free x (y ∷ ys) free = by (y.thread == x) free (times-free x ys)
-  where
-    by : (b : Bool) → (b || is_held x ys) ≡ false → (is_held x ys ≡ false → times x ys ≡ 0) → cond b 1 0 + times x ys ≡ 0
-    by true e ih = cc
-    by false e ih = omega (arith, ih e)
+times-free x (y ∷ ys) free = grind (arith, nat_tests, times-free x ys)
 
 pub one_if-le-one : (b : Bool) → one_if b ≤ 1
 one_if-le-one true = omega arith
@@ -39,7 +35,7 @@ threads_of = map (λ x. x.thread)
 
 apart : (x : ℕ) (ys : List Dated) → times x ys ≡ 0 → AllByRecursion (λ y. (x == y) ≡ false) (threads_of ys)
 apart x [] none = tt
-apart x (y ∷ ys) none = (ne_eqb x y.thread (λ e. absurd (omega (arith, rw (eq-eqb y.thread x (sym e)) at none))), apart x ys (omega arith))
+apart x (y ∷ ys) none = (grind (arith, nat_tests), apart x ys (omega arith))
 
 distinct : (xs : List Dated) → ((x : ℕ) → times x xs ≤ 1) → IsDistinct eqb (threads_of xs)
 unfolding IsDistinct
@@ -48,10 +44,7 @@ distinct (x ∷ xs) once = (apart x.thread xs (omega (arith, once x.thread, time
 
 times-stands : (x : ℕ) (ys : List Dated) → list_any (eqb x) (threads_of ys) ≡ true → 1 ≤ times x ys
 times-stands x [] e = cc
-times-stands x (y ∷ ys) e = elim (cases_eq y.thread x) [
-  | inl same ↦ rw (eq-eqb y.thread x same) (omega arith)
-  | inr ne ↦ omega (arith, times-stands x ys (rw (ne_eqb x y.thread (λ e. ne (sym e))) at e))
-]
+times-stands x (y ∷ ys) e = grind (arith, nat_tests, times-stands x ys)
 
 -- entries of different threads below the number that there is room for are no more than that
 pub length-le-room : (xs : List Dated) (room : ℕ) → ((x : ℕ) → times x xs ≤ one_if (nat_lt x room)) → length xs ≤ room
