@@ -22,6 +22,7 @@ use Rattle.mcs_core.specs.Turn.{its_context, is_for_now}
 use Rattle.mcs_ticks.specs.Soonest.{sooner}
 use Rattle.mcs_core.specs.Busy.{IsFirst, first_moment, IsBest, GoesOnAfter, counted_by}
 use Rattle.mcs_core.specs.Quiet.{counted_of, counted_times, IsQuietWith, IsNextBusyWith}
+use Rattle.mcs_core.specs.stored.Ends.{IsEnd}
 use Rattle.mcs_core.proofs.Firsts.{first-both, first-same}
 use Rattle.mcs_core.proofs.Plans.{due-none, due-of, due-to_come}
 use Rattle.mcs_core.proofs.Runs.{to_come-twice}
@@ -311,16 +312,15 @@ module _ (system : System) (c : ℕ) where
             quiet-busy chosen (known chosen e) (subst P (counted-by system c n chosen core e (known chosen e).thread) q)
 
   -- the next busy moment is the soonest of these
-  pub next-busy : (clock : ℕ) (box : List Mail) (core : Core) (ends better date order mail : Option ℕ) → ((chosen : Chosen) → core.running ≡ Some chosen → IsKnown system core chosen) →
-      IsFirst clock (λ n. GoesOnAfter system n core.running core) ends →
-      IsFirst clock (λ n. IsBest system core.running (first_of core.ready)) better →
+  pub next-busy : (clock : ℕ) (box : List Mail) (core : Core) (ends date order mail : Option ℕ) → ((chosen : Chosen) → core.running ≡ Some chosen → IsKnown system core chosen) →
+      IsEnd system clock core ends →
       IsFirst clock (λ n. filter (is_due (clock + n)) core.releases ≡ []) date →
       IsFirst clock (λ n. filter (is_for_now system c (clock + n)) system.orders ≡ []) order →
       IsFirst clock (λ n. arriving (clock + n) box ≡ []) mail →
-      IsNextBusyWith by_priority system c clock box core (sooner (sooner (sooner (sooner ends better) date) order) mail)
-  next-busy clock box core ends better date order mail known h1 h2 h3 h4 h5 =
-      let all = first-both clock _ _ _ _ (first-both clock _ _ _ _ (first-both clock _ _ _ _ (first-both clock _ _ _ _ h1 h2) h3) h4) h5 in
-      is (sooner (sooner (sooner (sooner ends better) date) order) mail)
+      IsNextBusyWith by_priority system c clock box core (sooner (sooner (sooner ends date) order) mail)
+  next-busy clock box core ends date order mail known h1 h3 h4 h5 =
+      let all = first-both clock _ _ _ _ (first-both clock _ _ _ _ (first-both clock _ _ _ _ h1 h3) h4) h5 in
+      is (sooner (sooner (sooner ends date) order) mail)
       (first-same clock _ (λ n. IsQuietWith by_priority system c (clock + n) (arriving (clock + n) box) (counted_times system c n core)) _
       (λ n h. stays-quiet clock box n core known (h.0.0.0.0, h.0.0.0.1, h.0.0.1, h.0.1, h.1))
       (λ n q. (let h = quiet-stays clock box n core known q in ((((h.0, h.1), h.2), h.3), h.4))) all)

@@ -5,6 +5,7 @@ pub mod Clock
 pub mod Counted
 pub mod Counts
 pub mod Effects
+pub mod Ends
 pub mod Enters
 pub mod Firsts
 pub mod Kept

@@ -22,7 +22,8 @@ use Rattle.mcs_core.specs.State.{State, Fits, IsExpected, made_by, state_after}
 use Rattle.mcs_core.specs.Run.{Ran, ran}
 use Rattle.mcs_core.proofs.Runs.{left_expected, joined, ran-more, same_state, to_come-twice}
 use Rattle.mcs_ticks.specs.Soonest.{sooner, before}
-use Rattle.mcs_core.specs.Busy.{IsFirst, first_moment, IsBest, GoesOnAfter, counted_for}
+use Rattle.mcs_core.specs.Busy.{first_moment, IsBest, GoesOnAfter, counted_for}
+use Rattle.mcs_core.specs.stored.Ends.{IsEnd}
 use Rattle.mcs_core.specs.Quiet.{counted_times, IsQuietWith, AreQuietWith, IsNextBusyWith}
 use Rattle.mcs_core.proofs.Effects.{runner_small}
 use Rattle.mcs_core.proofs.Firsts.{before-some, before-none}
@@ -135,14 +136,13 @@ module _ (system : System) (c : ℕ) (w : IsWellFormed system) where
       by None e = tt
       by (Some chosen) e = (known t core h chosen e).thread
 
-  pub next-busy-of : (clock : ℕ) (box : List Mail) (core : Core) (orders : List Order) (ends better date order mail : Option ℕ) →
+  pub next-busy-of : (clock : ℕ) (box : List Mail) (core : Core) (orders : List Order) (ends date order mail : Option ℕ) →
       IsSound system c clock Between None core → orders ≡ to_come clock (orders_of system c) → IsOrdered box → All (λ (mail : Mail). clock ≤ mail.arrives) box →
-      IsFirst clock (λ n. GoesOnAfter system n core.running core) ends →
-      IsFirst clock (λ n. IsBest system core.running (first_of core.ready)) better →
+      IsEnd system clock core ends →
       date ≡ next_date core.releases → IsEarlyTick date → order ≡ first_moment orders → IsEarlyTick order → mail ≡ first_arrival box → IsEarlyTick mail →
-      IsNextBusyWith by_priority system c clock box core (sooner (sooner (sooner (sooner ends better) date) order) mail)
-  next-busy-of clock box core orders ends better date order mail h planned ordered come h1 h2 e3 l3 e4 l4 e5 l5 =
-      next-busy system c clock box core ends better date order mail (known clock core h) h1 h2
+      IsNextBusyWith by_priority system c clock box core (sooner (sooner (sooner ends date) order) mail)
+  next-busy-of clock box core orders ends date order mail h planned ordered come h1 e3 l3 e4 l4 e5 l5 =
+      next-busy system c clock box core ends date order mail (known clock core h) h1
       (rw e3 (first-release clock core.releases h.later (λ m e. early-some date l3 m (e3 ∙ e))))
       (rw e4 (first-order-of system c clock orders planned (rw planned (to_come-by_moment 0 clock (orders_of system c) (orders_of-by_moment system c))) (λ m e. early-some order l4 m (e4 ∙ e))))
       (rw e5 (first-mail clock box ordered come (λ m e. early-some mail l5 m (e5 ∙ e))))
@@ -249,7 +249,7 @@ module _ (system : System) (state : State) (box : List Mail) (until : ℕ) (late
       λ k d l. record { known = (kept k d l).known; home = (kept k d l).home; arrives = (let a = (kept k d l).arrives in omega arith) }
 
   -- a turn that is taken after them: with them it is one stretch, up to the clock
-  module _ (skipped new : State) (same : skipped ≡ quiet_state) (r : Result (Unit {0}) FlowFault) (took : OnOk r (new ≡ state_after skipped (skipped.clock + 1) (made_by system skipped (skipped.clock + 1) box))) where
+  module _ (skipped new : State) (same : skipped ≡ quiet_state) (r : Result (Option ℕ) FlowFault) (took : OnOk r (new ≡ state_after skipped (skipped.clock + 1) (made_by system skipped (skipped.clock + 1) box))) where
     whole-stretch : new ≡ state_after skipped (skipped.clock + 1) (made_by system skipped (skipped.clock + 1) box) →
         made_by system skipped (skipped.clock + 1) box ≡ made_by system state new.clock box
     whole-stretch e =
@@ -262,7 +262,7 @@ module _ (system : System) (state : State) (box : List Mail) (until : ℕ) (late
     pub stretch-state : OnOk r (new ≡ state_after state new.clock (made_by system state new.clock box))
     stretch-state = by r took
       where
-        by : (r : Result (Unit {0}) FlowFault) → OnOk r (new ≡ state_after skipped (skipped.clock + 1) (made_by system skipped (skipped.clock + 1) box)) →
+        by : (r : Result (Option ℕ) FlowFault) → OnOk r (new ≡ state_after skipped (skipped.clock + 1) (made_by system skipped (skipped.clock + 1) box)) →
             OnOk r (new ≡ state_after state new.clock (made_by system state new.clock box))
         by (Err x) e = tt
         by (Ok x) e =
@@ -276,7 +276,7 @@ module _ (system : System) (state : State) (box : List Mail) (until : ℕ) (late
     pub stretch-last : OnOk r ((made_by system state (new.clock - 1) box).rows ≡ [])
     stretch-last = by r took
       where
-        by : (r : Result (Unit {0}) FlowFault) → OnOk r (new ≡ state_after skipped (skipped.clock + 1) (made_by system skipped (skipped.clock + 1) box)) →
+        by : (r : Result (Option ℕ) FlowFault) → OnOk r (new ≡ state_after skipped (skipped.clock + 1) (made_by system skipped (skipped.clock + 1) box)) →
             OnOk r ((made_by system state (new.clock - 1) box).rows ≡ [])
         by (Err x) e = tt
         by (Ok x) e =
@@ -289,7 +289,7 @@ module _ (system : System) (state : State) (box : List Mail) (until : ℕ) (late
         OnOk r (after ≡ before ++ part (made_by system skipped (skipped.clock + 1) box)) → OnOk r (after ≡ before ++ part (made_by system state new.clock box))
     stretch-told {A} part before after told = by r took told
       where
-        by : (r : Result (Unit {0}) FlowFault) → OnOk r (new ≡ state_after skipped (skipped.clock + 1) (made_by system skipped (skipped.clock + 1) box)) →
+        by : (r : Result (Option ℕ) FlowFault) → OnOk r (new ≡ state_after skipped (skipped.clock + 1) (made_by system skipped (skipped.clock + 1) box)) →
             OnOk r (after ≡ before ++ part (made_by system skipped (skipped.clock + 1) box)) → OnOk r (after ≡ before ++ part (made_by system state new.clock box))
         by (Err x) e f = tt
         by (Ok x) e f = f ∙ ap (λ (made : Ran). before ++ part made) (whole-stretch e)
@@ -298,7 +298,7 @@ module _ (system : System) (state : State) (box : List Mail) (until : ℕ) (late
         OnOk r (Given takes before (made_by system skipped (skipped.clock + 1) box).rows after) → OnOk r (Given takes before (made_by system state new.clock box).rows after)
     stretch-given {S} takes before after told = by r took told
       where
-        by : (r : Result (Unit {0}) FlowFault) → OnOk r (new ≡ state_after skipped (skipped.clock + 1) (made_by system skipped (skipped.clock + 1) box)) →
+        by : (r : Result (Option ℕ) FlowFault) → OnOk r (new ≡ state_after skipped (skipped.clock + 1) (made_by system skipped (skipped.clock + 1) box)) →
             OnOk r (Given takes before (made_by system skipped (skipped.clock + 1) box).rows after) → OnOk r (Given takes before (made_by system state new.clock box).rows after)
         by (Err x) e f = tt
         by (Ok x) e f = subst (λ (made : Ran). Given takes before made.rows after) (whole-stretch e) f

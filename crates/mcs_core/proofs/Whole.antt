@@ -21,7 +21,7 @@ use Rattle.mcs_core.proofs.Systems.{one-each, orders-proper, all-noted}
 use Rattle.mcs_core.proofs.Ticks.{tick-sound}
 use Rattle.mcs_core.proofs.Turning.{arrivals-sound, orders-sound, releases-sound, preempts-sound}
 
-pub on_ok-map : {E : Type 0} (P Q : Type 0) (r : Result (Unit {0}) E) → (P → Q) → OnOk r P → OnOk r Q
+pub on_ok-map : {A E : Type 0} (P Q : Type 0) (r : Result A E) → (P → Q) → OnOk r P → OnOk r Q
 on_ok-map P Q (Ok x) f p = f p
 on_ok-map P Q (Err x) f p = tt
 

@@ -3,3 +3,4 @@ pub mod Items
 pub mod Sound
 pub mod Parts
 pub mod Contexts
+pub mod Ends

@@ -1,5 +1,5 @@
 ghost use Rattle.std.specs.Prelude.{◌≡◌, ◌^◌, ◌<◌, ◌≤◌, true, length, get_or, None, option_map, IfOk};
-ghost use Rattle.mcs_control.specs.Context.{head_amount, head_moment, context_woken, view_of};
+ghost use Rattle.mcs_control.specs.Context.{head_amount, head_moment, context_woken, context_chosen, view_of};
 ghost use Rattle.mcs_control.specs.Control.{IsConfig, kind_of};
 ghost use Rattle.mcs_system.specs.System.{thread_part};
 ghost use Rattle.mcs_core.specs.Core.{context_of, with_context};
@@ -80,16 +80,18 @@ impl Local {
         self.contexts.wake(context, moment);
     }
 
-    /// The thread is chosen: in bandwidth mode its context is unblocked.
+    /// The thread is chosen: in bandwidth mode its context is unblocked. Answers the head of the context then, in ticks.
     #[inline(always)]
-    pub(crate) fn choose_context(&mut self, here: &Here<'_>, thread: ThreadId)
+    pub(crate) fn choose_context(&mut self, here: &Here<'_>, thread: ThreadId) -> u64
         requires part { thread < length here.now.system.now.threads }
         requires has { has_context (thread_part here.now.system.now thread).context self.old ≡ true }
         requires soon { here.now.moment ≤ 2 ^ 40 }
-        ensures { self.new ≡ with_chosen_context here.now.system.now here.now.moment thread self.old }
+        ensures core { self.new ≡ with_chosen_context here.now.system.now here.now.moment thread self.old }
+        ensures head { result ≡ head_amount (context_chosen here.now.moment (its_context here.now.system.now thread self.old)) }
+        ensures some { 1 ≤ result }
     {
         self.contexts
-            .chosen(here.system.thread(thread).context, here.moment);
+            .chosen(here.system.thread(thread).context, here.moment)
     }
 
     /// An order changes its context.

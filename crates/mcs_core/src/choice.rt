@@ -1,17 +1,20 @@
-ghost use Rattle.std.specs.Prelude.{◌≡◌, ◌+◌, ◌^◌, ◌≤◌, ◌<◌, nat_lt, OnOk, None, length};
-ghost use Rattle.mcs_ticks.specs.Queue.{by_priority};
-ghost use Rattle.mcs_core.specs.Turn.{preempts, chooses};
+ghost use Rattle.std.specs.Prelude.{◌≡◌, ◌+◌, ◌^◌, ◌≤◌, ◌<◌, nat_lt, true, OnOk, IfOk, None, length};
+ghost use Rattle.mcs_ticks.specs.Queue.{by_priority, first_of};
+ghost use Rattle.mcs_control.specs.Context.{head_amount, context_chosen};
+ghost use Rattle.mcs_core.specs.Turn.{its_context, preempts, chooses};
+ghost use Rattle.mcs_core.specs.stored.Ends.{HoldsOn, IsEnd, better, started};
 ghost use Rattle.mcs_core.specs.stored.Parts.{Makes};
-ghost use Rattle.mcs_core.specs.stored.Sound.{IsSound};
+ghost use Rattle.mcs_core.specs.stored.Sound.{IsSound, has_context};
 ghost use Rattle.mcs_core.specs.stored.Sound.Phase.{PastTick};
 ghost use Rattle.mcs_system.specs.System.{thread_part};
 ghost use Rattle.mcs_system.specs.WellFormed.{IsWellFormed};
 
+use crate::events::ticks_before_end;
 use crate::local::Local;
 use crate::log::{Here, Log};
 use crate::{Chosen, Standing};
 use mcs_system::SystemParts;
-use mcs_ticks::{FlowFault, Sink, ThreadId, What, Why};
+use mcs_ticks::{FlowFault, Sink, Soonest, ThreadId, Tick, What, Why};
 
 impl Local {
     /// A running thread gives way to a ready one of greater priority.
@@ -42,30 +45,66 @@ impl Local {
         Ok(())
     }
 
-    /// Where no thread runs, the best ready one is chosen; in bandwidth mode its context is unblocked.
+    /// This moment, where a ready thread has a priority above this one.
+    #[inline(always)]
+    fn better(&self, priority: u8, moment: Tick) -> Soonest
+        ensures { result ≡ better priority moment (first_of self.now.ready) }
+    {
+        match self.best() {
+            Some(best) if priority < best => Soonest::at(moment),
+            _ => Soonest::never(),
+        }
+    }
+
+    /// This thread, which stands in no queue, is chosen, and in bandwidth mode its context is unblocked. Answers the first moment after this
+    /// one at which it ends its item or uses up its head, or a ready thread is to run instead.
+    #[inline(always)]
+    fn start(&mut self, here: &Here<'_>, thread: ThreadId) -> Soonest
+        requires known { thread < length self.old.threads }
+        requires part { thread < length here.now.system.now.threads }
+        requires has { has_context (thread_part here.now.system.now thread).context self.old ≡ true }
+        requires soon { here.now.moment ≤ 2 ^ 40 }
+        requires few { head_amount (context_chosen here.now.moment (its_context here.now.system.now thread self.old)) ≤ 2 ^ 40 }
+        ensures core { self.new ≡ started here.now.system.now here.now.moment thread self.old }
+        ensures ends { IsEnd here.now.system.now (here.now.moment + 1) self.new result }
+    {
+        let next = Tick::at(here.moment.get() + 1);
+        let better = self.better(here.system.thread(thread).priority, next);
+        let left = self.thread(thread).place.left;
+        let head = self.choose_context(here, thread);
+        let ticks = ticks_before_end(left, 0, head);
+        let ends = Soonest::at(Tick::at(next.get() + ticks)).or(better);
+        self.stand(thread, Standing::Running);
+        self.set_running(Chosen { thread, using: 0 });
+        ends
+    }
+
+    /// Where no thread runs, the best ready one is chosen; in bandwidth mode its context is unblocked. Answers the first moment after this one
+    /// at which the thread that runs then ends its item or uses up its head, or a ready thread is to run instead.
     #[inline(always)]
     pub(crate) fn choose<S: Sink>(
         &mut self,
         here: &Here<'_>,
         log: &mut Log<'_, S>,
-    ) -> Result<(), FlowFault>
+    ) -> Result<Soonest, FlowFault>
         requires well_formed { IsWellFormed here.now.system.now }
         requires sound { IsSound here.now.system.now here.now.core (here.now.moment + 1) PastTick None self.old }
         requires soon { here.now.moment ≤ 2 ^ 40 }
-        ensures { OnOk result
+        requires holds { HoldsOn here.now.system.now self.old }
+        ensures makes { OnOk result
             (Makes S.takes here.now (chooses by_priority here.now.system.now here.now.moment self.old) self.new log.old
             log.new) }
+        ensures ends { IfOk result (λ ends. IsEnd here.now.system.now (here.now.moment + 1) self.new ends) }
     {
         if self.running().is_some() {
-            return Ok(());
+            return Ok(self.next_end(here.system, Tick::at(here.moment.get() + 1)));
         }
-        if let Some(thread) = self.take_best() {
-            self.choose_context(here, thread);
-            self.stand(thread, Standing::Running);
-            self.set_running(Chosen { thread, using: 0 });
-            log.tell(here, What::Run { thread })?;
-        }
-        Ok(())
+        let Some(thread) = self.take_best() else {
+            return Ok(Soonest::never());
+        };
+        let ends = self.start(here, thread);
+        log.tell(here, What::Run { thread })?;
+        Ok(ends)
     }
 }
 

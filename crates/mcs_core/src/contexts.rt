@@ -81,15 +81,21 @@ impl Contexts {
         }
     }
 
-    /// The thread of a context is chosen.
+    /// The thread of a context is chosen. Answers the head of the context then, in ticks.
     #[inline(always)]
-    pub(crate) fn chosen(&mut self, number: ContextId, moment: Tick)
+    pub(crate) fn chosen(&mut self, number: ContextId, moment: Tick) -> u64
         requires own { is_own number self.old ≡ true }
         requires soon { moment ≤ 2 ^ 40 }
-        ensures { self.new ≡ set self.old number (Some (context_chosen moment (held number self.old))) }
+        ensures contexts { self.new ≡ set self.old number (Some (context_chosen moment (held number self.old))) }
+        ensures head { result ≡ head_amount (context_chosen moment (held number self.old)) }
+        ensures some { 1 ≤ result }
     {
         match &mut self.contexts[number.0] {
-            Some(context) => context.chosen(moment),
+            Some(context) => {
+                let context = context.as_mut();
+                context.chosen(moment);
+                context.head_amount()
+            }
             None => unreachable!(),
         }
     }

@@ -2,6 +2,7 @@ ghost use Rattle.std.specs.Prelude.{◌≡◌, ◌+◌, ◌-◌, ◌^◌, ◌<�
 ghost use Rattle.mcs_ticks.specs.Queue.{first_of};
 ghost use Rattle.mcs_core.specs.Busy.{IsFirst, IsBest, GoesOnAfter, counted_by, counted_for};
 ghost use Rattle.mcs_core.specs.Core.{thread_of};
+ghost use Rattle.mcs_core.specs.stored.Ends.{IsUnspent};
 ghost use Rattle.mcs_core.specs.stored.Sound.{IsSound};
 ghost use Rattle.mcs_core.specs.stored.Sound.Phase.{Between};
 ghost use Rattle.mcs_system.specs.WellFormed.{IsWellFormed};
@@ -9,22 +10,22 @@ ghost use Rattle.mcs_system.specs.WellFormed.{IsWellFormed};
 use crate::Chosen;
 use crate::local::Local;
 use crate::log::Here;
-use mcs_ticks::Soonest;
+use mcs_system::SystemParts;
+use mcs_ticks::{Soonest, Tick};
 
 impl Local {
-    /// The first moment at which the thread that runs ends its item or uses up its head, if there is one up to 2^42.
+    /// The first moment from this one on at which the thread that runs ends its item or uses up its head, if there is one up to 2^42.
     #[inline(always)]
-    pub(crate) fn next_end(&self, here: &Here<'_>) -> Soonest
-        requires well_formed { IsWellFormed here.now.system.now }
-        requires sound { IsSound here.now.system.now here.now.core here.now.moment Between None self.now }
-        ensures { IsFirst here.now.moment (λ n. GoesOnAfter here.now.system.now n self.now.running self.now) result }
+    pub(crate) fn next_end(&self, system: &SystemParts, from: Tick) -> Soonest
+        requires { IfSome self.now.running (IsUnspent system.now self.now) }
+        ensures { IsFirst from (λ n. GoesOnAfter system.now n self.now.running self.now) result }
     {
         let Some(chosen) = self.running() else {
             return Soonest::never();
         };
         let left = self.thread(chosen.thread).place.left;
-        let head = self.head_amount(here.system, chosen.thread);
-        Soonest::after(here.moment, ticks_before_end(left, chosen.using, head))
+        let head = self.head_amount(system, chosen.thread);
+        Soonest::after(from, ticks_before_end(left, chosen.using, head))
     }
 
     /// This moment, where a ready thread is to run instead of the one that runs.
@@ -79,7 +80,8 @@ impl Local {
 }
 
 /// How many ticks come before the one that ends an item with so many left, or a head of which so many are used.
-fn ticks_before_end(left: u64, used: u64, head: u64) -> u64
+#[inline(always)]
+pub(crate) fn ticks_before_end(left: u64, used: u64, head: u64) -> u64
     requires { used < head }
     ensures { result ≡ min (left - 1) (head - used - 1) }
 {

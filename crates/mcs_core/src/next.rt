@@ -4,6 +4,7 @@ ghost use Rattle.mcs_core.specs.Clock.{shown};
 ghost use Rattle.mcs_core.specs.Core.{Core};
 ghost use Rattle.mcs_core.specs.Quiet.{AreQuiet, AreQuietWith, IsNextBusy, IsNextBusyWith, counted_times};
 ghost use Rattle.mcs_core.specs.State.{Fits, IsExpected};
+ghost use Rattle.mcs_core.specs.stored.Ends.{IsEnd};
 
 use crate::CoreState;
 use crate::log::Here;
@@ -24,17 +25,15 @@ impl CoreState {
         ensures one_list { (core : Core) → self.now.core ≡ shown core →
             IsNextBusy system.now self.now.number self.now.clock mail.now.mails core result }
     {
-        self.soonest(system, mail).moment()
+        self.soonest(system, mail, self.ends(system)).moment()
     }
 
-    /// The next busy moment, which is the soonest of those at which the thread that runs ends its item or uses up its head, a ready
-    /// thread is better, or the least date, the next order or the first mail comes.
+    /// The first moment from the clock on at which the thread that runs ends its item or uses up its head, or a ready thread is to run instead.
     #[inline(always)]
-    pub(crate) fn soonest(&self, system: &System, mail: &Mailbox) -> Soonest
+    pub(crate) fn ends(&self, system: &System) -> Soonest
         requires fits { Fits system.now self.now }
         requires going { self.now.failed ≡ false }
-        requires expected { All (IsExpected system.now self.now) mail.now.mails }
-        ensures { IsNextBusyWith by_priority system.now self.now.number self.now.clock mail.now.mails self.now.core result }
+        ensures { IsEnd system.now self.now.clock self.now.core result }
     {
         let here = Here {
             system: system.parts(),
@@ -42,12 +41,25 @@ impl CoreState {
             delays: &self.delays,
             moment: self.clock,
         };
-        let ends = self.local.next_end(&here);
         let better = self.local.next_choice(&here);
+        self.local.next_end(here.system, here.moment).or(better)
+    }
+
+    /// The next busy moment, which is the soonest of this one, at which the thread that runs ends its item or uses up its head, or a ready
+    /// thread is better, and of those at which the least date, the next order or the first mail comes.
+    #[inline(always)]
+    pub(crate) fn soonest(&self, system: &System, mail: &Mailbox, ends: Soonest) -> Soonest
+        requires fits { Fits system.now self.now }
+        requires going { self.now.failed ≡ false }
+        requires expected { All (IsExpected system.now self.now) mail.now.mails }
+        requires ends { IsEnd system.now self.now.clock self.now.core ends }
+        ensures { IsNextBusyWith by_priority system.now self.now.number self.now.clock mail.now.mails self.now.core result }
+    {
+        let _parts = system.parts();
         let date = self.local.next_date();
         let order = self.agenda.next();
         let arrival = mail.soonest();
-        ends.or(better).or(date).or(order).or(arrival)
+        ends.or(date).or(order).or(arrival)
     }
 
     /// Takes the turns from the clock up to, not including, moment `to`, all of which are quiet, at once: the thread

@@ -1,15 +1,16 @@
-ghost use Rattle.std.specs.Prelude.{◌≡◌, ◌⊎◌, ◌+◌, ◌-◌, ◌^◌, ◌≤◌, ◌<◌, ◌++◌, max, true, false, [], length, OnOk, OnErr, IsTrue, ◌↔◌, All};
+ghost use Rattle.std.specs.Prelude.{◌≡◌, ◌⊎◌, ◌+◌, ◌-◌, ◌^◌, ◌≤◌, ◌<◌, ◌++◌, max, true, false, [], length, OnOk, OnErr, IfOk, IsTrue, ◌↔◌, All};
 ghost use Rattle.mcs_ticks.specs.Given.{Given, IsShortAfter};
 ghost use Rattle.mcs_ticks.specs.Queue.{by_priority};
 ghost use Rattle.mcs_core.specs.Quiet.{AreQuietWith};
 ghost use Rattle.mcs_core.specs.State.{Fits, IsExpected, made_by, state_after, skipped, AreOfOneList};
+ghost use Rattle.mcs_core.specs.stored.Ends.{IsEnd};
 
 use crate::CoreState;
 use crate::log::{Here, Log};
 use crate::unmeasured::Unmeasured;
 use mcs_mail::{Mail, Mailbox};
 use mcs_system::System;
-use mcs_ticks::{FlowFault, Measured, NoMemory, Row, Sink, Tick};
+use mcs_ticks::{FlowFault, Measured, NoMemory, Row, Sink, Soonest, Tick};
 
 impl CoreState {
     /// Whether the clock is before a moment.
@@ -19,22 +20,25 @@ impl CoreState {
         self.clock.get() < to.get()
     }
 
-    /// The turn at a moment, with the quiet ones before it.
+    /// The turn at a moment, with the quiet ones before it. It is told the first moment from the clock on at which the thread that runs ends its
+    /// item or uses up its head, or a ready thread is to run instead, and answers that from the new clock on.
     #[inline(always)]
     fn turn_at<S: Sink>(
         &mut self,
         system: &System,
         moment: Tick,
+        ends: Soonest,
         mail: &mut Mailbox,
         sink: &mut S,
         signals: &mut Vec<Mail>,
-    ) -> Result<(), FlowFault>
+    ) -> Result<Soonest, FlowFault>
         requires going { self.old.failed ≡ false }
         requires fits { Fits system.now self.old }
         requires later { self.old.clock ≤ moment }
         requires in_time { moment ≤ 2 ^ 40 }
         requires quiet { AreQuietWith by_priority system.now self.old.number self.old.clock [] self.old.core (moment - self.old.clock) }
         requires expected { All (IsExpected system.now (skipped system.now moment self.old)) mail.old.mails }
+        requires ends { IsEnd system.now self.old.clock self.old.core ends }
         ensures state { let quiet = skipped system.now moment self.old in
             OnOk result (self.new ≡ state_after quiet (moment + 1) (made_by system.now quiet (moment + 1) mail.old.mails)) }
         ensures rows { let quiet = skipped system.now moment self.old in
@@ -44,6 +48,7 @@ impl CoreState {
         ensures mail { let quiet = skipped system.now moment self.old in
             OnOk result (mail.new.mails ≡ (made_by system.now quiet (moment + 1) mail.old.mails).box) }
         ensures fits { OnOk result (Fits system.now self.new) }
+        ensures ends { IfOk result (λ ends. IsEnd system.now self.new.clock self.new.core ends) }
         ensures kept { (self.new.number ≡ self.old.number) × (OnErr result (self.new.clock ≡ self.old.clock)) }
     {
         let here = Here {
@@ -53,29 +58,34 @@ impl CoreState {
             moment,
         };
         let quiet = moment.get() - self.clock.get();
+        let goes_on = !ends.has_come(moment);
         let mut log = Log { sink, signals };
-        self.local
-            .turn(&here, quiet, &mut self.agenda, mail, &mut log)?;
+        let ends = self
+            .local
+            .turn(&here, quiet, goes_on, &mut self.agenda, mail, &mut log)?;
         self.clock = Tick::at(moment.get() + 1);
-        Ok(())
+        Ok(ends)
     }
 
-    /// The quiet turns up to the next busy one, and that one, of those before moment `to`. Where memory or a row is
-    /// refused the state is spent.
+    /// The quiet turns up to the next busy one, and that one, of those before moment `to`. It is told the first moment from the clock on at which
+    /// the thread that runs ends its item or uses up its head, or a ready thread is to run instead, and answers that from the new clock on, where
+    /// it is before `to`. Where memory or a row is refused the state is spent.
     #[inline(always)]
     fn advance<S: Sink>(
         &mut self,
         system: &System,
         mail: &mut Mailbox,
         to: Tick,
+        ends: Soonest,
         sink: &mut S,
         signals: &mut Vec<Mail>,
-    ) -> Result<(), FlowFault>
+    ) -> Result<Soonest, FlowFault>
         requires going { self.old.failed ≡ false }
         requires fits { Fits system.now self.old }
         requires before { self.old.clock < to }
         requires in_time { to ≤ 2 ^ 40 + 1 }
         requires expected { All (IsExpected system.now self.old) mail.old.mails }
+        requires ends { IsEnd system.now self.old.clock self.old.core ends }
         ensures state { OnOk result
             (self.new
             ≡ state_after self.old self.new.clock (made_by system.now self.old self.new.clock mail.old.mails)) }
@@ -87,6 +97,7 @@ impl CoreState {
         ensures mail { OnOk result
             (mail.new.mails ≡ (made_by system.now self.old self.new.clock mail.old.mails).box) }
         ensures fits { Fits system.now self.new }
+        ensures ends { IfOk result (λ ends. self.new.clock < to → IsEnd system.now self.new.clock self.new.core ends) }
         ensures failed { OnErr result (self.new.failed ≡ true) }
         ensures going { OnOk result (self.new.failed ≡ false) }
         ensures later { OnOk result (self.old.clock < self.new.clock) }
@@ -96,15 +107,17 @@ impl CoreState {
             × (self.old.clock ≤ self.new.clock)
             × (self.new.clock ≤ to) }
     {
-        let Some(moment) = self.soonest(system, mail).before(to) else {
+        let Some(moment) = self.soonest(system, mail, ends).before(to) else {
             self.skip(system, to);
-            return Ok(());
+            return Ok(Soonest::never());
         };
-        if let Err(fault) = self.turn_at(system, moment, mail, sink, signals) {
-            self.failed = true;
-            return Err(fault);
+        match self.turn_at(system, moment, ends, mail, sink, signals) {
+            Ok(ends) => Ok(ends),
+            Err(fault) => {
+                self.failed = true;
+                Err(fault)
+            }
         }
-        Ok(())
     }
 
     /// As `run`, but each row goes to the sink as soon as it is made. Where memory or a row is refused the state is spent.
@@ -224,8 +237,9 @@ impl CoreState {
         if self.failed {
             return Err(FlowFault::NoMemory);
         }
+        let mut ends = self.ends(system);
         'turns: while self.is_before(to) {
-            self.advance(system, mail, to, sink, signals)?;
+            ends = self.advance(system, mail, to, ends, sink, signals)?;
             if sink.size() >= most {
                 return Ok(());
             }

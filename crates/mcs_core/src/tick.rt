@@ -1,6 +1,7 @@
-ghost use Rattle.std.specs.Prelude.{◌≡◌, ◌+◌, ◌^◌, ◌≤◌, ◌<◌, OnOk, IfOk, IfSome, Some, None, length};
+ghost use Rattle.std.specs.Prelude.{◌≡◌, ◌+◌, ◌^◌, ◌≤◌, ◌<◌, true, OnOk, IfOk, IfSome, Some, None, length};
 ghost use Rattle.mcs_ticks.specs.Queue.{by_priority};
 ghost use Rattle.mcs_notify.specs.Note.{waited};
+ghost use Rattle.mcs_core.specs.Busy.{GoesOnAfter};
 ghost use Rattle.mcs_core.specs.Core.{note_of};
 ghost use Rattle.mcs_core.specs.Quiet.{counted_times};
 ghost use Rattle.mcs_core.specs.State.{delays_from};
@@ -163,12 +164,13 @@ impl Local {
         self.may_stop(here, thread, used, after, log)
     }
 
-    /// The end of a tick, before which so many quiet ones are to be counted.
+    /// The end of a tick, before which so many quiet ones are to be counted. It is told whether the thread that runs is known to go on with it.
     #[inline(always)]
     pub(crate) fn tick<S: Sink>(
         &mut self,
         here: &Here<'_>,
         quiet: u64,
+        goes_on: bool,
         log: &mut Log<'_, S>,
     ) -> Result<(), FlowFault>
         requires well_formed { IsWellFormed here.now.system.now }
@@ -178,6 +180,7 @@ impl Local {
         requires delays { here.now.delays.now ≡ delays_from here.now.system.now here.now.core }
         requires soon { here.now.moment ≤ 2 ^ 40 }
         requires few { IfSome self.old.running (λ chosen. chosen.using + quiet < 2 ^ 63) }
+        requires goes { goes_on ≡ true → GoesOnAfter here.now.system.now quiet self.old.running self.old }
         ensures { OnOk result
             (Makes S.takes here.now
             (tick by_priority here.now.system.now here.now.core here.now.moment
@@ -191,6 +194,9 @@ impl Local {
         let ticks = quiet + 1;
         let used = before.using + ticks;
         let left = self.count(before, ticks);
+        if goes_on {
+            return Ok(());
+        }
         if left == 0 {
             self.finish(here, thread, used, log)
         } else {

@@ -1,8 +1,10 @@
-ghost use Rattle.std.specs.Prelude.{◌≡◌, ◌+◌, OnOk, None};
+ghost use Rattle.std.specs.Prelude.{◌≡◌, ◌+◌, true, OnOk, IfOk, None};
 ghost use Rattle.mcs_mail.specs.Box.{arriving, staying};
+ghost use Rattle.mcs_core.specs.Busy.{GoesOnAfter};
 ghost use Rattle.mcs_core.specs.Orders.{to_come};
 ghost use Rattle.mcs_core.specs.Quiet.{counted_times};
 ghost use Rattle.mcs_core.specs.Turn.{turn};
+ghost use Rattle.mcs_core.specs.stored.Ends.{IsEnd};
 ghost use Rattle.mcs_core.specs.stored.Parts.{CanTurn, Makes};
 ghost use Rattle.mcs_core.specs.stored.Sound.{IsSound};
 ghost use Rattle.mcs_core.specs.stored.Sound.Phase.{Between};
@@ -11,22 +13,26 @@ use crate::agenda::Agenda;
 use crate::local::Local;
 use crate::log::{Here, Log};
 use mcs_mail::Mailbox;
-use mcs_ticks::{FlowFault, Sink};
+use mcs_ticks::{FlowFault, Sink, Soonest};
 
 impl Local {
     /// The whole turn of a core at a moment, before which so many quiet ticks are to be counted: it costs what happens in it, however
-    /// many threads, contexts and orders there are.
+    /// many threads, contexts and orders there are. It is told whether the thread that runs is known to go on with the tick of this turn, and
+    /// answers the first moment after this one at which the thread that runs then ends its item or uses up its head, or a ready thread is to run
+    /// instead.
     #[inline(always)]
     pub(crate) fn turn<S: Sink>(
         &mut self,
         here: &Here<'_>,
         quiet: u64,
+        goes_on: bool,
         agenda: &mut Agenda,
         mail: &mut Mailbox,
         log: &mut Log<'_, S>,
-    ) -> Result<(), FlowFault>
-        requires { CanTurn here.now.system.now here.now.core here.now.moment here.now.delays.now quiet agenda.old mail.old.mails
+    ) -> Result<Soonest, FlowFault>
+        requires can { CanTurn here.now.system.now here.now.core here.now.moment here.now.delays.now quiet agenda.old mail.old.mails
             self.old }
+        requires goes { goes_on ≡ true → GoesOnAfter here.now.system.now quiet self.old.running self.old }
         ensures makes { OnOk result
             (Makes S.takes here.now
             (turn here.now.system.now here.now.core here.now.moment (arriving here.now.moment mail.old.mails)
@@ -36,8 +42,9 @@ impl Local {
         ensures agenda { OnOk result (agenda.new ≡ to_come (here.now.moment + 1) agenda.old) }
         ensures sound { OnOk result
             (IsSound here.now.system.now here.now.core (here.now.moment + 1) Between None self.new) }
+        ensures ends { IfOk result (λ ends. IsEnd here.now.system.now (here.now.moment + 1) self.new ends) }
     {
-        self.tick(here, quiet, log)?;
+        self.tick(here, quiet, goes_on, log)?;
         self.arrivals(here, mail, log)?;
         self.orders(here, agenda, log)?;
         self.releases(here, log)?;

@@ -1,11 +1,10 @@
 use Rattle.std.proofs.Common.{◌≡◌, refl, ◌-◌, ◌++◌, ◌<◌, [], List, sym, subst, ap, ◌∙◌, append-nil, arith}
-use Rattle.std.specs.Prelude.{is_err}
+use Rattle.std.specs.Prelude.{Ok}
 use Rattle.mcs_mail.specs.declared.mail.Mail.{Mail}
 use Rattle.mcs_ticks.specs.Given.{Given}
 use Rattle.mcs_ticks.specs.Queue.{by_priority}
 use Rattle.mcs_core.specs.Run.{Ran}
 use Rattle.mcs_core.specs.State.{State, skipped}
-use Rattle.mcs_core.proofs.Runs.{if_ok}
 use Rattle.mcs_core.proofs.Skips.{quiet-alone, quiet-whole, quiet-first, busy-before, busy-later, expected-on, no-rows, stretch-state, stretch-last, stretch-told, stretch-given, quiet-made, quiet-state}
 use Rattle.mcs_core.proofs.state.CoreState.advance.Goals as goal
 
@@ -26,35 +25,30 @@ turn_at-requires-clause-quiet g c =
 pub turn_at-requires-clause-expected : goal.turn_at-requires-clause-expected
 turn_at-requires-clause-expected g c = expected-on c.args.system.now c.args.self.now c.args.mail.now.mails c.in-Some.moment (busy-later c.args.system.now c.args.self.now c.args.mail.now.mails c.args.to c.soonest.result c.soonest.ensures c.in-Some.moment (sym c.before-2.ensures ∙ c.in-Some.is)) (quiet-first c.args.system.now c.args.self.now c.args.mail.now.mails c.args.to c.soonest.result c.soonest.ensures c.in-Some.moment (sym c.before-2.ensures ∙ c.in-Some.is)) c.requires.expected
 
-pub returns-clause-state : goal.returns-clause-state
-returns-clause-state g c =
-    if_ok c.turn_at.result _ (ap is_err c.in_default-turn_at.is)
-    (stretch-state c.args.system.now c.args.self.now c.args.mail.now.mails c.in-Some.moment (busy-later c.args.system.now c.args.self.now c.args.mail.now.mails c.args.to c.soonest.result c.soonest.ensures c.in-Some.moment (sym c.before-2.ensures ∙ c.in-Some.is)) (quiet-first c.args.system.now c.args.self.now c.args.mail.now.mails c.args.to c.soonest.result c.soonest.ensures c.in-Some.moment (sym c.before-2.ensures ∙ c.in-Some.is))
-    (skipped c.args.system.now c.in-Some.moment c.args.self.now) c.turn_at.new.self refl c.turn_at.result c.turn_at.ensures.state)
+pub returns-in-Ok-clause-state : goal.returns-in-Ok-clause-state
+returns-in-Ok-clause-state g c =
+    stretch-state c.args.system.now c.args.self.now c.args.mail.now.mails c.in-Some.moment (busy-later c.args.system.now c.args.self.now c.args.mail.now.mails c.args.to c.soonest.result c.soonest.ensures c.in-Some.moment (sym c.before-2.ensures ∙ c.in-Some.is)) (quiet-first c.args.system.now c.args.self.now c.args.mail.now.mails c.args.to c.soonest.result c.soonest.ensures c.in-Some.moment (sym c.before-2.ensures ∙ c.in-Some.is))
+    (skipped c.args.system.now c.in-Some.moment c.args.self.now) c.turn_at.new.self refl (Ok c.in-Ok.ends) c.in-Ok.ensures.state
 
-pub returns-clause-rows : goal.returns-clause-rows
-returns-clause-rows g c =
-    if_ok c.turn_at.result _ (ap is_err c.in_default-turn_at.is)
-    (stretch-given c.args.system.now c.args.self.now c.args.mail.now.mails c.in-Some.moment (busy-later c.args.system.now c.args.self.now c.args.mail.now.mails c.args.to c.soonest.result c.soonest.ensures c.in-Some.moment (sym c.before-2.ensures ∙ c.in-Some.is)) (quiet-first c.args.system.now c.args.self.now c.args.mail.now.mails c.args.to c.soonest.result c.soonest.ensures c.in-Some.moment (sym c.before-2.ensures ∙ c.in-Some.is))
-    (skipped c.args.system.now c.in-Some.moment c.args.self.now) c.turn_at.new.self refl c.turn_at.result c.turn_at.ensures.state g.S.Sink.takes c.args.sink.now c.turn_at.new.sink c.turn_at.ensures.rows)
+pub returns-in-Ok-clause-rows : goal.returns-in-Ok-clause-rows
+returns-in-Ok-clause-rows g c =
+    stretch-given c.args.system.now c.args.self.now c.args.mail.now.mails c.in-Some.moment (busy-later c.args.system.now c.args.self.now c.args.mail.now.mails c.args.to c.soonest.result c.soonest.ensures c.in-Some.moment (sym c.before-2.ensures ∙ c.in-Some.is)) (quiet-first c.args.system.now c.args.self.now c.args.mail.now.mails c.args.to c.soonest.result c.soonest.ensures c.in-Some.moment (sym c.before-2.ensures ∙ c.in-Some.is))
+    (skipped c.args.system.now c.in-Some.moment c.args.self.now) c.turn_at.new.self refl (Ok c.in-Ok.ends) c.in-Ok.ensures.state g.S.Sink.takes c.args.sink.now c.turn_at.new.sink c.in-Ok.ensures.rows
 
-pub returns-clause-signals : goal.returns-clause-signals
-returns-clause-signals g c =
-    if_ok c.turn_at.result _ (ap is_err c.in_default-turn_at.is)
-    (stretch-told c.args.system.now c.args.self.now c.args.mail.now.mails c.in-Some.moment (busy-later c.args.system.now c.args.self.now c.args.mail.now.mails c.args.to c.soonest.result c.soonest.ensures c.in-Some.moment (sym c.before-2.ensures ∙ c.in-Some.is)) (quiet-first c.args.system.now c.args.self.now c.args.mail.now.mails c.args.to c.soonest.result c.soonest.ensures c.in-Some.moment (sym c.before-2.ensures ∙ c.in-Some.is))
-    (skipped c.args.system.now c.in-Some.moment c.args.self.now) c.turn_at.new.self refl c.turn_at.result c.turn_at.ensures.state (λ (made : Ran). made.mails) c.args.signals.now.items c.turn_at.new.signals.items c.turn_at.ensures.signals)
+pub returns-in-Ok-clause-signals : goal.returns-in-Ok-clause-signals
+returns-in-Ok-clause-signals g c =
+    stretch-told c.args.system.now c.args.self.now c.args.mail.now.mails c.in-Some.moment (busy-later c.args.system.now c.args.self.now c.args.mail.now.mails c.args.to c.soonest.result c.soonest.ensures c.in-Some.moment (sym c.before-2.ensures ∙ c.in-Some.is)) (quiet-first c.args.system.now c.args.self.now c.args.mail.now.mails c.args.to c.soonest.result c.soonest.ensures c.in-Some.moment (sym c.before-2.ensures ∙ c.in-Some.is))
+    (skipped c.args.system.now c.in-Some.moment c.args.self.now) c.turn_at.new.self refl (Ok c.in-Ok.ends) c.in-Ok.ensures.state (λ (made : Ran). made.mails) c.args.signals.now.items c.turn_at.new.signals.items c.in-Ok.ensures.signals
 
-pub returns-clause-mail : goal.returns-clause-mail
-returns-clause-mail g c =
-    if_ok c.turn_at.result _ (ap is_err c.in_default-turn_at.is)
-    (stretch-told c.args.system.now c.args.self.now c.args.mail.now.mails c.in-Some.moment (busy-later c.args.system.now c.args.self.now c.args.mail.now.mails c.args.to c.soonest.result c.soonest.ensures c.in-Some.moment (sym c.before-2.ensures ∙ c.in-Some.is)) (quiet-first c.args.system.now c.args.self.now c.args.mail.now.mails c.args.to c.soonest.result c.soonest.ensures c.in-Some.moment (sym c.before-2.ensures ∙ c.in-Some.is))
-    (skipped c.args.system.now c.in-Some.moment c.args.self.now) c.turn_at.new.self refl c.turn_at.result c.turn_at.ensures.state (λ (made : Ran). made.box) [] c.turn_at.new.mail.mails c.turn_at.ensures.mail)
+pub returns-in-Ok-clause-mail : goal.returns-in-Ok-clause-mail
+returns-in-Ok-clause-mail g c =
+    stretch-told c.args.system.now c.args.self.now c.args.mail.now.mails c.in-Some.moment (busy-later c.args.system.now c.args.self.now c.args.mail.now.mails c.args.to c.soonest.result c.soonest.ensures c.in-Some.moment (sym c.before-2.ensures ∙ c.in-Some.is)) (quiet-first c.args.system.now c.args.self.now c.args.mail.now.mails c.args.to c.soonest.result c.soonest.ensures c.in-Some.moment (sym c.before-2.ensures ∙ c.in-Some.is))
+    (skipped c.args.system.now c.in-Some.moment c.args.self.now) c.turn_at.new.self refl (Ok c.in-Ok.ends) c.in-Ok.ensures.state (λ (made : Ran). made.box) [] c.turn_at.new.mail.mails c.in-Ok.ensures.mail
 
-pub returns-clause-last : goal.returns-clause-last
-returns-clause-last g c =
-    if_ok c.turn_at.result _ (ap is_err c.in_default-turn_at.is)
-    (stretch-last c.args.system.now c.args.self.now c.args.mail.now.mails c.in-Some.moment (busy-later c.args.system.now c.args.self.now c.args.mail.now.mails c.args.to c.soonest.result c.soonest.ensures c.in-Some.moment (sym c.before-2.ensures ∙ c.in-Some.is)) (quiet-first c.args.system.now c.args.self.now c.args.mail.now.mails c.args.to c.soonest.result c.soonest.ensures c.in-Some.moment (sym c.before-2.ensures ∙ c.in-Some.is))
-    (skipped c.args.system.now c.in-Some.moment c.args.self.now) c.turn_at.new.self refl c.turn_at.result c.turn_at.ensures.state)
+pub returns-in-Ok-clause-last : goal.returns-in-Ok-clause-last
+returns-in-Ok-clause-last g c =
+    stretch-last c.args.system.now c.args.self.now c.args.mail.now.mails c.in-Some.moment (busy-later c.args.system.now c.args.self.now c.args.mail.now.mails c.args.to c.soonest.result c.soonest.ensures c.in-Some.moment (sym c.before-2.ensures ∙ c.in-Some.is)) (quiet-first c.args.system.now c.args.self.now c.args.mail.now.mails c.args.to c.soonest.result c.soonest.ensures c.in-Some.moment (sym c.before-2.ensures ∙ c.in-Some.is))
+    (skipped c.args.system.now c.in-Some.moment c.args.self.now) c.turn_at.new.self refl (Ok c.in-Ok.ends) c.in-Ok.ensures.state
 
 pub returns-in_default-clause-last : goal.returns-in_default-clause-last
 returns-in_default-clause-last g c =

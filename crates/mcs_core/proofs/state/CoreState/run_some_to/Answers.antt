@@ -15,6 +15,7 @@ turns-init g c =
       from = omega arith;
       past = omega arith;
       fits = c.requires.fits;
+      ends = λ l. c.ends-ends.ensures;
       expected = c.requires.expected;
       state = state-at-first c.args.system.now c.args.self.now c.args.mail.now.mails c.requires.fits going;
       fewer = omega arith;
@@ -27,7 +28,7 @@ turns-init g c =
 pub turns-preserved : goal.turns-preserved
 turns-preserved g c =
     let i = c.turns.invariant in
-    let step = c.in_ok-advance.ensures in
+    let step = c.in_ok-ends.ensures in
     let later : c.turns.self.clock < c.advance.new.self.clock = step.later in
     let from : c.turns.self.clock ≤ c.advance.new.self.clock = step.kept.1 in
     let past : c.advance.new.self.clock ≤ c.args.to = step.kept.2 in
@@ -37,6 +38,7 @@ turns-preserved g c =
       from = omega arith;
       past = omega arith;
       fits = step.fits;
+      ends = step.ends;
       expected = expected-after c.args.system.now c.turns.self c.advance.new.self c.advance.new.self.clock c.turns.mail.mails c.advance.new.mail.mails step.state step.mail i.expected;
       state = step.state ∙ state-through c.args.system.now c.turns.self.clock c.advance.new.self.clock c.args.self.now c.turns.self c.args.mail.now.mails c.turns.mail.mails i.from step.kept.1 i.state i.mail;
       fewer = omega (arith, few);
@@ -50,31 +52,31 @@ turns-preserved g c =
 pub returns-then-size-most-clause-state : goal.returns-then-size-most-clause-state
 returns-then-size-most-clause-state g c =
     let i = c.turns.invariant in
-    let step = c.in_ok-advance.ensures in
+    let step = c.in_ok-ends.ensures in
     step.state ∙ state-through c.args.system.now c.turns.self.clock c.advance.new.self.clock c.args.self.now c.turns.self c.args.mail.now.mails c.turns.mail.mails i.from step.kept.1 i.state i.mail
 
 pub returns-then-size-most-clause-rows : goal.returns-then-size-most-clause-rows
 returns-then-size-most-clause-rows g c =
     let i = c.turns.invariant in
-    let step = c.in_ok-advance.ensures in
+    let step = c.in_ok-ends.ensures in
     given-through c.args.system.now c.turns.self.clock c.advance.new.self.clock c.args.self.now c.turns.self c.args.mail.now.mails c.turns.mail.mails i.from step.kept.1 i.state i.mail g.S.Sink.takes c.args.sink.now c.turns.sink c.advance.new.sink i.rows step.rows
 
 pub returns-then-size-most-clause-signals : goal.returns-then-size-most-clause-signals
 returns-then-size-most-clause-signals g c =
     let i = c.turns.invariant in
-    let step = c.in_ok-advance.ensures in
+    let step = c.in_ok-ends.ensures in
     signals-through c.args.system.now c.turns.self.clock c.advance.new.self.clock c.args.self.now c.turns.self c.args.mail.now.mails c.turns.mail.mails i.from step.kept.1 i.state i.mail
     c.args.signals.now.items c.turns.signals.items c.advance.new.signals.items i.signals step.signals
 
 pub returns-then-size-most-clause-mail : goal.returns-then-size-most-clause-mail
 returns-then-size-most-clause-mail g c =
     let i = c.turns.invariant in
-    let step = c.in_ok-advance.ensures in
+    let step = c.in_ok-ends.ensures in
     step.mail ∙ box-through c.args.system.now c.turns.self.clock c.advance.new.self.clock c.args.self.now c.turns.self c.args.mail.now.mails c.turns.mail.mails i.from step.kept.1 i.state i.mail
 
 pub returns-then-size-most-clause-no_further : goal.returns-then-size-most-clause-no_further
 returns-then-size-most-clause-no_further g c =
     let i = c.turns.invariant in
-    let step = c.in_ok-advance.ensures in
+    let step = c.in_ok-ends.ensures in
     let later : c.turns.self.clock < c.advance.new.self.clock = step.later in
     (c.turns.sink, given-rest c.args.system.now c.turns.self.clock (c.advance.new.self.clock - 1) c.args.self.now c.turns.self c.args.mail.now.mails c.turns.mail.mails i.from (omega arith) i.state i.mail g.S.Sink.takes c.args.sink.now c.turns.sink i.rows step.last, i.fewer)

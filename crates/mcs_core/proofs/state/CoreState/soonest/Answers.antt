@@ -1,11 +1,11 @@
 use Rattle.std.proofs.Common.{rules, ◌≡◌, ◌∙◌, ℕ, ap, sym, subst, false, List}
 use Rattle.std.specs.Prelude.{All, Option}
-use Rattle.mcs_ticks.specs.Queue.{by_priority, first_of}
+use Rattle.mcs_ticks.specs.Queue.{by_priority}
 use Rattle.mcs_mail.specs.declared.mail.Mail.{Mail}
 use Rattle.mcs_core.specs.Core.{Core}
 use Rattle.mcs_system.specs.System.{System}
 use Rattle.mcs_ticks.specs.Soonest.{sooner}
-use Rattle.mcs_core.specs.Busy.{IsFirst, IsBest, GoesOnAfter}
+use Rattle.mcs_core.specs.stored.Ends.{IsEnd}
 use Rattle.mcs_core.specs.Quiet.{IsNextBusyWith}
 use Rattle.mcs_core.specs.State.{State, Fits, IsExpected}
 use Rattle.mcs_core.proofs.Skips.{IsEarlyTick, next-busy-of}
@@ -18,26 +18,24 @@ returns c =
     let number : ℕ = c.self.inside.number in
     let clock : ℕ = c.self.inside.clock in
     let core : Core = c.self.inside.local in
-    let P : State → Type 0 = λ s. IsNextBusyWith by_priority system s.number s.clock mails s.core c.or-4.result in
+    let P : State → Type 0 = λ s. IsNextBusyWith by_priority system s.number s.clock mails s.core c.or-3.result in
     let F : State → Type 0 = λ s. Fits system s in
     let G : State → Type 0 = λ s. s.failed ≡ false in
     let E : State → Type 0 = λ s. All (IsExpected system s) mails in
     let fits = subst F (sym c.self.view_is) c.requires.fits in
     let going = subst G (sym c.self.view_is) c.requires.going in
     let expected = subst E (sym c.self.view_is) c.requires.expected in
-    let R : System → Type 0 = λ parts. IsFirst clock (λ n. IsBest parts core.running (first_of core.ready)) c.next_choice-better.result in
-    let Q : System → Type 0 = λ parts. IsFirst clock (λ n. GoesOnAfter parts n core.running core) c.next_end-ends.result in
-    let ends : IsFirst clock (λ n. GoesOnAfter system n core.running core) c.next_end-ends.result = subst Q c.parts.ensures.same c.next_end-ends.ensures in
-    let better : IsFirst clock (λ n. IsBest system core.running (first_of core.ready)) c.next_choice-better.result = subst R c.parts.ensures.same c.next_choice-better.ensures in
+    let B : State → Type 0 = λ s. IsEnd system s.clock s.core c.args.ends in
+    let ends : IsEnd system clock core c.args.ends = subst B (sym c.self.view_is) c.requires.ends in
     let early_date : IsEarlyTick c.next_date-date.result = search rules in
     let early_order : IsEarlyTick c.next-order.result = search rules in
     let early_arrival : IsEarlyTick c.soonest-arrival.result = search rules in
-    let result : sooner (sooner (sooner (sooner c.next_end-ends.result c.next_choice-better.result) c.next_date-date.result) c.next-order.result) c.soonest-arrival.result ≡ c.or-4.result =
-    sym (c.or-4.ensures ∙ ap (λ o. sooner o c.soonest-arrival.result) (c.or-3.ensures ∙ ap (λ o. sooner o c.next-order.result) (c.or-2.ensures ∙ ap (λ o. sooner o c.next_date-date.result) c.or.ensures))) in
+    let result : sooner (sooner (sooner c.args.ends c.next_date-date.result) c.next-order.result) c.soonest-arrival.result ≡ c.or-3.result =
+    sym (c.or-3.ensures ∙ ap (λ o. sooner o c.soonest-arrival.result) (c.or-2.ensures ∙ ap (λ o. sooner o c.next-order.result) c.or.ensures)) in
     let N : Option ℕ → Type 0 = λ o. IsNextBusyWith by_priority system number clock mails core o in
     subst P c.self.view_is (subst N result
-    (next-busy-of system number c.parts.ensures.well_formed clock mails core c.self.inside.agenda
-    c.next_end-ends.result c.next_choice-better.result c.next_date-date.result c.next-order.result c.soonest-arrival.result
+    (next-busy-of system number c.parts-parts.ensures.well_formed clock mails core c.self.inside.agenda
+    c.args.ends c.next_date-date.result c.next-order.result c.soonest-arrival.result
     (fits.sound going) (fits.orders going) c.soonest-arrival.ensures.in_order (λ k d l. (expected k d l).arrives)
-    ends better c.next_date-date.ensures early_date c.next-order.ensures early_order
+    ends c.next_date-date.ensures early_date c.next-order.ensures early_order
     c.soonest-arrival.ensures.first early_arrival))

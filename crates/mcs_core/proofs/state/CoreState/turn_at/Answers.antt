@@ -4,18 +4,22 @@ use Rattle.mcs_mail.specs.Box.{arriving}
 use Rattle.mcs_ticks.proofs.Givens.{given-same}
 use Rattle.mcs_ticks.specs.Queue.{by_priority}
 use Rattle.mcs_system.specs.System.{System}
+use Rattle.mcs_core.specs.Busy.{GoesOnAfter}
+use Rattle.mcs_core.specs.Core.{Core}
 use Rattle.mcs_core.specs.Quiet.{AreQuietWith, counted_times}
 use Rattle.mcs_core.specs.Turn.{stamped, turn}
+use Rattle.mcs_core.specs.stored.Ends.{IsEnd}
 use Rattle.mcs_core.specs.stored.Sound.{IsSound}
 use Rattle.mcs_core.specs.stored.Sound.Phase.{Between}
 use Rattle.mcs_core.specs.State.{State, Fits, IsExpected, made_by, state_after, skipped}
 use Rattle.mcs_core.specs.stored.Parts.{CanTurn}
+use Rattle.mcs_core.proofs.Ends.{goes-before, not-come}
 use Rattle.mcs_core.proofs.Runs.{left-turn}
 use Rattle.mcs_core.proofs.Turned.{can-turn, turned-state, turned-fits, turned-rows, turned-sent}
 use Rattle.mcs_core.proofs.state.CoreState.turn_at.Goals as goal
 
-pub turn-requires : goal.turn-requires
-turn-requires g c =
+pub turn-requires-clause-can : goal.turn-requires-clause-can
+turn-requires-clause-can g c =
     let state : State = record { number = c.self.inside.number; clock = c.self.inside.clock; core = c.self.inside.local; orders = c.self.inside.agenda; delays = c.self.inside.delays; failed = c.self.inside.failed } in
     let system : System = c.args.system.now in
     let F : State → Type 0 = λ s. Fits system s in
@@ -32,6 +36,19 @@ turn-requires g c =
     let P : System → Type 0 = λ s. CanTurn s state.number c.args.moment state.delays (c.get.result - c.get-2.result) state.orders c.args.mail.now.mails state.core in
     subst P (sym c.parts.ensures.same)
     (can-turn system c.parts.ensures.well_formed state c.args.moment c.args.mail.now.mails fits going later c.requires.in_time quiet (c.get.result - c.get-2.result) many expected)
+
+pub turn-requires-clause-goes : goal.turn-requires-clause-goes
+turn-requires-clause-goes g c e =
+    let core : Core = c.self.inside.local in
+    let clock : ℕ = c.self.inside.clock in
+    let L : State → Type 0 = λ s. s.clock ≤ c.args.moment in
+    let B : State → Type 0 = λ s. IsEnd c.args.system.now s.clock s.core c.args.ends in
+    let later : clock ≤ c.args.moment = subst L (sym c.self.view_is) c.requires.later in
+    let ends : IsEnd c.args.system.now clock core c.args.ends = subst B (sym c.self.view_is) c.requires.ends in
+    let many : c.args.moment ≡ clock + (c.get.result - c.get-2.result) = omega arith in
+    let P : System → Type 0 = λ s. GoesOnAfter s (c.get.result - c.get-2.result) core.running core in
+    subst P (sym c.parts.ensures.same)
+    (goes-before c.args.system.now clock (c.get.result - c.get-2.result) c.args.moment core c.args.ends ends many (omega arith) (not-come c.has_come-goes_on.result _ c.has_come-goes_on.ensures e))
 
 -- what was asked, of the parts that the system shows and of the state as it is kept
 module _ (g : _) (c : goal.After-self-1 g) where
@@ -67,7 +84,7 @@ module _ (g : _) (c : goal.After-self-1 g) where
   made : c.turn.new.self
       ≡ (turn c.args.system.now kept.number c.args.moment (arriving c.args.moment c.args.mail.now.mails) (counted_times c.args.system.now kept.number quiets kept.core)).core
   made =
-      c.in_ok-turn.ensures.makes.core
+      c.in_ok-ends.ensures.makes.core
       ∙ ap (λ (s : System). (turn s kept.number c.args.moment (arriving c.args.moment c.args.mail.now.mails) (counted_times s kept.number quiets kept.core)).core) c.parts.ensures.same
 
 pub returns-clause-state : goal.returns-clause-state
@@ -75,7 +92,7 @@ returns-clause-state g c =
     let P : State → Type 0 = λ s. left g c ≡ state_after (skipped c.args.system.now c.args.moment s) (c.args.moment + 1) (made_by c.args.system.now (skipped c.args.system.now c.args.moment s) (c.args.moment + 1) c.args.mail.now.mails) in
     subst P c.self.view_is
     (turned-state c.args.system.now c.parts.ensures.well_formed (kept g c) c.args.moment c.args.mail.now.mails (fits g c) (going g c) (later g c) c.requires.in_time (quiet g c)
-    c.at-self-inside.result c.turn.new.self c.turn.new.agenda (next g c) (quiets g c) (many g c) (made g c) c.in_ok-turn.ensures.agenda)
+    c.at-self-inside.result c.turn.new.self c.turn.new.agenda (next g c) (quiets g c) (many g c) (made g c) c.in_ok-ends.ensures.agenda)
 
 pub returns-clause-rows : goal.returns-clause-rows
 returns-clause-rows g c =
@@ -83,7 +100,7 @@ returns-clause-rows g c =
     ap (λ (s : System). stamped (kept g c).number c.args.moment (turn s (kept g c).number c.args.moment (arriving c.args.moment c.args.mail.now.mails) (counted_times s (kept g c).number (quiets g c) (kept g c).core)).rows) c.parts.ensures.same
     ∙ turned-rows c.args.system.now c.parts.ensures.well_formed (kept g c) c.args.moment c.args.mail.now.mails (fits g c) (going g c) (later g c) c.requires.in_time (quiet g c) (quiets g c) (many g c)
     ∙ ap (λ (s : State). (made_by c.args.system.now (skipped c.args.system.now c.args.moment s) (c.args.moment + 1) c.args.mail.now.mails).rows) c.self.view_is in
-    given-same g.S.Sink.takes _ _ _ _ _ _ c.in_ok-turn.ensures.makes.adds.rows (search rules) rows (search rules)
+    given-same g.S.Sink.takes _ _ _ _ _ _ c.in_ok-ends.ensures.makes.adds.rows (search rules) rows (search rules)
 
 pub returns-clause-signals : goal.returns-clause-signals
 returns-clause-signals g c =
@@ -95,11 +112,17 @@ returns-clause-signals g c =
     rw (sym mails) (search rules)
 
 pub returns-clause-mail : goal.returns-clause-mail
-returns-clause-mail g c = c.in_ok-turn.ensures.mail ∙ sym (left-turn c.args.system.now (skipped c.args.system.now c.args.moment c.args.self.now) c.args.mail.now.mails)
+returns-clause-mail g c = c.in_ok-ends.ensures.mail ∙ sym (left-turn c.args.system.now (skipped c.args.system.now c.args.moment c.args.self.now) c.args.mail.now.mails)
 
 pub returns-clause-fits : goal.returns-clause-fits
 returns-clause-fits g c =
     let P : System → Type 0 = λ s. IsSound s (kept g c).number (c.args.moment + 1) Between None c.turn.new.self in
     turned-fits c.args.system.now c.parts.ensures.well_formed (kept g c) c.args.moment c.args.mail.now.mails (fits g c) (going g c) (later g c) c.requires.in_time (quiet g c)
-    c.at-self-inside.result c.turn.new.self c.turn.new.agenda (next g c) (quiets g c) (many g c) (made g c) c.in_ok-turn.ensures.agenda
-    (subst P c.parts.ensures.same c.in_ok-turn.ensures.sound)
+    c.at-self-inside.result c.turn.new.self c.turn.new.agenda (next g c) (quiets g c) (many g c) (made g c) c.in_ok-ends.ensures.agenda
+    (subst P c.parts.ensures.same c.in_ok-ends.ensures.sound)
+
+pub returns-clause-ends : goal.returns-clause-ends
+returns-clause-ends g c =
+    let P : System → Type 0 = λ s. IsEnd s (c.args.moment + 1) c.turn.new.self c.in_ok-ends.ends in
+    let Q : ℕ → Type 0 = λ t. IsEnd c.args.system.now t c.turn.new.self c.in_ok-ends.ends in
+    subst Q (sym (next g c)) (subst P c.parts.ensures.same c.in_ok-ends.ensures.ends)
