@@ -12,15 +12,14 @@ use Rattle.mcs_system.specs.System.{System, thread_part}
 use Rattle.mcs_core.specs.declared.standing.Chosen.{Chosen}
 use Rattle.mcs_core.specs.declared.standing.Standing.TheVariants.{Running}
 use Rattle.mcs_core.specs.declared.standing.Thread.{Thread}
-use Rattle.mcs_core.specs.declared.standing.AfterItem.TheVariants as after
 use Rattle.mcs_core.specs.Busy.{IsFirst, IsBest, GoesOnAfter, counted_by}
 use Rattle.mcs_core.specs.Contexts.{is_own, held}
 use Rattle.mcs_core.specs.Core.{Core, thread_of, off}
-use Rattle.mcs_core.specs.Turn.{silent, its_context, item_of, finishes, may_stop, stops_to_back, stops_to_front, charged, date_of, enters_front, preempts, preempts_by, after_count}
+use Rattle.mcs_core.specs.Turn.{silent, its_context, item_of, finishes, stops_to_back, stops_to_front, charged, date_of, enters_front, preempts, preempts_by, after_count}
 use Rattle.mcs_core.specs.stored.Ends.{IsUnspent, HoldsOn, IsEnd, started, better}
 use Rattle.mcs_core.specs.stored.Sound.{Phase, slack, IsContextOf, IsSound}
 use Rattle.mcs_core.proofs.Budgets.{accepted-is, kept-head-most}
-use Rattle.mcs_core.proofs.Busy.{first-end, first-never, first-now}
+use Rattle.mcs_core.proofs.Busy.{first-end, first-now}
 use Rattle.mcs_core.proofs.Firsts.{first-both, first-same}
 use Rattle.mcs_core.proofs.Quiet.{set-same}
 use Rattle.mcs_core.proofs.Soundness.{IsOneEach}

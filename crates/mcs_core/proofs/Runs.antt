@@ -1,6 +1,6 @@
 -- Turns one after another.
-use Rattle.std.proofs.Common.{◌≡◌, ℕ, zero, suc, ◌+◌, ◌-◌, length, ◌<◌, ◌≤◌, Bool, true, false, cond, List, [], ◌∷◌, ◌++◌, refl, sym, ap, subst, ◌∙◌, append_assoc, append-nil, length-append, arith}
-use Rattle.std.specs.Prelude.{◌==◌, nat_le, not, max, All, Result, Ok, Err, OnOk, is_err, IsTrue, ◌↔◌}
+use Rattle.std.proofs.Common.{◌≡◌, ℕ, zero, suc, ◌+◌, ◌-◌, length, ◌<◌, ◌≤◌, Bool, true, false, cond, List, [], ◌∷◌, ◌++◌, refl, sym, ap, subst, ◌∙◌, append_assoc, append-nil, arith}
+use Rattle.std.specs.Prelude.{◌==◌, nat_le, not, max, All, Result, Ok, Err, OnOk, is_err}
 use Rattle.mcs_ticks.specs.Given.{Given}
 use Rattle.mcs_ticks.proofs.Givens.{given-append}
 use Rattle.mcs_control.specs.declared.config.Order.{Order}

@@ -1,5 +1,5 @@
 use Rattle.std.proofs.Common.{ap, ◌∙◌}
-use Rattle.mcs_control.specs.Context.{Context, context_chosen, head_amount}
+use Rattle.mcs_control.specs.Context.{context_chosen, head_amount}
 use Rattle.mcs_core.proofs.Kept.{found, changed-held, changed-seen, changed-room}
 use Rattle.mcs_core.proofs.contexts.Contexts.chosen.Goals as goal
 
