@@ -7,6 +7,8 @@ pub mod Kept
 pub mod Helds
 pub mod Parts
 pub mod Nexts
+pub mod Sweeps
+pub mod Sweeping
 pub mod Pouring
 pub mod Rows
 pub mod Adds

@@ -110,3 +110,12 @@ module _ {P : Type 0} (first : P → Option ℕ) (cores : List (List P)) (heads 
           | inr e ↦ subst (IsInLine first) (sym (get_or-set_other cores core d parts [] e)) (h.in_line d (omega (arith, length-set cores core parts)))
         ];
       }
+
+-- other parts of a core stand in line, as those of the other cores do
+pub line-set : {P : Type 0} (first : P → Option ℕ) (cores new : List (List P)) (core : ℕ) → ((d : ℕ) → d < length cores → IsInLine first (parts_of d cores)) →
+    new ≡ set cores core (parts_of core new) → IsInLine first (parts_of core new) → (d : ℕ) → d < length new → IsInLine first (parts_of d new)
+line-set first cores new core h e line d l = elim (cases_eq d core) [
+  | inl same ↦ subst (λ k. IsInLine first (parts_of k new)) (sym same) line
+  | inr ne ↦ subst (λ parts. IsInLine first parts) (sym (ap (parts_of d) e ∙ get_or-set_other cores core d (parts_of core new) [] ne))
+      (h d (omega (arith, l, ap (λ xs. length xs) e, length-set cores core (parts_of core new))))
+]

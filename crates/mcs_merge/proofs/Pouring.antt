@@ -9,7 +9,7 @@ use Rattle.mcs_ticks.proofs.Givens.{given-append, until-append}
 use Rattle.mcs_merge.specs.Merge.{rows_at, merged_before, AreFrom, DoNotFall}
 use Rattle.mcs_merge.specs.Merging.{list_of}
 use Rattle.mcs_merge.specs.Parts.{first_moment, rows_from, all_from, first_of, parts_of, Hold, HoldEach, AreHeld}
-use Rattle.mcs_merge.specs.stored.Parts.{AreAt, IsInLine, IsNextCore, NoneBefore, Pours, IsRefused}
+use Rattle.mcs_merge.specs.stored.Parts.{AreAt, ArePouring, IsInLine, IsNextCore, IsPouring, IsRefused, IsStopped, NoneBefore, Pours}
 use Rattle.mcs_merge.proofs.Joins.{AreFrom-earlier, rows_at-later}
 use Rattle.mcs_merge.proofs.Passing.{flat_map-none, none-at, merged-part}
 use Rattle.mcs_merge.proofs.Parts.{from-all, from-none, held-on}
@@ -77,26 +77,35 @@ AreHeld-set {O} {P} {holds} out cores lists core parts rows h l k =
 module _ {O : Type 0} {P : Type 0} (takes : O → Row → Bool → O → Type 0) (holds : O → P → List Row → Type 0) (first : P → Option ℕ)
     (is_first : (out : O) (part : P) (rows : List Row) → holds out part rows → first part ≡ first_moment rows)
     (holds_on : (before after : O) (part : P) (rows : List Row) (row : Row) → holds before part rows → takes before row true after → holds after part rows) where
-  -- what is given of all lists so far, and what is left
-  pub record IsPouring (until : ℕ) (lists : List (List Row)) (before out : O) (cores : List (List P)) : Type 0 where
-    pub left : List (List Row)
-    pub in_order : All DoNotFall left
-    pub held : AreHeld holds out cores left
-    pub from : all_from until left ≡ all_from until lists
-    pub goes_on : (after : O) → Given takes out (merged_before until left) after → Given takes before (merged_before until lists) after
-    pub stops : (after : O) → GivenUntil takes out (merged_before until left) after → GivenUntil takes before (merged_before until lists) after
-
-  -- the same of any lists that the parts held at first
-  pub record ArePouring (until : ℕ) (before out : O) (cores now : List (List P)) : Type 0 where
-    pub long : length now ≡ length cores
-    pub pouring : (lists : List (List Row)) → All DoNotFall lists → AreHeld holds before cores lists → IsPouring until lists before out now
-
-  pub pouring-begins : (until : ℕ) (out : O) (cores : List (List P)) → ArePouring until out out cores cores
+  pub pouring-begins : (until : ℕ) (out : O) (cores : List (List P)) → ArePouring takes holds until out out cores cores
   pouring-begins until out cores =
       record {
         long = refl;
         pouring = λ lists o h. record { left = lists; in_order = o; held = h; from = refl; goes_on = λ after g. g; stops = λ after g. g };
       }
+
+  -- more was given, and more stops
+  pub pouring-on : (until : ℕ) (a b c : O) (xs ys zs : List (List P)) → ArePouring takes holds until a b xs ys → ArePouring takes holds until b c ys zs → ArePouring takes holds until a c xs zs
+  pouring-on until a b c xs ys zs p q =
+      record {
+        long = q.long ∙ p.long;
+        pouring = λ lists o h.
+            let i = p.pouring lists o h in
+            let j = q.pouring i.left i.in_order i.held in
+            record {
+              left = j.left;
+              in_order = j.in_order;
+              held = j.held;
+              from = j.from ∙ i.from;
+              goes_on = λ after g. i.goes_on after (j.goes_on after g);
+              stops = λ after g. i.stops after (j.stops after g);
+            };
+      }
+
+  pub pouring-stops : (until : ℕ) (a b c : O) (xs ys : List (List P)) → ArePouring takes holds until a b xs ys → IsStopped takes holds until b c ys → IsStopped takes holds until a c xs
+  pouring-stops until a b c xs ys p q = λ lists o h.
+      let i = p.pouring lists o h in
+      i.stops c (q i.left i.in_order i.held)
 
   -- the first moment of parts is that of their rows
   first-held : (out : O) (parts : List P) (rows : List Row) → IsInLine first parts → Hold holds out parts rows → first_of first parts ≡ first_moment rows
@@ -145,9 +154,9 @@ module _ {O : Type 0} {P : Type 0} (takes : O → Row → Bool → O → Type 0)
       record { same = h.same; each = λ d l. held-on takes holds first is_first holds_on before after (parts_of d cores) (list_of d lists) given (h.each d l) g }
 
   -- a moment of a core is given
-  pours-one : (until : ℕ) (lists : List (List Row)) (before out after : O) (cores : List (List P)) (core : ℕ) (parts : List P) (i : IsPouring until lists before out cores) →
+  pours-one : (until : ℕ) (lists : List (List Row)) (before out after : O) (cores : List (List P)) (core : ℕ) (parts : List P) (i : IsPouring takes holds until lists before out cores) →
       ((core : ℕ) → core < length cores → IsInLine first (parts_of core cores)) → (next : IsNextCore first cores until core) →
-      Pours takes holds next.moment (list_of core i.left) out after parts → IsPouring until lists before after (set cores core parts)
+      Pours takes holds next.moment (list_of core i.left) out after parts → IsPouring takes holds until lists before after (set cores core parts)
   pours-one until lists before out after cores core parts i line next p =
       let within : core < length i.left = (let l = next.within in let same = i.held.same in omega arith) in
       let merged = merged-next until out cores i.left i.in_order i.held line core next p.now p.rest p.split p.at in
@@ -172,28 +181,28 @@ module _ {O : Type 0} {P : Type 0} (takes : O → Row → Bool → O → Type 0)
   until-more (row ∷ now) more out after (inr g) = inr (g.0, g.1, until-more now more g.0 after g.2)
 
   -- some rows of a moment of a core are given, and then one is refused
-  refuses-one : (until : ℕ) (lists : List (List Row)) (before out after : O) (cores : List (List P)) (core : ℕ) (i : IsPouring until lists before out cores) →
+  refuses-one : (until : ℕ) (lists : List (List Row)) (before out after : O) (cores : List (List P)) (core : ℕ) (i : IsPouring takes holds until lists before out cores) →
       ((core : ℕ) → core < length cores → IsInLine first (parts_of core cores)) → (next : IsNextCore first cores until core) →
       IsRefused takes holds next.moment (list_of core i.left) out after → GivenUntil takes before (merged_before until lists) after
   refuses-one until lists before out after cores core i line next p =
       let merged = merged-next until out cores i.left i.in_order i.held line core next p.now p.rest p.split p.at in
       i.stops after (subst (λ rows. GivenUntil takes out rows after) (sym merged) (until-more p.now (merged_before until (set i.left core p.rest)) out after p.given))
 
-  module _ (until : ℕ) (before out : O) (cores now : List (List P)) (a : ArePouring until before out cores now) (line : (core : ℕ) → core < length now → IsInLine first (parts_of core now)) where
+  module _ (until : ℕ) (before out : O) (cores now : List (List P)) (a : ArePouring takes holds until before out cores now) (line : (core : ℕ) → core < length now → IsInLine first (parts_of core now)) where
     module _ (after : O) (core : ℕ) (next : IsNextCore first now until core) where
-      mine : (lists : List (List Row)) (i : IsPouring until lists before out now) → core < length i.left
+      mine : (lists : List (List Row)) (i : IsPouring takes holds until lists before out now) → core < length i.left
       mine lists i = let l = next.within in let same = i.held.same in omega arith
 
       pub pouring-goes-on : (new : List (List P)) →
           ((rows : List Row) → DoNotFall rows → Hold holds out (parts_of core now) rows → IfSome (first_of first (parts_of core now)) (λ t. Pours takes holds t rows out after (parts_of core new))) →
-          new ≡ set now core (parts_of core new) → ArePouring until before after cores new
+          new ≡ set now core (parts_of core new) → ArePouring takes holds until before after cores new
       pouring-goes-on new given others =
           record {
             long = ap (λ parts. length parts) others ∙ length-set now core (parts_of core new) ∙ a.long;
             pouring = λ lists o h.
                 let i = a.pouring lists o h in
                 let poured = given (list_of core i.left) (i.in_order core [] (mine lists i)) (i.held.each core (mine lists i)) in
-                subst (λ parts. IsPouring until lists before after parts) (sym others)
+                subst (λ parts. IsPouring takes holds until lists before after parts) (sym others)
                 (pours-one until lists before out after now core (parts_of core new) i line next
                 (subst (λ n. IfSome n (λ t. Pours takes holds t (list_of core i.left) out after (parts_of core new))) next.is poured));
           }

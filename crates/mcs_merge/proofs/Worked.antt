@@ -1,10 +1,11 @@
 -- Merges that are worked by hand.
-use Rattle.std.proofs.Common.{◌≡◌, ℕ, List, [], ◌∷◌, ◌++◌, Some, ◌<◌, ◌≤◌, length, slice_index, lit<, lit≤, refl}
+use Rattle.std.proofs.Common.{◌≡◌, ℕ, true, false, List, [], ◌∷◌, ◌++◌, Some, ◌<◌, ◌≤◌, length, slice_index, lit<, lit≤, refl}
 use Rattle.mcs_ticks.specs.declared.row.Row.{Row}
 use Rattle.mcs_ticks.specs.declared.row.What.TheVariants as row
 use Rattle.mcs_merge.specs.Merge.{merged, merged_before, AreFrom}
 use Rattle.mcs_merge.specs.Merging.{Merging, starting, passed, CanAdd, IsListOf}
 use Rattle.mcs_merge.specs.Parts.{first_moment, all_from, first_of, poured, Hold}
+use Rattle.mcs_merge.specs.stored.Sweep.{Sweep, has, is_at}
 use Rattle.mcs_merge.specs.laws.Calls.{Call, Add, Pour, after, taken, MayBeMade}
 
 -- a row of this core at this moment
@@ -74,3 +75,14 @@ they_may_be_made = (
   where
     may : {core clock : ℕ} {rows : List Row} {m : Merging} → core < length m.clocks → slice_index m.clocks core ≤ clock → AreFrom (slice_index m.clocks core) rows → IsListOf core rows clock → CanAdd core rows clock m
     may a b c d = record { is_core = a; no_earlier = b; from_clock = c; is_list = d }
+
+-- cores 0 and 2 are in the second set of a sweep, and the lowest is core 0
+in_a_set : (has (0 ∷ 5 ∷ []) 1 0 ≡ true) × (has (0 ∷ 5 ∷ []) 1 1 ≡ false) × (has (0 ∷ 5 ∷ []) 1 2 ≡ true) × (has (0 ∷ 5 ∷ []) 0 2 ≡ false)
+in_a_set = (refl, refl, refl, refl)
+
+-- a sweep from moment 10 to before moment 20 that has come to moment 12: which next moments it goes on to, and in which places
+abbrev ten : Sweep
+ten = record { sets = 0 ∷ 0 ∷ 5 ∷ []; start = 10; at = 2; end = 20 }
+
+goes_on_to : (is_at ten (Some 12) 2 ≡ true) × (is_at ten (Some 15) 5 ≡ true) × (is_at ten (Some 15) 4 ≡ false) × (is_at ten (Some 11) 1 ≡ false) × (is_at ten (Some 20) 10 ≡ false)
+goes_on_to = (refl, refl, refl, refl, refl)

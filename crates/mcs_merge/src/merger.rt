@@ -4,15 +4,26 @@ ghost use Rattle.mcs_ticks.specs.Given.{Given, GivenUntil};
 ghost use Rattle.mcs_merge.specs.Merge.{merged_before, DoNotFall};
 ghost use Rattle.mcs_merge.specs.Merging.{list_of, with_rows};
 ghost use Rattle.mcs_merge.specs.Parts.{all_from, first_of, parts_of, AreHeld, Hold, HoldEach};
-ghost use Rattle.mcs_merge.specs.stored.Heads.{head_of_next};
-ghost use Rattle.mcs_merge.specs.stored.Parts.{left_of_all, AreNext, IsInLine, IsNextCore, IsRefused, NoneBefore, Pours};
+ghost use Rattle.mcs_merge.specs.stored.Heads.{far, head_at, head_of_next};
+ghost use Rattle.mcs_merge.specs.stored.Parts.{left_of_all, AreNext, ArePouring, IsInLine, IsNextCore, IsRefused, IsStopped, NoneBefore, Pours};
+ghost use Rattle.mcs_merge.specs.stored.Sweep.{IsSwept};
 
 use crate::Part;
 use crate::heads::{Head, Heads};
+use crate::sweep::Sweep;
 use crate::waiting::Waiting;
-use mcs_ticks::{CoreId, NoMemory, Refused, Tick};
+use mcs_ticks::{CoreId, NoMemory, Refused, Soonest, Tick};
 use std::alloc::Global;
 use std::marker::Model;
+
+// So many steps are made in the tree of heads before a sweep is tried ..
+const FEW: u32 = 64;
+
+// .. and so many before the next, where a sweep gave out less than enough.
+const MANY: u32 = 1024;
+
+// Of so many moments of cores a sweep costs less than the tree.
+const ENOUGH: u32 = 32;
 
 /// A merge of parts, of which more are added while others are given out: by moment, then core, then place. Contracts see the parts of each
 /// core, one behind another.
@@ -76,10 +87,33 @@ impl<P: Part> Merger<P> {
             → OnErr result (GivenUntil P.Out.takes out.old (merged_before until lists) out.new) }
         ensures cores { length self.new ≡ length self.old }
     {
+        let mut steps = FEW;
         'moments: while let Some(core) = self.next_before(until) {
             self.pour(core, out)?;
+            if steps > 0 {
+                steps -= 1;
+            } else {
+                steps = self.sweep(until, out)?;
+            }
         }
         Ok(())
+    }
+
+    // Gives out what comes next within a few moments before this one. Answers after how many steps to try it again.
+    fn sweep(&mut self, until: Tick, out: &mut P::Out) -> Result<u32, Refused>
+        ensures goes_on { OnOk result (ArePouring P.Out.takes P.holds until out.old out.new self.old self.new) }
+        ensures stops { OnErr result (IsStopped P.Out.takes P.holds until out.old out.new self.old) }
+        ensures no_more { OnOk result (left_of_all P.left self.new ≤ left_of_all P.left self.old) }
+        ensures cores { length self.new ≡ length self.old }
+    {
+        let Some(core) = self.next_before(until) else {
+            return Ok(0);
+        };
+        let cores = self.cores.as_mut_slice();
+        let mut sweep = sweep_of(cores, core, until);
+        let poured = pour_sweep(cores, &mut sweep, out);
+        set_heads(&mut self.heads, cores);
+        Ok(if poured? < ENOUGH { MANY } else { 0 })
     }
 
     // The core whose first moment comes first, where that is before this moment.
@@ -133,11 +167,22 @@ fn heads_of<P: Part>(alloc: Global, cores: &[Waiting<P>]) -> Result<Heads, NoMem
     ensures { IfOk result (λ heads. AreNext P.first cores.now heads) }
 {
     let mut heads = Heads::new(alloc, cores.len())?;
+    set_heads(&mut heads, cores);
+    Ok(heads)
+}
+
+// Changes the head of each core.
+fn set_heads<P: Part>(heads: &mut Heads, cores: &[Waiting<P>])
+    requires few { length cores.now ≤ 64 }
+    requires enough { length cores.now ≤ length heads.old }
+    requires others { (i : ℕ) → length cores.now ≤ i → i < length heads.old → head_at i heads.old ≡ far }
+    requires in_line { (core : ℕ) → core < length cores.now → IsInLine P.first (parts_of core cores.now) }
+    ensures { AreNext P.first cores.now heads.new }
+{
     for core in 0..cores.len() {
         let head = head_at(cores, core);
         heads.set(core, head);
     }
-    Ok(heads)
 }
 
 // What comes next of a core.
@@ -146,7 +191,57 @@ fn head_at<P: Part>(cores: &[Waiting<P>], core: usize) -> Head
     requires few { core < 64 }
     ensures { result ≡ head_of_next core (first_of P.first (parts_of core cores.now)) }
 {
-    Head::of_next(core, cores[core].next())
+    Head::of_next(core, next_at(cores, core))
+}
+
+// The first moment of a core, or never.
+#[inline(always)]
+fn next_at<P: Part>(cores: &[Waiting<P>], core: usize) -> Soonest
+    requires { core < length cores.now }
+    ensures { result ≡ first_of P.first (parts_of core cores.now) }
+{
+    cores[core].next()
+}
+
+// A sweep from the first moment of this core, which comes first, with all cores in it.
+fn sweep_of<P: Part>(cores: &[Waiting<P>], core: usize, until: Tick) -> Sweep
+    requires next { IsNextCore P.first cores.now until core }
+    requires few { length cores.now ≤ 64 }
+    ensures swept { IsSwept P.first cores.now (λ d. d < length cores.now) result }
+    ensures end { result.end ≤ until }
+{
+    let start = next_at(cores, core).moment().unwrap();
+    let mut sweep = Sweep::new(start, until);
+    for d in 0..cores.len() {
+        sweep.put(d, next_at(cores, d));
+    }
+    sweep
+}
+
+// Gives out what comes next, core by core, as long as the sweep knows it. Answers how many moments of cores that was.
+fn pour_sweep<P: Part>(
+    cores: &mut [Waiting<P>],
+    sweep: &mut Sweep,
+    out: &mut P::Out,
+) -> Result<u32, Refused>
+    requires few { length cores.old ≤ 64 }
+    requires in_line { (core : ℕ) → core < length cores.old → IsInLine P.first (parts_of core cores.old) }
+    requires swept { IsSwept P.first cores.old (λ d. d < length cores.old) sweep.old }
+    ensures long { length cores.new ≡ length cores.old }
+    ensures in_line { (core : ℕ) → core < length cores.new → IsInLine P.first (parts_of core cores.new) }
+    ensures no_more { OnOk result (left_of_all P.left cores.new ≤ left_of_all P.left cores.old) }
+    ensures goes_on { (until : ℕ) → sweep.old.end ≤ until → OnOk result (ArePouring P.Out.takes P.holds until out.old out.new cores.old cores.new) }
+    ensures stops { (until : ℕ) → sweep.old.end ≤ until → OnErr result (IsStopped P.Out.takes P.holds until out.old out.new cores.old) }
+{
+    let mut poured = 0u32;
+    'cores: while let Some(core) = sweep.take() {
+        pour_of(cores, core, out)?;
+        poured = poured.saturating_add(1);
+        if !sweep.put(core, next_at(cores, core)) {
+            return Ok(poured);
+        }
+    }
+    Ok(poured)
 }
 
 // Adds a part of a core.
@@ -170,6 +265,7 @@ fn add_to<P: Part>(
 }
 
 // Gives out all rows of the first moment that the first part of a core has.
+#[inline(always)]
 fn pour_of<P: Part>(cores: &mut [Waiting<P>], core: usize, out: &mut P::Out) -> Result<(), Refused>
     requires within { core < length cores.old }
     requires some { IsSome (first_of P.first (parts_of core cores.old)) }

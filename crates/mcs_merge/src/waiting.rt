@@ -76,6 +76,7 @@ impl<P: Part> Waiting<P> {
     }
 
     /// Gives out all rows of the first moment that the part at the front has.
+    #[inline(always)]
     pub(crate) fn pour(&mut self, out: &mut P::Out) -> Result<(), Refused>
         requires { IsSome (first_of P.first self.old) }
         ensures in_line { IsInLine P.first self.new }

@@ -36,6 +36,21 @@ fn six_cores(alloc: Global) -> Result<Merger<RowPart<Vec<Row>>>, Fail>
 }
 
 // Adds a part of a core.
+fn add_part(
+    merger: &mut Merger<RowPart<Vec<Row>>>,
+    core: usize,
+    part: RowPart<Vec<Row>>,
+) -> Result<(), Fail>
+    requires { core < length merger.old }
+    ensures { length merger.new ≡ length merger.old }
+{
+    match merger.add(CoreId(core), part) {
+        Ok(_) => Ok(()),
+        Err((_, refusal)) => Err(Fail::from(refusal)),
+    }
+}
+
+// Adds rows of a core.
 fn add(
     alloc: Global,
     merger: &mut Merger<RowPart<Vec<Row>>>,
@@ -46,10 +61,7 @@ fn add(
     ensures { length merger.new ≡ length merger.old }
 {
     let part = part_of(alloc, core, rows)?;
-    match merger.add(CoreId(core), part) {
-        Ok(_) => Ok(()),
-        Err((_, refusal)) => Err(Fail::from(refusal)),
-    }
+    add_part(merger, core, part)
 }
 
 // The moment, core and number of each row that is given before a moment.
@@ -145,5 +157,89 @@ fn the_room_of_a_part_is_given_back(rt: HostRuntime) -> Result<(), Fail> {
         return Err(Fail::from("a part of which all was given"));
     };
     assert_eq!(rt; room.into_room().len(), 0);
+    Ok(())
+}
+
+// Whether a core has a row in this place of a list of moments.
+fn has_row(core: usize, place: u64) -> bool {
+    place % 3 == core as u64 % 3
+}
+
+// Rows of a core in the places from one to before another, which lie so many ticks apart.
+fn part_between(
+    alloc: Global,
+    core: usize,
+    gap: u64,
+    from: u64,
+    to: u64,
+) -> Result<RowPart<Vec<Row>>, Fail> {
+    let mut rows = Vec::new(alloc);
+    for place in from..to {
+        if has_row(core, place) {
+            rows.push((place.saturating_mul(gap), core))?;
+        }
+    }
+    part_of(alloc, core, rows.as_slice())
+}
+
+// A merger of six cores with rows in places up to 200.
+fn six_long_cores(alloc: Global, gap: u64) -> Result<Merger<RowPart<Vec<Row>>>, Fail>
+    ensures { IfOk result (λ merger. length merger ≡ 6) }
+{
+    let parts = [
+        part_between(alloc, 0, gap, 0, 200)?,
+        part_between(alloc, 1, gap, 0, 200)?,
+        part_between(alloc, 2, gap, 0, 200)?,
+        part_between(alloc, 3, gap, 0, 200)?,
+        part_between(alloc, 4, gap, 0, 200)?,
+        part_between(alloc, 5, gap, 0, 200)?,
+    ];
+    Ok(Merger::new(alloc, Vec::from_array(alloc, parts)?)?)
+}
+
+// Adds to each of six cores its rows in places from 200 to before 400.
+fn add_later(alloc: Global, merger: &mut Merger<RowPart<Vec<Row>>>, gap: u64) -> Result<(), Fail>
+    requires { length merger.old ≡ 6 }
+{
+    add_part(merger, 0, part_between(alloc, 0, gap, 200, 400)?)?;
+    add_part(merger, 1, part_between(alloc, 1, gap, 200, 400)?)?;
+    add_part(merger, 2, part_between(alloc, 2, gap, 200, 400)?)?;
+    add_part(merger, 3, part_between(alloc, 3, gap, 200, 400)?)?;
+    add_part(merger, 4, part_between(alloc, 4, gap, 200, 400)?)?;
+    add_part(merger, 5, part_between(alloc, 5, gap, 200, 400)?)
+}
+
+// What is given of six cores whose rows lie so many ticks apart, in two calls and in parts of 200 places.
+fn poured_in_two(alloc: Global, gap: u64) -> Result<Vec<(u64, usize, usize)>, Fail> {
+    let mut merger = six_long_cores(alloc, gap)?;
+    let mut rows = poured(alloc, &mut merger, gap.saturating_mul(150))?;
+    add_later(alloc, &mut merger, gap)?;
+    for row in poured(alloc, &mut merger, gap.saturating_mul(400))? {
+        rows.push(row)?;
+    }
+    Ok(rows)
+}
+
+// The same rows, moment by moment and core by core.
+fn in_order(alloc: Global, gap: u64) -> Result<Vec<(u64, usize, usize)>, Fail> {
+    let mut rows = Vec::new(alloc);
+    for place in 0..400 {
+        for core in 0..6 {
+            if has_row(core, place) {
+                rows.push((place.saturating_mul(gap), core, core))?;
+            }
+        }
+    }
+    Ok(rows)
+}
+
+#[test]
+fn many_rows_are_given_in_order_close_together_and_far_apart(rt: HostRuntime) -> Result<(), Fail> {
+    let alloc = rt.alloc();
+    for gap in [1, 5, 100] {
+        let rows = poured_in_two(alloc, gap)?;
+        let want = in_order(alloc, gap)?;
+        assert_eq!(rt; rows.as_slice(), want.as_slice());
+    }
     Ok(())
 }

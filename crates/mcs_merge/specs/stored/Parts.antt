@@ -2,7 +2,8 @@
 use Rattle.std.specs.Prelude.{◌≡◌, ◌⊎◌, ℕ, Bool, ◌+◌, ◌<◌, ◌≤◌, List, [], ◌∷◌, ◌++◌, length, All, Option, Some, None, IfSome, IsSome}
 use Rattle.mcs_ticks.specs.declared.row.Row.{Row}
 use Rattle.mcs_ticks.specs.Given.{Given, GivenUntil}
-use Rattle.mcs_merge.specs.Parts.{first_of, parts_of, Hold}
+use Rattle.mcs_merge.specs.Merge.{merged_before, DoNotFall}
+use Rattle.mcs_merge.specs.Parts.{all_from, first_of, parts_of, AreHeld, Hold}
 use Rattle.mcs_merge.specs.declared.heads.Head.{Head}
 use Rattle.mcs_merge.specs.stored.Heads.{far, head_at, head_of_next}
 
@@ -77,3 +78,22 @@ module _ {O : Type 0} {P : Type 0} (takes : O → Row → Bool → O → Type 0)
     pub split : rows ≡ now ++ rest
     pub at : AreAt t now
     pub given : GivenUntil takes before now after
+
+  -- what is given of all lists so far, and what is left
+  pub record IsPouring (until : ℕ) (lists : List (List Row)) (before out : O) (cores : List (List P)) : Type 0 where
+    pub left : List (List Row)
+    pub in_order : All DoNotFall left
+    pub held : AreHeld holds out cores left
+    pub from : all_from until left ≡ all_from until lists
+    pub goes_on : (after : O) → Given takes out (merged_before until left) after → Given takes before (merged_before until lists) after
+    pub stops : (after : O) → GivenUntil takes out (merged_before until left) after → GivenUntil takes before (merged_before until lists) after
+
+  -- the same of any lists that the parts held at first
+  pub record ArePouring (until : ℕ) (before out : O) (cores now : List (List P)) : Type 0 where
+    pub long : length now ≡ length cores
+    pub pouring : (lists : List (List Row)) → All DoNotFall lists → AreHeld holds before cores lists → IsPouring until lists before out now
+
+  -- some rows of any lists that the parts held were given, and then one was refused
+  abbrev pub IsStopped : ℕ → O → O → List (List P) → Type 0
+  IsStopped until before after cores =
+      (lists : List (List Row)) → All DoNotFall lists → AreHeld holds before cores lists → GivenUntil takes before (merged_before until lists) after

@@ -1,7 +1,7 @@
 use Rattle.std.proofs.Common.{◌≡◌, ℕ, ◌<◌, ◌≤◌, length}
 use Rattle.mcs_merge.specs.Parts.{first_of, parts_of}
 use Rattle.mcs_merge.specs.stored.Heads.{far, head_at, head_of_next}
-use Rattle.mcs_merge.proofs.merger.heads_of.Given as goal
+use Rattle.mcs_merge.proofs.merger.set_heads.Given as goal
 
 abbrev pub invariant-loop-core : goal.invariant-loop-core
 invariant-loop-core g l = record {
