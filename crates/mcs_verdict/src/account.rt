@@ -40,12 +40,14 @@ pub fn first_wait(part: &ThreadPart) -> Option<NoteId>
     }
 }
 
+#[inline(always)]
 fn is_active(standing: Standing) -> bool
     ensures { result ≡ is_active standing }
 {
     matches!(standing, Standing::Ready | Standing::Running)
 }
 
+#[inline(always)]
 fn later(a: Tick, b: Tick) -> Tick
     ensures { result ≡ max a b }
 {
@@ -63,6 +65,7 @@ fn or_first(earlier: Option<Tick>, active: bool, from: Tick, to: Tick) -> Option
 }
 
 // The same, kept where the earlier tick is.
+#[inline(always)]
 fn note_first(earlier: &mut Option<Tick>, active: bool, from: Tick, to: Tick)
     ensures { earlier.new ≡ or_first earlier.old active from to }
 {
@@ -145,6 +148,7 @@ impl Account {
     }
 
     // The ticks up to some moment, in which the thread stood so, are of the round that is under way.
+    #[inline(always)]
     fn pass(&mut self, moment: Tick, standing: Standing)
         ensures { all_kept self.old + moment < 2 ^ 64 → self.new ≡ passed moment standing self.old }
     {
@@ -157,6 +161,7 @@ impl Account {
     }
 
     // A row that says how the thread stands from now on, which stood so until now.
+    #[inline(always)]
     fn tell(&mut self, standing: Standing, moment: Tick, what: &What)
         ensures { all_kept self.old + moment < 2 ^ 64 → self.new ≡ told_from standing moment what.now self.old }
     {
@@ -176,6 +181,7 @@ impl Account {
     }
 
     // A word that was set at some moment.
+    #[inline(always)]
     fn give(&mut self, moment: Tick, set: Tick)
         ensures { self.new ≡ given moment set self.old }
     {
@@ -194,6 +200,7 @@ impl Account {
     }
 
     // Another thread took the processor.
+    #[inline(always)]
     fn preempt(&mut self)
         ensures { self.new ≡ preempted self.old }
     {
@@ -203,6 +210,7 @@ impl Account {
     }
 
     // What a telling row begins or ends.
+    #[inline(always)]
     fn turn(&mut self, moment: Tick, what: &What)
         ensures { self.new ≡ turned moment what.now self.old }
     {
@@ -218,6 +226,7 @@ impl Account {
     }
 
     // A row of this thread; a word that it takes was set at some moment.
+    #[inline(always)]
     pub(crate) fn see(&mut self, set: Tick, moment: Tick, what: &What)
         ensures { all_kept self.old + moment < 2 ^ 64 → self.new ≡ seen_own set moment what.now self.old }
     {

@@ -84,6 +84,7 @@ fn word_for(words: &[Held], waits: Option<NoteId>) -> Held
 }
 
 // `set` is when the word was set that the row says is taken.
+#[inline(always)]
 fn tell_accounts(accounts: &mut [Account], set: Tick, row: &Row)
     ensures { (notes : ℕ) (parts : List TheThread) (past : List TheRow) → accounts.old ≡ accounts_of notes 0 parts past →
         set ≡ set_for notes past row.now.what → UpTo row.now.moment past →
