@@ -47,6 +47,7 @@ impl<'a, T: Target> Lines<'a, T> {
     }
 
     /// Puts lines of the system behind those that wait. They are refused only where the target has failed.
+    #[inline(always)]
     pub(crate) fn append(&mut self, lines: &[u8]) -> Result<(), Refused>
         ensures { PutsLines T.contents T.has_failed self.old lines.now (is_ok result) self.new }
     {
@@ -62,6 +63,14 @@ impl<'a, T: Target> Lines<'a, T> {
         if self.page.len() < self.limit {
             return Ok(());
         }
+        self.write_waiting()
+    }
+
+    /// Writes the lines that wait. More of them are enough from then on.
+    #[inline(never)]
+    fn write_waiting(&mut self) -> Result<(), Refused>
+        ensures { PutsLines T.contents T.has_failed self.old [] (is_ok result) self.new }
+    {
         write_lines(self.target, self.page)?;
         self.limit = self.limit.saturating_mul(2).min(Page::FULL);
         Ok(())
@@ -96,8 +105,8 @@ fn make_room<T: Target>(target: &mut T, page: &mut Page) -> Result<(), Refused>
     write_lines(target, page)
 }
 
-/// Puts lines on a page, of which those that wait there are written first where there is no room for both. Lines for which no page has room are
-/// written at once.
+/// Puts lines on a page, of which those that wait there are written first where there is no room for both.
+#[inline(always)]
 fn put<T: Target>(target: &mut T, page: &mut Page, lines: &[u8]) -> Result<(), Refused>
     ensures written { OnOk result (AppendsBefore (T.contents target.old) (T.contents target.new) (page.old ++ lines.now) page.new) }
     ensures working { OnOk result (T.has_failed target.new ≡ T.has_failed target.old) }
@@ -108,6 +117,17 @@ fn put<T: Target>(target: &mut T, page: &mut Page, lines: &[u8]) -> Result<(), R
         page.append(lines);
         return Ok(());
     }
+    put_on_next(target, page, lines)
+}
+
+/// Writes the lines of a page, and puts others there. Lines for which no page has room are written at once.
+#[inline(never)]
+fn put_on_next<T: Target>(target: &mut T, page: &mut Page, lines: &[u8]) -> Result<(), Refused>
+    ensures written { OnOk result (AppendsBefore (T.contents target.old) (T.contents target.new) (page.old ++ lines.now) page.new) }
+    ensures working { OnOk result (T.has_failed target.new ≡ T.has_failed target.old) }
+    ensures prefix { OnErr result (AppendsPrefix (T.contents target.old) (T.contents target.new) (page.old ++ lines.now)) }
+    ensures failed { OnErr result (T.has_failed target.new ≡ true) }
+{
     write_lines(target, page)?;
     if lines.len() <= Page::FULL {
         page.append(lines);

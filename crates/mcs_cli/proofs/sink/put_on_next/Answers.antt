@@ -1,6 +1,6 @@
 use Rattle.mcs_merge.proofs.Helds.{err_same}
 use Rattle.mcs_cli.proofs.Flow.{prefix-longer, refused-through, written-through}
-use Rattle.mcs_cli.proofs.sink.put.Goals as goal
+use Rattle.mcs_cli.proofs.sink.put_on_next.Goals as goal
 
 pub returns-in_err-write_lines-clause-prefix : goal.returns-in_err-write_lines-clause-prefix
 returns-in_err-write_lines-clause-prefix g c =
