@@ -1,6 +1,7 @@
 ghost use Rattle.std.specs.Prelude.{◌≡◌, ◌≤◌, ◌==◌, ◌⊎◌, true, false, OnOk, OnErr};
 ghost use Rattle.mcs_search.specs.Compared.{with_kept};
 ghost use Rattle.mcs_search.specs.Sampling.{StandsOn, GoesOn};
+ghost use Rattle.mcs_search.specs.declared.sampling.Rest.TheVariants.{NotYet};
 
 use crate::Search;
 use mcs_ticks::{NoMemory, Row};
@@ -28,7 +29,9 @@ pub struct Sampling {
 
 impl Sampling {
     /// From the first moment on.
-    pub fn new() -> Self {
+    pub fn new() -> Self
+        ensures { (result.stretch ≡ 1) × (result.left ≡ 1) × (result.rest ≡ NotYet) }
+    {
         Sampling {
             stretch: 1,
             left: 1,
