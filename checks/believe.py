@@ -56,8 +56,8 @@ ROOTS = (
         Clause('mcs_team/src/to_sink.rt', 'simulate_to', 'headline', ('Headline',)),
         Clause('mcs_team/src/to_sink.rt', 'schedule_to', 'headline', ('Headline',)),
         Clause('mcs_team/src/reporting.rt', 'report', 'headline', ('Headline',)),
-        Clause('mcs_team/src/snapshot.rt', 'probe', 'views', ('views_before',)),
-        Clause('mcs_team/src/snapshot.rt', 'probe', 'budgets', ('BudgetsStand',)),
+        Clause('mcs_team/src/whole.rt', 'probe', 'views', ('views_before',)),
+        Clause('mcs_team/src/whole.rt', 'probe', 'budgets', ('BudgetsStand',)),
     )),
     Root('sink', (
         Clause('mcs_team/src/to_sink.rt', 'simulate_to', 'given', ('Given',)),

@@ -11,7 +11,7 @@ use Rattle.mcs_cli.specs.Flow.{IsWriteFault}
 use Rattle.mcs_cli.specs.Run.{IsRead}
 use Rattle.mcs_cli.specs.declared.fault.RunFault.{RunFault}
 use Rattle.mcs_cli.specs.declared.fault.RunFault.TheVariants as run
-use Rattle.mcs_team.specs.declared.fault.SimFault.TheVariants.{NoMemory}
+use Rattle.mcs_team.specs.declared.run.SimFault.TheVariants.{NoMemory}
 use Rattle.mcs_why.specs.declared.span.Span.{Span}
 use Rattle.mcs_why.specs.declared.span.Sought.{Sought}
 use Rattle.mcs_why.specs.declared.span.Sought.TheVariants.{There, Missing}

@@ -3,7 +3,7 @@ use Rattle.std.proofs.Common.{◌≡◌, ℕ, Bool, true, false, List, Option, S
 use Rattle.std.specs.Prelude.{Result, Ok, Err}
 use Rattle.std.specs.Io.KnownBytes.{Appends, Keeps}
 use Rattle.mcs_system.specs.System.{System}
-use Rattle.mcs_team.specs.declared.fault.SimFault.{SimFault}
+use Rattle.mcs_team.specs.declared.run.SimFault.{SimFault}
 use Rattle.mcs_cli.specs.Devices.{AppendsPrefix}
 use Rattle.mcs_cli.specs.Run.{IsRead}
 use Rattle.mcs_cli.specs.declared.fault.RunFault.{RunFault}

@@ -2,7 +2,7 @@
 ghost use Rattle.std.specs.Prelude.{◌≡◌, ◌^◌, ◌≤◌, ℕ, List, Bool, Option, None, Err, true, false, IfOk, IfSome};
 ghost use Rattle.std.specs.Arc.{arc_value};
 ghost use Rattle.mcs_cli.specs.declared.fault.RunFault.TheVariants as fault;
-ghost use Rattle.mcs_team.specs.declared.fault.SimFault.TheVariants as memory;
+ghost use Rattle.mcs_team.specs.declared.run.SimFault.TheVariants as memory;
 ghost use Rattle.mcs_check.specs.Check.{names_of};
 ghost use Rattle.mcs_check.specs.declared.fault.CheckFault.TheVariants as check;
 ghost use Rattle.mcs_outlook.specs.Outlook.{AreTold};

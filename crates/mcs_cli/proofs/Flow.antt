@@ -8,7 +8,7 @@ use Rattle.mcs_cli.specs.Devices.{AppendsPrefix}
 use Rattle.mcs_cli.specs.Flow.{AppendsBefore, IsWriteFault, TakesLine}
 use Rattle.mcs_cli.specs.declared.fault.RunFault.{RunFault}
 use Rattle.mcs_cli.specs.declared.fault.RunFault.TheVariants as fault
-use Rattle.mcs_team.specs.declared.fault.SimFault.TheVariants.{NoMemory}
+use Rattle.mcs_team.specs.declared.run.SimFault.TheVariants.{NoMemory}
 
 take-front : (xs ys : List ℕ) → take (length xs) (xs ++ ys) ≡ xs
 take-front [] ys = refl

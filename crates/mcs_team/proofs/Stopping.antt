@@ -5,8 +5,8 @@ use Rattle.mcs_ticks.specs.declared.sink.FlowFault.{FlowFault}
 use Rattle.mcs_ticks.specs.declared.sink.FlowFault.TheVariants as fault
 use Rattle.mcs_system.specs.System.{System, TakesTime}
 use Rattle.mcs_team.specs.Flow.{FailsFrom, IsFlowFault, IsGivenBetween, IsStop, Waits}
-use Rattle.mcs_team.specs.declared.fault.Stop.{Stop}
-use Rattle.mcs_team.specs.declared.fault.Stop.TheVariants.{Fault, Odd}
+use Rattle.mcs_team.specs.declared.run.Stop.{Stop}
+use Rattle.mcs_team.specs.declared.run.Stop.TheVariants.{Fault, Odd}
 use Rattle.mcs_team.proofs.Rounds.{given-none, given-further, fails-further, stops-at}
 
 -- what waits is of moments up to one past the horizon

@@ -7,8 +7,8 @@ use Rattle.mcs_system.specs.System.{System}
 use Rattle.mcs_core.specs.Clock.{clock, schedule}
 use Rattle.mcs_stretch.specs.laws.Merging.{rows_until}
 use Rattle.mcs_window.specs.Desk.{Table, clock_of, taken_of, AllAreHere}
-use Rattle.mcs_team.specs.declared.fault.Stop.{Stop}
-use Rattle.mcs_team.specs.declared.fault.Stop.TheVariants.{Fault, Odd}
+use Rattle.mcs_team.specs.declared.run.Stop.{Stop}
+use Rattle.mcs_team.specs.declared.run.Stop.TheVariants.{Fault, Odd}
 use Rattle.mcs_ticks.specs.declared.sink.FlowFault.{FlowFault}
 use Rattle.mcs_ticks.specs.declared.sink.FlowFault.TheVariants as fault
 

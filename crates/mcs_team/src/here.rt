@@ -7,8 +7,7 @@ ghost use Rattle.mcs_ticks.specs.Given.{Given};
 ghost use Rattle.mcs_team.specs.Flow.{FailsFrom, IsClear, IsFlowFault, IsGivenBetween, Waits};
 ghost use Rattle.mcs_window.specs.Desk.{opening_table, AreEmpty};
 
-use crate::outflow::Outflow;
-use crate::relay::{Relay, RowRelay};
+use crate::outflow::{Outflow, Relay, RowRelay};
 use crate::run::Run;
 use crate::whole::Kept;
 use crate::{FlowFault, Gate, Open};

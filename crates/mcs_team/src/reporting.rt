@@ -9,9 +9,8 @@ ghost use Rattle.mcs_team.specs.Counts.{AreWhole};
 ghost use Rattle.mcs_team.specs.Headline.{Headline};
 ghost use Rattle.mcs_window.specs.Desk.{taken_of, AllAreHere, IsFinished};
 
-use crate::gate::reached;
 use crate::own_tally::{OwnTally, are_in_place, counted, counting, tallies_of_cores};
-use crate::run::Run;
+use crate::run::{Run, reached};
 use crate::shared_desk::Brim;
 use crate::team::{Team, crew, silent_desk};
 use crate::telling::{Tellings, Untold};

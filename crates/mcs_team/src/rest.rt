@@ -6,11 +6,9 @@ ghost use Rattle.mcs_system.specs.WellFormed.{IsWellFormed};
 ghost use Rattle.mcs_team.specs.Flow.{AreAtClocks, AreTakenTo, FailsFrom, IsClear, IsGivenBetween, IsStop, Waits};
 ghost use Rattle.mcs_window.specs.Desk.{clock_of, taken_at, taken_of, IsFinished};
 
-use crate::by_core::Plan;
-use crate::fault::Stop;
 use crate::here::{empty_told, flow_rounds};
 use crate::outflow::Outflow;
-use crate::run::Run;
+use crate::run::{Plan, Run, Stop};
 use crate::team::Team;
 use crate::telling::{Telling, Untold};
 use crate::{FlowFault, Gate, Relay};

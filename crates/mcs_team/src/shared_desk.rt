@@ -3,9 +3,8 @@ ghost use Rattle.std.specs.Prelude.{◌≡◌, ◌⊎◌, ◌≤◌, ℕ, ◌<�
 ghost use Rattle.mcs_stretch.specs.Stretch.{rows_between};
 ghost use Rattle.mcs_window.specs.Desk.{clock_of, settled_at, with_lost, AllAreHere};
 
-use crate::gate::reached;
-use crate::pace::Pace;
-use crate::run::Run;
+use crate::run::{Run, reached};
+use crate::team::Pace;
 use crate::telling::{Errand, Telling, Tellings, Told, Untold};
 use mcs_ticks::{Collector, CoreId, Limits, Nothing, Tick};
 use mcs_window::{Desk, Done, Front, Lost, Piece, SettleFault};

@@ -4,11 +4,9 @@ ghost use Rattle.std.specs.Arc.{arc_value};
 ghost use Rattle.mcs_system.specs.WellFormed.{IsWellFormed};
 ghost use Rattle.mcs_team.specs.Flow.{IsGivenBetween, IsStop, Waits};
 
-use crate::by_core::Plan;
-use crate::fault::Stop;
 use crate::outflow::Outflow;
 use crate::rest::{go_on_alone, stop_at};
-use crate::run::Run;
+use crate::run::{Plan, Run, Stop};
 use crate::shared_desk::Brim;
 use crate::team::{Team, crew, silent_desk};
 use crate::telling::{Telling, Tellings};

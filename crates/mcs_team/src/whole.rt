@@ -1,17 +1,20 @@
-//! Whole simulations whose rows are kept.
-ghost use Rattle.std.specs.Prelude.{◌≡◌, [], ◌≤◌, ◌^◌, IfOk};
+//! Whole simulations whose rows are kept, and all contexts at a moment.
+ghost use Rattle.std.specs.Prelude.{◌≡◌, [], ◌≤◌, ◌^◌, ◌+◌, IfOk};
 ghost use Rattle.std.specs.Arc.{arc_value};
 ghost use Rattle.mcs_core.specs.Clock.{schedule};
 ghost use Rattle.mcs_report.specs.Reports.{reports_of};
 ghost use Rattle.mcs_report.specs.laws.Bandwidth.{RunsWithinBandwidth};
 ghost use Rattle.mcs_report.specs.laws.Demand.{AreWithinDemand};
-ghost use Rattle.mcs_team.specs.Headline.{Headline};
+ghost use Rattle.mcs_team.specs.Headline.{Headline, BudgetsStand};
+ghost use Rattle.mcs_window.specs.Views.{views_before};
 
 use crate::here::rows_here;
 use crate::{FlowFault, Gate, Refused, SimFault, Sink, simulate_to};
+use mcs_control::ContextView;
 use mcs_report::{Reports, Tally, bandwidth_is_bounded, demand_is_bounded, schedules_are_reported};
 use mcs_system::System;
-use mcs_ticks::{Row, Sequence, Tick};
+use mcs_ticks::{Nothing, Row, Sequence, Tick};
+use mcs_window::Desk;
 use std::alloc::Global;
 use std::sync::{Arc, Wait};
 use std::thread::Threads;
@@ -110,4 +113,22 @@ pub fn simulate<R: Threads + Wait + Sync, G: Gate + Sync>(
         // The rows are kept, and `Kept` refuses one only where a growth of its vector is refused.
         Err(FlowFault::NoMemory | FlowFault::Sink) => Err(SimFault::NoMemory),
     }
+}
+
+/// All contexts in file order, each once, as they are after all turns of moment `t`, which is at most 2^40. Each shows its whole budget in
+/// force then: a sporadic one refills that neither touch nor overlap, whose amounts sum to the budget, at most `2 + extra` of them, which
+/// span at most the period; a round robin one 1 to the budget left. Ticks in use are ticks of the head, and there are none unless the
+/// context's thread runs. It knows no horizon.
+pub fn probe(alloc: Global, system: Arc<System>, t: Tick) -> Result<Vec<ContextView>, SimFault>
+    requires { t ≤ 2 ^ 40 }
+    ensures views { IfOk result (λ views. views.items ≡ views_before (arc_value system) (t + 1)) }
+    ensures budgets { IfOk result (λ views. BudgetsStand (arc_value system) t views.items) }
+{
+    let Ok(told) = vec![in alloc; Nothing; system.parts().cores] else {
+        return Err(SimFault::NoMemory);
+    };
+    let mut desk = Desk::opened(alloc, system, t, told)?;
+    desk.go(usize::MAX)?;
+    let views = desk.contexts(alloc)?;
+    Ok(views)
 }

@@ -11,7 +11,7 @@ use Rattle.mcs_verdict.specs.Words.{merges}
 use Rattle.mcs_table.specs.Table.{Table, table_of}
 use Rattle.mcs_cli.specs.declared.fault.RunFault.{RunFault}
 use Rattle.mcs_cli.specs.declared.fault.RunFault.TheVariants as fault
-use Rattle.mcs_team.specs.declared.fault.SimFault.TheVariants.{NoMemory}
+use Rattle.mcs_team.specs.declared.run.SimFault.TheVariants.{NoMemory}
 use Rattle.mcs_check_words.specs.declared.asked.Format.{Format}
 use Rattle.mcs_check_words.specs.declared.asked.Show.{Show}
 use Rattle.mcs_check_words.specs.declared.asked.Show.TheVariants as show

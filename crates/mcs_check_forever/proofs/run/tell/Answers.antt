@@ -3,7 +3,7 @@ use Rattle.std.specs.Prelude.{Err}
 use Rattle.std.specs.Io.KnownBytes.{Appends}
 use Rattle.mcs_cli.specs.Devices.{AppendsPrefix}
 use Rattle.mcs_cli.specs.declared.fault.RunFault.TheVariants as run
-use Rattle.mcs_team.specs.declared.fault.SimFault.TheVariants as memory
+use Rattle.mcs_team.specs.declared.run.SimFault.TheVariants as memory
 use Rattle.mcs_check.specs.Allowed.{IsUnknownFault, first_unknown}
 use Rattle.mcs_check.specs.Check.{names_of}
 use Rattle.mcs_check.specs.declared.fault.CheckFault.TheVariants as check

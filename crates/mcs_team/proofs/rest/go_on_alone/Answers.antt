@@ -2,7 +2,7 @@ use Rattle.std.proofs.Common.{◌≡◌, ◌⊎◌, subst}
 use Rattle.mcs_system.proofs.Linked.{takes_time}
 use Rattle.mcs_ticks.specs.declared.sink.FlowFault.TheVariants as fault
 use Rattle.mcs_team.specs.Flow.{FailsFrom}
-use Rattle.mcs_team.specs.declared.fault.Stop.TheVariants.{Fault, Odd}
+use Rattle.mcs_team.specs.declared.run.Stop.TheVariants.{Fault, Odd}
 use Rattle.mcs_team.proofs.Stopping.{stops-here, waits-in-time}
 use Rattle.mcs_team.proofs.rest.go_on_alone.Goals as goal
 

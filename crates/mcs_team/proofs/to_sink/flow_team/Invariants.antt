@@ -1,5 +1,5 @@
 use Rattle.std.specs.Arc.{arc_value}
-use Rattle.mcs_team.proofs.by_core.flow_team.Given as goal
+use Rattle.mcs_team.proofs.to_sink.flow_team.Given as goal
 
 -- the system and the horizon of the plan
 abbrev pub ghosts-flow_beside : goal.ghosts-flow_beside

@@ -2,7 +2,7 @@ use Rattle.std.proofs.Common.{◌≡◌, List, rules, subst}
 use Rattle.mcs_ticks.specs.declared.row.Row.{Row}
 use Rattle.mcs_ticks.specs.Given.{Given, GivenUntil}
 use Rattle.mcs_team.proofs.Giving.{on_err}
-use Rattle.mcs_team.proofs.relay.RowRelayRelay.give.Goals as goal
+use Rattle.mcs_team.proofs.outflow.RowRelayRelay.give.Goals as goal
 
 pub returns-in_err-give_all-clause-refused : goal.returns-in_err-give_all-clause-refused
 returns-in_err-give_all-clause-refused g c = λ rows fits told.

@@ -9,7 +9,7 @@ use Rattle.mcs_window.proofs.Dealing.{views-at_one}
 use Rattle.mcs_window.proofs.Shown.{views-shown}
 use Rattle.mcs_team.specs.Headline.{BudgetsStand}
 use Rattle.mcs_team.proofs.Endings.{ends}
-use Rattle.mcs_team.proofs.snapshot.probe.Goals as goal
+use Rattle.mcs_team.proofs.whole.probe.Goals as goal
 
 at-end : (system : System) (t : ℕ) (start desk : Table) (views : List ContextView) → IsWellFormed system → start ≡ opening_table system t → IsLater start desk → IsFinished desk →
     views ≡ views_at desk.system desk.clocks → views ≡ views_before system (t + 1)

@@ -1,6 +1,6 @@
 use Rattle.std.proofs.Common.{rules}
 use Rattle.mcs_team.proofs.Giving.{on_err, gives-more, gives-until}
-use Rattle.mcs_team.proofs.relay.give_all.Goals as goal
+use Rattle.mcs_team.proofs.outflow.give_all.Goals as goal
 
 pub returns-in_err-row-clause-refused : goal.returns-in_err-row-clause-refused
 returns-in_err-row-clause-refused g c =

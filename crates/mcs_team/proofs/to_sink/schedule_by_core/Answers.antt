@@ -5,7 +5,7 @@ use Rattle.mcs_core.specs.Clock.{schedule}
 use Rattle.mcs_report.specs.Reports.{reports_of}
 use Rattle.mcs_team.proofs.Giving.{known_on_ok}
 use Rattle.mcs_team.proofs.Headlines.{whole-headline}
-use Rattle.mcs_team.proofs.by_core.schedule_by_core.Goals as goal
+use Rattle.mcs_team.proofs.to_sink.schedule_by_core.Goals as goal
 
 pub returns-then-workers-lt2-clause-bandwidth : goal.returns-then-workers-lt2-clause-bandwidth
 returns-then-workers-lt2-clause-bandwidth g c =

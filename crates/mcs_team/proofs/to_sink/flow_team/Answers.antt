@@ -4,7 +4,7 @@ use Rattle.mcs_team.specs.Flow.{IsGivenBetween}
 use Rattle.mcs_team.proofs.Giving.{on_ok}
 use Rattle.mcs_team.proofs.Rounds.{given-further, given-whole}
 use Rattle.mcs_team.proofs.Waiting.{fits-given}
-use Rattle.mcs_team.proofs.by_core.flow_team.Goals as goal
+use Rattle.mcs_team.proofs.to_sink.flow_team.Goals as goal
 
 pub simulate_again-requires-clause-fits : goal.simulate_again-requires-clause-fits
 simulate_again-requires-clause-fits g c =
