@@ -19,8 +19,19 @@ use std::alloc::Global;
 use std::marker::Brand;
 use std::sync::Arc;
 
-// With so much on the desk it is taken.
+// With so much of the only core on the desk it is taken.
 const ENOUGH: usize = 2048;
+
+// Of several cores it is taken with so much of each ..
+const OF_EACH: usize = 32;
+
+// .. and at least with so much in all. It may all be of one core, and room for it is made in turn with each.
+const IN_ALL: usize = 512;
+
+// With so much on a desk of so many cores it is taken.
+fn enough_of(cores: usize) -> usize {
+    cores.saturating_mul(OF_EACH).max(IN_ALL)
+}
 
 /// Takes the turns that are left in rounds, and gives out what was told in each round before the clocks of all cores.
 pub(crate) fn flow_rounds<B: Run, W: Relay, G: Gate>(
@@ -38,7 +49,7 @@ pub(crate) fn flow_rounds<B: Run, W: Relay, G: Gate>(
     ensures fault { IfErr result (FailsFrom W.Part.Out.takes B.system B.horizon flow.reached out.old out.new) }
 {
     'rounds: while !flow.is_over() {
-        let Ok(()) = desk.go(ENOUGH) else {
+        let Ok(()) = desk.go(enough_of(flow.pasts.len())) else {
             return Err(FlowFault::NoMemory);
         };
         let Ok(()) = flow.gather::<B>(relay, &mut desk) else {

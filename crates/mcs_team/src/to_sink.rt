@@ -24,8 +24,8 @@ use std::marker::Brand;
 use std::sync::{Arc, Wait};
 use std::thread::Threads;
 
-/// The whole simulation up to the horizon, at most 2^40, whose rows go to a sink: the schedule's, in order, a few
-/// thousand at a time, once the clocks of all cores have passed them, and at the latest about a millisecond later while
+/// The whole simulation up to the horizon, at most 2^40, whose rows go to a sink: the schedule's, in order, some hundreds
+/// or thousands at a time, once the clocks of all cores have passed them, and at the latest about a millisecond later while
 /// threads work. It gives the reports of the schedule: each row that the sink takes is counted. Threads work at one
 /// desk, as many as the lesser of `workers` and the number of cores, beside this one, which gives the rows; where that
 /// number is less than two this one takes all turns, and after 1,024 pieces of work that made fewer than 128 rows each,
