@@ -13,16 +13,12 @@ use Rattle.mcs_check.specs.declared.counts.Counts.{Counts}
 use Rattle.mcs_check.specs.declared.finder.Finder.{Finder}
 use Rattle.mcs_check.specs.Counts.{no_counts}
 use Rattle.mcs_check.specs.Formats.{head_text}
+use Rattle.mcs_check.specs.stored.Found.{counts_so_far}
 use Rattle.mcs_check.specs.stored.Rows.{counted_at, counts_in, failed_after, kept_table, lines_in, rows_text, told_at}
 use Rattle.mcs_check.proofs.Results.{moved}
 use Rattle.mcs_check.proofs.Rows.{given-tells, some-tells, until-tells}
 
--- what is counted of rows so far, the latest first
-abbrev counts_so_far : System → List Bool → List Row → Counts
-counts_so_far system allowed [] = no_counts
-counts_so_far system allowed (r ∷ past) = counted_at system allowed past r (counts_so_far system allowed past)
-
-counts-so-far : (system : System) (allowed : List Bool) (past rows : List Row)
+pub counts-so-far : (system : System) (allowed : List Bool) (past rows : List Row)
     → counts_so_far system allowed (past_of past rows) ≡ counts_in system allowed past rows (counts_so_far system allowed past)
 counts-so-far system allowed past [] = refl
 counts-so-far system allowed past (r ∷ rows) = counts-so-far system allowed (r ∷ past) rows

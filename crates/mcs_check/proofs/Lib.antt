@@ -18,3 +18,5 @@ mod Values
 mod Worked
 mod Answered
 mod Figured
+mod Pages
+mod OneCore

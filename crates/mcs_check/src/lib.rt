@@ -3,14 +3,18 @@
 
 mod allowed;
 mod asked;
+mod core_finder;
 mod counts;
 mod fault;
 mod fields;
 mod figures;
+mod find;
 mod finder;
 mod format;
 mod line;
 mod machine;
+mod one_core;
+mod page;
 mod pairs;
 mod progress;
 mod ran;

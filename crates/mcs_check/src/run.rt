@@ -1,32 +1,20 @@
 ghost use Rattle.std.specs.Prelude.{◌≡◌, ◌++◌, [], ℕ, Bool, List, Option, None, Err, true, false, map, string_bytes, IfOk, IfErr, IfSome, OnOk, OnErr};
-ghost use Rattle.std.specs.Arc.{arc_value};
 ghost use Rattle.std.specs.Io.KnownBytes.{Appends};
-ghost use Rattle.mcs_core.specs.Clock.{schedule};
-ghost use Rattle.mcs_verdict.specs.Findings.{UpTo, past_of};
-ghost use Rattle.mcs_verdict.specs.Watch.{watch_of};
-ghost use Rattle.mcs_cli.specs.Flow.{AppendsBefore, IsWriteFault};
+ghost use Rattle.mcs_cli.specs.Flow.{IsWriteFault};
 ghost use Rattle.mcs_cli.specs.declared.fault.RunFault.TheVariants as fault;
 ghost use Rattle.mcs_check.specs.Check.{IsCheck, check_text, counts_of, names_of};
-ghost use Rattle.mcs_check.specs.Counts.{no_counts};
-ghost use Rattle.mcs_check.specs.Formats.{head_text};
 ghost use Rattle.mcs_check.specs.declared.fault.CheckFault.TheVariants.{Run};
-ghost use Rattle.mcs_check.specs.stored.Rows.{counts_in, kept_table, refusal, rows_text};
 
 use crate::allowed::{flags_of, refuse_unknown};
-use crate::finder::{Finder, Lines};
-use crate::format::{is_mixed, put_head};
+use crate::find::find_rows;
+use crate::format::is_mixed;
 use crate::machine::Machine;
 use crate::rest::put_rest;
-use crate::seen::Seen;
 use crate::{CheckFault, Counts, Progress};
-use mcs_check_words::{Options, Show};
-use mcs_cli::{FromRead, Open, RunFault, Source, Target, read_system, write_text};
+use mcs_check_words::Options;
+use mcs_cli::{FromRead, RunFault, Source, Target, read_system, write_text};
 use mcs_system::System;
-use mcs_table::Table;
-use mcs_team::{FlowFault, SimFault, schedule_to};
-use mcs_ticks::{NoMemory, Tick};
-use mcs_verdict::Watch;
-use mcs_verdict_laws::schedules_are_in_order;
+use mcs_team::SimFault;
 use std::alloc::Global;
 use std::fs::File;
 use std::rt::Files;
@@ -134,95 +122,4 @@ fn write_check<H: Threads + Wait + Sync, T: Target, P: Progress>(
     }
     write_text(target, seen.text.as_slice())?;
     Ok(seen.counts)
-}
-
-/// Finds what the rows of a system's schedule tell, and writes the lines of what is shown of them as they come, but for the last ones.
-fn find_rows<'s, H: Threads + Wait + Sync, T: Target, P: Progress>(
-    machine: &Machine<'_, H>,
-    target: &mut T,
-    system: &'s Arc<System>,
-    allowed: &'s [bool],
-    options: &Options,
-    progress: &mut P,
-) -> Result<Seen, RunFault>
-    requires { T.has_failed target.old ≡ false }
-    ensures ok { IfOk result (λ seen. AppendsBefore (T.contents target.old) (T.contents target.new)
-        (rows_text (arc_value system.now) allowed.now options.now.format options.now.show (schedule (arc_value system.now) options.now.horizon)) seen.text.items) }
-    ensures watch { IfOk result (λ seen. seen.watch
-        ≡ watch_of (arc_value system.now) (past_of [] (schedule (arc_value system.now) options.now.horizon))) }
-    ensures counts { IfOk result (λ seen. seen.counts
-        ≡ counts_in (arc_value system.now) allowed.now [] (schedule (arc_value system.now) options.now.horizon) no_counts) }
-    ensures table { IfOk result (λ seen. seen.table ≡ kept_table options.now.show (arc_value system.now) options.now.horizon
-        (past_of [] (schedule (arc_value system.now) options.now.horizon))) }
-    ensures in_time { UpTo options.now.horizon (past_of [] (schedule (arc_value system.now) options.now.horizon)) }
-    ensures working { OnOk result (T.has_failed target.new ≡ false) }
-    ensures fault { IfErr result
-        (IsWriteFault (T.contents target.old) (T.contents target.new) (T.has_failed target.new)
-        (rows_text (arc_value system.now) allowed.now options.now.format options.now.show (schedule (arc_value system.now) options.now.horizon))) }
-{
-    schedules_are_in_order();
-    let _parts = system.parts();
-    let (rt, alloc) = (machine.rt, machine.alloc);
-    let Ok(shared) = Arc::try_clone(system) else {
-        return Err(RunFault::Sim(SimFault::NoMemory));
-    };
-    let Ok(watch) = Watch::new(alloc, system) else {
-        return Err(RunFault::Sim(SimFault::NoMemory));
-    };
-    let Ok(table) = table_for(alloc, options.show, system, options.horizon) else {
-        return Err(RunFault::Sim(SimFault::NoMemory));
-    };
-    let Ok(text) = head(alloc, options) else {
-        return Err(RunFault::Sim(SimFault::NoMemory));
-    };
-    let mut seen = Seen {
-        watch,
-        counts: Counts::new(),
-        table,
-        text,
-    };
-    let lines = Lines::new(alloc, target);
-    let mut finder = Finder::new(lines, options, system, allowed, &mut seen, progress);
-    let (horizon, workers) = (options.horizon, options.workers);
-    let result = schedule_to(rt, alloc, shared, horizon, workers, &Open, &mut finder);
-    match result {
-        Ok(()) => Ok(seen),
-        Err(FlowFault::NoMemory) => Err(RunFault::Sim(SimFault::NoMemory)),
-        Err(FlowFault::Sink) => Err(refusal(finder.lines.is_out_of_memory)),
-    }
-}
-
-/// What is kept for figures before the first row, where they are asked for.
-fn table_for(
-    alloc: Global,
-    show: Show,
-    system: &System,
-    horizon: Tick,
-) -> Result<Option<Table>, NoMemory>
-    ensures { IfOk result (λ table. table ≡ kept_table show system.now horizon []) }
-{
-    match show {
-        Show::Table | Show::Both => Ok(Some(Table::new(alloc, system, horizon)?)),
-        Show::Findings | Show::Jobs => Ok(None),
-    }
-}
-
-/// The first line, where the format has one.
-fn head(alloc: Global, options: &Options) -> Result<Vec<u8>, NoMemory>
-    ensures { IfOk result (λ text. text.items ≡ head_text options.now.format options.now.show) }
-{
-    let mut text = Vec::new(alloc);
-    put_head(&mut text, options.format, options.show)?;
-    Ok(text)
-}
-
-/// Why a line was refused.
-pub(crate) fn refusal(is_out_of_memory: bool) -> RunFault
-    ensures { result ≡ refusal is_out_of_memory }
-{
-    if is_out_of_memory {
-        RunFault::Sim(SimFault::NoMemory)
-    } else {
-        RunFault::Write
-    }
 }

@@ -60,7 +60,7 @@ impl Seen {
 
     /// What is told of one row more.
     #[inline(always)]
-    fn find(&mut self, allowed: &[bool], row: &Row) -> Option<Finding>
+    pub(crate) fn find(&mut self, allowed: &[bool], row: &Row) -> Option<Finding>
         ensures text { self.new.text ≡ self.old.text }
         ensures table { self.new.table ≡ self.old.table }
         ensures kept { (system : TheSystem) (past : List TheRow) → self.old.watch ≡ watch_of system past → UpTo row.now.moment past →

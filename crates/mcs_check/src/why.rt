@@ -16,10 +16,10 @@ ghost use Rattle.mcs_check.specs.declared.why_fault.WhyFault.TheVariants.{Run};
 ghost use Rattle.mcs_check.specs.stored.Rows.{refusal};
 
 use crate::asked::{no_thread, round_number, thread_named};
+use crate::find::refusal;
 use crate::finder::Lines;
 use crate::machine::Machine;
 use crate::ran::put_account;
-use crate::run::refusal;
 use crate::seeker::Seeker;
 use crate::teller::{Teller, Told};
 use crate::{Progress, Rounds, WhyFault};

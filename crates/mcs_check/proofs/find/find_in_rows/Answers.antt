@@ -12,7 +12,7 @@ use Rattle.mcs_check.specs.Formats.{head_text}
 use Rattle.mcs_check.specs.stored.Rows.{counts_in, failed_after, kept_table, rows_text}
 use Rattle.mcs_check.proofs.Finders.{rows-given, rows-some, rows-until}
 use Rattle.mcs_check.proofs.Results.{moved, refused-fault}
-use Rattle.mcs_check.proofs.run.find_rows.Goals as goal
+use Rattle.mcs_check.proofs.find.find_in_rows.Goals as goal
 
 pub returns-in-Ok-result-clause-ok : goal.returns-in-Ok-result-clause-ok
 returns-in-Ok-result-clause-ok g c =

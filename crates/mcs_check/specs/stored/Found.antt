@@ -1,0 +1,38 @@
+-- What a system's only core finds in its rows, each after those before it.
+use Rattle.std.specs.Prelude.{◌≡◌, ℕ, Bool, true, List, [], ◌∷◌, ◌++◌}
+use Rattle.mcs_ticks.specs.declared.row.Row.{Row}
+use Rattle.mcs_system.specs.System.{System}
+use Rattle.mcs_core.specs.Clock.{clock}
+use Rattle.mcs_verdict.specs.declared.finding.Found.{Found}
+use Rattle.mcs_verdict.specs.Findings.{UpTo, finding, found_at, past_of}
+use Rattle.mcs_verdict.specs.Watch.{Watch, watch_of}
+use Rattle.mcs_check.specs.declared.counts.Counts.{Counts}
+use Rattle.mcs_check.specs.Counts.{no_counts, told_of}
+use Rattle.mcs_check.specs.stored.Rows.{counted_at}
+
+-- the rows before a moment, the latest first
+abbrev pub before_of : System → ℕ → List Row
+before_of system t = past_of [] (clock system t).rows
+
+module _ (system : System) (allowed : List Bool) where
+  -- what is counted of rows so far, the latest first
+  abbrev pub counts_so_far : List Row → Counts
+  counts_so_far [] = no_counts
+  counts_so_far (r ∷ past) = counted_at system allowed past r (counts_so_far past)
+
+  -- what is told of a row that comes after these, where it is told at all
+  abbrev pub told_by : List Row → Row → List Found
+  told_by past r = found_at r.moment r.core (told_of allowed (finding system past r.moment r.what))
+
+  -- of these rows, each after those before it
+  abbrev pub told_in : List Row → List Row → List Found
+  told_in past [] = []
+  told_in past (r ∷ rows) = told_by past r ++ told_in (r ∷ past) rows
+
+-- how it looks at a row more, which is refused only where there is no memory for what is told
+abbrev pub FindsMore : List Bool → Watch → Counts → List Found → Row → Bool → Watch → Counts → List Found → Type 0
+FindsMore allowed watch counts found row taken watch' counts' found' =
+    (system : System) (past : List Row) → watch ≡ watch_of system past → UpTo row.moment past →
+    (watch' ≡ watch_of system (row ∷ past))
+    × (counts' ≡ counted_at system allowed past row counts)
+    × (taken ≡ true → found' ≡ found ++ told_by system allowed past row)

@@ -1,0 +1,37 @@
+-- Lines that are put behind those that wait to be written.
+use Rattle.std.specs.Prelude.{◌≡◌, ℕ, Bool, true, false, List, ◌++◌, Option, flat_map}
+use Rattle.mcs_system.specs.System.{System}
+use Rattle.mcs_ticks.specs.declared.sink.FlowFault.{FlowFault}
+use Rattle.mcs_ticks.specs.declared.sink.FlowFault.TheVariants as fault
+use Rattle.mcs_verdict.specs.declared.finding.Found.{Found}
+use Rattle.mcs_cli.specs.Devices.{AppendsPrefix}
+use Rattle.mcs_cli.specs.Flow.{TakesLine}
+use Rattle.mcs_check_words.specs.declared.asked.Format.{Format}
+use Rattle.mcs_check.specs.declared.page.Page.{Page}
+use Rattle.mcs_check.specs.Formats.{found_line}
+use Rattle.mcs_check.specs.stored.Rows.{failed_after}
+
+-- the lines of what is told
+abbrev pub founds_text : Format → System → List Found → List ℕ
+founds_text how system found = flat_map (found_line how system) found
+
+-- a target's bytes, and whether it has failed
+module _ {W P : Type 0} (contents : W → Option (List ℕ)) (failed : W → Bool) where
+  -- a page stays one of the same target, text, format and system; where its lines are refused the target has failed or there is no memory
+  abbrev pub PutsLines : Page W P → List ℕ → Bool → Page W P → Type 0
+  PutsLines before lines taken after =
+      (after.lines.target.ghost_name ≡ before.lines.target.ghost_name)
+      × (after.text.ghost_name ≡ before.text.ghost_name)
+      × (after.format ≡ before.format)
+      × (after.system ≡ before.system)
+      × (taken ≡ true → failed after.lines.target.now ≡ failed before.lines.target.now)
+      × (taken ≡ false → failed after.lines.target.now ≡ failed_after after.lines.is_out_of_memory (failed before.lines.target.now))
+      × TakesLine (contents before.lines.target.now) (contents after.lines.target.now) before.text.now.items after.text.now.items lines taken
+
+  -- a page on which not all of these lines are put
+  abbrev pub PutsSome : Page W P → List ℕ → FlowFault → Page W P → Type 0
+  PutsSome before lines fault.Sink after = PutsLines before lines false after
+  PutsSome before lines fault.NoMemory after =
+      (after.lines.target.ghost_name ≡ before.lines.target.ghost_name)
+      × (failed after.lines.target.now ≡ failed before.lines.target.now)
+      × AppendsPrefix (contents before.lines.target.now) (contents after.lines.target.now) (before.text.now.items ++ lines)
