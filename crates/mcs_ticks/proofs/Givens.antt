@@ -2,7 +2,7 @@
 use Rattle.std.proofs.Common.{◌≡◌, ℕ, ◌+◌, ◌<◌, length, length-append, refl, inr, Bool, true, cond, List, [], ◌∷◌, ◌++◌, sym, ap, ◌∙◌, subst, append-nil, append_assoc}
 use Rattle.std.specs.Prelude.{max}
 use Rattle.mcs_ticks.specs.declared.row.Row.{Row}
-use Rattle.mcs_ticks.specs.Given.{Given, GivenUntil, IsShortAfter, BothTake}
+use Rattle.mcs_ticks.specs.Given.{Given, GivenUntil, IsShortAfter}
 
 module _ {S : Type 0} (takes : S → Row → Bool → S → Type 0) where
   pub given-none : (s : S) → Given takes s [] s
@@ -11,9 +11,6 @@ module _ {S : Type 0} (takes : S → Row → Bool → S → Type 0) where
   pub given-append : (s m t : S) (xs ys : List Row) → Given takes s xs m → Given takes m ys t → Given takes s (xs ++ ys) t
   given-append s m t [] ys g h = subst (λ a. Given takes a ys t) (sym g) h
   given-append s m t (x ∷ xs) ys g h = (g.0, g.1, given-append g.0 m t xs ys g.2 h)
-
-  pub given-one : (s t : S) (row : Row) → takes s row true t → Given takes s (row ∷ []) t
-  given-one s t row h = (t, h, refl)
 
   -- by other names of the sink and of the rows
   pub given-same : (s s' t t' : S) (xs xs' : List Row) → Given takes s xs t → s ≡ s' → xs ≡ xs' → t ≡ t' → Given takes s' xs' t'
@@ -51,15 +48,3 @@ module _ {S : Type 0} (items : S → List Row) where
       let many : length (items h.0) ≡ length (items s) + length rows =
       ap (λ (xs : List Row). length xs) (given_to_a_list s h.0 rows h.1) ∙ length-append (items s) rows in
       subst (λ n. n < max most (length (items s) + 1)) many h.2
-
--- two sinks that were told the same rows
-module _ {A : Type 0} {B : Type 0} (one : A → Row → Bool → A → Type 0) (other : B → Row → Bool → B → Type 0) where
-  abbrev pub BothBeside : A × B → Row → Bool → A × B → Type 0
-  BothBeside s row taken t = BothTake one other s.0 s.1 row taken t.0 t.1
-
-  -- each was given them
-  pub given_to_both : (s t : A × B) (rows : List Row) → Given BothBeside s rows t → Given one s.0 rows t.0 × Given other s.1 rows t.1
-  given_to_both s t [] g = (ap (λ (p : A × B). p.0) g, ap (λ (p : A × B). p.1) g)
-  given_to_both s t (row ∷ rows) g =
-      let rest = given_to_both g.0 t rows g.2 in
-      ((g.0.0, g.1.0, rest.0), (g.0.1, g.1.1, rest.1))
