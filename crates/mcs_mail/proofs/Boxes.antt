@@ -1,31 +1,21 @@
 -- Where mail is put into a list in order of delivery, and what is taken out of one.
-use Rattle.std.proofs.Common.{◌≡◌, ℕ, zero, suc, ◌-◌, ◌<◌, ◌≤◌, Bool, true, false, not, ◌&&◌, ◌||◌, cond, List, [], ◌∷◌, length, get_or, Some, None, ◌⊎◌, inl, inr, refl, sym, ap, ◌∙◌, arith}
-use Rattle.std.specs.Prelude.{◌==◌, nat_lt, nat_le}
+use Rattle.std.proofs.Common.{◌≡◌, ℕ, zero, suc, ◌-◌, ◌<◌, ◌≤◌, true, false, not, List, [], ◌∷◌, length, get_or, Some, None, inl, inr, refl, sym, ap, ◌∙◌, arith}
+use Rattle.std.specs.Prelude.{nat_le}
 use Rattle.std.specs.List.{All, insert}
 use Rattle.std.specs.List.Sorted.{IsPartitionedBy, IsPartitionPoint}
+use Rattle.std.proofs.lemmas.Bool.{not-true, not-false, cond_both}
 use Rattle.std.proofs.lemmas.List.{get_or_default}
 use Rattle.std.proofs.lemmas.Bool.Decides.{nat_tests}
 use Rattle.std.proofs.lemmas.List.Elements.{All-head, All-tail}
 use Rattle.mcs_mail.specs.declared.mail.Mail.{Mail}
 use Rattle.mcs_mail.specs.Box.{is_before, put, due, without_due, arriving, staying, IsIn, IsOrdered}
-use Rattle.mcs_mail.proofs.Orders.{trans, not_itself, from_put}
-
--- the order of three numbers each
-abbrev before : ℕ → ℕ → ℕ → ℕ → ℕ → ℕ → Bool
-before a b d x y z = nat_lt a x || ((a == x) && (nat_lt b y || ((b == y) && nat_lt d z)))
-
-before_not : (a b d x y z u v w : ℕ) → before a b d x y z ≡ false → before x y z u v w ≡ false → before a b d u v w ≡ false
-before_not a b d x y z u v w p q = grind (arith, nat_tests)
+use Rattle.mcs_mail.proofs.Inserts.{pairwise-inserted}
 
 pub not_trans : (a b d : Mail) → is_before a b ≡ false → is_before b d ≡ false → is_before a d ≡ false
-not_trans a b d p q = before_not a.arrives a.made a.maker b.arrives b.made b.maker d.arrives d.made d.maker p q
+not_trans a b d p q = grind (arith, nat_tests)
 
 pub not_back : (a b : Mail) → is_before a b ≡ true → is_before b a ≡ false
-not_back a b p = by (is_before b a) refl
-  where
-    by : (t : Bool) → is_before b a ≡ t → t ≡ false
-    by true e = absurd (not_itself a (trans a b a p e))
-    by false e = refl
+not_back a b p = grind (arith, nat_tests)
 
 -- mail at two places of an ordered list
 is_in_at : (d : Mail) (xs : List Mail) (i : ℕ) → i < length xs → IsIn (get_or xs i d) xs
@@ -42,11 +32,7 @@ no_earlier mail d (x ∷ xs) (suc i) (suc j) h p q e = no_earlier mail d xs i j 
 
 -- what a binary search for the place asks
 pub is_partitioned : (mail : Mail) (xs : List Mail) → IsOrdered xs → IsPartitionedBy (λ y. not (is_before mail y)) xs
-is_partitioned mail xs h i j d p q e = ap not (no_earlier mail d xs i j h p q (from_not (is_before mail (get_or xs j d)) e))
-  where
-    from_not : (t : Bool) → not t ≡ true → t ≡ false
-    from_not true e = sym e
-    from_not false e = refl
+is_partitioned mail xs h i j d p q e = ap not (no_earlier mail d xs i j h p q (not-true (is_before mail (get_or xs j d)) e))
 
 -- mail is put where all before are not after it, and the next is
 pub put-at : (mail : Mail) (xs : List Mail) (i : ℕ) → i ≤ length xs → ((k : ℕ) (d : Mail) → k < i → is_before mail (get_or xs k d) ≡ false) →
@@ -60,15 +46,7 @@ put-at mail (x ∷ xs) (suc i) p f g =
 pub put-partition : (mail : Mail) (xs : List Mail) (i : ℕ) → i ≤ length xs → IsPartitionPoint (λ y. not (is_before mail y) ≡ true) (λ y. not (is_before mail y) ≡ false) xs i →
     insert xs i mail ≡ put mail xs
 put-partition mail xs i p h =
-    put-at mail xs i p (λ k d q. from_true (is_before mail (get_or xs k d)) (h.0 k d (omega arith) q)) (λ d q. from_false (is_before mail (get_or xs i d)) (h.1 i d (omega arith) q))
-  where
-    from_true : (t : Bool) → not t ≡ true → t ≡ false
-    from_true true e = sym e
-    from_true false e = refl
-
-    from_false : (t : Bool) → not t ≡ false → t ≡ true
-    from_false true e = refl
-    from_false false e = sym e
+    put-at mail xs i p (λ k d q. not-true (is_before mail (get_or xs k d)) (h.0 k d (omega arith) q)) (λ d q. not-false (is_before mail (get_or xs i d)) (h.1 i d (omega arith) q))
 
 -- at the back, where the last is not after it
 pub put-back : (mail last : Mail) (xs : List Mail) (n : ℕ) → IsOrdered xs → n ≡ length xs → last ≡ get_or xs (n - 1) last → is_before mail last ≡ false → insert xs n mail ≡ put mail xs
@@ -84,84 +62,41 @@ put-empty mail (x ∷ xs) n e f = absurd (f (omega (arith, e)))
 
 -- a put keeps the order
 pub ordered-put : (mail : Mail) (xs : List Mail) → IsOrdered xs → IsOrdered (put mail xs)
-ordered-put mail [] h = (λ y k. absurd k, tt)
-ordered-put mail (x ∷ xs) h = by (is_before mail x) refl (ordered-put mail xs h.1)
-  where
-    by : (t : Bool) → is_before mail x ≡ t → IsOrdered (put mail xs) → IsOrdered (cond t (mail ∷ x ∷ xs) (x ∷ put mail xs))
-    by true e i = (λ y k. after y k, h)
-      where
-        after : (y : Mail) → (y ≡ x) ⊎ IsIn y xs → is_before y mail ≡ false
-        after y (inl f) = ap (λ (z : Mail). is_before z mail) f ∙ not_back mail x e
-        after y (inr k) = not_trans y x mail (h.0 y k) (not_back mail x e)
-    by false e i = (λ y k. after y (from_put y mail xs k), i)
-      where
-        after : (y : Mail) → (y ≡ mail) ⊎ IsIn y xs → is_before y x ≡ false
-        after y (inl f) = ap (λ (z : Mail). is_before z x) f ∙ e
-        after y (inr k) = h.0 y k
+ordered-put mail xs h = pairwise-inserted Mail is_before (λ a b. is_before b a ≡ false) mail xs h (λ y z k e f. elim f [
+  | inl g ↦ ap (λ (m : Mail). is_before m mail) g ∙ not_back mail y e
+  | inr l ↦ not_trans z y mail l (not_back mail y e)
+]) (λ y k e. e)
 
--- what is left when the first is taken is in order, and no earlier
-pub ordered-without_due : (t : ℕ) (xs : List Mail) → IsOrdered xs → IsOrdered (without_due t xs)
-ordered-without_due t [] h = h
-ordered-without_due t (x ∷ xs) h = by (nat_le x.arrives t)
-  where
-    by : (b : Bool) → IsOrdered (cond b xs (x ∷ xs))
-    by true = h.1
-    by false = h
-
+-- what is left when the first is taken is no earlier
 pub no_earlier-without_due : (t from : ℕ) (xs : List Mail) → All (λ (mail : Mail). from ≤ mail.arrives) xs → All (λ (mail : Mail). from ≤ mail.arrives) (without_due t xs)
 no_earlier-without_due t from [] h = h
-no_earlier-without_due t from (x ∷ xs) h = by (nat_le x.arrives t)
-  where
-    by : (b : Bool) → All (λ (mail : Mail). from ≤ mail.arrives) (cond b xs (x ∷ xs))
-    by true = All-tail (λ (mail : Mail). from ≤ mail.arrives) x xs h
-    by false = h
+no_earlier-without_due t from (x ∷ xs) h =
+    let Late : List Mail → Type 0 = λ ys. All (λ (mail : Mail). from ≤ mail.arrives) ys in
+    cond_both (nat_le x.arrives t) xs (x ∷ xs) Late (λ e. All-tail (λ (mail : Mail). from ≤ mail.arrives) x xs h) (λ e. h)
 
 -- where nothing arrives before t, the mail that is due at t is the first that arrives at t ..
 pub due-some : (t : ℕ) (mail : Mail) (xs : List Mail) → All (λ (m : Mail). t ≤ m.arrives) xs → due t xs ≡ Some mail →
     (arriving t xs ≡ mail ∷ arriving t (without_due t xs)) × (staying t xs ≡ staying t (without_due t xs))
 due-some t mail [] h e = cc
-due-some t mail (x ∷ xs) h e = by (nat_le x.arrives t) refl e
-  where
-    at : (a b : ℕ) → b ≤ a → nat_le a b ≡ true → (a == b) ≡ true
-    at a b p q = grind (arith, nat_tests)
-
-    by : (b : Bool) → nat_le x.arrives t ≡ b → (cond b (Some x) None) ≡ Some mail →
-        (arriving t (x ∷ xs) ≡ mail ∷ arriving t (cond b xs (x ∷ xs))) × (staying t (x ∷ xs) ≡ staying t (cond b xs (x ∷ xs)))
-    by true f g =
-        let same : x ≡ mail = cc in
-        let now = at x.arrives t (All-head (λ (m : Mail). t ≤ m.arrives) x xs h) f in
-        rw now (ap (λ m. m ∷ arriving t xs) same, refl)
-    by false f g = cc
+due-some t mail (x ∷ xs) h e = let first = All-head (λ (m : Mail). t ≤ m.arrives) x xs h in grind (arith, nat_tests)
 
 -- .. and where none is due, none arrives at t
+none-arrives : (t : ℕ) (xs : List Mail) → ((y : Mail) → IsIn y xs → t < y.arrives) → (arriving t xs ≡ []) × (staying t xs ≡ xs)
+none-arrives t [] g = (refl, refl)
+none-arrives t (x ∷ xs) g =
+    let first = g x (inl refl) in
+    let rest = none-arrives t xs (λ y k. g y (inr k)) in
+    grind (arith, nat_tests)
+
+first-later : (t : ℕ) (x : Mail) (xs : List Mail) → due t (x ∷ xs) ≡ None → t < x.arrives
+first-later t x xs e = grind (arith, nat_tests)
+
+no_sooner : (x y : Mail) → is_before y x ≡ false → x.arrives ≤ y.arrives
+no_sooner x y p = grind (arith, nat_tests)
+
 pub due-none : (t : ℕ) (xs : List Mail) → IsOrdered xs → due t xs ≡ None → (arriving t xs ≡ []) × (staying t xs ≡ xs)
 due-none t [] h e = (refl, refl)
-due-none t (x ∷ xs) h e = all_later (x ∷ xs) first
-  where
-    later : nat_le x.arrives t ≡ false
-    later = by (nat_le x.arrives t) e
-      where
-        by : (b : Bool) → (cond b (Some x) None) ≡ None → b ≡ false
-        by true f = cc
-        by false f = refl
-
-    no_less : (a b d e f g : ℕ) → before a b d e f g ≡ false → e ≤ a
-    no_less a b d e f g p = grind (arith, nat_tests)
-
-    above : (a b : ℕ) → nat_le a b ≡ false → b < a
-    above a b p = grind (arith, nat_tests)
-
-    first : (y : Mail) → (y ≡ x) ⊎ IsIn y xs → t < y.arrives
-    first y (inl f) =
-        let g = ap (λ (z : Mail). z.arrives) f in
-        omega (arith, g, above x.arrives t later)
-    first y (inr k) = omega (arith, above x.arrives t later, no_less y.arrives y.made y.maker x.arrives x.made x.maker (h.0 y k))
-
-    other : (a b : ℕ) → b < a → (a == b) ≡ false
-    other a b p = grind (arith, nat_tests)
-
-    all_later : (ys : List Mail) → ((y : Mail) → IsIn y ys → t < y.arrives) → (arriving t ys ≡ []) × (staying t ys ≡ ys)
-    all_later [] g = (refl, refl)
-    all_later (y ∷ ys) g =
-        let i = all_later ys (λ z k. g z (inr k)) in
-        rw (other y.arrives t (g y (inl refl))) (i.0, ap (λ zs. y ∷ zs) i.1)
+due-none t (x ∷ xs) h e = none-arrives t (x ∷ xs) (λ y k. elim k [
+  | inl f ↦ omega (arith, ap (λ (z : Mail). z.arrives) f, first-later t x xs e)
+  | inr l ↦ omega (arith, no_sooner x y (h.0 y l), first-later t x xs e)
+])

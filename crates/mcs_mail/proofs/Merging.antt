@@ -1,29 +1,22 @@
 -- Late mail and a ring as one list in order of delivery.
-use Rattle.std.proofs.Common.{◌≡◌, ℕ, zero, suc, ◌+◌, ◌<◌, ◌≤◌, Bool, true, false, cond, List, [], ◌∷◌, ◌++◌, length, get_or, slice_get, drop, Option, Some, None, Bor, ◌⊎◌, inl, inr, refl, sym, ap, ◌∙◌, arith}
+use Rattle.std.proofs.Common.{◌≡◌, ℕ, zero, suc, ◌+◌, ◌<◌, ◌≤◌, true, false, cond, List, [], ◌∷◌, ◌++◌, length, get_or, slice_get, drop, Option, Some, None, Bor, ◌⊎◌, inl, inr, refl, sym, ap, ◌∙◌, arith}
 use Rattle.std.specs.Option.{option_copied, option_to_list}
 use Rattle.std.specs.Prelude.{nat_lt, is_some, IfSome, Result, Ok, Err, is_ok, OnOk, OnErr}
-use Rattle.std.proofs.lemmas.Bool.{false≢true}
+use Rattle.std.proofs.lemmas.Bool.{false≢true, cases_Bool, cond_both}
 use Rattle.std.proofs.lemmas.Bool.Decides.{nat_tests}
 use Rattle.mcs_mail.specs.declared.mail.Mail.{Mail}
 use Rattle.mcs_mail.specs.Box.{is_before, put, put_all, first_arrival, IsIn, IsOrdered}
 use Rattle.mcs_mail.specs.stored.Late.{last_or, late_is_first, sooner_of, IsMerged}
 use Rattle.mcs_mail.proofs.Boxes.{not_back, not_trans, ordered-put}
+use Rattle.mcs_mail.proofs.Inserts.{inserted-inserted, length-inserted}
 use Rattle.mcs_mail.proofs.Orders.{from_put, not_itself, trans}
 
 -- strictly before one that is not after the other
 before-until : (a b d : Mail) → is_before a b ≡ true → is_before d b ≡ false → is_before a d ≡ true
-before-until a b d p q = by (is_before a d) refl
-  where
-    by : (t : Bool) → is_before a d ≡ t → is_before a d ≡ true
-    by true e = e
-    by false e = absurd (false≢true (sym (not_trans a d b e q) ∙ p))
+before-until a b d p q = grind (arith, nat_tests)
 
 not_before_itself : (a : Mail) → is_before a a ≡ false
-not_before_itself a = by (is_before a a) refl
-  where
-    by : (t : Bool) → is_before a a ≡ t → t ≡ false
-    by true e = absurd (not_itself a e)
-    by false e = refl
+not_before_itself a = grind (arith, nat_tests)
 
 -- the last of a ring
 pub last_or-back : (mail last : Mail) (xs : List Mail) (k : ℕ) → k + 1 ≡ length xs → last ≡ get_or xs k last → last_or mail xs ≡ last
@@ -51,37 +44,21 @@ put-behind m (x ∷ y ∷ xs) h e =
 
 -- two of which one is strictly before the other may be put in either order
 put-put : (a b : Mail) (xs : List Mail) → is_before a b ≡ true → put a (put b xs) ≡ put b (put a xs)
-put-put a b [] h = rw (h, not_back a b h) refl
-put-put a b (x ∷ xs) h = by (is_before a x) refl (is_before b x) refl (put-put a b xs h)
-  where
-    by : (s : Bool) → is_before a x ≡ s → (t : Bool) → is_before b x ≡ t → put a (put b xs) ≡ put b (put a xs) →
-        put a (cond t (b ∷ x ∷ xs) (x ∷ put b xs)) ≡ put b (cond s (a ∷ x ∷ xs) (x ∷ put a xs))
-    by true e true f i = rw (h, not_back a b h, f) refl
-    by true e false f i = rw (e, not_back a b h, f) refl
-    by false e true f i = absurd (false≢true (sym e ∙ trans a b x h f))
-    by false e false f i = rw (e, f) (ap (λ (zs : List Mail). x ∷ zs) i)
+put-put a b xs h = inserted-inserted Mail is_before a b xs h (not_back a b h) (λ x. trans a b x h)
 
 put-put_all : (m : Mail) (late xs : List Mail) → ((l : Mail) → IsIn l late → (is_before l m ≡ true) ⊎ (is_before m l ≡ true)) → put_all late (put m xs) ≡ put m (put_all late xs)
 put-put_all m [] xs h = refl
-put-put_all m (l ∷ late) xs h = ap (put_all late) (swapped (h l (inl refl))) ∙ put-put_all m late (put l xs) (λ k i. h k (inr i))
-  where
-    swapped : (is_before l m ≡ true) ⊎ (is_before m l ≡ true) → put l (put m xs) ≡ put m (put l xs)
-    swapped (inl e) = put-put l m xs e
-    swapped (inr e) = sym (put-put m l xs e)
+put-put_all m (l ∷ late) xs h =
+    ap (put_all late) (elim (h l (inl refl)) [ inl e ↦ put-put l m xs e | inr e ↦ sym (put-put m l xs e) ]) ∙ put-put_all m late (put l xs) (λ k i. h k (inr i))
 
 -- late mail that is put among the late is put among all
 pub put_all-put : (m : Mail) (late xs : List Mail) → IsOrdered late → put_all (put m late) xs ≡ put m (put_all late xs)
 put_all-put m [] xs h = refl
-put_all-put m (l ∷ late) xs h = by (is_before m l) refl (put_all-put m late (put l xs) h.1)
-  where
-    by : (t : Bool) → is_before m l ≡ t → put_all (put m late) (put l xs) ≡ put m (put_all late (put l xs)) →
-        put_all (cond t (m ∷ l ∷ late) (l ∷ put m late)) xs ≡ put m (put_all late (put l xs))
-    by true e i = put-put_all m (l ∷ late) xs (λ k j. inr (after k j))
-      where
-        after : (k : Mail) → (k ≡ l) ⊎ IsIn k late → is_before m k ≡ true
-        after k (inl f) = ap (is_before m) f ∙ e
-        after k (inr j) = before-until m l k e (h.0 k j)
-    by false e i = i
+put_all-put m (l ∷ late) xs h =
+    cond_both (is_before m l) (m ∷ l ∷ late) (l ∷ put m late) (λ zs. put_all zs xs ≡ put m (put_all late (put l xs))) (λ e. put-put_all m (l ∷ late) xs (λ k j. inr (elim j [
+      | inl f ↦ ap (is_before m) f ∙ e
+      | inr i ↦ before-until m l k e (h.0 k i)
+    ]))) (λ e. put_all-put m late (put l xs) h.1)
 
 -- mail that none of the late is before stays in front
 put_all-over : (f : Mail) (late xs : List Mail) → ((l : Mail) → IsIn l late → is_before l f ≡ false) → put_all late (f ∷ xs) ≡ f ∷ put_all late xs
@@ -90,12 +67,7 @@ put_all-over f (l ∷ late) xs h = rw (h l (inl refl)) (put_all-over f late (put
 
 -- how much there is, and its order
 pub length-put : (m : Mail) (xs : List Mail) → length (put m xs) ≡ suc (length xs)
-length-put m [] = refl
-length-put m (x ∷ xs) = by (is_before m x) (length-put m xs)
-  where
-    by : (t : Bool) → length (put m xs) ≡ suc (length xs) → length (cond t (m ∷ x ∷ xs) (x ∷ put m xs)) ≡ suc (suc (length xs))
-    by true i = refl
-    by false i = ap suc i
+length-put m xs = length-inserted Mail is_before m xs
 
 pub length-put_all : (late xs : List Mail) → length (put_all late xs) ≡ length xs + length late
 length-put_all [] xs = omega arith
@@ -137,16 +109,9 @@ module _ (late ring : List Mail) (capacity : ℕ) (kept : IsMerged late ring cap
   IsMerged-late before room = record {
     late_ordered = ordered-put m late kept.late_ordered;
     ring_ordered = kept.ring_ordered;
-    before_last = λ l k. by l (from_put l m late k);
+    before_last = λ l k. elim (from_put l m late k) [ inl e ↦ ap (λ (z : Mail). is_before z (last_or z ring)) e ∙ before | inr i ↦ kept.before_last l i ];
     room = omega (arith, length-put m late);
   }
-    where
-      at : (l : Mail) (xs : List Mail) → l ≡ m → is_before m (last_or m xs) ≡ true → is_before l (last_or l xs) ≡ true
-      at l xs e f = ap (λ (z : Mail). is_before z (last_or z xs)) e ∙ f
-
-      by : (l : Mail) → (l ≡ m) ⊎ IsIn l late → is_before l (last_or l ring) ≡ true
-      by l (inl e) = at l ring e before
-      by l (inr k) = kept.before_last l k
 
 -- a put among the late mail that may be refused
 pub IsMerged-put : {A B : Type 0} (late late' ring : List Mail) (capacity : ℕ) (m : Mail) (r : Result A B) → IsMerged late ring capacity →
@@ -177,12 +142,8 @@ mails-ring_first [] (f ∷ ring) capacity kept e = (refl, refl, IsMerged-ring []
 mails-ring_first (l ∷ late) (f ∷ ring) capacity kept e =
     (sym (ap (λ (zs : List Mail). slice_get zs 0) whole), sym (ap (λ (zs : List Mail). drop 1 zs) whole), less)
   where
-    not_before : (k : Mail) → (k ≡ l) ⊎ IsIn k late → is_before k f ≡ false
-    not_before k (inl g) = ap (λ (z : Mail). is_before z f) g ∙ e
-    not_before k (inr j) = not_trans k l f (kept.late_ordered.0 k j) e
-
     whole : put_all (l ∷ late) (f ∷ ring) ≡ f ∷ put_all (l ∷ late) ring
-    whole = put_all-over f (l ∷ late) ring not_before
+    whole = put_all-over f (l ∷ late) ring (λ k i. elim i [ inl g ↦ ap (λ (z : Mail). is_before z f) g ∙ e | inr j ↦ not_trans k l f (kept.late_ordered.0 k j) e ])
 
     still : (xs : List Mail) (m : Mail) → is_before l (last_or l (f ∷ xs)) ≡ true → is_before m (last_or m (f ∷ xs)) ≡ true → is_before m (last_or m xs) ≡ true
     still [] m g h = absurd (false≢true (sym e ∙ g))
@@ -201,23 +162,20 @@ first-arrives : (m : Mail) (xs : List Mail) → Some m ≡ slice_get xs 0 → So
 first-arrives m [] e = cc
 first-arrives m (x ∷ xs) e = let same : m ≡ x = cc in ap (λ (z : Mail). Some z.arrives) same
 
+sooner_arrival : (l f : Mail) → is_before l f ≡ true → cond (nat_lt l.arrives f.arrives) l.arrives f.arrives ≡ l.arrives
+sooner_arrival l f e = grind (arith, nat_tests)
+
+later_arrival : (l f : Mail) → is_before l f ≡ false → cond (nat_lt l.arrives f.arrives) l.arrives f.arrives ≡ f.arrives
+later_arrival l f e = grind (arith, nat_tests)
+
 pub sooner-merged : (late ring : List Mail) (capacity : ℕ) → IsMerged late ring capacity → sooner_of (slice_get ring 0) (slice_get late 0) ≡ first_arrival (put_all late ring)
 sooner-merged [] [] capacity kept = refl
 sooner-merged [] (f ∷ ring) capacity kept = refl
 sooner-merged (l ∷ late) [] capacity kept = absurd (not_itself l (kept.before_last l (inl refl)))
-sooner-merged (l ∷ late) (f ∷ ring) capacity kept = by (is_before l f) refl
-  where
-    late_first : (t : Bool) → nat_lt l.arrives f.arrives ≡ t → is_before l f ≡ true → cond t l.arrives f.arrives ≡ l.arrives
-    late_first true g e = refl
-    late_first false g e = grind (arith, nat_tests)
-
-    ring_first : (t : Bool) → nat_lt l.arrives f.arrives ≡ t → is_before l f ≡ false → cond t l.arrives f.arrives ≡ f.arrives
-    ring_first true g e = grind (arith, nat_tests)
-    ring_first false g e = refl
-
-    by : (t : Bool) → is_before l f ≡ t → sooner_of (Some f) (Some l) ≡ first_arrival (put_all (l ∷ late) (f ∷ ring))
-    by true e = ap Some (late_first (nat_lt l.arrives f.arrives) refl e) ∙ first-arrives l _ (mails-late_first (l ∷ late) (f ∷ ring) capacity kept e).0
-    by false e = ap Some (ring_first (nat_lt l.arrives f.arrives) refl e) ∙ first-arrives f _ (mails-ring_first (l ∷ late) (f ∷ ring) capacity kept e).0
+sooner-merged (l ∷ late) (f ∷ ring) capacity kept = elim (cases_Bool (is_before l f)) [
+  | inl e ↦ ap Some (sooner_arrival l f e) ∙ first-arrives l _ (mails-late_first (l ∷ late) (f ∷ ring) capacity kept e).0
+  | inr e ↦ ap Some (later_arrival l f e) ∙ first-arrives f _ (mails-ring_first (l ∷ late) (f ∷ ring) capacity kept e).0
+]
 
 -- the first of the late mail moves into the ring
 pub moved : (late late' ring ring' : List Mail) (r : Option Mail) (m : Mail) → r ≡ slice_get late 0 → r ≡ Some m → late' ≡ drop 1 late → ring' ≡ put m ring →
