@@ -1,6 +1,5 @@
 -- The refills of dates that ascend are apart, and have the dates among them.
-use Rattle.std.proofs.Common.{◌≡◌, ℕ, ◌+◌, ◌≤◌, Bool, true, false, cond, List, [], ◌∷◌, length, map, refl, ◌∙◌, arith}
-use Rattle.std.specs.Prelude.{◌==◌}
+use Rattle.std.proofs.Common.{◌≡◌, ℕ, ◌+◌, ◌≤◌, List, [], ◌∷◌, length, map, refl, ◌∙◌, arith}
 use Rattle.std.proofs.lemmas.List.Sums.{sum_by-cons}
 use Rattle.mcs_refills.specs.declared.refill.Refill.{Refill}
 use Rattle.mcs_refills.specs.Server.{with_date, refills_of, first_moment}
@@ -8,25 +7,16 @@ use Rattle.mcs_refills.specs.laws.Apart.{total_amount, last_end, RefillsOfDates,
 use Rattle.mcs_refills.proofs.Spaces.{IsLaid, laid-refills_of}
 use Rattle.mcs_refills.proofs.Servers.{apart-refills_of, laid-ends}
 
-total-cons : (r : Refill) (rs : List Refill) → total_amount (r ∷ rs) ≡ r.amount + total_amount rs
+pub total-cons : (r : Refill) (rs : List Refill) → total_amount (r ∷ rs) ≡ r.amount + total_amount rs
 total-cons r rs = sum_by-cons (λ x. x) r.amount (map (λ (refill : Refill). refill.amount) rs)
 
 -- one date more is one tick more
 total-with_date : (date : ℕ) (rs : List Refill) → total_amount (with_date date rs) ≡ total_amount rs + 1
 total-with_date date [] = refl
-total-with_date date (r ∷ rs) = by (date + 1 == r.begins)
-  where
-    joined : Refill
-    joined = record { begins = date; amount = r.amount + 1 }
+total-with_date date (r ∷ rs) =
+    grind (arith, total-cons (record { begins = date; amount = r.amount + 1 }) rs, total-cons r rs, total-cons (record { begins = date; amount = 1 }) (r ∷ rs))
 
-    alone : Refill
-    alone = record { begins = date; amount = 1 }
-
-    by : (t : Bool) → total_amount (cond t (joined ∷ rs) (alone ∷ r ∷ rs)) ≡ total_amount (r ∷ rs) + 1
-    by true = omega (arith, total-cons joined rs, total-cons r rs)
-    by false = omega (arith, total-cons alone (r ∷ rs))
-
-total-refills_of : (us : List ℕ) → total_amount (refills_of us) ≡ length us
+pub total-refills_of : (us : List ℕ) → total_amount (refills_of us) ≡ length us
 total-refills_of [] = refl
 total-refills_of (u ∷ us) = omega (arith, total-with_date u (refills_of us), total-refills_of us)
 

@@ -1,5 +1,5 @@
 -- The last refill of a list, behind the others.
-use Rattle.std.proofs.Common.{◌≡◌, ℕ, zero, suc, ◌+◌, ◌-◌, ◌<◌, ◌≤◌, ◌≢◌, true, false, cond, List, [], ◌∷◌, ◌++◌, length, take, refl, sym, ap, ◌∙◌, arith}
+use Rattle.std.proofs.Common.{◌≡◌, ℕ, zero, suc, ◌+◌, ◌-◌, ◌<◌, ◌≤◌, ◌≢◌, cond, List, [], ◌∷◌, ◌++◌, length, take, refl, sym, ap, ◌∙◌, arith}
 use Rattle.std.specs.Prelude.{◌==◌, nat_lt, Some, slice_get, slice_set}
 use Rattle.std.proofs.lemmas.Bool.Decides.{nat_tests}
 use Rattle.std.proofs.lemmas.Option.{same_Some}
@@ -56,32 +56,12 @@ by_cases max_refills back (r ∷ ts) x = refl
 -- the three ways in which a refill is given back
 module _ (max_refills n : ℕ) (back x : Refill) (ts rs : List Refill) (e : rs ≡ ts ++ x ∷ []) where
   pub joins : x.begins + x.amount ≡ back.begins → ts ++ record { begins = x.begins; amount = x.amount + back.amount } ∷ [] ≡ given_back max_refills back rs
-  joins g =
-      let t : (last_end (ts ++ x ∷ []) == back.begins) ≡ true = meets (last_end (ts ++ x ∷ [])) back.begins (last_end-last ts x ∙ g) in
-      sym (ap (given_back max_refills back) e ∙ by_cases max_refills back ts x ∙ rw t (grown-last back.amount ts x))
-    where
-      meets : (a b : ℕ) → a ≡ b → (a == b) ≡ true
-      meets a b h = grind (arith, nat_tests)
-
-  differs : x.begins + x.amount ≢ back.begins → (last_end (ts ++ x ∷ []) == back.begins) ≡ false
-  differs g = by (last_end (ts ++ x ∷ [])) (x.begins + x.amount) back.begins (last_end-last ts x) g
-    where
-      by : (a b m : ℕ) → a ≡ b → b ≢ m → (a == m) ≡ false
-      by a b m h k = grind (arith, nat_tests)
+  joins g = grind (arith, nat_tests, by_cases max_refills back ts x, last_end-last ts x, grown-last back.amount ts x)
 
   pub appends : n ≡ length rs → x.begins + x.amount ≢ back.begins → n < max_refills → rs ++ back ∷ [] ≡ given_back max_refills back rs
-  appends f g l =
-      let u : nat_lt (length (ts ++ x ∷ [])) max_refills ≡ true = below n (length (ts ++ x ∷ [])) max_refills (f ∙ ap length e) l in
-      ap (λ xs. xs ++ back ∷ []) e ∙ sym (ap (given_back max_refills back) e ∙ by_cases max_refills back ts x ∙ rw (differs g, u) refl)
-    where
-      below : (a b m : ℕ) → a ≡ b → a < m → nat_lt b m ≡ true
-      below a b m h k = grind (arith, nat_tests)
+  appends f g l = grind (arith, nat_tests, by_cases max_refills back ts x, last_end-last ts x)
 
   pub moves : n ≡ length rs → x.begins + x.amount ≢ back.begins → max_refills ≤ n →
       ts ++ record { begins = back.begins - x.amount; amount = x.amount + back.amount } ∷ [] ≡ given_back max_refills back rs
   moves f g l =
-      let u : nat_lt (length (ts ++ x ∷ [])) max_refills ≡ false = not_below n (length (ts ++ x ∷ [])) max_refills (f ∙ ap length e) l in
-      sym (ap (given_back max_refills back) e ∙ by_cases max_refills back ts x ∙ rw (differs g, u) (ap (grown back.amount) (moved-last back.begins ts x) ∙ grown-last back.amount ts _))
-    where
-      not_below : (a b m : ℕ) → a ≡ b → m ≤ a → nat_lt b m ≡ false
-      not_below a b m h k = grind (arith, nat_tests)
+      grind (arith, nat_tests, by_cases max_refills back ts x, last_end-last ts x, moved-last back.begins ts x, grown-last back.amount ts (record { begins = back.begins - x.amount; amount = x.amount }))

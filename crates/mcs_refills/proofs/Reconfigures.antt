@@ -1,6 +1,5 @@
 -- An order, as it is done on refills.
-use Rattle.std.proofs.Common.{◌≡◌, ℕ, ◌+◌, ◌-◌, Bool, true, false, cond, min, max, List, [], ◌∷◌, ◌++◌, refl, ap, append-nil, arith}
-use Rattle.std.specs.Prelude.{◌==◌}
+use Rattle.std.proofs.Common.{◌≡◌, ℕ, ◌+◌, ◌-◌, min, max, List, ◌++◌, ap, append-nil, arith}
 use Rattle.std.specs.List.{range_with_len}
 use Rattle.std.proofs.lemmas.Bool.Decides.{nat_tests}
 use Rattle.mcs_refills.specs.declared.refill.Refill.{Refill}
@@ -10,13 +9,7 @@ use Rattle.mcs_refills.specs.Server.{dates_of, reconfigured, first_moment, first
 use Rattle.mcs_refills.proofs.Heads.{first_date-dates_of, head_amount-dates_of}
 
 dates_of-missing : (n m : ℕ) → dates_of (missing_refill n m) ≡ range_with_len (m - n) n
-dates_of-missing n m = by (n == 0) refl
-  where
-    by : (t : Bool) → (n == 0) ≡ t → dates_of (cond t [] (record { begins = m - n; amount = n } ∷ [])) ≡ range_with_len (m - n) n
-    by true e =
-        let f : n ≡ 0 = grind (arith, nat_tests) in
-        rw f refl
-    by false e = append-nil (range_with_len (m - n) n)
+dates_of-missing n m = grind (arith, nat_tests, append-nil (range_with_len (m - n) n))
 
 pub dates_of-after_reconfigure : (t budget period : ℕ) (rs : List Refill) → AreApart rs → dates_of (after_reconfigure t budget period rs) ≡ reconfigured t budget period (dates_of rs)
 dates_of-after_reconfigure t budget period rs h =

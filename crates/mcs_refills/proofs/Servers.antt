@@ -1,36 +1,22 @@
 -- Servers stay in good order.
-use Rattle.std.proofs.Common.{◌≡◌, ℕ, ◌+◌, ◌<◌, ◌≤◌, Bool, true, false, cond, List, [], ◌∷◌, length, refl, sym, subst, ap, ◌∙◌, arith}
-use Rattle.std.specs.Prelude.{◌==◌}
+use Rattle.std.proofs.Common.{◌≡◌, ℕ, ◌+◌, ◌≤◌, List, [], ◌∷◌, length, refl, subst, ap, ◌∙◌, arith}
 use Rattle.std.proofs.lemmas.Bool.Decides.{nat_tests}
 use Rattle.mcs_refills.specs.declared.refill.Refill.{Refill}
 use Rattle.mcs_refills.specs.laws.Apart.{AreApart, last_end}
-use Rattle.mcs_refills.specs.stored.Refills.{IsKept, after_charge, after_unblock}
+use Rattle.mcs_refills.specs.stored.Refills.{IsKept, after_unblock}
 use Rattle.mcs_refills.specs.Server.{Server, dates_of, with_date, refills_of, first_amount, head_amount, charged, with_enough, unblocked}
 use Rattle.mcs_refills.specs.laws.Spacing.{IsWithin}
 use Rattle.mcs_refills.specs.laws.Servers.{IsServer, ServersAreKept}
-use Rattle.mcs_refills.proofs.Dates.{refills_of-dates_of}
-use Rattle.mcs_refills.proofs.Charges.{IsLike, IsLike-charge, dates_of-charge}
-use Rattle.mcs_refills.proofs.Gathers.{last_end-first}
+use Rattle.mcs_refills.proofs.Charges.{IsLike-charge, dates_of-charge}
+use Rattle.mcs_refills.proofs.Heads.{refills-shown}
 use Rattle.mcs_refills.proofs.Unblocks.{dates_of-after_unblock, few-unblocked}
 use Rattle.mcs_refills.proofs.Spaces.{IsLaid, laid-refills_of, within-dates_of, dates_of-refills_of, kept-charged, kept-unblocked, kept-reconfigured, few-reconfigured, kept-new, few-new}
 
 -- the refills of dates that ascend lie apart
 apart-with_date : (high date : ℕ) (rs : List Refill) → IsLaid (date + 1) high rs → AreApart rs → AreApart (with_date date rs)
 apart-with_date high date [] l a = let p : 1 ≤ 1 = omega arith in (p, tt, tt)
-apart-with_date high date (r ∷ rs) l a = by (date + 1 == r.begins) refl rs a
-  where
-    by : (t : Bool) → (date + 1 == r.begins) ≡ t → (rs : List Refill) → AreApart (r ∷ rs) →
-        AreApart (cond t (record { begins = date; amount = r.amount + 1 } ∷ rs) (record { begins = date; amount = 1 } ∷ r ∷ rs))
-    by true e [] a = let p : 1 ≤ r.amount + 1 = omega arith in (p, tt, tt)
-    by true e (z ∷ rs) a =
-        let p : 1 ≤ r.amount + 1 = omega arith in
-        let q : date + (r.amount + 1) < z.begins = grind (arith, nat_tests, a.1) in
-        (p, q, a.2)
-    by false e rs a =
-        let p : 1 ≤ 1 = omega arith in
-        let m : date + 1 ≤ r.begins = l.0 in
-        let q : date + 1 < r.begins = grind (arith, nat_tests) in
-        (p, q, a)
+apart-with_date high date (r ∷ []) l a = grind (arith, nat_tests)
+apart-with_date high date (r ∷ z ∷ rs) l a = grind (arith, nat_tests)
 
 pub apart-refills_of : (low high : ℕ) (us : List ℕ) → IsWithin low high us → AreApart (refills_of us)
 apart-refills_of low high [] h = tt
@@ -54,7 +40,7 @@ in-good-order server (r ∷ rs) h e =
     let P : List ℕ → Type 0 = λ us. IsWithin r.begins (r.begins + server.period) us in subst P e (within-dates_of r.begins (r.begins + server.period) (r ∷ rs) laid) in
     record {
       kept = record { all = refl; low = r.begins; within = within };
-      few = (let f : refills_of server.dates ≡ r ∷ rs = ap refills_of (sym e) ∙ refills_of-dates_of (r ∷ rs) h.apart in omega (arith, h.few, ap length f));
+      few = omega (arith, h.few, ap length (refills-shown (r ∷ rs) server.dates h.apart e));
     }
 
 -- a charge leaves at most so many refills
@@ -68,20 +54,18 @@ few-charged k min_budget period max_refills low us h few p le =
     by [] e a l f m = absurd (omega arith)
     by (r ∷ rs) e a l f m =
         let ends : last_end (r ∷ rs) ≤ r.begins + period = omega (arith, laid-ends low (low + period) r rs l, l.0) in
-        let like : IsLike (r ∷ rs) max_refills r.begins (last_end (r ∷ rs)) = record { apart = a; some = omega arith; few = f; from_is = omega arith; end_is = refl } in
-        let i = IsLike-charge k min_budget period max_refills (last_end (r ∷ rs)) r rs p m (omega arith) ends (omega (arith, last_end-first r rs a)) like in
-        let d : dates_of (after_charge k min_budget period max_refills (r ∷ rs)) ≡ with_enough min_budget (charged k period max_refills us) =
-        dates_of-charge k min_budget period max_refills r rs p m (omega arith) ends like ∙ ap (λ xs. with_enough min_budget (charged k period max_refills xs)) e in
-        let g : refills_of (with_enough min_budget (charged k period max_refills us)) ≡ after_charge k min_budget period max_refills (r ∷ rs) = ap refills_of (sym d) ∙ refills_of-dates_of _ i.apart in
-        omega (arith, ap length g, i.few)
+        let i = IsLike-charge k period max_refills r rs p m a f ends min_budget in
+        let shown = refills-shown _ _ i.apart (dates_of-charge k period max_refills r rs p m a f ends min_budget ∙ ap (λ xs. with_enough min_budget (charged k period max_refills xs)) e) in
+        omega (arith, ap length shown, i.few)
 
 -- unblocking makes no more refills
+pub refills-unblocked : (t low high : ℕ) (us : List ℕ) → IsWithin low high us → after_unblock t (refills_of us) ≡ refills_of (unblocked t us)
+refills-unblocked t low high us h =
+    let a = apart-refills_of low high us h in
+    refills-shown _ _ (few-unblocked t (refills_of us) a).0 (dates_of-after_unblock t (refills_of us) a ∙ ap (unblocked t) (dates_of-refills_of us))
+
 fewer-unblocked : (t low high : ℕ) (us : List ℕ) → IsWithin low high us → length (refills_of (unblocked t us)) ≤ length (refills_of us)
-fewer-unblocked t low high us h =
-    let f = few-unblocked t (refills_of us) (apart-refills_of low high us h) in
-    let d : dates_of (after_unblock t (refills_of us)) ≡ unblocked t us = dates_of-after_unblock t (refills_of us) (apart-refills_of low high us h) ∙ ap (unblocked t) (dates_of-refills_of us) in
-    let g : refills_of (unblocked t us) ≡ after_unblock t (refills_of us) = ap refills_of (sym d) ∙ refills_of-dates_of _ f.0 in
-    omega (arith, ap length g, f.1)
+fewer-unblocked t low high us h = omega (arith, ap length (refills-unblocked t low high us h), (few-unblocked t (refills_of us) (apart-refills_of low high us h)).1)
 
 pub servers-kept : ServersAreKept
 servers-kept = (

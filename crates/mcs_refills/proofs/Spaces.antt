@@ -1,13 +1,17 @@
 -- The spacing step, and the spacing of the dates that charges take.
-use Rattle.std.proofs.Common.{◌≡◌, ℕ, zero, suc, ◌+◌, ◌-◌, ◌<◌, ◌≤◌, Bool, true, false, ◌||◌, cond, List, [], ◌∷◌, ◌++◌, length, min, max, map, take, drop, refl, sym, ap, ◌∙◌, append_assoc, append-nil, arith}
-use Rattle.std.specs.Prelude.{◌==◌, nat_lt, slice_index}
+use Rattle.std.proofs.Common.{◌≡◌, ℕ, zero, suc, ◌+◌, ◌-◌, ◌<◌, ◌≤◌, ◌||◌, List, [], ◌∷◌, ◌++◌, length, min, max, map, take, drop, refl, sym, ap, ◌∙◌, append_assoc, append-nil, length-append, arith}
+use Rattle.std.specs.Prelude.{nat_lt, slice_index}
 use Rattle.std.specs.List.{range_with_len}
+use Rattle.std.proofs.lemmas.Bool.{cond_both}
 use Rattle.std.proofs.lemmas.Bool.Decides.{nat_tests}
+use Rattle.std.proofs.lemmas.Grind.{common_steps}
+use Rattle.std.proofs.lemmas.List.{map-append}
+use Rattle.std.proofs.lemmas.List.FromFn.{length-range_with_len}
 use Rattle.mcs_refills.specs.declared.refill.Refill.{Refill}
 use Rattle.mcs_refills.specs.Server.{dates_from, reconfigured, head_amount, dates_of, with_date, refills_of, first_date, last_moved, rejoined, charged, touches, unblocked, with_enough, enough, gathered, joined}
 use Rattle.mcs_refills.specs.laws.Spacing.{IsUnder, IsWithin, AreKept, after_use, Step, stepped, consumed, IsProper, AreProper, StepsSpace, ConsumedAreSpaced}
 use Rattle.mcs_refills.specs.laws.Spacing.Step.{Charge, Unblock}
-use Rattle.mcs_refills.proofs.Dates.{range-add}
+use Rattle.mcs_refills.proofs.Dates.{range-suc, range-add}
 
 -- places
 under-same : (us : List ℕ) → IsUnder us us
@@ -15,11 +19,10 @@ under-same [] = tt
 under-same (u ∷ us) = (omega arith, under-same us)
 
 under-trans : (us vs ws : List ℕ) → IsUnder us vs → IsUnder vs ws → IsUnder us ws
-under-trans [] [] [] p q = tt
-under-trans [] [] (w ∷ ws) p q = absurd q
+under-trans [] [] ws p q = q
 under-trans [] (v ∷ vs) ws p q = absurd p
 under-trans (u ∷ us) [] ws p q = absurd p
-under-trans (u ∷ us) (v ∷ vs) [] p q = absurd q
+under-trans (u ∷ us) (v ∷ vs) [] p q = q
 under-trans (u ∷ us) (v ∷ vs) (w ∷ ws) p q = (omega (arith, p.0, q.0), under-trans us vs ws p.1 q.1)
 
 under-append : (us vs xs ys : List ℕ) → IsUnder us vs → IsUnder xs ys → IsUnder (us ++ xs) (vs ++ ys)
@@ -86,17 +89,7 @@ laid-to low high (r ∷ rs) h = let l = laid-to (r.begins + r.amount) high rs h.
 
 laid-with_date : (low high date : ℕ) (rs : List Refill) → low ≤ date → IsLaid (date + 1) high rs → IsLaid low high (with_date date rs)
 laid-with_date low high date [] l h = (l, h)
-laid-with_date low high date (r ∷ rs) l h = by (date + 1 == r.begins) refl
-  where
-    by : (t : Bool) → (date + 1 == r.begins) ≡ t →
-        IsLaid low high (cond t (record { begins = date; amount = r.amount + 1 } ∷ rs) (record { begins = date; amount = 1 } ∷ r ∷ rs))
-    by true e =
-        let f : r.begins + r.amount ≡ date + (r.amount + 1) = grind (arith, nat_tests) in
-        (l, let P : ℕ → Type 0 = λ m. IsLaid m high rs in moved P f h.1)
-      where
-        moved : {x y : ℕ} (P : ℕ → Type 0) → x ≡ y → P x → P y
-        moved P e p = rw (sym e) p
-    by false e = (l, (h.0, h.1))
+laid-with_date low high date (r ∷ rs) l h = grind (arith, nat_tests)
 
 pub laid-refills_of : (low high : ℕ) (us : List ℕ) → low ≤ high → IsWithin low high us → IsLaid low high (refills_of us)
 laid-refills_of low high [] l h = l
@@ -112,15 +105,7 @@ within-dates_of low high (r ∷ rs) h =
 -- the refills of dates have these dates
 dates_of-with_date : (date : ℕ) (rs : List Refill) → dates_of (with_date date rs) ≡ date ∷ dates_of rs
 dates_of-with_date date [] = refl
-dates_of-with_date date (r ∷ rs) = by (date + 1 == r.begins) refl
-  where
-    by : (t : Bool) → (date + 1 == r.begins) ≡ t →
-        dates_of (cond t (record { begins = date; amount = r.amount + 1 } ∷ rs) (record { begins = date; amount = 1 } ∷ r ∷ rs)) ≡ date ∷ dates_of (r ∷ rs)
-    by true e =
-        let f : date + 1 ≡ r.begins = grind (arith, nat_tests) in
-        let g : r.amount + 1 ≡ 1 + r.amount = omega arith in
-        rw (g, range-add 1 r.amount date, f) refl
-    by false e = refl
+dates_of-with_date date (r ∷ rs) = grind (arith, nat_tests, range-suc date r.amount)
 
 pub dates_of-refills_of : (us : List ℕ) → dates_of (refills_of us) ≡ us
 dates_of-refills_of [] = refl
@@ -142,12 +127,7 @@ under-last_moved low m (r ∷ s ∷ rs) h =
 
 -- enough at the head
 laid-joined : (low high : ℕ) (r s : Refill) (rs : List Refill) → IsLaid low high (r ∷ s ∷ rs) → IsLaid low high (joined r s ∷ rs)
-laid-joined low high r s rs h =
-    let e : s.begins + s.amount ≡ s.begins - r.amount + (r.amount + s.amount) = omega (arith, h.1.0) in
-    (omega (arith, h.0, h.1.0), let P : ℕ → Type 0 = λ m. IsLaid m high rs in moved P e h.1.1)
-  where
-    moved : {x y : ℕ} (P : ℕ → Type 0) → x ≡ y → P x → P y
-    moved P e p = rw (sym e) p
+laid-joined low high r s rs h = grind (arith)
 
 under-joined : (low high : ℕ) (r s : Refill) (rs : List Refill) → IsLaid low high (r ∷ s ∷ rs) → IsUnder (dates_of (r ∷ s ∷ rs)) (dates_of (joined r s ∷ rs))
 under-joined low high r s rs h =
@@ -158,22 +138,15 @@ under-joined low high r s rs h =
 
 laid-gathered : (min_budget low high : ℕ) (r : Refill) (rs : List Refill) → IsLaid low high (r ∷ rs) → IsLaid low high (gathered min_budget r rs)
 laid-gathered min_budget low high r [] h = h
-laid-gathered min_budget low high r (s ∷ rs) h = by (nat_lt r.amount min_budget) (laid-gathered min_budget low high (joined r s) rs (laid-joined low high r s rs h))
-  where
-    by : (t : Bool) → IsLaid low high (gathered min_budget (joined r s) rs) → IsLaid low high (cond t (gathered min_budget (joined r s) rs) (r ∷ s ∷ rs))
-    by true i = i
-    by false i = h
+laid-gathered min_budget low high r (s ∷ rs) h = grind (arith, laid-gathered min_budget low high (joined r s) rs, laid-joined low high r s rs h)
 
 under-gathered : (min_budget low high : ℕ) (r : Refill) (rs : List Refill) → IsLaid low high (r ∷ rs) → IsUnder (dates_of (r ∷ rs)) (dates_of (gathered min_budget r rs))
 under-gathered min_budget low high r [] h = under-same (dates_of (r ∷ []))
 under-gathered min_budget low high r (s ∷ rs) h =
-    by (nat_lt r.amount min_budget)
-    (under-trans (dates_of (r ∷ s ∷ rs)) (dates_of (joined r s ∷ rs)) (dates_of (gathered min_budget (joined r s) rs)) (under-joined low high r s rs h)
-    (under-gathered min_budget low high (joined r s) rs (laid-joined low high r s rs h)))
-  where
-    by : (t : Bool) → IsUnder (dates_of (r ∷ s ∷ rs)) (dates_of (gathered min_budget (joined r s) rs)) → IsUnder (dates_of (r ∷ s ∷ rs)) (dates_of (cond t (gathered min_budget (joined r s) rs) (r ∷ s ∷ rs)))
-    by true i = i
-    by false i = under-same (dates_of (r ∷ s ∷ rs))
+    cond_both (nat_lt r.amount min_budget) (gathered min_budget (joined r s) rs) (r ∷ s ∷ rs) (λ xs. IsUnder (dates_of (r ∷ s ∷ rs)) (dates_of xs)) (λ e.
+    under-trans (dates_of (r ∷ s ∷ rs)) (dates_of (joined r s ∷ rs)) (dates_of (gathered min_budget (joined r s) rs)) (under-joined low high r s rs h)
+    (under-gathered min_budget low high (joined r s) rs (laid-joined low high r s rs h))
+    ) (λ e. under-same (dates_of (r ∷ s ∷ rs)))
 
 -- the lists of two kinds of step: later in each place, and within these bounds
 record IsLater (us vs : List ℕ) (low high : ℕ) : Type 0 where
@@ -194,44 +167,22 @@ later-with_enough min_budget low high us l h =
 -- dates and those that return
 later-rejoined : (max_refills low mid high : ℕ) (us vs : List ℕ) → low ≤ mid → mid ≤ high → 1 ≤ length vs → IsWithin low mid us → IsWithin mid high vs → IsLater (us ++ vs) (rejoined max_refills us vs) low high
 later-rejoined max_refills low mid high us [] l m some p q = absurd (omega arith)
-later-rejoined max_refills low mid high us (v ∷ vs) l m some p q = by (touches us (v ∷ vs)) (nat_lt (length (refills_of us)) max_refills)
-  where
-    up : mid ≤ v
-    up = q.0
-
-    under : v < high
-    under = q.1
-
-    laid : IsLaid low v (refills_of us)
-    laid = laid-refills_of low v us (omega arith) (within-high low mid v us up p)
-
-    stays : IsLater (us ++ v ∷ vs) (us ++ v ∷ vs) low high
-    stays = record { under = under-same (us ++ v ∷ vs); within = within-append low mid high us (v ∷ vs) l m p q }
-
-    first : IsUnder us (dates_of (last_moved v (refills_of us)))
-    first = rw (dates_of-refills_of us) at (under-last_moved low v (refills_of us) laid)
-
-    moves : IsLater (us ++ v ∷ vs) (dates_of (last_moved v (refills_of us)) ++ v ∷ vs) low high
-    moves = record {
+later-rejoined max_refills low mid high us (v ∷ vs) l m some p q =
+    let laid = laid-refills_of low v us (omega (arith, q.0)) (within-high low mid v us q.0 p) in
+    let first : IsUnder us (dates_of (last_moved v (refills_of us))) = rw (dates_of-refills_of us) at (under-last_moved low v (refills_of us) laid) in
+    cond_both (touches us (v ∷ vs) || nat_lt (length (refills_of us)) max_refills) (us ++ v ∷ vs) (dates_of (last_moved v (refills_of us)) ++ v ∷ vs) (λ xs. IsLater (us ++ v ∷ vs) xs low high)
+    (λ e. record { under = under-same (us ++ v ∷ vs); within = within-append low mid high us (v ∷ vs) l m p q })
+    (λ e. record {
       under = under-append us (dates_of (last_moved v (refills_of us))) (v ∷ vs) (v ∷ vs) first (under-same (v ∷ vs));
-      within = within-append low v high (dates_of (last_moved v (refills_of us))) (v ∷ vs) (omega arith) (omega arith)
+      within = within-append low v high (dates_of (last_moved v (refills_of us))) (v ∷ vs) (omega (arith, q.0)) (omega (arith, q.1))
           (within-dates_of low v (last_moved v (refills_of us)) (laid-last_moved low v (refills_of us) laid)) (omega arith, q.1, q.2);
-    }
-
-    by : (t u : Bool) → IsLater (us ++ v ∷ vs) (cond (t || u) (us ++ v ∷ vs) (dates_of (last_moved v (refills_of us)) ++ v ∷ vs)) low high
-    by true u = stays
-    by false true = stays
-    by false false = moves
+    })
 
 later-charged : (k min_budget max_refills low period : ℕ) (us : List ℕ) → 1 ≤ k → (s : IsSplit low (low + period) k us) →
     IsLater (after_use k period us) (with_enough min_budget (charged k period max_refills us)) s.mid (s.mid + period)
 later-charged zero min_budget max_refills low period us p s = absurd (omega arith)
-later-charged (suc k) min_budget max_refills low period [] p s = by (touches [] []) (nat_lt 0 max_refills)
-  where
-    by : (t u : Bool) → IsLater [] (with_enough min_budget (cond (t || u) [] [])) s.mid (s.mid + period)
-    by true u = record { under = tt; within = tt }
-    by false true = record { under = tt; within = tt }
-    by false false = record { under = tt; within = tt }
+later-charged (suc k) min_budget max_refills low period [] p s =
+    cond_both (touches [] [] || nat_lt 0 max_refills) [] [] (λ xs. IsLater [] (with_enough min_budget xs) s.mid (s.mid + period)) (λ e. record { under = tt; within = tt }) (λ e. record { under = tt; within = tt })
 later-charged (suc k) min_budget max_refills low period (u ∷ us) p s =
     let i = later-rejoined max_refills s.mid (low + period) (s.mid + period) (drop k us) (map (λ date. date + period) (u ∷ take k us)) s.to (omega (arith, s.from)) (omega arith) s.left
     (within-map period low s.mid (u ∷ take k us) s.used) in
@@ -239,17 +190,7 @@ later-charged (suc k) min_budget max_refills low period (u ∷ us) p s =
     record { under = under-trans (after_use (suc k) period (u ∷ us)) (charged (suc k) period max_refills (u ∷ us)) (with_enough min_budget (charged (suc k) period max_refills (u ∷ us))) i.under j.under; within = j.within }
 
 length-after_use : (k period : ℕ) (us : List ℕ) → length (after_use k period us) ≡ length us
-length-after_use k period us = rests (drop k us) (take k us) ∙ parts k us
-  where
-    rests : (xs ys : List ℕ) → length (xs ++ map (λ date. date + period) ys) ≡ length xs + length ys
-    rests [] [] = refl
-    rests [] (y ∷ ys) = ap suc (rests [] ys) ∙ omega arith
-    rests (x ∷ xs) ys = ap suc (rests xs ys) ∙ omega arith
-
-    parts : (k : ℕ) (us : List ℕ) → length (drop k us) + length (take k us) ≡ length us
-    parts zero us = omega arith
-    parts (suc k) [] = refl
-    parts (suc k) (u ∷ us) = let e = parts k us in omega arith
+length-after_use k period us = grind (arith, common_steps)
 
 -- unblocking
 under-unblocked : (t : ℕ) (us : List ℕ) → IsUnder us (unblocked t us)
@@ -305,10 +246,6 @@ reached-used zero us xs vs h = h
 reached-used (suc k) [] xs vs h = h
 reached-used (suc k) (u ∷ us) xs vs h = (omega arith, reached-used k us xs vs h)
 
-map-both : (f : ℕ → ℕ) (xs ys : List ℕ) → map f (xs ++ ys) ≡ map f xs ++ map f ys
-map-both f [] ys = refl
-map-both f (x ∷ xs) ys = ap (λ zs. f x ∷ zs) (map-both f xs ys)
-
 reached : (budget period max_refills : ℕ) (steps : List Step) (us : List ℕ) → AreKept budget period us → AreProper steps →
     IsReached (us ++ map (λ date. date + period) (consumed period max_refills steps us)) (consumed period max_refills steps us)
 reached budget period max_refills [] us h p = tt
@@ -330,7 +267,7 @@ reached budget period max_refills (Charge k min_budget ∷ steps) us h p =
         let j : IsReached (after_use k period us ++ later) (consumed period max_refills steps vs) =
         under-reached (after_use k period us ++ later) (vs ++ later) (consumed period max_refills steps vs)
         (under-append (after_use k period us) vs later later l (under-same later)) i in
-        rw (map-both f (take k us) (consumed period max_refills steps vs))
+        rw (map-append f (take k us) (consumed period max_refills steps vs))
         (reached-used k us (map f (take k us) ++ later) (consumed period max_refills steps vs)
         (rw (append_assoc (drop k us) (map f (take k us)) later) at j))
 
@@ -354,21 +291,13 @@ consumed-spaced budget period max_refills steps us h p j l =
     reached-at period us (consumed period max_refills steps us) (consumed period max_refills steps us) (j + budget) j (reached budget period max_refills steps us h p) (ap (λ n. j + n) (sym h.all)) l (omega arith)
 
 -- an order
-pub length-range : (n a : ℕ) → length (range_with_len a n) ≡ n
-length-range zero a = refl
-length-range (suc n) a = ap suc (length-range n (a + 1))
-
-pub length-both : (xs ys : List ℕ) → length (xs ++ ys) ≡ length xs + length ys
-length-both [] ys = omega arith
-length-both (x ∷ xs) ys = ap suc (length-both xs ys) ∙ omega arith
-
 two_parts : (budget period begins amount : ℕ) → budget ≤ period → amount ≤ budget →
     AreKept budget period (range_with_len begins amount ++ range_with_len (begins + period - (budget - amount)) (budget - amount))
 two_parts budget period begins amount l m =
     let mid = begins + period - (budget - amount) in
     let e : mid + (budget - amount) ≡ begins + period = omega arith in
     record {
-      all = length-both (range_with_len begins amount) (range_with_len mid (budget - amount)) ∙ rw (length-range amount begins, length-range (budget - amount) mid) (omega arith);
+      all = length-append (range_with_len begins amount) (range_with_len mid (budget - amount)) ∙ rw (length-range_with_len begins amount, length-range_with_len mid (budget - amount)) (omega arith);
       low = begins;
       within = within-append begins (begins + amount) (begins + period) (range_with_len begins amount) (range_with_len mid (budget - amount)) (omega arith) (omega arith)
           (within-range amount begins)
@@ -382,26 +311,11 @@ kept-reconfigured budget period t us l = two_parts budget period (max (first_dat
 -- one date more is at most one refill more, and none where it touches
 length-with_date : (d : ℕ) (rs : List Refill) → length (with_date d rs) ≤ 1 + length rs
 length-with_date d [] = omega arith
-length-with_date d (r ∷ rs) = by (d + 1 == r.begins)
-  where
-    by : (t : Bool) → length (cond t (record { begins = d; amount = r.amount + 1 } ∷ rs) (record { begins = d; amount = 1 } ∷ r ∷ rs)) ≤ 1 + length (r ∷ rs)
-    by true = omega arith
-    by false = omega arith
+length-with_date d (r ∷ rs) = grind (arith)
 
 length-with_two : (d : ℕ) (rs : List Refill) → length (with_date d (with_date (d + 1) rs)) ≡ length (with_date (d + 1) rs)
-length-with_two d [] = touching d (record { begins = d + 1; amount = 1 }) [] refl
-  where
-    touching : (d : ℕ) (r : Refill) (rs : List Refill) → d + 1 ≡ r.begins → length (with_date d (r ∷ rs)) ≡ length (r ∷ rs)
-    touching d r rs e = grind (arith, nat_tests)
-length-with_two d (r ∷ rs) = by (d + 1 + 1 == r.begins)
-  where
-    touching : (d : ℕ) (r : Refill) (rs : List Refill) → d + 1 ≡ r.begins → length (with_date d (r ∷ rs)) ≡ length (r ∷ rs)
-    touching d r rs e = grind (arith, nat_tests)
-
-    by : (t : Bool) → length (with_date d (cond t (record { begins = d + 1; amount = r.amount + 1 } ∷ rs) (record { begins = d + 1; amount = 1 } ∷ r ∷ rs)))
-        ≡ length (cond t (record { begins = d + 1; amount = r.amount + 1 } ∷ rs) (record { begins = d + 1; amount = 1 } ∷ r ∷ rs))
-    by true = touching d (record { begins = d + 1; amount = r.amount + 1 }) rs refl
-    by false = touching d (record { begins = d + 1; amount = 1 }) (r ∷ rs) refl
+length-with_two d [] = grind (arith, nat_tests)
+length-with_two d (r ∷ rs) = grind (arith, nat_tests)
 
 few-range : (n a : ℕ) (us : List ℕ) → length (refills_of (range_with_len a n ++ us)) ≤ 1 + length (refills_of us)
 few-range zero a us = omega arith
@@ -411,21 +325,17 @@ few-range (suc (suc n)) a us =
     let h = few-range (suc n) (a + 1) us in
     omega arith
 
+few-run : (n a : ℕ) → length (refills_of (range_with_len a n)) ≤ 1
+few-run n a = rw append-nil at (few-range n a [])
+
 pub few-reconfigured : (budget period t : ℕ) (us : List ℕ) → length (refills_of (reconfigured t budget period us)) ≤ 2
-few-reconfigured budget period t us =
-    two (max (first_date us) t) (min (head_amount us) budget) (max (first_date us) t + period - (budget - min (head_amount us) budget)) (budget - min (head_amount us) budget)
+few-reconfigured budget period t us = two (min (head_amount us) budget) (max (first_date us) t) (budget - min (head_amount us) budget) (max (first_date us) t + period - (budget - min (head_amount us) budget))
   where
-    two : (a m b n : ℕ) → length (refills_of (range_with_len a m ++ range_with_len b n)) ≤ 2
-    two a m b n =
-        let h = few-range m a (range_with_len b n) in
-        let e : range_with_len b n ++ [] ≡ range_with_len b n = append-nil (range_with_len b n) in
-        let i : length (refills_of (range_with_len b n)) ≤ 1 = rw e at (few-range n b []) in
-        omega arith
+    two : (m a n b : ℕ) → length (refills_of (range_with_len a m ++ range_with_len b n)) ≤ 2
+    two m a n b = omega (arith, few-range m a (range_with_len b n), few-run n b)
 
 pub kept-new : (budget period at : ℕ) → budget ≤ period → AreKept budget period (dates_from at budget)
-kept-new budget period at l = record { all = length-range budget at; low = at; within = within-high at (at + budget) (at + period) (range_with_len at budget) (omega arith) (within-range budget at) }
+kept-new budget period at l = record { all = length-range_with_len at budget; low = at; within = within-high at (at + budget) (at + period) (range_with_len at budget) (omega arith) (within-range budget at) }
 
 pub few-new : (budget at : ℕ) → length (refills_of (dates_from at budget)) ≤ 1
-few-new budget at =
-    let e : range_with_len at budget ++ [] ≡ range_with_len at budget = append-nil (range_with_len at budget) in
-    rw e at (few-range budget at [])
+few-new budget at = few-run budget at
