@@ -1,7 +1,8 @@
 -- Contexts stay in good order.
-use Rattle.std.proofs.Common.{◌≡◌, ℕ, ◌-◌, ◌<◌, ◌≤◌, Bool, true, false, cond, List, [], ◌∷◌, ◌++◌, take, refl, sym, subst, ap, ◌∙◌, arith}
+use Rattle.std.proofs.Common.{◌≡◌, ℕ, ◌-◌, ◌<◌, ◌≤◌, List, [], ◌∷◌, ◌++◌, take, refl, ap, ◌∙◌, arith}
 use Rattle.std.specs.Prelude.{◌==◌}
 use lib.Seq.{take-nil}
+use Rattle.std.proofs.lemmas.Bool.{cond_both, eqb-true}
 use Rattle.std.proofs.lemmas.Bool.Decides.{nat_tests}
 use Rattle.mcs_refills.specs.Server.{Server, dates_from, charged, with_enough, unblocked}
 use Rattle.mcs_refills.specs.Slice.{slice_charged}
@@ -15,34 +16,23 @@ use Rattle.mcs_control.specs.declared.config.Kind.TheVariants as kind
 use Rattle.mcs_control.specs.declared.config.Mode.{Mode}
 use Rattle.mcs_control.specs.declared.config.Mode.TheVariants as modes
 use Rattle.mcs_control.specs.Control.{IsConfig, kind_of}
-use Rattle.mcs_control.specs.Context.{Context, Budget, new_context, first_budget, context_charged, context_unblocked, woken_by, chosen_by, context_ordered, head_amount, max_refills_of}
+use Rattle.mcs_control.specs.Context.{Context, Budget, first_budget, budget_charged, budget_unblocked, budget_ordered, context_unblocked, woken_by, chosen_by, amount_of, max_refills_of}
 use Rattle.mcs_control.specs.Context.Budget.{Dates, Slice}
 use Rattle.mcs_control.specs.laws.Contexts.{IsBudgetOf, IsContext, ContextsAreKept, ConsumedAreSpaced, consumed_from}
 
 -- the kind tells how the budget and the period compare
 module _ (config : Config) where
-  by_test : (t : Bool) → (config.budget == config.period) ≡ t → kind_of config ≡ cond t kind.RoundRobin kind.Sporadic
-  by_test t e = ap (λ b. cond b kind.RoundRobin kind.Sporadic) e
-
   pub less-sporadic : config.budget < config.period → kind_of config ≡ kind.Sporadic
-  less-sporadic l = by_test false (grind (arith, nat_tests))
+  less-sporadic l = grind (arith, nat_tests)
 
   pub equal-round_robin : config.budget ≡ config.period → kind_of config ≡ kind.RoundRobin
-  equal-round_robin e = by_test true (grind (arith, nat_tests))
+  equal-round_robin e = grind (arith, nat_tests)
 
-  pub sporadic-less : config.budget ≤ config.period → kind_of config ≡ kind.Sporadic → config.budget < config.period
-  sporadic-less l e = by (config.budget == config.period) refl
-    where
-      by : (t : Bool) → (config.budget == config.period) ≡ t → config.budget < config.period
-      by true f = let g : kind.RoundRobin ≡ kind.Sporadic = sym (by_test true f) ∙ e in absurd (cc)
-      by false f = grind (arith, nat_tests)
+  sporadic-less : config.budget ≤ config.period → kind_of config ≡ kind.Sporadic → config.budget < config.period
+  sporadic-less l e = grind (arith, nat_tests)
 
-  pub round_robin-equal : kind_of config ≡ kind.RoundRobin → config.budget ≡ config.period
-  round_robin-equal e = by (config.budget == config.period) refl
-    where
-      by : (t : Bool) → (config.budget == config.period) ≡ t → config.budget ≡ config.period
-      by true f = grind (arith, nat_tests)
-      by false f = let g : kind.Sporadic ≡ kind.RoundRobin = sym (by_test false f) ∙ e in absurd (cc)
+  round_robin-equal : kind_of config ≡ kind.RoundRobin → config.budget ≡ config.period
+  round_robin-equal e = grind (arith, nat_tests)
 
 -- a sporadic context's dates are a server's
 abbrev pub server_of : Config → List ℕ → Server
@@ -54,65 +44,47 @@ from-server config dates l h = (l, h.kept, h.few)
 pub to-server : (config : Config) (dates : List ℕ) → IsBudgetOf config (Dates dates) → IsServer config.budget (server_of config dates)
 to-server config dates h = record { kept = h.1; few = h.2 }
 
+new-kept : (config : Config) (at : ℕ) → IsConfig config → IsBudgetOf config (first_budget (kind_of config) at config.budget)
+new-kept config at h =
+    cond_both (config.budget == config.period) kind.RoundRobin kind.Sporadic (λ k. IsBudgetOf config (first_budget k at config.budget)) (λ e. (eqb-true config.budget config.period e, h.some, omega arith)) (λ e.
+    let l : config.budget < config.period = grind (arith, nat_tests, h.within) in
+    from-server config (dates_from at config.budget) l (servers-kept.0 at config.budget config.period (max_refills_of config) 0 h.within (omega arith)))
+
 slice-charged : (k budget left : ℕ) → 1 ≤ left → left ≤ budget → (1 ≤ slice_charged k budget left) × (slice_charged k budget left ≤ budget)
-slice-charged k budget left p l = by (left - k == 0) refl
-  where
-    by : (t : Bool) → (left - k == 0) ≡ t → (1 ≤ cond t budget (left - k)) × (cond t budget (left - k) ≤ budget)
-    by true e = (omega arith, omega arith)
-    by false e = (grind (arith, nat_tests), omega arith)
+slice-charged k budget left p l = grind (arith, nat_tests)
 
-new-kept : (config : Config) (mode : Mode) (at : ℕ) → IsConfig config → IsContext (new_context config mode at)
-new-kept config mode at h = record { config = h; budget = by (config.budget == config.period) refl }
-  where
-    by : (t : Bool) → (config.budget == config.period) ≡ t → IsBudgetOf config (first_budget (cond t kind.RoundRobin kind.Sporadic) at config.budget)
-    by true e = (grind (arith, nat_tests), h.some, omega arith)
-    by false e =
-        let l : config.budget < config.period = grind (arith, nat_tests, h.within) in
-        from-server config (dates_from at config.budget) l (servers-kept.0 at config.budget config.period (max_refills_of config) 0 h.within (omega arith))
+charged-kept : (k min_budget : ℕ) (config : Config) (budget : Budget) → IsBudgetOf config budget → 1 ≤ k → k ≤ amount_of budget → IsBudgetOf config (budget_charged k min_budget config budget)
+charged-kept k min_budget config (Dates dates) h p l = from-server config _ h.0 (servers-kept.1 k min_budget config.budget (server_of config dates) (to-server config dates h) p l)
+charged-kept k min_budget config (Slice left) h p l = let s = slice-charged k config.budget left h.1 h.2 in (h.0, s.0, s.1)
 
-charged-kept : (k min_budget : ℕ) (config : Config) (mode : Mode) (budget : Budget) → IsContext (record { config = config; mode = mode; budget = budget }) → 1 ≤ k → k ≤ head_amount (record { config = config; mode = mode; budget = budget }) →
-    IsContext (context_charged k min_budget (record { config = config; mode = mode; budget = budget }))
-charged-kept k min_budget config mode (Dates dates) h p l = record {
-  config = h.config;
-  budget = from-server config _ h.budget.0 (servers-kept.1 k min_budget config.budget (server_of config dates) (to-server config dates h.budget) p l);
-}
-charged-kept k min_budget config mode (Slice left) h p l =
-    let s = slice-charged k config.budget left h.budget.1 h.budget.2 in record { config = h.config; budget = (h.budget.0, s.0, s.1) }
+unblocked-kept : (t : ℕ) (config : Config) (budget : Budget) → IsBudgetOf config budget → IsBudgetOf config (budget_unblocked t budget)
+unblocked-kept t config (Dates dates) h = from-server config _ h.0 (servers-kept.2 t config.budget (server_of config dates) (to-server config dates h))
+unblocked-kept t config (Slice left) h = h
 
-unblocked-kept : (t : ℕ) (config : Config) (mode : Mode) (budget : Budget) → IsContext (record { config = config; mode = mode; budget = budget }) → IsContext (context_unblocked t (record { config = config; mode = mode; budget = budget }))
-unblocked-kept t config mode (Dates dates) h = record {
-  config = h.config;
-  budget = from-server config _ h.budget.0 (servers-kept.2 t config.budget (server_of config dates) (to-server config dates h.budget));
-}
-unblocked-kept t config mode (Slice left) h = h
+ordered-kept : (t : ℕ) (next config : Config) (budget : Budget) → IsBudgetOf config budget → IsConfig next → kind_of next ≡ kind_of config → IsBudgetOf next (budget_ordered t next budget)
+ordered-kept t next config (Dates dates) h n e =
+    from-server next _ (sporadic-less next n.within (e ∙ less-sporadic config h.0)) (servers-kept.3 t next.budget next.period (max_refills_of next) (server_of config dates) n.within (omega arith))
+ordered-kept t next config (Slice left) h n e = (round_robin-equal next (e ∙ equal-round_robin config h.0), omega (arith, h.1, n.some), omega arith)
 
-ordered-kept : (t : ℕ) (next config : Config) (mode : Mode) (budget : Budget) → IsContext (record { config = config; mode = mode; budget = budget }) → IsConfig next → kind_of next ≡ kind_of config →
-    IsContext (context_ordered t next (record { config = config; mode = mode; budget = budget }))
-ordered-kept t next config mode (Dates dates) h n e =
-    let l : next.budget < next.period = sporadic-less next n.within (e ∙ less-sporadic config h.budget.0) in
-    record {
-      config = n;
-      budget = from-server next _ l (servers-kept.3 t next.budget next.period (max_refills_of next) (server_of config dates) n.within (omega arith));
-    }
-ordered-kept t next config mode (Slice left) h n e =
-    record { config = n; budget = (round_robin-equal next (e ∙ equal-round_robin config h.budget.0), omega (arith, h.budget.1, n.some), omega arith) }
+unblocks : (t : ℕ) (context : Context) → IsContext context → IsContext (context_unblocked t context)
+unblocks t context h = record { config = h.config; budget = unblocked-kept t context.config context.budget h.budget }
 
 woken-kept : (t : ℕ) (mode : Mode) (context : Context) → IsContext context → IsContext (woken_by mode t context)
-woken-kept t modes.Sporadic context h = unblocked-kept t context.config context.mode context.budget h
+woken-kept t modes.Sporadic context h = unblocks t context h
 woken-kept t modes.Bandwidth context h = h
 
 chosen-kept : (t : ℕ) (mode : Mode) (context : Context) → IsContext context → IsContext (chosen_by mode t context)
 chosen-kept t modes.Sporadic context h = h
-chosen-kept t modes.Bandwidth context h = unblocked-kept t context.config context.mode context.budget h
+chosen-kept t modes.Bandwidth context h = unblocks t context h
 
 pub contexts-kept : ContextsAreKept
 contexts-kept = (
-  new-kept,
-  λ k min_budget context h p l. charged-kept k min_budget context.config context.mode context.budget h p l,
-  λ t context h. unblocked-kept t context.config context.mode context.budget h,
+  λ config mode at h. record { config = h; budget = new-kept config at h },
+  λ k min_budget context h p l. record { config = h.config; budget = charged-kept k min_budget context.config context.budget h.budget p l },
+  unblocks,
   λ t context h. woken-kept t context.mode context h,
   λ t context h. chosen-kept t context.mode context h,
-  λ t config context h n e. ordered-kept t config context.config context.mode context.budget h n e,
+  λ t next context h n e. record { config = n; budget = ordered-kept t next context.config context.budget h.budget n e },
 )
 
 -- the dates taken from a sporadic context are those taken from its server
@@ -133,11 +105,8 @@ consumed-none config mode (Unblock t ∷ steps) left = consumed-none config mode
 spaced : (config : Config) (mode : Mode) (budget : Budget) (steps : List Step) → IsContext (record { config = config; mode = mode; budget = budget }) → AreProper steps →
     IsSpaced config.budget config.period (consumed_from steps (record { config = config; mode = mode; budget = budget }))
 spaced config mode (Dates dates) steps h p =
-    let P : List ℕ → Type 0 = λ xs. IsSpaced config.budget config.period xs in
-    subst P (consumed-same config mode steps dates) (consumed-spaced config.budget config.period (max_refills_of config) steps dates h.budget.1 p)
-spaced config mode (Slice left) steps h p =
-    let P : List ℕ → Type 0 = λ xs. IsSpaced config.budget config.period xs in
-    subst P (sym (consumed-none config mode steps left)) (λ j l. absurd (omega arith))
+    rw (← consumed-same config mode steps dates) (consumed-spaced config.budget config.period (max_refills_of config) steps dates h.budget.1 p)
+spaced config mode (Slice left) steps h p = rw (consumed-none config mode steps left) (λ j l. absurd (omega arith))
 
 pub consumed-are-spaced : ConsumedAreSpaced
 consumed-are-spaced context steps h p = spaced context.config context.mode context.budget steps h p
