@@ -7,8 +7,7 @@ use Rattle.std.proofs.lemmas.Bool.Decides.{nat_tests}
 
 pub entered-none : (places : List (Option Dated)) → ((i : ℕ) → get_or places i None ≡ None) → entered places ≡ []
 entered-none [] none = refl
-entered-none (None ∷ places) none = entered-none places (λ i. none (suc i))
-entered-none (Some x ∷ places) none = (let no = none zero in cc)
+entered-none (place ∷ places) none = grind (arith, none zero, entered-none places (λ i. none (suc i)))
 
 -- what stands before empty places
 pub entered-before : (places : List (Option Dated)) (past : ℕ) → ((i : ℕ) → past ≤ i → get_or places i None ≡ None) →
@@ -16,15 +15,12 @@ pub entered-before : (places : List (Option Dated)) (past : ℕ) → ((i : ℕ) 
 entered-before [] zero behind = refl
 entered-before [] (suc past) behind = refl
 entered-before (place ∷ places) zero behind = sym (entered-none (place ∷ places) (λ i. behind i (omega arith)))
-entered-before (None ∷ places) (suc past) behind = entered-before places past (λ i from. behind (suc i) (omega (arith, from)))
-entered-before (Some x ∷ places) (suc past) behind =
-    ap (λ (xs : List Dated). x ∷ xs) (entered-before places past (λ i from. behind (suc i) (omega (arith, from))))
+entered-before (place ∷ places) (suc past) behind = grind (arith, entered-before places past (λ i from. behind (suc i) (omega (arith, from))))
 
 pub empty_from : (places : List (Option Dated)) (i : ℕ) → entered places ≡ [] → get_or places i None ≡ None
 empty_from [] i none = refl
-empty_from (None ∷ places) zero none = refl
-empty_from (None ∷ places) (suc i) none = empty_from places i none
-empty_from (Some x ∷ places) i none = cc
+empty_from (place ∷ places) zero none = grind (arith)
+empty_from (place ∷ places) (suc i) none = grind (arith, empty_from places i)
 
 -- an entry behind all others
 pub entered-push : (places : List (Option Dated)) (k : ℕ) (x : Dated) → k < length places → ((i : ℕ) → k ≤ i → get_or places i None ≡ None) →
@@ -32,42 +28,32 @@ pub entered-push : (places : List (Option Dated)) (k : ℕ) (x : Dated) → k < 
 entered-push [] k x h behind = absurd (omega arith)
 entered-push (place ∷ places) zero x h behind =
     rw (entered-none (place ∷ places) (λ i. behind i (omega arith)), entered-none places (λ i. behind (suc i) (omega arith))) refl
-entered-push (None ∷ places) (suc k) x h behind = entered-push places k x (omega arith) (λ i above. behind (suc i) (omega arith))
-entered-push (Some y ∷ places) (suc k) x h behind =
-    ap (λ (xs : List Dated). y ∷ xs) (entered-push places k x (omega arith) (λ i above. behind (suc i) (omega arith)))
+entered-push (place ∷ places) (suc k) x h behind = grind (arith, entered-push places k x (omega arith) (λ i above. behind (suc i) (omega arith)))
 
 -- a thread stands where it stands
 pub times-stands : (places : List (Option Dated)) (k : ℕ) (x : Dated) → get_or places k None ≡ Some x → 1 ≤ times x.thread (entered places)
 times-stands [] k x e = cc
-times-stands (None ∷ places) zero x e = cc
-times-stands (Some y ∷ places) zero x e = grind (arith, nat_tests)
-times-stands (None ∷ places) (suc k) x e = times-stands places k x e
-times-stands (Some y ∷ places) (suc k) x e = omega (arith, times-stands places k x e)
+times-stands (place ∷ places) zero x e = grind (arith, nat_tests)
+times-stands (place ∷ places) (suc k) x e = grind (arith, times-stands places k x e)
 
 -- an entry leaves
 pub times-left : (places : List (Option Dated)) (k x : ℕ) → times x (entered (set places k None)) ≤ times x (entered places)
 times-left [] k x = omega arith
-times-left (None ∷ places) zero x = omega arith
-times-left (Some y ∷ places) zero x = omega arith
-times-left (None ∷ places) (suc k) x = times-left places k x
-times-left (Some y ∷ places) (suc k) x = omega (arith, times-left places k x)
+times-left (place ∷ places) zero x = grind (arith)
+times-left (place ∷ places) (suc k) x = grind (arith, times-left places k x)
 
 pub entered-left : (places : List (Option Dated)) (k : ℕ) (x : Dated) → get_or places k None ≡ Some x → times x.thread (entered places) ≤ 1 →
     without x.thread (entered places) ≡ entered (set places k None)
 entered-left [] k x e once = cc
-entered-left (None ∷ places) zero x e once = cc
-entered-left (Some y ∷ places) zero x e once = grind (arith, nat_tests)
-entered-left (None ∷ places) (suc k) x e once = entered-left places k x e once
-entered-left (Some y ∷ places) (suc k) x e once = grind (arith, nat_tests, times-stands places k x e, entered-left places k x e)
+entered-left (place ∷ places) zero x e once = grind (arith, nat_tests)
+entered-left (place ∷ places) (suc k) x e once = grind (arith, nat_tests, times-stands places k x e, entered-left places k x e)
 
 -- an entry that has no other before it goes to the front
 first-moved : (places : List (Option Dated)) (i : ℕ) (x : Dated) → get_or places i None ≡ Some x → ((j : ℕ) → j < i → get_or places j None ≡ None) →
     x ∷ entered (set places i None) ≡ entered places
 first-moved [] i x e gap = cc
-first-moved (None ∷ places) zero x e gap = cc
-first-moved (Some y ∷ places) zero x e gap = cc
-first-moved (None ∷ places) (suc i) x e gap = first-moved places i x e (λ j h. gap (suc j) (omega arith))
-first-moved (Some y ∷ places) (suc i) x e gap = let no : Some y ≡ None = gap zero (omega arith) in cc
+first-moved (place ∷ places) zero x e gap = grind (arith)
+first-moved (place ∷ places) (suc i) x e gap = grind (arith, gap zero (omega arith), first-moved places i x e (λ j h. gap (suc j) (omega arith)))
 
 -- it moves over places that are empty
 pub entered-moved : (places : List (Option Dated)) (i end : ℕ) (x : Dated) → get_or places i None ≡ Some x → end ≤ i →
@@ -75,20 +61,17 @@ pub entered-moved : (places : List (Option Dated)) (i end : ℕ) (x : Dated) →
 entered-moved [] i end x e h gap = cc
 entered-moved (place ∷ places) zero zero x e h gap = rw e refl
 entered-moved (place ∷ places) zero (suc end) x e h gap = absurd (omega arith)
-entered-moved (None ∷ places) (suc i) zero x e h gap = first-moved places i x e (λ j below. gap (suc j) (omega arith) (omega arith))
-entered-moved (Some y ∷ places) (suc i) zero x e h gap = let no : Some y ≡ None = gap zero (omega arith) (omega arith) in cc
-entered-moved (None ∷ places) (suc i) (suc end) x e h gap = entered-moved places i end x e (omega arith) (λ j from below. gap (suc j) (omega arith) (omega arith))
-entered-moved (Some y ∷ places) (suc i) (suc end) x e h gap =
-    ap (λ (xs : List Dated). y ∷ xs) (entered-moved places i end x e (omega arith) (λ j from below. gap (suc j) (omega arith) (omega arith)))
+entered-moved (place ∷ places) (suc i) zero x e h gap =
+    grind (arith, gap zero (omega arith) (omega arith), first-moved places i x e (λ j below. gap (suc j) (omega arith) (omega arith)))
+entered-moved (place ∷ places) (suc i) (suc end) x e h gap =
+    grind (arith, entered-moved places i end x e (omega arith) (λ j from below. gap (suc j) (omega arith) (omega arith)))
 
 -- what stands before the next place, with its entry where it has one
 pub entered-next : (places : List (Option Dated)) (i : ℕ) (place : Option Dated) → get_or places i None ≡ place → i < length places →
     entered (take (suc i) places) ≡ entered (take i places) ++ entered (place ∷ [])
 entered-next [] i place e below = absurd (omega arith)
 entered-next (first ∷ places) zero place e below = ap (λ (p : Option Dated). entered (p ∷ [])) e
-entered-next (None ∷ places) (suc i) place e below = entered-next places i place e (omega arith)
-entered-next (Some x ∷ places) (suc i) place e below =
-    ap (λ (xs : List Dated). x ∷ xs) (entered-next places i place e (omega arith))
+entered-next (first ∷ places) (suc i) place e below = grind (arith, entered-next places i place e (omega arith))
 
 -- as many entries stand before the end of those that moved as before, and one more
 pub entered-filled : (places : List (Option Dated)) (i front : ℕ) (x : Dated) → front ≤ i → i < length places →
@@ -97,6 +80,4 @@ entered-filled [] i front x before below = absurd (omega arith)
 entered-filled (place ∷ places) zero zero x before below = refl
 entered-filled (place ∷ places) (suc i) zero x before below = refl
 entered-filled (place ∷ places) zero (suc front) x before below = absurd (omega arith)
-entered-filled (None ∷ places) (suc i) (suc front) x before below = entered-filled places i front x (omega arith) (omega arith)
-entered-filled (Some y ∷ places) (suc i) (suc front) x before below =
-    ap (λ (n : ℕ). suc n) (entered-filled places i front x (omega arith) (omega arith))
+entered-filled (place ∷ places) (suc i) (suc front) x before below = grind (arith, entered-filled places i front x (omega arith) (omega arith))

@@ -7,28 +7,24 @@ use Rattle.std.proofs.lemmas.List.{get_or_past}
 use Rattle.mcs_ticks.specs.Soonest.{sooner}
 use Rattle.mcs_release.specs.declared.dated.Dated.{Dated}
 use Rattle.mcs_release.specs.stored.Places.{entered, times, one_if, waiting, AreEmptyFrom, IsAlone, IsKept, IsTaken}
-use Rattle.mcs_release.specs.Release.{ReleaseQueue, is_held, earliest, next_date, thread_of, when_left, AreBelow, AreDistinct}
+use Rattle.mcs_release.specs.Release.{ReleaseQueue, is_held, earliest, next_date, when_left, AreBelow, AreDistinct}
 use Rattle.mcs_release.proofs.Earliest.{next_date-entered, next_date-none}
 use Rattle.mcs_release.proofs.Entered.{empty_from, entered-none, entered-push, entered-left, times-left}
-use Rattle.mcs_release.proofs.Times.{times-append, times-cons_same, times-free, one_if-le-one, length-le-room}
+use Rattle.mcs_release.proofs.Times.{times-append, times-cons_same, times-free, length-le-room}
 
 -- with no thread
 pub entered-new : (places : List (Option Dated)) → AreEmptyFrom 0 places → entered places ≡ []
 entered-new places empty = entered-none places (λ place. empty place (omega arith))
 
-IsKept-empty : (places : List (Option Dated)) (end room : ℕ) → entered places ≡ [] → AreEmptyFrom end places → room < length places → length places ≤ 2 ^ 21 →
-    IsKept None None places end room
-IsKept-empty places end room none behind wide few = record {
-  first = sym (ap next_date none);
+pub IsKept-new : (places : List (Option Dated)) (room : ℕ) → AreEmptyFrom 0 places → room < length places → length places ≤ 2 ^ 21 → IsKept None None places 0 room
+IsKept-new places room empty wide few = record {
+  first = sym (ap next_date (entered-new places empty));
   alone = tt;
-  behind = behind;
-  once = λ thread. omega (arith, ap (times thread) none);
+  behind = empty;
+  once = λ thread. omega (arith, ap (times thread) (entered-new places empty));
   wide = wide;
   few = few;
 }
-
-pub IsKept-new : (places : List (Option Dated)) (room : ℕ) → AreEmptyFrom 0 places → room < length places → length places ≤ 2 ^ 21 → IsKept None None places 0 room
-IsKept-new places room empty wide few = IsKept-empty places 0 room (entered-new places empty) empty wide few
 
 -- where none waits, no place has a thread
 pub entered-nil : (lone : Option Dated) (places : List (Option Dated)) → waiting lone places ≡ [] → entered places ≡ []
@@ -86,19 +82,6 @@ module _ (soonest : Option ℕ) (lone : Option Dated) (places : List (Option Dat
         few = omega (arith, length-set places' place (Some x), wide, kept.few);
       }
 
--- the only one leaves
-pub IsKept-none : (soonest : Option ℕ) (lone : Option Dated) (x : Dated) (places : List (Option Dated)) (end room : ℕ) → IsKept soonest lone places end room →
-    lone ≡ Some x → IsKept None None places end room
-IsKept-none soonest None x places end room kept e = cc
-IsKept-none soonest (Some y) x places end room kept e = IsKept-empty places end room kept.alone kept.behind kept.wide kept.few
-
-pub waiting-alone : (soonest : Option ℕ) (lone : Option Dated) (x : Dated) (places : List (Option Dated)) (end room : ℕ) → IsKept soonest lone places end room →
-    lone ≡ Some x → (waiting lone places ≡ x ∷ []) × (entered places ≡ [])
-waiting-alone soonest None x places end room kept e = cc
-waiting-alone soonest (Some y) x places end room kept e =
-    let it : y ≡ x = cc in
-    (ap (λ (xs : List Dated). y ∷ xs) kept.alone ∙ ap (λ (z : Dated). z ∷ []) it, kept.alone)
-
 -- an empty place stays so where one is emptied
 still : (places : List (Option Dated)) (k i : ℕ) → get_or places i None ≡ None → get_or (set places k None) i None ≡ None
 still places k i e = grind (arith, common_steps, get_or_past (set places k None) i None)
@@ -109,15 +92,12 @@ module _ (soonest : Option ℕ) (lone : Option Dated) (places : List (Option Dat
   all : waiting lone places ≡ entered places
   all = ap (λ (r : Option Dated). waiting r places) none
 
-  pub left-first : Some thread ≡ thread_of (earliest (waiting lone places))
-  left-first = ap (λ (t : ℕ). Some t) taken.it ∙ sym (ap thread_of (ap earliest all ∙ taken.is_earliest))
-
   pub left-others : entered places' ≡ when_left (earliest (waiting lone places)) (waiting lone places)
   left-others =
       ap entered taken.left
       ∙ sym (
       entered-left places taken.place taken.first taken.stood
-      (omega (arith, ap (times taken.first.thread) all, kept.once taken.first.thread, one_if-le-one (nat_lt taken.first.thread room)))
+      (grind (arith, ap (times taken.first.thread) all, kept.once taken.first.thread))
       )
       ∙ sym (ap (λ (r : Option Dated). when_left r (entered places)) taken.is_earliest)
       ∙ sym (ap (λ (xs : List Dated). when_left (earliest xs) xs) all)

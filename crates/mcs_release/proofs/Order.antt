@@ -1,12 +1,12 @@
 -- Threads of one date leave in the order in which they entered.
-use Rattle.std.proofs.Common.{◌≡◌, ◌≢◌, ℕ, zero, suc, ◌<◌, Bool, true, false, cond, not, List, [], ◌∷◌, length, drop, get_or, Option, Some, None, refl, sym, ap, ◌∙◌, arith}
+use Rattle.std.proofs.Common.{◌≡◌, ◌≢◌, ℕ, zero, suc, ◌<◌, not, List, [], ◌∷◌, length, drop, get_or, Option, Some, None, refl, sym, ap, ◌∙◌, inl, inr, arith}
 use Rattle.std.specs.Prelude.{filter, slice_get, All, IfSome}
-use Rattle.std.proofs.lemmas.Bool.{le-ltb}
+use Rattle.std.proofs.lemmas.Bool.{cases_Bool}
 use Rattle.std.proofs.lemmas.Bool.Decides.{nat_tests}
 use Rattle.std.proofs.lemmas.List.Elements.{All-head, All-tail}
 use Rattle.mcs_release.specs.declared.dated.Dated.{Dated}
 use Rattle.mcs_release.proofs.Earliest.{earlier-keeps}
-use Rattle.mcs_release.specs.Release.{earlier, earliest, is_due, without, when_left, first_due, without_first_due, AreDistinct, LeaveInOrder}
+use Rattle.mcs_release.specs.Release.{earliest, is_due, without, when_left, first_due, without_first_due, AreDistinct, LeaveInOrder}
 
 -- of entries with one date the first is the earliest
 earliest-date : (date : ℕ) (xs : List Dated) → All (λ x. x.date ≡ date) xs → IfSome (earliest xs) (λ x. x.date ≡ date)
@@ -18,22 +18,18 @@ earliest-date date (x ∷ xs) all =
 earliest-first : (date : ℕ) (xs : List Dated) → All (λ x. x.date ≡ date) xs → earliest xs ≡ slice_get xs 0
 earliest-first date [] all = refl
 earliest-first date (x ∷ xs) all =
-    by (earliest xs) (All-head (λ (x : Dated). x.date ≡ date) x xs all) (earliest-date date xs (All-tail (λ (x : Dated). x.date ≡ date) x xs all))
-  where
-    by : (r : Option Dated) → x.date ≡ date → IfSome r (λ y. y.date ≡ date) → Some (earlier x r) ≡ Some x
-    by None h k = refl
-    by (Some y) h k = rw (le-ltb y.date x.date (omega arith)) refl
+    let Has : Dated → Type 0 = λ y. y.date ≡ date in
+    let first = All-head Has x xs all in
+    let earliest = earliest-date date xs (All-tail Has x xs all) in
+    grind (arith, nat_tests)
 
 -- the first that is due stands in the queue
 first-stands : (t : ℕ) (queue : List Dated) (x : Dated) → slice_get (filter (is_due t) queue) 0 ≡ Some x → (k : ℕ) × (k < length queue) × (get_or queue k x ≡ x)
 first-stands t [] x e = cc
-first-stands t (y ∷ queue) x e = by (is_due t y) e (first-stands t queue x)
-  where
-    by : (b : Bool) → slice_get (cond b (y ∷ filter (is_due t) queue) (filter (is_due t) queue)) 0 ≡ Some x →
-        (slice_get (filter (is_due t) queue) 0 ≡ Some x → (k : ℕ) × (k < length queue) × (get_or queue k x ≡ x)) →
-        (k : ℕ) × (k < length (y ∷ queue)) × (get_or (y ∷ queue) k x ≡ x)
-    by true e rest = let same : y ≡ x = cc in (zero, omega arith, same)
-    by false e rest = let found = rest e in (suc found.0, omega (arith, found.1), found.2)
+first-stands t (y ∷ queue) x e = elim (cases_Bool (is_due t y)) [
+  | inl due ↦ (zero, omega arith, grind (arith))
+  | inr later ↦ let found = first-stands t queue x (rw later at e) in (suc found.0, omega (arith, found.1), found.2)
+]
 
 AreDistinct-tail : (y : Dated) (queue : List Dated) → AreDistinct (y ∷ queue) → AreDistinct queue
 AreDistinct-tail y queue distinct i j d before below = distinct (suc i) (suc j) d (omega arith) (omega arith)

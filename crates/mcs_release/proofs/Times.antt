@@ -1,8 +1,8 @@
 -- How often a thread stands among entries, and how many entries there can be.
-use Rattle.std.proofs.Common.{◌≡◌, ℕ, ◌+◌, ◌<◌, ◌≤◌, ◌==◌, Bool, true, false, List, [], ◌∷◌, ◌++◌, length, map, eqb, refl, arith}
+use Rattle.std.proofs.Common.{◌≡◌, ℕ, ◌+◌, ◌<◌, ◌≤◌, ◌==◌, true, false, List, [], ◌∷◌, ◌++◌, length, map, eqb, refl, arith}
 use Rattle.std.specs.Prelude.{nat_lt}
 use Rattle.std.specs.List.{list_any, AllByRecursion, IsDistinct}
-use Rattle.std.proofs.lemmas.Bool.{eq-eqb, ne_eqb}
+use Rattle.std.proofs.lemmas.Bool.{eq-eqb}
 use Rattle.std.proofs.lemmas.Bool.Decides.{nat_tests}
 use Rattle.std.proofs.lemmas.List.{length-map}
 use Rattle.std.proofs.lemmas.Map.Steps.{length-le_from_distinct_below}
@@ -17,17 +17,10 @@ times-append x (y ∷ ys) zs = omega (arith, times-append x ys zs)
 pub times-cons_same : (y : Dated) (ys : List Dated) → times y.thread (y ∷ ys) ≡ 1 + times y.thread ys
 times-cons_same y ys = rw (eq-eqb y.thread y.thread refl) refl
 
-pub times-cons_other : (x : ℕ) (y : Dated) (ys : List Dated) → (y.thread ≡ x → ⊥) → times x (y ∷ ys) ≡ times x ys
-times-cons_other x y ys ne = rw (ne_eqb y.thread x ne) (omega arith)
-
 -- a thread that is not held stands nowhere
 pub times-free : (x : ℕ) (ys : List Dated) → is_held x ys ≡ false → times x ys ≡ 0
 times-free x [] free = refl
 times-free x (y ∷ ys) free = grind (arith, nat_tests, times-free x ys)
-
-pub one_if-le-one : (b : Bool) → one_if b ≤ 1
-one_if-le-one true = omega arith
-one_if-le-one false = omega arith
 
 -- the numbers of the threads
 abbrev threads_of : List Dated → List ℕ
@@ -52,7 +45,7 @@ length-le-room xs room once =
     omega (arith, length-map xs (λ (x : Dated). x.thread), length-le_from_distinct_below (threads_of xs) room (distinct xs at_most) below)
   where
     at_most : (x : ℕ) → times x xs ≤ 1
-    at_most x = omega (arith, once x, one_if-le-one (nat_lt x room))
+    at_most x = grind (arith, once x)
 
     below : (x : ℕ) → list_any (eqb x) (threads_of xs) ≡ true → x < room
     below x e = grind (arith, nat_tests, once x, times-stands x xs e)
