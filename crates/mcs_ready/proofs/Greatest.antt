@@ -13,12 +13,6 @@ IsEnd-behind words (Some g) few found =
     let it : g + 1 - 1 ≡ g = omega arith in
     (few, λ q past. found.1 q (omega arith), λ _. rw it found.0)
 
-pub IsGreatest-none : (words : List ℕ) (e : ℕ) → IsEnd words e → e ≡ 0 → IsGreatest words None
-IsGreatest-none words e end none = λ q. end.1 q (omega arith)
-
-pub IsGreatest-before : (words : List ℕ) (e : ℕ) → IsEnd words e → 0 < e → IsGreatest words (Some (e - 1))
-IsGreatest-before words e end some = (end.2 some, λ q above. end.1 q (omega arith))
-
 module _ (words words' : List ℕ) (p : ℕ) where
   -- one enters
   pub IsEnd-set : (e : ℕ) → IsEnd words e → p < 256 → ((q : ℕ) → has words' q ≡ (if q == p then true else has words q)) → IsEnd words' (max e (p + 1))

@@ -1,5 +1,5 @@
 -- What the places keep, through each call.
-use Rattle.std.proofs.Common.{◌≡◌, ◌≢◌, ℕ, zero, suc, ◌+◌, ◌<◌, ◌≤◌, ◌==◌, if◌then◌else◌, Bool, true, false, List, [], ◌∷◌, ◌++◌, length, map, get_or, set, refl, sym, ap, subst, ◌∙◌, inl, inr, arith, get_or-set_same, get_or-set_other, length-set, replicate}
+use Rattle.std.proofs.Common.{◌≡◌, ◌≢◌, ℕ, zero, suc, ◌+◌, ◌<◌, ◌≤◌, ◌==◌, if◌then◌else◌, true, false, List, [], ◌∷◌, ◌++◌, length, map, get_or, set, refl, sym, ap, subst, ◌∙◌, inl, inr, arith, get_or-set_same, get_or-set_other, length-set, replicate}
 use Rattle.std.specs.Prelude.{nat_lt, Option, None, Some, MatchOption}
 use Rattle.std.proofs.Math.ListN.{get_or-map as get_or-map_at}
 use Rattle.std.proofs.lemmas.Bool.Decides.{nat_tests}
@@ -24,10 +24,6 @@ names-none next y below = rw (get_or-set_same next y no_thread no_thread below) 
 
 names-other : (next : List ℕ) (y v x : ℕ) → x ≢ y → names_one (set next y v) x ≡ names_one next x
 names-other next y v x ne = rw (get_or-set_other next y x v no_thread ne) refl
-
-one_if-le-one : (b : Bool) → one_if b ≤ 1
-one_if-le-one true = omega arith
-one_if-le-one false = omega arith
 
 module _ (words words' lasts next next' : List ℕ) (p last : ℕ) (threads : List ℕ) where
   -- one line is changed, its threads are these now, and its priority is marked by whether there is one
@@ -84,14 +80,7 @@ module _ (words lasts next : List ℕ) (kept : IsKept words lasts next) where
   -- it stands in no other line
   other-line : (q x j : ℕ) → 1 ≤ times x (line q) → j ≢ q → times x (line j) ≡ 0
   other-line q x j stands ne =
-      omega (
-        arith,
-        times-elsewhere x q j (all_threads next lasts) (λ e. ne (sym e)),
-        kept.once x,
-        one_if-le-one (names_one next x),
-        ap (times x) (line-at q),
-        ap (times x) (line-at j),
-      )
+      grind (arith, times-elsewhere x q j (all_threads next lasts) (λ e. ne (sym e)), kept.once x, ap (times x) (line-at q), ap (times x) (line-at j))
 
   -- a thread that names none stands in none
   free-line : (x j : ℕ) → names_one next x ≡ false → times x (line j) ≡ 0
@@ -163,6 +152,17 @@ module _ (words lasts next : List ℕ) (kept : IsKept words lasts next) where
           (y : ℕ) → times y threads + one_if (names_one next y) ≡ times y (get_or (all_threads next lasts) p []) + one_if (names_one next' y)
       moved next' threads entered mine others y = rw (line-at p) (grind (arith, nat_tests, entered y, others y))
 
+      -- at the back or at the front of the line it is at the back or at the front of its priority
+      queue-pushed : (lines : List (List ℕ)) → lines ≡ set (all_threads next lasts) p (line p ++ x ∷ []) → queue_from 0 lines ≡ entered_back (queued x p) (queue_from 0 (all_threads next lasts))
+      queue-pushed lines now =
+          ap (queue_from 0) (now ∙ ap (λ (xs : List ℕ). set (all_threads next lasts) p (xs ++ x ∷ [])) (sym (line-at p))) ∙ queue-back (all_threads next lasts) 0 p x among
+          ∙ ap (λ (n : ℕ). entered_back (queued x n) (queue_from 0 (all_threads next lasts))) (omega arith)
+
+      queue-put : (lines : List (List ℕ)) → lines ≡ set (all_threads next lasts) p (x ∷ line p) → queue_from 0 lines ≡ entered_front (queued x p) (queue_from 0 (all_threads next lasts))
+      queue-put lines now =
+          ap (queue_from 0) (now ∙ ap (λ (xs : List ℕ). set (all_threads next lasts) p (x ∷ xs)) (sym (line-at p))) ∙ queue-front (all_threads next lasts) 0 p x among
+          ∙ ap (λ (n : ℕ). entered_front (queued x n) (queue_from 0 (all_threads next lasts))) (omega arith)
+
       -- it has none
       module _ (empty : get_or lasts p no_thread ≡ no_thread) where
         alone : threads_of (set next x x) x ≡ x ∷ []
@@ -170,8 +170,8 @@ module _ (words lasts next : List ℕ) (kept : IsKept words lasts next) where
             rw (ne_eqb x no_thread (below-some x x_below), length-set next x x, get_or-set_same next x x 0 x_below)
             (rw (eq-eqb x x refl) refl)
 
-        none : get_or (all_threads next lasts) p [] ≡ []
-        none = line-at p ∙ rw empty refl
+        none : line p ≡ []
+        none = rw empty refl
 
         alone-now : all_threads (set next x x) (set lasts p x) ≡ set (all_threads next lasts) p (x ∷ [])
         alone-now = lines-changed next (set next x x) lasts p x (x ∷ []) alone (λ j ne. other-set x x j (free-line x j free))
@@ -179,20 +179,14 @@ module _ (words lasts next : List ℕ) (kept : IsKept words lasts next) where
         pub IsKept-alone : (words' : List ℕ) → ((q : ℕ) → has words' q ≡ (if q == p then true else has words q)) → IsKept words' (set lasts p x) (set next x x)
         IsKept-alone words' marks =
             IsKept-changed words words' lasts next (set next x x) p x (x ∷ []) kept below (length-set next x x) alone-now marks
-            (moved (set next x x) (x ∷ []) (λ y. omega (arith, ap (times y) (sym (line-at p) ∙ none)))
+            (moved (set next x x) (x ∷ []) (λ y. omega (arith, ap (times y) none))
             (names-same next x x x_below (below-some x x_below)) (λ y ne. names-other next x x y ne))
 
         pub queue-alone_back : queue_from 0 (all_threads (set next x x) (set lasts p x)) ≡ entered_back (queued x p) (queue_from 0 (all_threads next lasts))
-        queue-alone_back =
-            ap (queue_from 0) (alone-now ∙ ap (λ (xs : List ℕ). set (all_threads next lasts) p (xs ++ x ∷ [])) (sym none))
-            ∙ queue-back (all_threads next lasts) 0 p x among
-            ∙ ap (λ (n : ℕ). entered_back (queued x n) (queue_from 0 (all_threads next lasts))) (omega arith)
+        queue-alone_back = queue-pushed _ (alone-now ∙ ap (λ (xs : List ℕ). set (all_threads next lasts) p (xs ++ x ∷ [])) (sym none))
 
         pub queue-alone_front : queue_from 0 (all_threads (set next x x) (set lasts p x)) ≡ entered_front (queued x p) (queue_from 0 (all_threads next lasts))
-        queue-alone_front =
-            ap (queue_from 0) (alone-now ∙ ap (λ (xs : List ℕ). set (all_threads next lasts) p (x ∷ xs)) (sym none))
-            ∙ queue-front (all_threads next lasts) 0 p x among
-            ∙ ap (λ (n : ℕ). entered_front (queued x n) (queue_from 0 (all_threads next lasts))) (omega arith)
+        queue-alone_front = queue-put _ (alone-now ∙ ap (λ (xs : List ℕ). set (all_threads next lasts) p (x ∷ xs)) (sym none))
 
       -- it has one
       module _ (some : get_or lasts p no_thread ≢ no_thread) where
@@ -256,16 +250,10 @@ module _ (words lasts next : List ℕ) (kept : IsKept words lasts next) where
             (moved after (line p ++ x ∷ []) (λ y. times-append y (line p) (x ∷ [])) names-x names-others)
 
         pub queue-front_in : queue_from 0 (all_threads after lasts) ≡ entered_front (queued x p) (queue_from 0 (all_threads next lasts))
-        queue-front_in =
-            ap (queue_from 0) (front-now ∙ ap (λ (xs : List ℕ). set (all_threads next lasts) p (x ∷ xs)) (sym (line-at p)))
-            ∙ queue-front (all_threads next lasts) 0 p x among
-            ∙ ap (λ (n : ℕ). entered_front (queued x n) (queue_from 0 (all_threads next lasts))) (omega arith)
+        queue-front_in = queue-put _ front-now
 
         pub queue-back_in : queue_from 0 (all_threads after (set lasts p x)) ≡ entered_back (queued x p) (queue_from 0 (all_threads next lasts))
-        queue-back_in =
-            ap (queue_from 0) (back-now ∙ ap (λ (xs : List ℕ). set (all_threads next lasts) p (xs ++ x ∷ [])) (sym (line-at p)))
-            ∙ queue-back (all_threads next lasts) 0 p x among
-            ∙ ap (λ (n : ℕ). entered_back (queued x n) (queue_from 0 (all_threads next lasts))) (omega arith)
+        queue-back_in = queue-pushed _ back-now
 
   -- the first thread leaves the line
   module _ (p : ℕ) (marked : has words p ≡ true) where
@@ -348,7 +336,7 @@ module _ (words lasts next : List ℕ) (kept : IsKept words lasts next) where
 
       split : line p ≡ head ∷ behind
       split =
-          let one : times head (line p) ≤ 1 = omega (arith, once-at p head, one_if-le-one (names_one next head)) in
+          let one : times head (line p) ≤ 1 = grind (arith, once-at p head) in
           threads-rest next end some (last-below p some) more one (few-at p)
 
       second-stands : 1 ≤ times (get_or next head 0) (line p)
@@ -438,9 +426,6 @@ IsKept-new words n room e few none = record {
   once = λ x. no_times_in (replicate room no_thread) n x ∙ ap one_if (sym (none_named room x));
 }
 
-pub queue-new : (n room : ℕ) → queue_from 0 (all_threads (replicate room no_thread) (replicate n no_thread)) ≡ []
-queue-new n room = queue-none _ 0 (no_threads_at (replicate room no_thread) n)
-
 -- the value that callers see, from the places
 module _ (words lasts next : List ℕ) (kept : IsKept words lasts next) (value : ReadyQueue)
     (view_is : record { queue = queue_from 0 (all_threads next lasts); room = length next } ≡ value) (x : ℕ) where
@@ -470,7 +455,7 @@ module _ (words lasts next : List ℕ) (kept : IsKept words lasts next) where
       let threads = map (λ (q : Queued). q.thread) queue in
       let e = get_or-map (λ (q : Queued). q.thread) queue i d 0 (omega arith) in
       let f = get_or-map (λ (q : Queued). q.thread) queue j d 0 below in
-      distinct_from_once threads (λ x. omega (arith, times-queue x, one_if-le-one (names_one next x))) i j before
+      distinct_from_once threads (λ x. grind (arith, times-queue x)) i j before
       (omega (arith, length-map queue (λ (q : Queued). q.thread))) (e ∙ same ∙ sym f)
 
   pub AreBelow-kept : AreBelow (length next) (queue_from 0 (all_threads next lasts))

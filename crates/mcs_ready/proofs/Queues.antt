@@ -45,11 +45,7 @@ queue-back (ys ∷ lines) p zero x h =
     )
     ∙ ap (λ (n : ℕ). entered_back (queued x n) (queue_from p (ys ∷ lines))) e
 queue-back (ys ∷ lines) p (suc i) x h =
-    let below : i < length lines = omega arith in
-    let e : suc p + i ≡ p + suc i = omega arith in
-    ap (λ (us : List Queued). us ++ queued_at p ys) (queue-back lines (suc p) i x below)
-    ∙ sym (back_above (queued x (suc p + i)) (queue_from (suc p) lines) p ys (omega arith))
-    ∙ ap (λ (n : ℕ). entered_back (queued x n) (queue_from p (ys ∷ lines))) e
+    grind (arith, queue-back lines (suc p) i x (omega arith), back_above (queued x (p + suc i)) (queue_from (suc p) lines) p ys (omega arith))
 
 -- a thread enters at the front behind all of greater priority
 front-line : (x p q : ℕ) (ys : List ℕ) (rest : List Queued) → p < q →
@@ -82,17 +78,9 @@ front_above x (z ∷ above) p ys h = grind (arith, front_above x above p ys h)
 pub queue-front : (lines : List (List ℕ)) (p i x : ℕ) → i < length lines →
     queue_from p (set lines i (x ∷ get_or lines i [])) ≡ entered_front (queued x (p + i)) (queue_from p lines)
 queue-front [] p i x h = absurd (omega arith)
-queue-front (ys ∷ lines) p zero x h =
-    let above = queue_from (suc p) lines in
-    let e : p ≡ p + 0 = omega arith in
-    sym (front-lines x p (suc p) lines (queued_at p ys) (omega arith) ∙ ap (λ (us : List Queued). above ++ us) (front_same x p ys))
-    ∙ ap (λ (n : ℕ). entered_front (queued x n) (queue_from p (ys ∷ lines))) e
+queue-front (ys ∷ lines) p zero x h = grind (arith, front-lines x p (suc p) lines (queued_at p ys) (omega arith), front_same x p ys)
 queue-front (ys ∷ lines) p (suc i) x h =
-    let below : i < length lines = omega arith in
-    let e : suc p + i ≡ p + suc i = omega arith in
-    ap (λ (us : List Queued). us ++ queued_at p ys) (queue-front lines (suc p) i x below)
-    ∙ sym (front_above (queued x (suc p + i)) (queue_from (suc p) lines) p ys (omega arith))
-    ∙ ap (λ (n : ℕ). entered_front (queued x n) (queue_from p (ys ∷ lines))) e
+    grind (arith, queue-front lines (suc p) i x (omega arith), front_above (queued x (p + suc i)) (queue_from (suc p) lines) p ys (omega arith))
 
 -- with no thread in any line the queue is empty
 pub queue-none : (lines : List (List ℕ)) (p : ℕ) → ((i : ℕ) → get_or lines i [] ≡ []) → queue_from p lines ≡ []
@@ -109,7 +97,4 @@ queue-first (ys ∷ lines) p zero x xs e none =
     let empty : queue_from (suc p) lines ≡ [] = queue-none lines (suc p) (λ j. none (suc j) (omega arith)) in
     let same : p ≡ p + 0 = omega arith in
     rw (empty, e) (ap (λ (n : ℕ). queued x n ∷ queued_at p xs) same)
-queue-first (ys ∷ lines) p (suc i) x xs e none =
-    let same : suc p + i ≡ p + suc i = omega arith in
-    ap (λ (us : List Queued). us ++ queued_at p ys) (queue-first lines (suc p) i x xs e (λ j h. none (suc j) (omega arith)))
-    ∙ ap (λ (n : ℕ). queued x n ∷ (queue_from (suc p) (set lines i xs) ++ queued_at p ys)) same
+queue-first (ys ∷ lines) p (suc i) x xs e none = grind (arith, queue-first lines (suc p) i x xs e (λ j h. none (suc j) (omega arith)))

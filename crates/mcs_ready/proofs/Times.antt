@@ -1,8 +1,8 @@
 -- How often a thread stands in lines.
 use Rattle.std.proofs.Common.{◌≡◌, ℕ, zero, suc, ◌+◌, ◌<◌, ◌≤◌, ◌==◌, true, false, List, [], ◌∷◌, ◌++◌, length, map, get_or, set, eqb, refl, ap, ◌∙◌, arith}
-use Rattle.std.specs.Prelude.{nat_lt, ◌||◌}
+use Rattle.std.specs.Prelude.{nat_lt}
 use Rattle.std.specs.List.{list_any, AllByRecursion, IsDistinct}
-use Rattle.std.proofs.lemmas.Bool.{eq-eqb, ne_eqb}
+use Rattle.std.proofs.lemmas.Bool.{eq-eqb}
 use Rattle.std.proofs.lemmas.Bool.Decides.{nat_tests}
 use Rattle.std.proofs.lemmas.List.{get_or_past, map-append}
 use Rattle.std.proofs.lemmas.List.Folds.{list_any-append}
@@ -25,16 +25,11 @@ pub times_in-set : (x i : ℕ) (lines : List (List ℕ)) (line : List ℕ) → i
     times_in x (set lines i line) + times x (get_or lines i []) ≡ times_in x lines + times x line
 times_in-set x i [] line h = absurd (omega arith)
 times_in-set x zero (ys ∷ lines) line h = omega arith
-times_in-set x (suc i) (ys ∷ lines) line h =
-    let below : i < length lines = omega arith in
-    omega (arith, times_in-set x i lines line below)
+times_in-set x (suc i) (ys ∷ lines) line h = omega (arith, times_in-set x i lines line (omega arith))
 
 -- a thread stands where it stands
 pub times-cons_same : (x : ℕ) (ys : List ℕ) → times x (x ∷ ys) ≡ 1 + times x ys
 times-cons_same x ys = rw (eq-eqb x x refl) refl
-
-pub times-cons_other : (x y : ℕ) (ys : List ℕ) → (y ≡ x → ⊥) → times x (y ∷ ys) ≡ times x ys
-times-cons_other x y ys ne = rw (ne_eqb y x ne) (omega arith)
 
 -- a thread that stands in one line stands in no other, where it stands in one place
 pub times-elsewhere : (x i j : ℕ) (lines : List (List ℕ)) → (i ≡ j → ⊥) → times x (get_or lines i []) + times x (get_or lines j []) ≤ times_in x lines
@@ -53,10 +48,7 @@ pub is_held-queue_from : (x p : ℕ) (lines : List (List ℕ)) → is_held x (qu
 is_held-queue_from x p [] = refl
 is_held-queue_from x p (ys ∷ lines) =
     list_any-append (λ (q : Queued). q.thread == x) (queue_from (suc p) lines) (queued_at p ys)
-    ∙ rw (is_held-queue_from x (suc p) lines, is_held-queued_at x p ys) (by (times_in x lines) (times x ys))
-  where
-    by : (m n : ℕ) → (nat_lt 0 m || nat_lt 0 n) ≡ nat_lt 0 (n + m)
-    by m n = grind (arith, nat_tests)
+    ∙ rw (is_held-queue_from x (suc p) lines, is_held-queued_at x p ys) (grind (arith, nat_tests))
 
 -- a thread that names one has a number that there is room for
 pub names-below : (next : List ℕ) (x : ℕ) → names_one next x ≡ true → x < length next
@@ -112,18 +104,12 @@ times-queue_from x p (ys ∷ lines) =
 pub times-get_or : (xs : List ℕ) (i : ℕ) → i < length xs → 1 ≤ times (get_or xs i 0) xs
 times-get_or [] i h = absurd (omega arith)
 times-get_or (y ∷ ys) zero h = omega (arith, times-cons_same y ys)
-times-get_or (y ∷ ys) (suc i) h =
-    let below : i < length ys = omega arith in
-    omega (arith, times-get_or ys i below)
+times-get_or (y ∷ ys) (suc i) h = omega (arith, times-get_or ys i (omega arith))
 
 -- where each stands at most once, no two places have the same
 pub distinct_from_once : (xs : List ℕ) → ((x : ℕ) → times x xs ≤ 1) → (i j : ℕ) → i < j → j < length xs → get_or xs i 0 ≡ get_or xs j 0 → ⊥
 distinct_from_once [] once i j before h same = absurd (omega arith)
 distinct_from_once (y ∷ ys) once i zero before h same = absurd (omega arith)
 distinct_from_once (y ∷ ys) once zero (suc j) before h same =
-    let below : j < length ys = omega arith in
-    absurd (omega (arith, once y, times-cons_same y ys, ap (λ (x : ℕ). times x ys) same, times-get_or ys j below))
-distinct_from_once (y ∷ ys) once (suc i) (suc j) before h same =
-    let earlier : i < j = omega arith in
-    let below : j < length ys = omega arith in
-    distinct_from_once ys (λ x. omega (arith, once x)) i j earlier below same
+    absurd (omega (arith, once y, times-cons_same y ys, ap (λ (x : ℕ). times x ys) same, times-get_or ys j (omega arith)))
+distinct_from_once (y ∷ ys) once (suc i) (suc j) before h same = distinct_from_once ys (λ x. omega (arith, once x)) i j (omega arith) (omega arith) same
