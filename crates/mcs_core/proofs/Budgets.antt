@@ -1,16 +1,14 @@
 -- Budgets that are kept: by charges, unblocking and orders; and their heads.
-use Rattle.std.proofs.Common.{◌≡◌, ℕ, zero, suc, ◌+◌, ◌-◌, ◌^◌, ◌≤◌, Bool, true, false, cond, List, [], ◌∷◌, ◌++◌, length, refl, arith}
-use Rattle.std.specs.Prelude.{◌==◌, nat_lt, min, max, Ok, Err, IsOk}
+use Rattle.std.proofs.Common.{ℕ, zero, suc, ◌^◌, ◌≤◌, List, [], ◌∷◌, ◌++◌, length, arith}
+use Rattle.std.specs.Prelude.{min, max, IsOk}
 use Rattle.std.specs.List.{range_with_len}
 use Rattle.std.proofs.lemmas.Bool.Decides.{nat_tests}
-use Rattle.mcs_refills.specs.declared.refill.Refill.{Refill}
-use Rattle.mcs_refills.specs.Server.{refills_of, with_date, first_amount, first_date, reconfigured, dates_from}
+use Rattle.mcs_refills.specs.Server.{first_date}
 use Rattle.mcs_refills.specs.Server as server
 use Rattle.mcs_refills.proofs.Spaces.{kept-charged, kept-unblocked, kept-reconfigured}
 use Rattle.mcs_control.specs.laws.Contexts.{IsWhole}
 use Rattle.mcs_control.specs.declared.config.Config.{Config}
-use Rattle.mcs_control.specs.declared.config.ControlFault.TheVariants.{ZeroBudget, BudgetTooSmall, BudgetOverPeriod, PeriodTooLong, TooManyRefills}
-use Rattle.mcs_control.specs.Control.{checked, kind_of}
+use Rattle.mcs_control.specs.Control.{checked}
 use Rattle.mcs_control.specs.Context.{Context, Budget, max_refills_of, amount_of, head_moment, context_charged, context_unblocked, context_ordered}
 use Rattle.mcs_control.specs.Context.Budget.{Dates, Slice}
 
@@ -23,41 +21,20 @@ pub record IsAccepted (min_budget : ℕ) (config : Config) : Type 0 where
   pub few : config.extra ≤ 64
 
 pub accepted-is : (min_budget : ℕ) (config : Config) → IsOk (checked min_budget config) → IsAccepted min_budget config
-accepted-is m config h = by (config.budget == 0) (nat_lt config.budget m) (nat_lt config.period config.budget) (nat_lt (2 ^ 40) config.period) (nat_lt 64 config.extra) refl refl refl refl refl h
-  where
-    by : (a b d e f : Bool) → (config.budget == 0) ≡ a → nat_lt config.budget m ≡ b → nat_lt config.period config.budget ≡ d → nat_lt (2 ^ 40) config.period ≡ e → nat_lt 64 config.extra ≡ f →
-        IsOk (cond a (Err ZeroBudget) (cond b (Err BudgetTooSmall) (cond d (Err BudgetOverPeriod) (cond e (Err PeriodTooLong) (cond f (Err TooManyRefills) (Ok (kind_of config))))))) →
-        IsAccepted m config
-    by true b d e f p q r s u h = cc
-    by false true d e f p q r s u h = cc
-    by false false true e f p q r s u h = cc
-    by false false false true f p q r s u h = cc
-    by false false false false true p q r s u h = cc
-    by false false false false false p q r s u h = record {
-      some = grind (arith, nat_tests);
-      enough = grind (arith, nat_tests);
-      within = grind (arith, nat_tests);
-      short = grind (arith, nat_tests);
-      few = grind (arith, nat_tests);
-    }
+accepted-is m config h = record {
+  some = grind (arith, nat_tests);
+  enough = grind (arith, nat_tests);
+  within = grind (arith, nat_tests);
+  short = grind (arith, nat_tests);
+  few = grind (arith, nat_tests);
+}
 
 -- dates that are some have a head that is some
 pub head-some : (date : ℕ) (dates : List ℕ) → 1 ≤ server.head_amount (date ∷ dates)
-head-some date dates = by (refills_of dates)
-  where
-    by : (rs : List Refill) → 1 ≤ first_amount (with_date date rs)
-    by [] = omega arith
-    by (r ∷ rs) = joins (date + 1 == r.begins)
-      where
-        joins : (b : Bool) → 1 ≤ first_amount (cond b (record { begins = date; amount = r.amount + 1 } ∷ rs) (record { begins = date; amount = 1 } ∷ r ∷ rs))
-        joins true = omega arith
-        joins false = omega arith
+head-some date dates = grind arith
 
 pub kept-head : (config : Config) (budget : Budget) → 1 ≤ config.budget → IsWhole config budget → 1 ≤ amount_of budget
-kept-head config (Dates []) l h = absurd (none h.all)
-  where
-    none : 0 ≡ config.budget → ⊥
-    none e = omega arith
+kept-head config (Dates []) l h = absurd (omega (arith, h.all))
 kept-head config (Dates (date ∷ dates)) l h = head-some date dates
 kept-head config (Slice left) l h = h.0
 
@@ -67,11 +44,7 @@ charged-kept k min_budget context p some h = by context.budget h
   where
     by : (budget : Budget) → IsWhole context.config budget → IsWhole context.config (context_charged k min_budget (record { config = context.config; mode = context.mode; budget = budget })).budget
     by (Dates dates) h = (kept-charged context.config.budget context.config.period (max_refills_of context.config) k min_budget dates p h).1
-    by (Slice left) h = slice (left - k == 0) refl
-      where
-        slice : (b : Bool) → (left - k == 0) ≡ b → (1 ≤ cond b context.config.budget (left - k)) × (cond b context.config.budget (left - k) ≤ context.config.budget)
-        slice true e = (some, omega arith)
-        slice false e = (grind (arith, nat_tests), omega (arith, h.1))
+    by (Slice left) h = (grind (arith, nat_tests, h.0), grind (arith, nat_tests, h.1))
 
 pub unblocked-kept : (t : ℕ) (context : Context) → IsWhole context.config context.budget → IsWhole context.config (context_unblocked t context).budget
 unblocked-kept t context h = by context.budget h
@@ -86,13 +59,7 @@ ordered-kept t min_budget config context a h = by context.budget h
   where
     by : (budget : Budget) → IsWhole context.config budget → IsWhole config (context_ordered t config (record { config = context.config; mode = context.mode; budget = budget })).budget
     by (Dates dates) h = kept-reconfigured config.budget config.period t dates a.within
-    by (Slice left) h = (least left config.budget h.0 a.some, most left config.budget)
-      where
-        least : (m n : ℕ) → 1 ≤ m → 1 ≤ n → 1 ≤ min m n
-        least m n p q = omega arith
-
-        most : (m n : ℕ) → min m n ≤ n
-        most m n = omega arith
+    by (Slice left) h = (omega (arith, h.0, a.some), omega arith)
 
 -- an order puts the head no later than itself or where it was
 pub ordered-early : (t min_budget : ℕ) (config : Config) (context : Context) → t ≤ 2 ^ 40 → 1 ≤ config.budget → 1 ≤ context.config.budget → IsWhole context.config context.budget →
@@ -101,15 +68,9 @@ ordered-early t min_budget config context l some some_now h early = by context.b
   where
     by : (budget : Budget) → IsWhole context.config budget → head_moment (record { config = context.config; mode = context.mode; budget = budget }) ≤ 2 ^ 40 →
         head_moment (context_ordered t config (record { config = context.config; mode = context.mode; budget = budget })) ≤ 2 ^ 40
-    by (Dates []) h early = absurd (none h.all)
+    by (Dates []) h early = absurd (omega (arith, h.all))
+    by (Dates (date ∷ dates)) h early = first (min (server.head_amount (date ∷ dates)) config.budget) _ (omega (arith, head-some date dates, some)) (omega arith)
       where
-        none : 0 ≡ context.config.budget → ⊥
-        none e = omega arith
-    by (Dates (date ∷ dates)) h early = first (min (server.head_amount (date ∷ dates)) config.budget) _ (least _ _ (head-some date dates) some) (omega arith)
-      where
-        least : (m n : ℕ) → 1 ≤ m → 1 ≤ n → 1 ≤ min m n
-        least m n p q = omega arith
-
         first : (n : ℕ) (more : List ℕ) → 1 ≤ n → max date t ≤ 2 ^ 40 → first_date (range_with_len (max date t) n ++ more) ≤ 2 ^ 40
         first zero more p q = absurd (omega arith)
         first (suc n) more p q = q
@@ -118,15 +79,7 @@ ordered-early t min_budget config context l some some_now h early = by context.b
 -- and no more than there are dates
 pub head-most : (dates : List ℕ) → server.head_amount dates ≤ length dates
 head-most [] = omega arith
-head-most (date ∷ dates) = by (refills_of dates) (head-most dates)
-  where
-    by : (rs : List Refill) → first_amount rs ≤ length dates → first_amount (with_date date rs) ≤ length (date ∷ dates)
-    by [] h = omega arith
-    by (r ∷ rs) h = joins (date + 1 == r.begins)
-      where
-        joins : (b : Bool) → first_amount (cond b (record { begins = date; amount = r.amount + 1 } ∷ rs) (record { begins = date; amount = 1 } ∷ r ∷ rs)) ≤ length (date ∷ dates)
-        joins true = omega arith
-        joins false = omega arith
+head-most (date ∷ dates) = grind (arith, head-most dates)
 
 pub kept-head-most : (config : Config) (budget : Budget) → IsWhole config budget → amount_of budget ≤ config.budget
 kept-head-most config (Dates dates) h = omega (arith, head-most dates, h.all)

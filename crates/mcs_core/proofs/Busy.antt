@@ -1,6 +1,6 @@
 -- The next busy moment, from what comes first.
-use Rattle.std.proofs.Common.{◌≡◌, ◌≢◌, ℕ, ◌+◌, ◌-◌, ◌<◌, ◌≤◌, ◌^◌, Bool, true, false, cond, List, [], ◌∷◌, length, refl, sym, ap, subst, ◌∙◌, arith}
-use Rattle.std.specs.Prelude.{◌==◌, nat_lt, nat_le, min, max, filter, All, Option, Some, None, option_map, IsSome, IfSome, ◌↔◌}
+use Rattle.std.proofs.Common.{◌≡◌, ◌≢◌, ℕ, ◌+◌, ◌-◌, ◌<◌, ◌≤◌, ◌^◌, List, [], ◌∷◌, length, refl, sym, ap, subst, ◌∙◌, arith}
+use Rattle.std.specs.Prelude.{nat_lt, min, max, filter, All, Option, Some, None, option_map, IsSome, IfSome, ◌↔◌}
 use Rattle.std.specs.List.{AllByRecursion}
 use Rattle.std.proofs.Math.ListN.{length-set}
 use Rattle.std.proofs.lemmas.Bool.Decides.{nat_tests}
@@ -12,7 +12,7 @@ use Rattle.mcs_mail.specs.declared.mail.Mail.{Mail}
 use Rattle.mcs_mail.specs.Box.{arriving, due, first_arrival, IsOrdered}
 use Rattle.mcs_mail.proofs.Boxes.{due-none as due-none_mail}
 use Rattle.mcs_release.specs.declared.dated.Dated.{Dated}
-use Rattle.mcs_release.specs.Release.{is_due, earliest, earlier, next_date}
+use Rattle.mcs_release.specs.Release.{is_due, earliest, next_date}
 use Rattle.mcs_core.specs.declared.standing.Chosen.{Chosen}
 use Rattle.mcs_core.specs.declared.standing.Thread.{Thread}
 use Rattle.mcs_system.specs.System.{System, thread_part}
@@ -21,36 +21,31 @@ use Rattle.mcs_core.specs.Orders.{AreByMoment, due_now, to_come, orders_of}
 use Rattle.mcs_core.specs.Turn.{its_context, is_for_now}
 use Rattle.mcs_ticks.specs.Soonest.{sooner}
 use Rattle.mcs_core.specs.Busy.{IsFirst, first_moment, IsBest, GoesOnAfter, counted_by}
-use Rattle.mcs_core.specs.Quiet.{counted_of, counted_times, IsQuietWith, IsNextBusyWith}
+use Rattle.mcs_core.specs.Quiet.{counted_times, IsQuietWith, IsNextBusyWith}
 use Rattle.mcs_core.specs.stored.Ends.{IsEnd}
-use Rattle.mcs_core.proofs.Firsts.{first-both, first-same}
+use Rattle.mcs_core.proofs.Firsts.{first-both, first-same, not_le}
 use Rattle.mcs_core.proofs.Plans.{due-none, due-of, due-to_come}
 use Rattle.mcs_core.proofs.Runs.{to_come-twice}
-use Rattle.mcs_core.proofs.Quiet.{IsCalm, quiet-when, quiet-goes, quiet-calm, counted-by, counted-idle, set-same}
+use Rattle.mcs_core.proofs.Quiet.{quiet-when, quiet-goes, quiet-calm, counted-by, counted-idle, set-same}
 
 -- the first arrival
 pub first-mail : (clock : ℕ) (box : List Mail) → IsOrdered box → All (λ (mail : Mail). clock ≤ mail.arrives) box → ((m : ℕ) → first_arrival box ≡ Some m → m ≤ 2 ^ 42) →
     IsFirst clock (λ n. arriving (clock + n) box ≡ []) (first_arrival box)
 first-mail clock [] o h s = λ n l. refl
 first-mail clock (x ∷ xs) o h s =
-    let from : clock ≤ x.arrives = h 0 x (omega arith) in
-    (x.arrives - clock, omega arith, s x.arrives refl, λ m l. (due-none_mail (clock + m) (x ∷ xs) o (not_due (clock + m) (omega arith))).0, λ e. here (clock + (x.arrives - clock)) (omega arith) e)
+    let from : clock ≤ x.arrives = h 0 x (omega arith) in (
+      x.arrives - clock,
+      omega arith,
+      s x.arrives refl,
+      λ m l. (due-none_mail (clock + m) (x ∷ xs) o (not_due (clock + m) (omega arith))).0,
+      λ e. here (clock + (x.arrives - clock)) (omega arith) e,
+    )
   where
-    late : (a b : ℕ) → b < a → nat_le a b ≡ false
-    late a b l = grind (arith, nat_tests)
-
-    same : (a b : ℕ) → a ≡ b → (a == b) ≡ true
-    same a b e = grind (arith, nat_tests)
-
     not_due : (t : ℕ) → t < x.arrives → due t (x ∷ xs) ≡ None
-    not_due t l = rw (late x.arrives t l) refl
+    not_due t l = grind (arith, nat_tests)
 
     here : (t : ℕ) → x.arrives ≡ t → arriving t (x ∷ xs) ≡ [] → ⊥
-    here t e f = by (x.arrives == t) (same x.arrives t e) f
-      where
-        by : (b : Bool) → b ≡ true → cond b (x ∷ arriving t xs) (arriving t xs) ≡ [] → ⊥
-        by true e f = cc
-        by false e f = cc
+    here t e f = grind (arith, nat_tests)
 
 -- the first order
 pub first-order : (clock : ℕ) (os : List Order) → AreByMoment clock os → ((m : ℕ) → first_moment os ≡ Some m → m ≤ 2 ^ 42) → IsFirst clock (λ n. due_now (clock + n) os ≡ []) (first_moment os)
@@ -59,15 +54,8 @@ first-order clock (x ∷ xs) h s =
     let from = h.0 in
     (x.moment - clock, omega arith, s x.moment refl, λ m l. due-none (clock + m) x.moment (x ∷ xs) (omega arith) (omega arith, h.1), λ e. here (clock + (x.moment - clock)) (omega arith) e)
   where
-    same : (a b : ℕ) → a ≡ b → (a == b) ≡ true
-    same a b e = grind (arith, nat_tests)
-
     here : (t : ℕ) → x.moment ≡ t → due_now t (x ∷ xs) ≡ [] → ⊥
-    here t e f = by (x.moment == t) (same x.moment t e) f
-      where
-        by : (b : Bool) → b ≡ true → cond b (x ∷ due_now t xs) (due_now t xs) ≡ [] → ⊥
-        by true e f = cc
-        by false e f = cc
+    here t e f = grind (arith, nat_tests)
 
 -- .. of those of the core that are to come
 pub first-order-of : (system : System) (c clock : ℕ) (os : List Order) → os ≡ to_come clock (orders_of system c) → AreByMoment clock os → ((m : ℕ) → first_moment os ≡ Some m → m ≤ 2 ^ 42) →
@@ -85,125 +73,45 @@ first-order-of system c clock os e h s =
         ∙ due-of system c (clock + n)
 
 -- the first date
-none-due : (t : ℕ) (ds : List Dated) → ((d : Dated) → earliest ds ≡ Some d → t < d.date) → filter (is_due t) ds ≡ []
+none-due : (t : ℕ) (ds : List Dated) → IfSome (earliest ds) (λ d. t < d.date) → filter (is_due t) ds ≡ []
 none-due t [] h = refl
-none-due t (x ∷ xs) h = by (earliest xs) refl h (none-due t xs)
-  where
-    late : (a b : ℕ) → b < a → nat_le a b ≡ false
-    late a b l = grind (arith, nat_tests)
-
-    less : (a b : ℕ) → nat_lt a b ≡ true → a < b
-    less a b e = grind (arith, nat_tests)
-
-    no_less : (a b : ℕ) → nat_lt a b ≡ false → b ≤ a
-    no_less a b e = grind (arith, nat_tests)
-
-    without : t < x.date → filter (is_due t) xs ≡ [] → filter (is_due t) (x ∷ xs) ≡ []
-    without l e = rw (late x.date t l) e
-
-    by : (o : Option Dated) → earliest xs ≡ o → ((d : Dated) → Some (earlier x o) ≡ Some d → t < d.date) → (((d : Dated) → earliest xs ≡ Some d → t < d.date) → filter (is_due t) xs ≡ []) →
-        filter (is_due t) (x ∷ xs) ≡ []
-    by None f h i = without (h x refl) (i (λ d g. cc))
-    by (Some y) f h i = cases (nat_lt y.date x.date) refl h
-      where
-        its : (d : Dated) → earliest xs ≡ Some d → t < y.date → t < d.date
-        its d g l =
-            let same : y ≡ d = cc in
-            let e = ap (λ (z : Dated). z.date) same in omega arith
-
-        cases : (b : Bool) → nat_lt y.date x.date ≡ b → ((d : Dated) → Some (cond b y x) ≡ Some d → t < d.date) → filter (is_due t) (x ∷ xs) ≡ []
-        cases true e h =
-            let l = h y refl in
-            let k = less y.date x.date e in
-            without (omega arith) (i (λ d g. its d g l))
-        cases false e h =
-            let l = h x refl in
-            let k = no_less y.date x.date e in
-            without l (i (λ d g. its d g (omega arith)))
+none-due t (x ∷ xs) h = grind (arith, nat_tests, none-due t xs)
 
 some-due : (t : ℕ) (ds : List Dated) (d : Dated) → earliest ds ≡ Some d → d.date ≤ t → filter (is_due t) ds ≡ [] → ⊥
 some-due t [] d e l f = cc
-some-due t (x ∷ xs) d e l f = by (λ k g. some-due t xs d k l g) (earliest xs) refl e (is_due t x) refl f
-  where
-    soon : (a b : ℕ) → a ≤ b → nat_le a b ≡ true
-    soon a b l = grind (arith, nat_tests)
+some-due t (x ∷ xs) d e l f = grind (arith, nat_tests, some-due t xs d)
 
-    by : (earliest xs ≡ Some d → filter (is_due t) xs ≡ [] → ⊥) → (o : Option Dated) → earliest xs ≡ o → Some (earlier x o) ≡ Some d → (b : Bool) → is_due t x ≡ b → cond b (x ∷ filter (is_due t) xs) (filter (is_due t) xs) ≡ [] → ⊥
-    by i o g e true h f = cc
-    by again None g e false h f =
-        let same : x ≡ d = cc in
-        let i = ap (λ (z : Dated). z.date) same in
-        let j = soon x.date t (omega arith) in cc
-    by again (Some y) g e false h f = cases (nat_lt y.date x.date) e
-      where
-        cases : (b : Bool) → Some (cond b y x) ≡ Some d → ⊥
-        cases true e =
-            let same : y ≡ d = cc in
-            again (g ∙ ap (λ z. Some z) same) f
-        cases false e =
-            let same : x ≡ d = cc in
-            let i = ap (λ (z : Dated). z.date) same in
-            let j = soon x.date t (omega arith) in cc
-
-earliest-of : (P : Dated → Type 0) (ds : List Dated) (d : Dated) → AllByRecursion P ds → earliest ds ≡ Some d → P d
-earliest-of P [] d h e = cc
-earliest-of P (x ∷ xs) d h e = by (λ k. earliest-of P xs d h.1 k) (earliest xs) refl e
-  where
-    by : (earliest xs ≡ Some d → P d) → (o : Option Dated) → earliest xs ≡ o → Some (earlier x o) ≡ Some d → P d
-    by again None f e = let same : x ≡ d = cc in subst P same h.0
-    by again (Some y) f e = cases (nat_lt y.date x.date) e
-      where
-        cases : (b : Bool) → Some (cond b y x) ≡ Some d → P d
-        cases true e = let same : y ≡ d = cc in again (f ∙ ap (λ z. Some z) same)
-        cases false e = let same : x ≡ d = cc in subst P same h.0
+earliest-later : (from : ℕ) (ds : List Dated) (d : Dated) → AllByRecursion (λ dated. from ≤ dated.date) ds → earliest ds ≡ Some d → from ≤ d.date
+earliest-later from [] d h e = cc
+earliest-later from (x ∷ xs) d h e = grind (arith, h.0, earliest-later from xs d h.1)
 
 pub first-release : (clock : ℕ) (ds : List Dated) → AllByRecursion (λ dated. clock ≤ dated.date) ds → ((m : ℕ) → next_date ds ≡ Some m → m ≤ 2 ^ 42) →
     IsFirst clock (λ n. filter (is_due (clock + n)) ds ≡ []) (next_date ds)
 first-release clock ds h s = by (earliest ds) refl
   where
     by : (o : Option Dated) → earliest ds ≡ o → IsFirst clock (λ n. filter (is_due (clock + n)) ds ≡ []) (option_map (λ x. x.date) o)
-    by None e = λ n l. none-due (clock + n) ds (λ d f. cc)
+    by None e = λ n l. none-due (clock + n) ds (rw e tt)
     by (Some d) e =
-        let from : clock ≤ d.date = earliest-of (λ x. clock ≤ x.date) ds d h e in (
+        let from : clock ≤ d.date = earliest-later clock ds d h e in (
           d.date - clock,
           omega arith,
           s d.date (ap (option_map (λ x. x.date)) e),
-          λ m l. none-due (clock + m) ds (λ f g. (let same : d ≡ f = cc in let i = ap (λ (z : Dated). z.date) same in omega arith)),
+          λ m l. none-due (clock + m) ds (rw e (omega arith)),
           λ f. some-due (clock + (d.date - clock)) ds d e (omega arith) f,
         )
-
--- a fact that does not change
-pub first-never : (clock : ℕ) (P : ℕ → Type 0) → ((n : ℕ) → P n) → IsFirst clock P None
-first-never clock P h = λ n l. h n
 
 pub first-now : (clock : ℕ) (P : ℕ → Type 0) → clock ≤ 2 ^ 42 → (P 0 → ⊥) → IsFirst clock P (Some clock)
 first-now clock P l h = (0, omega arith, l, λ m k. absurd (omega arith), h)
 
 -- the end of the item, or of the head
-not_le : (a b : ℕ) → (a ≤ b → ⊥) → b < a
-not_le a b h = by (nat_le a b) refl
-  where
-    by : (t : Bool) → nat_le a b ≡ t → b < a
-    by true e = absurd (h (grind (arith, nat_tests)))
-    by false e = grind (arith, nat_tests)
-
-end_later : (clock left using head n : ℕ) → using < head → 2 ^ 42 < clock + min (left - 1) (head - using - 1) → clock + n ≤ 2 ^ 42 → (n + 1 < left) × (using + n + 1 ≢ head)
-end_later clock left using head n l f k = (omega arith, omega arith)
-
-end_before : (left using head n : ℕ) → using < head → n < min (left - 1) (head - using - 1) → (n + 1 < left) × (using + n + 1 ≢ head)
-end_before left using head n l k = (omega arith, omega arith)
-
-end_there : (left using head n : ℕ) → using < head → n ≡ min (left - 1) (head - using - 1) → n + 1 < left → using + n + 1 ≢ head → ⊥
-end_there left using head n l e a b = omega arith
-
 pub first-end : (clock left using head : ℕ) (o : Option ℕ) → using < head →
     (IsSome o ↔ (clock + min (left - 1) (head - using - 1) ≤ 2 ^ 42)) → IfSome o (λ m. m ≡ clock + min (left - 1) (head - using - 1)) →
     IsFirst clock (λ n. (n + 1 < left) × (using + n + 1 ≢ head)) o
 first-end clock left using head None l h g =
     let far = not_le (clock + min (left - 1) (head - using - 1)) (2 ^ 42) (λ p. (let e = h.1 p in cc)) in
-    λ n k. end_later clock left using head n l far k
+    λ n k. (omega arith, omega arith)
 first-end clock left using head (Some m) l h g =
-    (min (left - 1) (head - using - 1), g, rw g (h.0 refl), λ n k. end_before left using head n l k, λ p. end_there left using head (min (left - 1) (head - using - 1)) l refl p.0 p.1)
+    (min (left - 1) (head - using - 1), g, rw g (h.0 refl), λ n k. (omega arith, omega arith), λ p. omega arith)
 
 -- the running thread is one of the core, and its item one of its script
 pub record IsKnown (system : System) (core : Core) (chosen : Chosen) : Type 0 where
@@ -236,24 +144,14 @@ module _ (system : System) (c : ℕ) where
 
     idle-quiet : core.running ≡ None → StaysQuiet clock box core None n → IsQuietWith by_priority system c now (arriving now box) core
     idle-quiet e h =
-        let P : Option Chosen → Type 0 = λ o. GoesOnAfter system 0 o core in
-        let Q : Option Chosen → Type 0 = λ o. IsBest system o (first_of core.ready) in
-        let R : Core → Type 0 = λ k. IsCalm system c now (arriving now box) k in
-        let calm : IsCalm system c now (arriving now box) core = record { no_mail = h.4; no_order = h.3; no_release = h.2; best = subst Q (sym e) h.1 } in
-        quiet-when system c now (arriving now box) core (λ chosen f. cc) (subst P (sym e) tt) (subst R (sym (ap (λ o. counted_of system c o core) e)) calm)
+        quiet-when system c now (arriving now box) core (λ chosen f. cc) (rw e tt) (rw e (record { no_mail = h.4; no_order = h.3; no_release = h.2; best = h.1 }))
 
     quiet-idle : core.running ≡ None → IsQuietWith by_priority system c now (arriving now box) core → StaysQuiet clock box core None n
     quiet-idle e q =
-        let P : Option Chosen → Type 0 = λ o. GoesOnAfter system 0 o core in
-        let Q : Option Chosen → Type 0 = λ o. IsBest system o (first_of core.ready) in
-        let R : Core → Type 0 = λ k. IsCalm system c now (arriving now box) k in
-        let calm : IsCalm system c now (arriving now box) core = subst R (ap (λ o. counted_of system c o core) e) (quiet-calm system c now (arriving now box) core (λ chosen f. cc) (subst P (sym e) tt) q) in
-        (tt, subst Q e calm.best, calm.no_release, calm.no_order, calm.no_mail)
+        let calm = rw e at (quiet-calm system c now (arriving now box) core (λ chosen f. cc) (rw e tt) q) in
+        (tt, calm.best, calm.no_release, calm.no_order, calm.no_mail)
 
     module _ (chosen : Chosen) (known : IsKnown system core chosen) where
-      after : Core
-      after = counted_by n chosen core
-
       left-after : (thread_of (counted_by n chosen core) chosen.thread).place.left ≡ (thread_of core chosen.thread).place.left - n
       left-after = ap (λ (thread : Thread). thread.place.left) (set-same chosen.thread (record (thread_of core chosen.thread) { place = record ((thread_of core chosen.thread).place) { left = (thread_of core chosen.thread).place.left - n } }) core.threads known.thread)
 
@@ -266,15 +164,11 @@ module _ (system : System) (c : ℕ) where
           ap (λ (x : Chosen). x.thread) same
 
       thread-after : (other : Chosen) → (counted_by n chosen core).running ≡ Some other → other.thread < length (counted_by n chosen core).threads
-      thread-after other e =
-          let P : ℕ → Type 0 = λ x. x < length (counted_by n chosen core).threads in
-          subst P (runner-after other e) (rw length-set known.thread)
+      thread-after other e = rw (← runner-after other e) (rw length-set known.thread)
 
       known-after : (other : Chosen) → (counted_by n chosen core).running ≡ Some other →
           (other.thread < length (counted_by n chosen core).threads) × ((thread_of (counted_by n chosen core) other.thread).place.item < length (thread_part system other.thread).script)
-      known-after other e =
-          let P : ℕ → Type 0 = λ x. (thread_of (counted_by n chosen core) x).place.item < length (thread_part system x).script in
-          (thread-after other e, subst P (runner-after other e) (rw item-after known.item))
+      known-after other e = (thread-after other e, rw (← runner-after other e) (rw item-after known.item))
 
       busy-quiet : StaysQuiet clock box core (Some chosen) n → IsQuietWith by_priority system c now (arriving now box) (counted_by n chosen core)
       busy-quiet h =
@@ -297,19 +191,15 @@ module _ (system : System) (c : ℕ) where
     stays-quiet known h = by core.running refl h
       where
         by : (o : Option Chosen) → core.running ≡ o → StaysQuiet clock box core o n → IsQuietWith by_priority system c now (arriving now box) (counted_times system c n core)
-        by None e h = let P : Core → Type 0 = λ k. IsQuietWith by_priority system c now (arriving now box) k in subst P (sym (counted-idle system c n core e)) (idle-quiet e h)
-        by (Some chosen) e h =
-            let P : Core → Type 0 = λ k. IsQuietWith by_priority system c now (arriving now box) k in
-            subst P (sym (counted-by system c n chosen core e (known chosen e).thread)) (busy-quiet chosen (known chosen e) h)
+        by None e h = rw (counted-idle system c n core e) (idle-quiet e h)
+        by (Some chosen) e h = rw (counted-by system c n chosen core e (known chosen e).thread) (busy-quiet chosen (known chosen e) h)
 
     pub quiet-stays : ((chosen : Chosen) → core.running ≡ Some chosen → IsKnown system core chosen) → IsQuietWith by_priority system c now (arriving now box) (counted_times system c n core) → StaysQuiet clock box core core.running n
     quiet-stays known q = by core.running refl
       where
         by : (o : Option Chosen) → core.running ≡ o → StaysQuiet clock box core o n
-        by None e = let P : Core → Type 0 = λ k. IsQuietWith by_priority system c now (arriving now box) k in quiet-idle e (subst P (counted-idle system c n core e) q)
-        by (Some chosen) e =
-            let P : Core → Type 0 = λ k. IsQuietWith by_priority system c now (arriving now box) k in
-            quiet-busy chosen (known chosen e) (subst P (counted-by system c n chosen core e (known chosen e).thread) q)
+        by None e = quiet-idle e (rw (counted-idle system c n core e) at q)
+        by (Some chosen) e = quiet-busy chosen (known chosen e) (rw (counted-by system c n chosen core e (known chosen e).thread) at q)
 
   -- the next busy moment is the soonest of these
   pub next-busy : (clock : ℕ) (box : List Mail) (core : Core) (ends date order mail : Option ℕ) → ((chosen : Chosen) → core.running ≡ Some chosen → IsKnown system core chosen) →

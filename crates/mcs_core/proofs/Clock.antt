@@ -1,7 +1,8 @@
 -- The order of the cores within a moment does not matter: each takes the turn of the world before the moment.
-use Rattle.std.proofs.Common.{◌≡◌, ℕ, zero, suc, ◌+◌, ◌<◌, ◌≤◌, ◌≢◌, Bool, true, false, not, ◌&&◌, cond, List, [], ◌∷◌, ◌++◌, length, map, ◌⊎◌, inl, inr, refl, sym, ap, ◌∙◌, append-nil, append_assoc, arith}
+use Rattle.std.proofs.Common.{◌≡◌, ℕ, zero, suc, ◌+◌, ◌<◌, ◌≤◌, ◌≢◌, Bool, true, false, not, ◌&&◌, List, [], ◌∷◌, ◌++◌, length, map, ◌⊎◌, inl, inr, refl, sym, ap, ◌∙◌, append-nil, append_assoc, arith}
 use Rattle.std.specs.Prelude.{filter, fold, flat_map, ◌==◌}
 use Rattle.std.specs.List.{range_with_len}
+use Rattle.std.proofs.lemmas.Bool.{cases_eq}
 use Rattle.std.proofs.lemmas.Bool.Decides.{nat_tests}
 use Rattle.std.proofs.lemmas.List.{get_or-set_same, get_or-set_other}
 use Rattle.std.proofs.lemmas.List.Elements.{filter-append}
@@ -11,7 +12,7 @@ use Rattle.mcs_ticks.specs.Queue.{Discipline, in_one_list}
 use Rattle.mcs_ticks.specs.declared.row.Row.{Row}
 use Rattle.mcs_mail.specs.declared.mail.Mail.{Mail}
 use Rattle.mcs_system.specs.System.{System, note_part, delay_between, TakesTime}
-use Rattle.mcs_core.specs.Core.{Core, opening_core}
+use Rattle.mcs_core.specs.Core.{opening_core}
 use Rattle.mcs_core.specs.Turn.{Turn, turn, turn_with}
 use Rattle.mcs_core.specs.Clock as clocks
 use Rattle.mcs_core.specs.Clock.{World, Clock}
@@ -21,13 +22,12 @@ use Rattle.mcs_core.proofs.Alike.{turn_shown, turn-alike}
 -- what one test takes out is nothing that another, which it excludes, asks for
 filter-filter_not : (p q : Mail → Bool) → ((m : Mail) → p m ≡ true → q m ≡ true → ⊥) → (ms : List Mail) → filter p (filter (λ m. not (q m)) ms) ≡ filter p ms
 filter-filter_not p q h [] = refl
-filter-filter_not p q h (m ∷ ms) = by (p m) (q m) refl refl (filter-filter_not p q h ms)
-  where
-    by : (a b : Bool) → p m ≡ a → q m ≡ b → filter p (filter (λ m. not (q m)) ms) ≡ filter p ms → filter p (cond (not b) (m ∷ filter (λ m. not (q m)) ms) (filter (λ m. not (q m)) ms)) ≡ cond a (m ∷ filter p ms) (filter p ms)
-    by true true e f i = absurd (h m e f)
-    by true false e f i = rw e (ap (λ xs. m ∷ xs) i)
-    by false true e f i = i
-    by false false e f i = rw e i
+filter-filter_not p q h (m ∷ ms) = grind (arith, h m, filter-filter_not p q h ms)
+
+-- of each number from a on two functions make the same
+flat_map-same : {A : Type 0} (f g : ℕ → List A) (n a : ℕ) → ((b : ℕ) → a ≤ b → f b ≡ g b) → flat_map f (range_with_len a n) ≡ flat_map g (range_with_len a n)
+flat_map-same f g zero a h = refl
+flat_map-same f g (suc n) a h = ap (λ xs. xs ++ flat_map f (range_with_len (a + 1) n)) (h a (omega arith)) ∙ ap (λ xs. g a ++ xs) (flat_map-same f g n (a + 1) (λ b l. h b (omega arith)))
 
 home-same : (t a b c h : ℕ) → (a == t) && (h == c) ≡ true → (a == t) && (h == b) ≡ true → c ≡ b
 home-same t a b c h p q = grind (arith, nat_tests)
@@ -55,15 +55,11 @@ module _ (queue : Discipline) (system : System) (takes_time : TakesTime system) 
   core-other : (t b c : ℕ) (k : Clock) → c ≢ b → clocks.core_at system (clocks.takes_turn_with queue system t k b).world c ≡ clocks.core_at system k.world c
   core-other t b c k h = get_or-set_other k.world.cores b c (clocks.turn_at_with queue system t b k.world).core (opening_core system c) h
 
-  core-own : (t b : ℕ) (k : Clock) → b < length k.world.cores → clocks.core_at system (clocks.takes_turn_with queue system t k b).world b ≡ (clocks.turn_at_with queue system t b k.world).core
-  core-own t b k h = get_or-set_same k.world.cores b (clocks.turn_at_with queue system t b k.world).core (opening_core system b) h
-
   -- so another core's turn is the same before and after it
   turn-other : (t b c : ℕ) (k : Clock) → c ≢ b → clocks.turn_at_with queue system t c (clocks.takes_turn_with queue system t k b).world ≡ clocks.turn_at_with queue system t c k.world
-  turn-other t b c k h = same _ _ _ _ (arrivals-other t b c k h) (core-other t b c k h)
-    where
-      same : (ms ns : List Mail) (x y : Core) → ms ≡ ns → x ≡ y → turn_with queue system c t ms x ≡ turn_with queue system c t ns y
-      same ms ns x y e f = cc
+  turn-other t b c k h =
+      ap (λ ms. turn_with queue system c t ms (clocks.core_at system (clocks.takes_turn_with queue system t k b).world c)) (arrivals-other t b c k h)
+      ∙ ap (turn_with queue system c t (filter (clocks.arrives_at system t c) k.world.mails)) (core-other t b c k h)
 
   after : (t : ℕ) (k : Clock) (a n : ℕ) → Clock
   after t k a n = fold (clocks.takes_turn_with queue system t) k (range_with_len a n)
@@ -73,18 +69,10 @@ module _ (queue : Discipline) (system : System) (takes_time : TakesTime system) 
   unfolding after
   core-after_other zero t a c k h = refl
   core-after_other (suc n) t a c k h =
-      core-after_other n t (a + 1) c (clocks.takes_turn_with queue system t k a) (outside h) ∙ core-other t a c k (other h)
-    where
-      outside : (c < a) ⊎ (a + suc n ≤ c) → (c < a + 1) ⊎ (a + 1 + n ≤ c)
-      outside (inl p) = inl (omega arith)
-      outside (inr p) = inr (omega arith)
-
-      other : (c < a) ⊎ (a + suc n ≤ c) → c ≢ a
-      other (inl p) = omega arith
-      other (inr p) = omega arith
+      core-after_other n t (a + 1) c (clocks.takes_turn_with queue system t k a) (grind arith) ∙ core-other t a c k (grind arith)
 
   core-own_at : (t a c : ℕ) (k : Clock) → c ≡ a → a < length k.world.cores → clocks.core_at system (clocks.takes_turn_with queue system t k a).world c ≡ (clocks.turn_at_with queue system t c k.world).core
-  core-own_at t a c k e h = rw e (core-own t a k h)
+  core-own_at t a c k e h = rw e (get_or-set_same k.world.cores a (clocks.turn_at_with queue system t a k.world).core (opening_core system a) h)
 
   length-after_one : (t b : ℕ) (k : Clock) → length (clocks.takes_turn_with queue system t k b).world.cores ≡ length k.world.cores
   length-after_one t b k = length-set k.world.cores b (clocks.turn_at_with queue system t b k.world).core
@@ -98,35 +86,21 @@ module _ (queue : Discipline) (system : System) (takes_time : TakesTime system) 
   core-after : (n t a c : ℕ) (k : Clock) → a ≤ c → c < a + n → a + n ≤ length k.world.cores → clocks.core_at system (after t k a n).world c ≡ (clocks.turn_at_with queue system t c k.world).core
   unfolding after
   core-after zero t a c k l h f = absurd (omega arith)
-  core-after (suc n) t a c k l h f = by (c == a) refl (core-after n t (a + 1) c next)
-    where
-      next : Clock
-      next = clocks.takes_turn_with queue system t k a
-
-      by : (b : Bool) → (c == a) ≡ b
-          → (a + 1 ≤ c → c < a + 1 + n → a + 1 + n ≤ length next.world.cores → clocks.core_at system (after t next (a + 1) n).world c ≡ (clocks.turn_at_with queue system t c next.world).core)
-          → clocks.core_at system (after t next (a + 1) n).world c ≡ (clocks.turn_at_with queue system t c k.world).core
-      by true e ih =
-          let same : c ≡ a = grind (arith, nat_tests) in
-          core-after_other n t (a + 1) c next (inl (omega arith)) ∙ core-own_at t a c k same (omega arith)
-      by false e ih =
-          let other : c ≢ a = grind (arith, nat_tests) in
-          ih (omega arith) (omega arith) (rw (length-after_one t a k) (omega arith)) ∙ ap (λ (made : Turn). made.core) (turn-other t a c k other)
+  core-after (suc n) t a c k l h f =
+      let next : Clock = clocks.takes_turn_with queue system t k a in
+      elim (cases_eq c a) [
+        | inl same ↦ core-after_other n t (a + 1) c next (inl (omega arith)) ∙ core-own_at t a c k same (omega arith)
+        | inr other ↦ core-after n t (a + 1) c next (omega arith) (omega arith) (rw (length-after_one t a k) (omega arith)) ∙ ap (λ (made : Turn). made.core) (turn-other t a c k other)
+      ]
 
   -- the rows of a turn
   abbrev pub rows_in : ℕ → World → ℕ → List Row
   rows_in t world c = map (λ what. record { moment = t; core = c; what = what }) (clocks.turn_at_with queue system t c world).rows
 
   rows_in-other : (n t b a : ℕ) (k : Clock) → b < a → flat_map (rows_in t (clocks.takes_turn_with queue system t k b).world) (range_with_len a n) ≡ flat_map (rows_in t k.world) (range_with_len a n)
-  rows_in-other zero t b a k h = refl
-  rows_in-other (suc n) t b a k h =
-      let other : a ≢ b = omega arith in
-      let first : rows_in t (clocks.takes_turn_with queue system t k b).world a ≡ rows_in t k.world a =
-      ap (λ (made : Turn). map (λ what. record { moment = t; core = a; what = what }) made.rows) (turn-other t b a k other) in
-      both _ _ _ _ first (rows_in-other n t b (a + 1) k (omega arith))
-    where
-      both : (xs ys us vs : List Row) → xs ≡ ys → us ≡ vs → xs ++ us ≡ ys ++ vs
-      both xs ys us vs e f = cc
+  rows_in-other n t b a k h =
+      flat_map-same (rows_in t (clocks.takes_turn_with queue system t k b).world) (rows_in t k.world) n a
+      (λ c l. ap (λ (made : Turn). map (λ what. record { moment = t; core = c; what = what }) made.rows) (turn-other t b c k (omega arith)))
 
   -- the rows of a moment are those of the turns of the world before it, in order of the cores
   rows-after : (n t a : ℕ) (k : Clock) → (after t k a n).rows ≡ k.rows ++ flat_map (rows_in t k.world) (range_with_len a n)
@@ -168,15 +142,9 @@ module _ (queue : Discipline) (system : System) (takes_time : TakesTime system) 
   sent later c t world b = filter (clocks.arrives_at system later c) (clocks.turn_at_with queue system t b world).mails
 
   sent-other : (n t later c b a : ℕ) (k : Clock) → b < a → flat_map (sent later c t (clocks.takes_turn_with queue system t k b).world) (range_with_len a n) ≡ flat_map (sent later c t k.world) (range_with_len a n)
-  sent-other zero t later c b a k h = refl
-  sent-other (suc n) t later c b a k h =
-      let other : a ≢ b = omega arith in
-      let first : sent later c t (clocks.takes_turn_with queue system t k b).world a ≡ sent later c t k.world a =
-      ap (λ (made : Turn). filter (clocks.arrives_at system later c) made.mails) (turn-other t b a k other) in
-      both _ _ _ _ first (sent-other n t later c b (a + 1) k (omega arith))
-    where
-      both : (xs ys us vs : List Mail) → xs ≡ ys → us ≡ vs → xs ++ us ≡ ys ++ vs
-      both xs ys us vs e f = cc
+  sent-other n t later c b a k h =
+      flat_map-same (sent later c t (clocks.takes_turn_with queue system t k b).world) (sent later c t k.world) n a
+      (λ d l. ap (λ (made : Turn). filter (clocks.arrives_at system later c) made.mails) (turn-other t b d k (omega arith)))
 
   mails-after : (n t later c a : ℕ) (k : Clock) → t < later →
       filter (clocks.arrives_at system later c) (after t k a n).world.mails
@@ -185,11 +153,9 @@ module _ (queue : Discipline) (system : System) (takes_time : TakesTime system) 
   mails-after zero t later c a k h = sym (append-nil (filter (clocks.arrives_at system later c) k.world.mails))
   mails-after (suc n) t later c a k h =
       mails-after n t later c (a + 1) (clocks.takes_turn_with queue system t k a) h
-      ∙ both _ _ _ _ (mails-one t later c a k h) (sent-other n t later c a (a + 1) k (omega arith))
+      ∙ ap (λ xs. xs ++ flat_map (sent later c t (clocks.takes_turn_with queue system t k a).world) (range_with_len (a + 1) n)) (mails-one t later c a k h)
+      ∙ ap (λ xs. (filter (clocks.arrives_at system later c) k.world.mails ++ sent later c t k.world a) ++ xs) (sent-other n t later c a (a + 1) k (omega arith))
       ∙ append_assoc (filter (clocks.arrives_at system later c) k.world.mails) (sent later c t k.world a) (flat_map (sent later c t k.world) (range_with_len (a + 1) n))
-    where
-      both : (xs ys us vs : List Mail) → xs ≡ ys → us ≡ vs → xs ++ us ≡ ys ++ vs
-      both xs ys us vs e f = cc
 
   -- the signals that arrive at `later` on core c, of those that the cores make at t
   abbrev pub sent_with : ℕ → ℕ → ℕ → List Mail

@@ -1,5 +1,6 @@
 -- The end of a tick, before which so many quiet ones are counted.
 use Rattle.std.proofs.Common.{◌≡◌, ℕ, suc, ◌+◌, ◌<◌, length, sym, ap, ◌∙◌, subst, Some, None, arith, add-one}
+use Rattle.std.specs.Prelude.{IfSome}
 use Rattle.mcs_ticks.specs.Queue.{by_priority}
 use Rattle.mcs_system.specs.System.{System}
 use Rattle.mcs_core.specs.declared.standing.Chosen.{Chosen}
@@ -14,7 +15,10 @@ use Rattle.mcs_core.proofs.Quiet.{counted-idle, counted-by}
 use Rattle.mcs_core.proofs.Soundness.{IsOneEach}
 use Rattle.mcs_core.proofs.Ticks.{counts-sound}
 
-module _ (system : System) (c n : ℕ) (chosen : Chosen) (core : Core) (e : core.running ≡ Some chosen) (known : chosen.thread < length core.threads) where
+module _ (system : System) (c n : ℕ) (chosen : Chosen) (core : Core) (e : core.running ≡ Some chosen) (runs : IfSome core.running (λ (chosen : Chosen). chosen.thread < length core.threads)) where
+  pub known : chosen.thread < length core.threads
+  known = rw e at runs
+
   abbrev pub then_runs : Chosen
   then_runs = record { thread = chosen.thread; using = chosen.using + n }
 

@@ -1,8 +1,6 @@
 -- What a sound core lets the code do: an item takes effect, and its thread stops.
-use Rattle.std.proofs.Common.{◌≡◌, ℕ, ◌+◌, ◌^◌, ◌<◌, ◌≤◌, Bool, true, false, cond, length, refl, ap, ◌∙◌, arith}
-use Rattle.std.specs.Prelude.{◌==◌, Option, Some, None, Result, Ok, Err, OnOk}
-use Rattle.mcs_ticks.specs.declared.memory.NoMemory.{NoMemory}
-use Rattle.std.proofs.lemmas.Bool.Decides.{nat_tests}
+use Rattle.std.proofs.Common.{◌≡◌, ℕ, ◌+◌, ◌^◌, ◌<◌, ◌≤◌, length, refl, ap, ◌∙◌, arith}
+use Rattle.std.specs.Prelude.{Option, Some, None}
 use Rattle.mcs_ticks.specs.Queue.{by_priority}
 use Rattle.mcs_control.specs.Context.{head_amount}
 use Rattle.mcs_notify.specs.Note.{waited}
@@ -11,15 +9,14 @@ use Rattle.mcs_notify.specs.declared.posted.Waited.TheVariants.{Got, Blocks}
 use Rattle.mcs_script.specs.declared.item.Item.{Item}
 use Rattle.mcs_script.specs.declared.item.Item.TheVariants.{Compute, Signal, Wait, Yield}
 use Rattle.mcs_core.specs.declared.standing.Chosen.{Chosen}
-use Rattle.mcs_core.specs.declared.standing.Standing.{Standing}
 use Rattle.mcs_core.specs.declared.standing.Standing.TheVariants.{Done}
 use Rattle.mcs_system.specs.System.{System, thread_part}
-use Rattle.mcs_core.specs.Core.{Core, thread_of, note_of}
+use Rattle.mcs_core.specs.Core.{Core, note_of}
 use Rattle.mcs_core.specs.stored.Items.{IsNoted, SignalsFree, CanTakeEffect}
 use Rattle.mcs_core.specs.Turn.{its_context, takes_effect, waits_as}
 use Rattle.mcs_core.specs.stored.Sound.{times_ready, times_pending, times_blocked, Phase, IsFree, CanStop, WakesFree, IsSound}
-use Rattle.mcs_core.specs.stored.Sound.Phase.{Between, InTick, PastTick}
-use Rattle.mcs_core.proofs.Soundness.{IsOneEach}
+use Rattle.mcs_core.specs.stored.Sound.Phase.{Between, InTick}
+use Rattle.mcs_core.proofs.Soundness.{IsOneEach, itself, placed-same}
 use Rattle.mcs_core.proofs.Budgets.{accepted-is, kept-head-most}
 use Rattle.mcs_core.proofs.Wakes.{IsWoken, woken-sound}
 use Rattle.mcs_core.proofs.Stopping.{moves-sound}
@@ -30,16 +27,9 @@ module _ (system : System) (number from : ℕ) (each : IsOneEach system) where
   free_woken phase x core w = record {
     known = rw w.sound.threads w.placed.known;
     placed = w.placed;
-    not_ready = w.sound.ready x ∙ none (x == x) (same x) times_ready refl;
-    not_pending = w.sound.pending x ∙ none (x == x) (same x) times_pending refl;
+    not_ready = w.sound.ready x ∙ ap times_ready (itself x Done _);
+    not_pending = w.sound.pending x ∙ ap times_pending (itself x Done _);
   }
-    where
-      same : (a : ℕ) → (a == a) ≡ true
-      same a = grind (arith, nat_tests)
-
-      none : (b : Bool) → b ≡ true → (f : Standing → ℕ) → f Done ≡ 0 → f (cond b Done (thread_of core x).standing) ≡ 0
-      none true e f g = g
-      none false e f g = cc
 
   -- whom a post wakes
   pub wakes_free : (phase : Phase) (note badge : ℕ) (core : Core) → note < length core.notes → IsSound system number from phase None core → WakesFree system note badge core
@@ -60,18 +50,8 @@ module _ (system : System) (number from : ℕ) (each : IsOneEach system) where
   pub can_stop : (chosen : Chosen) (core : Core) → IsSound system number from InTick None core → core.running ≡ Some chosen → CanStop system chosen.thread chosen.using core
   can_stop chosen core h e =
       let r = runner system number from each InTick chosen core h e in
-      record { free = free_running InTick chosen core h e; some = r.used; in_head = within chosen.using (head_amount (its_context system chosen.thread core)) r.unspent; early = r.early }
-    where
-      within : (a b : ℕ) → a < b + 1 → a ≤ b
-      within a b h = omega arith
-
-  pub can_stop_past : (chosen : Chosen) (core : Core) → IsSound system number from PastTick None core → core.running ≡ Some chosen → CanStop system chosen.thread chosen.using core
-  can_stop_past chosen core h e =
-      let r = runner system number from each PastTick chosen core h e in
-      record { free = free_running PastTick chosen core h e; some = r.used; in_head = within chosen.using (head_amount (its_context system chosen.thread core)) r.unspent; early = r.early }
-    where
-      within : (a b : ℕ) → a < b + 0 → a ≤ b
-      within a b h = omega arith
+      let u : chosen.using < head_amount (its_context system chosen.thread core) + 1 = r.unspent in
+      record { free = free_running InTick chosen core h e; some = r.used; in_head = omega (arith, u); early = r.early }
 
   -- its item may take effect
   pub can_take_effect : (t : ℕ) (chosen : Chosen) (item : Option Item) (core : Core) → t ≤ 2 ^ 40 → from ≤ t + 1 → IsNoted (length system.notes) item →
@@ -81,18 +61,11 @@ module _ (system : System) (number from : ℕ) (each : IsOneEach system) where
       record {
         free = free_running InTick chosen core h e;
         not_waiting = h.blocked chosen.thread ∙ ap times_blocked r.stands;
-        noted = here item noted;
+        noted = rw h.notes noted;
         part = noted;
         signals_free = frees item noted;
       }
     where
-      here : (item : Option Item) → IsNoted (length system.notes) item → IsNoted (length core.notes) item
-      here (Some (Signal note badge)) k = rw h.notes k
-      here (Some (Wait note)) k = rw h.notes k
-      here (Some (Compute ticks)) k = tt
-      here (Some Yield) k = tt
-      here None k = tt
-
       frees : (item : Option Item) → IsNoted (length system.notes) item → SignalsFree system number t chosen.thread item core
       frees (Some (Signal note badge)) k =
           let s = signals-sound system number from each number t note badge chosen.thread core l f (rw h.notes k) h in
@@ -118,9 +91,8 @@ module _ (system : System) (number from : ℕ) (each : IsOneEach system) where
       by (Got word) = can_stop chosen _ (got-sound system number from each InTick t note word chosen core h e (rw h.notes k)) (moves-running system number from each t chosen.thread _ ∙ e)
       by Blocks =
           let s = can_stop chosen core h e in
-          let p = s.free.placed in
           record {
-            free = record { known = s.free.known; placed = record { known = p.known; item = p.item; bound = p.bound; has = p.has }; not_ready = s.free.not_ready; not_pending = s.free.not_pending };
+            free = record { known = s.free.known; placed = placed-same system core _ refl chosen.thread refl s.free.placed; not_ready = s.free.not_ready; not_pending = s.free.not_pending };
             some = s.some;
             in_head = s.in_head;
             early = s.early;
@@ -138,13 +110,6 @@ module _ (system : System) (number from : ℕ) (each : IsOneEach system) where
       let p = runner-placed system number from each Between chosen core h e in
       let b = h.budgets (thread_part system chosen.thread).context p.has in
       let a = accepted-is system.min_budget (its_context system chosen.thread core).config b.accepted in
-      less chosen.using (head_amount (its_context system chosen.thread core)) (its_context system chosen.thread core).config.budget (its_context system chosen.thread core).config.period
-      r.unspent (kept-head-most (its_context system chosen.thread core).config (its_context system chosen.thread core).budget b.kept) a.within a.short
-    where
-      less : (u h b p : ℕ) → u < h + 0 → h ≤ b → b ≤ p → p ≤ 2 ^ 40 → u < 2 ^ 40
-      less u h b p i j k l = omega arith
-
--- what holds where nothing failed
-pub on_ok : (r : Result (Unit {0}) NoMemory) (P : Type 0) → P → OnOk r P
-on_ok (Ok x) P p = p
-on_ok (Err x) P p = tt
+      let u : chosen.using < head_amount (its_context system chosen.thread core) + 0 = r.unspent in
+      let most : head_amount (its_context system chosen.thread core) ≤ (its_context system chosen.thread core).config.budget = kept-head-most (its_context system chosen.thread core).config (its_context system chosen.thread core).budget b.kept in
+      omega (arith, u, most, a.within, a.short)

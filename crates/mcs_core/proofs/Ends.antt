@@ -1,9 +1,9 @@
 -- When the thread that runs ends its item or uses up its head, or is to give way.
 use Rattle.std.proofs.Common.{◌≡◌, ◌≢◌, ℕ, zero, suc, ◌+◌, ◌-◌, ◌<◌, ◌≤◌, ◌^◌, Bool, true, false, cond, List, [], ◌∷◌, length, set, refl, sym, ap, subst, ◌∙◌, arith}
-use Rattle.std.specs.Prelude.{◌==◌, nat_lt, nat_le, not, min, Option, Some, None, IsSome, IfSome, IsTrue, ◌↔◌}
+use Rattle.std.specs.Prelude.{◌==◌, nat_lt, not, min, Option, Some, None, IfSome, IsTrue, ◌↔◌}
 use Rattle.std.proofs.lemmas.Bool.Decides.{nat_tests}
 use Rattle.mcs_ticks.specs.Queue.{by_priority, first_of, rest_of}
-use Rattle.mcs_ticks.specs.Soonest.{HasCome, moment_of, sooner}
+use Rattle.mcs_ticks.specs.Soonest.{HasCome, sooner}
 use Rattle.mcs_ticks.specs.declared.queue.Queued.{Queued}
 use Rattle.mcs_ticks.specs.declared.row.Why.TheVariants as why
 use Rattle.mcs_ready.specs.Ready.{thread_of as thread_of_queued}
@@ -15,32 +15,21 @@ use Rattle.mcs_core.specs.declared.standing.Thread.{Thread}
 use Rattle.mcs_core.specs.Busy.{IsFirst, IsBest, GoesOnAfter, counted_by}
 use Rattle.mcs_core.specs.Contexts.{is_own, held}
 use Rattle.mcs_core.specs.Core.{Core, thread_of, off}
-use Rattle.mcs_core.specs.Turn.{silent, its_context, item_of, finishes, stops_to_back, stops_to_front, charged, date_of, enters_front, preempts, preempts_by, after_count}
+use Rattle.mcs_core.specs.Turn.{silent, its_context, stops_to_front, charged, date_of, enters_front, preempts, preempts_by, after_count}
 use Rattle.mcs_core.specs.stored.Ends.{IsUnspent, HoldsOn, IsEnd, started, better}
 use Rattle.mcs_core.specs.stored.Sound.{Phase, slack, IsContextOf, IsSound}
 use Rattle.mcs_core.proofs.Budgets.{accepted-is, kept-head-most}
 use Rattle.mcs_core.proofs.Busy.{first-end, first-now}
-use Rattle.mcs_core.proofs.Firsts.{first-both, first-same}
+use Rattle.mcs_core.proofs.Firsts.{first-both, first-same, not_le}
 use Rattle.mcs_core.proofs.Quiet.{set-same}
 use Rattle.mcs_core.proofs.Soundness.{IsOneEach}
 use Rattle.mcs_core.proofs.Stopping.{chosen-budget}
 use Rattle.mcs_core.proofs.Ticks.{runner, runner-placed}
 
--- beside a fact that does not change
-first-beside : (clock : ℕ) (P : ℕ → Type 0) (B : Type 0) (o : Option ℕ) → B → IsFirst clock P o → IsFirst clock (λ n. P n × B) o
-first-beside clock P B o b h = first-same clock P (λ n. P n × B) o (λ n p. (p, b)) (λ n q. q.0) h
-
 -- at a moment before the first one it holds
 holds-before : (clock n moment : ℕ) (P : ℕ → Type 0) (o : Option ℕ) → IsFirst clock P o → moment ≡ clock + n → moment ≤ 2 ^ 42 → (HasCome moment o → ⊥) → P n
 holds-before clock n moment P None h e l f = h n (omega arith)
-holds-before clock n moment P (Some first) h e l f = h.3 n (let i = h.1 in let j = later first moment f in omega arith)
-  where
-    later : (a b : ℕ) → (a ≤ b → ⊥) → b < a
-    later a b g = by (nat_le a b) refl
-      where
-        by : (t : Bool) → nat_le a b ≡ t → b < a
-        by true e = absurd (g (grind (arith, nat_tests)))
-        by false e = grind (arith, nat_tests)
+holds-before clock n moment P (Some first) h e l f = h.3 n (let i = h.1 in let j = not_le first moment f in omega arith)
 
 -- what has not come, as the code tells it
 pub not-come : (b : Bool) (P : Type 0) → (IsTrue b ↔ P) → not b ≡ true → P → ⊥
@@ -52,34 +41,13 @@ pub nothing-ready : (queue : List Queued) → thread_of_queued (first_of queue) 
 nothing-ready [] e = refl
 nothing-ready (x ∷ xs) e = cc
 
--- what is kept of a moment, as long as it is one that a run may meet
-some-moment : (moment : ℕ) → IsSome (moment_of moment) ↔ (moment ≤ 2 ^ 42)
-some-moment moment = by (nat_le moment (2 ^ 42)) refl
-  where
-    by : (b : Bool) → nat_le moment (2 ^ 42) ≡ b → IsSome (cond b (Some moment) None) ↔ (moment ≤ 2 ^ 42)
-    by true e = (λ h. grind (arith, nat_tests), λ h. refl)
-    by false e = (λ h. cc, λ h. absurd (no e h))
-      where
-        no : nat_le moment (2 ^ 42) ≡ false → moment ≤ 2 ^ 42 → ⊥
-        no e h = grind (arith, nat_tests)
-
-its-moment : (moment : ℕ) → IfSome (moment_of moment) (λ m. m ≡ moment)
-its-moment moment = by (nat_le moment (2 ^ 42))
-  where
-    by : (b : Bool) → IfSome (cond b (Some moment) None) (λ m. m ≡ moment)
-    by true = refl
-    by false = tt
-
 -- the head of a context that was chosen is no longer than a period may be
 pub chosen-short : (system : System) (k t : ℕ) (context : Context) → IsContextOf system k context → head_amount (context_chosen t context) ≤ 2 ^ 40
 chosen-short system k t context h =
     let b = chosen-budget system k t context.mode context h in
     let a = accepted-is system.min_budget (context_chosen t context).config b.accepted in
-    less (head_amount (context_chosen t context)) (context_chosen t context).config.budget (context_chosen t context).config.period
-    (kept-head-most (context_chosen t context).config (context_chosen t context).budget b.kept) a.within a.short
-  where
-    less : (h b p : ℕ) → h ≤ b → b ≤ p → p ≤ 2 ^ 40 → h ≤ 2 ^ 40
-    less h b p j k l = omega arith
+    let most : head_amount (context_chosen t context) ≤ (context_chosen t context).config.budget = kept-head-most (context_chosen t context).config (context_chosen t context).budget b.kept in
+    omega (arith, most, a.within, a.short)
 
 -- a context that a core holds, when it is another
 kept-context : (k : ℕ) (context : Context) (contexts : List (Option Context)) → is_own k contexts ≡ true → held k (set contexts k (Some context)) ≡ context
@@ -96,16 +64,11 @@ module _ (system : System) where
 
   -- where no thread runs and none is ready
   pub never-ends : (from : ℕ) (core : Core) → core.running ≡ None → first_of core.ready ≡ None → IsEnd system from core None
-  never-ends from core e f = by core.running (first_of core.ready) e f
-    where
-      by : (o : Option Chosen) (q : Option Queued) → o ≡ None → q ≡ None → IsFirst from (λ n. GoesOnAfter system n o core × IsBest system o q) None
-      by None None g h = λ n l. (tt, tt)
-      by (Some x) q g h = cc
-      by None (Some y) g h = cc
+  never-ends from core e f = rw (e, f) (λ n l. (tt, tt))
 
   -- where the thread that runs is to go on running
   pub goes-ends : (from : ℕ) (core : Core) (ends : Option ℕ) → (core.running ≡ None → ⊥) → HoldsOn system core → IsFirst from (λ n. GoesOnAfter system n core.running core) ends → IsEnd system from core ends
-  goes-ends from core ends e h first = first-beside from (λ n. GoesOnAfter system n core.running core) (IsBest system core.running (first_of core.ready)) ends (by core.running e h) first
+  goes-ends from core ends e h first = first-same from (λ n. GoesOnAfter system n core.running core) _ ends (λ n p. (p, by core.running e h)) (λ n q. q.0) first
     where
       by : (o : Option Chosen) → (o ≡ None → ⊥) → IfSome o (λ chosen. IsBest system (Some chosen) (first_of core.ready)) → IsBest system o (first_of core.ready)
       by (Some x) f g = g
@@ -115,42 +78,19 @@ module _ (system : System) where
   pub preempted-holds : (t : ℕ) (core : Core) → HoldsOn system (preempts by_priority system t core).core
   preempted-holds t core = by core.running (first_of core.ready) refl refl
     where
-      idle : (core : Core) → core.running ≡ None → HoldsOn system core
-      idle core e = none core.running e
-        where
-          none : (o : Option Chosen) → o ≡ None → IfSome o (λ chosen. IsBest system (Some chosen) (first_of core.ready))
-          none None f = tt
-          none (Some x) f = cc
-
-      gone : (thread : ℕ) (date : Option ℕ) (core : Core) → (enters_front by_priority system thread date (off core)).running ≡ None
-      gone thread None core = refl
-      gone thread (Some moment) core = refl
-
-      alone : (o : Option Chosen) (q : Option Queued) → q ≡ None → IfSome o (λ chosen. IsBest system (Some chosen) q)
-      alone None q f = tt
-      alone (Some x) None f = tt
-      alone (Some x) (Some y) f = cc
-
-      stays : (chosen : Chosen) (best : Queued) (o : Option Chosen) (q : Option Queued) → o ≡ Some chosen → q ≡ Some best → nat_lt (thread_part system chosen.thread).priority best.priority ≡ false →
-          IfSome o (λ chosen. IsBest system (Some chosen) q)
-      stays chosen best None q e f g = tt
-      stays chosen best (Some x) None e f g = tt
-      stays chosen best (Some x) (Some y) e f g =
-          let same_x : chosen ≡ x = cc in
-          let same_y : best ≡ y = cc in
-          ap (λ (z : Chosen). nat_lt (thread_part system z.thread).priority y.priority) (sym same_x) ∙ ap (λ (z : Queued). nat_lt (thread_part system chosen.thread).priority z.priority) (sym same_y) ∙ g
+      idle : (thread : ℕ) (date : Option ℕ) (core : Core) → HoldsOn system (enters_front by_priority system thread date (off core))
+      idle thread None core = tt
+      idle thread (Some moment) core = tt
 
       by : (o : Option Chosen) (q : Option Queued) → core.running ≡ o → first_of core.ready ≡ q → HoldsOn system (preempts_by by_priority system t o q core).core
-      by None q e f = idle core e
-      by (Some chosen) None e f = alone core.running (first_of core.ready) f
+      by None q e f = rw e tt
+      by (Some chosen) None e f = rw (e, f) tt
       by (Some chosen) (Some best) e f = cases (nat_lt (thread_part system chosen.thread).priority best.priority) refl
         where
           cases : (b : Bool) → nat_lt (thread_part system chosen.thread).priority best.priority ≡ b →
               HoldsOn system (cond b (stops_to_front by_priority system t chosen.thread why.Preempt chosen.using (charged system chosen.thread chosen.using core)) (silent core)).core
-          cases true g =
-              let after : Core = charged system chosen.thread chosen.using core in
-              idle (enters_front by_priority system chosen.thread (date_of system t chosen.thread after) (off after)) (gone chosen.thread (date_of system t chosen.thread after) after)
-          cases false g = stays chosen best core.running (first_of core.ready) e f g
+          cases true g = let after : Core = charged system chosen.thread chosen.using core in idle chosen.thread (date_of system t chosen.thread after) after
+          cases false g = rw (e, f) g
 
   -- a thread that has not used up its head
   pub unspent : (c from : ℕ) (each : IsOneEach system) (phase : Phase) (core : Core) → slack phase ≡ 0 → IsSound system c from phase None core → IfSome core.running (IsUnspent system core)
@@ -168,40 +108,20 @@ module _ (system : System) where
   pub counted-goes : (c t n used : ℕ) (chosen : Chosen) (core left : Core) → chosen.thread < length core.threads → used ≡ chosen.using + n + 1 → left ≡ counted_by (n + 1) chosen core →
       GoesOnAfter system n (Some chosen) core → after_count by_priority system c t chosen.thread used left ≡ silent left
   counted-goes c t n used chosen core left known e f h =
-      by ((thread_of left chosen.thread).place.left == 0)
-      (ap (λ k. k == 0) (ap (λ (k : Core). (thread_of k chosen.thread).place.left) f ∙ ap (λ (thread : Thread). thread.place.left) (set-same chosen.thread (record (thread_of core chosen.thread) { place = record ((thread_of core chosen.thread).place) { left = (thread_of core chosen.thread).place.left - (n + 1) } }) core.threads known))
-      ∙ over (thread_of core chosen.thread).place.left n h.0)
-      (used == head_amount (its_context system chosen.thread left))
-      (other used chosen.using n (head_amount (its_context system chosen.thread left)) (head_amount (its_context system chosen.thread core)) e
-      (ap (λ (k : Core). head_amount (its_context system chosen.thread k)) f) h.1)
+      rw (
+        ap (λ k. k == 0) (ap (λ (k : Core). (thread_of k chosen.thread).place.left) f ∙ ap (λ (thread : Thread). thread.place.left) (set-same chosen.thread (record (thread_of core chosen.thread) { place = record ((thread_of core chosen.thread).place) { left = (thread_of core chosen.thread).place.left - (n + 1) } }) core.threads known))
+            ∙ over (thread_of core chosen.thread).place.left n h.0,
+        other used chosen.using n (head_amount (its_context system chosen.thread left)) (head_amount (its_context system chosen.thread core)) e
+            (ap (λ (k : Core). head_amount (its_context system chosen.thread k)) f) h.1,
+      ) refl
     where
       over : (k n : ℕ) → n + 1 < k → (k - (n + 1) == 0) ≡ false
       over k n h = grind (arith, nat_tests)
 
       other : (used using n m k : ℕ) → used ≡ using + n + 1 → m ≡ k → using + n + 1 ≢ k → (used == m) ≡ false
-      other used using n m k e f h = differ used m (λ g. h (sym e ∙ g ∙ f))
-        where
-          differ : (a b : ℕ) → (a ≡ b → ⊥) → (a == b) ≡ false
-          differ a b h = grind (arith, nat_tests)
+      other used using n m k e f h = grind (arith, nat_tests)
 
-      by : (a : Bool) → a ≡ false → (b : Bool) → b ≡ false →
-          cond a (finishes by_priority system c t chosen.thread used (item_of system chosen.thread left) left)
-          (cond b (stops_to_back by_priority system t chosen.thread why.Spent used left) (silent left))
-          ≡ silent left
-      by true g b i = cc
-      by false g true i = cc
-      by false g false i = refl
-
-  -- the first end of a thread that runs
-  pub runner-ends : (from : ℕ) (core : Core) (chosen : Chosen) → core.running ≡ Some chosen → chosen.using < head_amount (its_context system chosen.thread core) →
-      IsFirst from (λ n. GoesOnAfter system n core.running core)
-      (moment_of (from + min ((thread_of core chosen.thread).place.left - 1) (head_amount (its_context system chosen.thread core) - chosen.using - 1)))
-  runner-ends from core chosen e l =
-      let P : Option Chosen → Type 0 = λ o.
-      IsFirst from (λ n. GoesOnAfter system n o core) (moment_of (from + min ((thread_of core chosen.thread).place.left - 1) (head_amount (its_context system chosen.thread core) - chosen.using - 1))) in
-      subst P (sym e) (first-end from (thread_of core chosen.thread).place.left chosen.using (head_amount (its_context system chosen.thread core)) _ l (some-moment _) (its-moment _))
-
-  -- .. and of one that is chosen at moment t
+  -- the first end of a thread that is chosen at moment t
   module _ (t thread left head : ℕ) (core : Core) (known : thread < length core.threads) (own : is_own (thread_part system thread).context core.contexts ≡ true) where
     abbrev chosen : Chosen
     chosen = record { thread = thread; using = 0 }

@@ -1,5 +1,5 @@
 -- A part for each of several things, done one after another.
-use Rattle.std.proofs.Common.{◌≡◌, ℕ, suc, ◌+◌, ◌<◌, ◌≤◌, Bool, true, false, cond, List, [], ◌∷◌, ◌++◌, length, refl, sym, ap, subst, ◌∙◌, append_assoc, append-nil, arith}
+use Rattle.std.proofs.Common.{◌≡◌, ℕ, suc, ◌+◌, ◌<◌, Bool, true, false, cond, List, [], ◌∷◌, ◌++◌, length, refl, sym, ap, subst, ◌∙◌, append_assoc, append-nil, arith}
 use Rattle.std.specs.Prelude.{◌==◌, nat_le, Some, None, All}
 use Rattle.std.specs.List.{AllByRecursion}
 use Rattle.std.proofs.lemmas.Bool.Decides.{nat_tests}
@@ -17,6 +17,8 @@ use Rattle.mcs_core.specs.declared.log.Here.{Here}
 use Rattle.mcs_core.specs.declared.log.Log.{Log}
 use Rattle.mcs_core.specs.stored.Parts.{Adds, Makes}
 use Rattle.mcs_core.specs.Orders.{first_due, without_first, due_now, to_come, AreByMoment, IsPlanned, ArePlanned}
+use Rattle.mcs_core.proofs.Counts.{either}
+use Rattle.mcs_core.proofs.Plans.{from-earlier, due-none}
 
 pub stamped-append : (c t : ℕ) (xs ys : List What) → stamped c t (xs ++ ys) ≡ stamped c t xs ++ stamped c t ys
 stamped-append c t [] ys = refl
@@ -54,9 +56,6 @@ pub record GoesOn {S : Type 0} (takes : S → Row → Bool → S → Type 0) (he
   pub goes : (core : Core) (after : Log S) → Makes takes here rest core now after → Makes takes here whole core before after
 
 module _ {S : Type 0} {takes : S → Row → Bool → S → Type 0} where
-  pub goes-start : (here : Here) (whole : Turn) (before : Log S) → GoesOn takes here whole whole before before
-  goes-start here whole before = record { goes = λ core after h. h }
-
   pub goes-step : (here : Here) (whole rest : Turn) (before now now' : Log S) (first : Turn) (part : Core → Turn) (core : Core) →
       GoesOn takes here whole rest before now → rest ≡ (first followed_by part) → Makes takes here first core now now' → GoesOn takes here whole (part core) before now'
   goes-step here whole rest before now now' first part core g e h = record {
@@ -79,23 +78,15 @@ pub first-due-is : (system : System) (c t : ℕ) (order : Order) (orders : List 
 first-due-is system c t order [] h p e = cc
 first-due-is system c t order (x ∷ xs) h p e = by (nat_le x.moment t) refl e
   where
-    at : (a : ℕ) → t ≤ a → nat_le a t ≡ true → (a == t) ≡ true
-    at a l f = grind (arith, nat_tests)
-
-    past : (a : ℕ) → t ≤ a → nat_le a t ≡ true → nat_le (t + 1) a ≡ false
-    past a l f = grind (arith, nat_tests)
-
-    from_now : (xs : List Order) → AreByMoment x.moment xs → t ≤ x.moment → AreByMoment t xs
-    from_now [] h l = tt
-    from_now (y ∷ ys) h l = (omega (arith, h.0), h.1)
-
     by : (b : Bool) → nat_le x.moment t ≡ b → cond b (Some x) None ≡ Some order → IsFirstDue system c t order (x ∷ xs)
     by true f g =
         let same : x ≡ order = cc in
+        let now : (x.moment == t) ≡ true = grind (arith, nat_tests) in
+        let past : nat_le (t + 1) x.moment ≡ false = grind (arith, nat_tests) in
         record {
-          now = rw (f, at x.moment h.0 f) (ap (λ y. y ∷ due_now t xs) same);
-          later = rw (f, past x.moment h.0 f) refl;
-          by_moment = rw f (from_now xs h.1 h.0);
+          now = rw (f, now) (ap (λ y. y ∷ due_now t xs) same);
+          later = rw (f, past) refl;
+          by_moment = rw f (from-earlier t x.moment xs h.0 h.1);
           planned = rw f p.1;
           fewer = rw f (omega arith);
         }
@@ -104,50 +95,20 @@ first-due-is system c t order (x ∷ xs) h p e = by (nat_le x.moment t) refl e
 -- where none is due
 pub none-due-now : (t : ℕ) (orders : List Order) → AreByMoment t orders → first_due t orders ≡ None → due_now t orders ≡ []
 none-due-now t [] h e = refl
-none-due-now t (x ∷ xs) h e = by (nat_le x.moment t) refl e
-  where
-    none : (from : ℕ) (xs : List Order) → t < from → AreByMoment from xs → due_now t xs ≡ []
-    none from [] l h = refl
-    none from (y ∷ ys) l h = rw (other y.moment (omega (arith, h.0))) (none y.moment ys (omega (arith, h.0)) h.1)
-      where
-        other : (a : ℕ) → t < a → (a == t) ≡ false
-        other a l = grind (arith, nat_tests)
-
-    by : (b : Bool) → nat_le x.moment t ≡ b → cond b (Some x) None ≡ None → due_now t (x ∷ xs) ≡ []
-    by true f g = cc
-    by false f g = let l : t < x.moment = grind (arith, nat_tests) in none x.moment (x ∷ xs) l (omega arith, h.1)
+none-due-now t (x ∷ xs) h e = let l : t < x.moment = grind (arith, nat_tests) in due-none t x.moment (x ∷ xs) l (omega arith, h.1)
 
 pub none-due-later : (t : ℕ) (orders : List Order) → AreByMoment t orders → first_due t orders ≡ None → to_come (t + 1) orders ≡ orders
 none-due-later t [] h e = refl
-none-due-later t (x ∷ xs) h e = by (nat_le x.moment t) refl e
+none-due-later t (x ∷ xs) h e = let l : t < x.moment = grind (arith, nat_tests) in all x.moment (x ∷ xs) l (omega arith, h.1)
   where
     all : (from : ℕ) (xs : List Order) → t < from → AreByMoment from xs → to_come (t + 1) xs ≡ xs
     all from [] l h = refl
-    all from (y ∷ ys) l h = rw (later y.moment (omega (arith, h.0))) (ap (λ zs. y ∷ zs) (all y.moment ys (omega (arith, h.0)) h.1))
-      where
-        later : (a : ℕ) → t < a → nat_le (t + 1) a ≡ true
-        later a l = grind (arith, nat_tests)
-
-    by : (b : Bool) → nat_le x.moment t ≡ b → cond b (Some x) None ≡ None → to_come (t + 1) (x ∷ xs) ≡ x ∷ xs
-    by true f g = cc
-    by false f g = let l : t < x.moment = grind (arith, nat_tests) in all x.moment (x ∷ xs) l (omega arith, h.1)
+    all from (y ∷ ys) l h = grind (arith, nat_tests, h.0, all y.moment ys (omega (arith, h.0)) h.1)
 
 -- what holds of all mail holds of what is left of it
 pub all-without_due : (P : Mail → Type 0) (t : ℕ) (mails : List Mail) → All P mails → All P (without_due t mails)
 all-without_due P t [] h = h
-all-without_due P t (x ∷ xs) h = by (nat_le x.arrives t)
-  where
-    by : (b : Bool) → All P (cond b xs (x ∷ xs))
-    by true = λ k d l. h (suc k) d (omega arith)
-    by false = h
-
-pub fewer-without_due : (t : ℕ) (mail : Mail) (mails : List Mail) → due t mails ≡ Some mail → length (without_due t mails) < length mails
-fewer-without_due t mail [] e = cc
-fewer-without_due t mail (x ∷ xs) e = by (nat_le x.arrives t) e
-  where
-    by : (b : Bool) → cond b (Some x) None ≡ Some mail → length (cond b xs (x ∷ xs)) < length (x ∷ xs)
-    by true f = omega arith
-    by false f = cc
+all-without_due P t (x ∷ xs) h = either (All P) (nat_le x.arrives t) xs (x ∷ xs) (λ k d l. h (suc k) d (omega arith)) h
 
 pub first-known : (P : Mail → Type 0) (t : ℕ) (mail : Mail) (mails : List Mail) → All P mails → due t mails ≡ Some mail → P mail
 first-known P t mail [] h e = cc
@@ -159,19 +120,11 @@ first-known P t mail (x ∷ xs) h e = by (nat_le x.arrives t) e
 
 pub none-taken : (t : ℕ) (mails : List Mail) → due t mails ≡ None → without_due t mails ≡ mails
 none-taken t [] e = refl
-none-taken t (x ∷ xs) e = by (nat_le x.arrives t) e
-  where
-    by : (b : Bool) → cond b (Some x) None ≡ None → cond b xs (x ∷ xs) ≡ x ∷ xs
-    by true f = cc
-    by false f = refl
+none-taken t (x ∷ xs) e = grind arith
 
 pub no-order-taken : (t : ℕ) (orders : List Order) → first_due t orders ≡ None → without_first t orders ≡ orders
 no-order-taken t [] e = refl
-no-order-taken t (x ∷ xs) e = by (nat_le x.moment t) e
-  where
-    by : (b : Bool) → cond b (Some x) None ≡ None → cond b xs (x ∷ xs) ≡ x ∷ xs
-    by true f = cc
-    by false f = refl
+no-order-taken t (x ∷ xs) e = grind arith
 
 -- the first order is a planned one
 pub first-planned : (system : System) (c t : ℕ) (order : Order) (orders : List Order) → ArePlanned system c orders → first_due t orders ≡ Some order → IsPlanned system c order
@@ -185,8 +138,6 @@ first-planned system c t order (x ∷ xs) p e = by (nat_le x.moment t) e
 -- the notifications of the mail that arrives
 pub known-arriving : (t notes : ℕ) (mails : List Mail) → All (λ (mail : Mail). mail.note < notes) mails → AllByRecursion (λ (mail : Mail). mail.note < notes) (arriving t mails)
 known-arriving t notes [] h = tt
-known-arriving t notes (x ∷ xs) h = by (x.arrives == t) (known-arriving t notes xs (λ k d l. h (suc k) d (omega arith)))
-  where
-    by : (b : Bool) → AllByRecursion (λ (mail : Mail). mail.note < notes) (arriving t xs) → AllByRecursion (λ (mail : Mail). mail.note < notes) (cond b (x ∷ arriving t xs) (arriving t xs))
-    by true i = (h 0 x (omega arith), i)
-    by false i = i
+known-arriving t notes (x ∷ xs) h =
+    let i = known-arriving t notes xs (λ k d l. h (suc k) d (omega arith)) in
+    either (AllByRecursion (λ (mail : Mail). mail.note < notes)) (x.arrives == t) (x ∷ arriving t xs) (arriving t xs) (h 0 x (omega arith), i) i

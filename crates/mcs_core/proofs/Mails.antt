@@ -1,21 +1,16 @@
 -- The signals of a turn: they come from the end of the tick alone, are made now, arrive after the delay, and are items of scripts.
-use Rattle.std.proofs.Common.{◌≡◌, ℕ, ◌+◌, Bool, true, false, cond, List, [], ◌∷◌, ◌++◌, Option, Some, None, refl, ◌∙◌, append-nil, arith, ◌≢◌}
-use Rattle.std.specs.Prelude.{filter, ◌==◌, nat_lt}
+use Rattle.std.proofs.Common.{◌≡◌, ℕ, ◌+◌, Bool, true, false, cond, List, [], ◌∷◌, ◌++◌, Option, Some, None, refl, append-nil, arith, ◌≢◌}
+use Rattle.std.specs.Prelude.{filter, ◌==◌}
 use Rattle.std.specs.List.{slice_get}
 use Rattle.std.proofs.lemmas.Bool.Decides.{nat_tests}
 use Rattle.mcs_ticks.specs.Queue.{Discipline}
 use Rattle.mcs_ticks.specs.declared.queue.Queued.{Queued}
 use Rattle.mcs_control.specs.declared.config.Order.{Order}
-use Rattle.mcs_control.specs.Context.{head_amount}
-use Rattle.mcs_notify.specs.Note.{posted, waited}
-use Rattle.mcs_notify.specs.declared.posted.Posted.{Posted}
-use Rattle.mcs_notify.specs.declared.posted.Posted.TheVariants.{Woke, Held}
+use Rattle.mcs_notify.specs.Note.{waited}
 use Rattle.mcs_notify.specs.declared.posted.Waited.{Waited}
-use Rattle.mcs_notify.specs.declared.posted.Waited.TheVariants.{Got, Blocks}
 use Rattle.mcs_script.specs.declared.item.Item.{Item}
 use Rattle.mcs_script.specs.declared.item.Item.TheVariants.{Compute, Signal, Wait, Yield}
 use Rattle.mcs_script.specs.declared.moved.Moved.{Moved}
-use Rattle.mcs_script.specs.declared.moved.Moved.TheVariants.{Next, RoundEnds, AllDone}
 use Rattle.mcs_mail.specs.declared.mail.Mail.{Mail}
 use Rattle.mcs_system.specs.System.{System, note_part, thread_part, delay_between}
 use Rattle.mcs_core.specs.Core.{Core, note_of, thread_of}
@@ -24,7 +19,8 @@ use Rattle.mcs_core.specs.declared.standing.AfterItem.TheVariants as after
 use Rattle.mcs_core.specs.declared.standing.Chosen.{Chosen}
 use Rattle.mcs_release.specs.Release.{is_due}
 use Rattle.mcs_core.specs.Turn as turns
-use Rattle.mcs_core.specs.Turn.{Turn, each, silent, says, ◌followed_by◌}
+use Rattle.mcs_core.specs.Turn.{Turn, each}
+use Rattle.mcs_core.proofs.Counts.{either}
 
 -- a signal that is an item of a thread's script
 pub record IsSaid (system : System) (note badge : ℕ) : Type 0 where
@@ -44,48 +40,27 @@ each-none : {A : Type 0} (part : A → Core → Turn) → ((x : A) (core : Core)
 each-none part h [] core = refl
 each-none part h (x ∷ xs) core = rw (h x core, each-none part h xs (part x core).core) refl
 
-cond-none : (b : Bool) (x y : Turn) → x.mails ≡ [] → y.mails ≡ [] → (cond b x y).mails ≡ []
-cond-none true x y p q = p
-cond-none false x y p q = q
-
 module _ (queue : Discipline) (system : System) (c t : ℕ) where
   moves-none : (x : ℕ) (m : Moved) (core : Core) → (turns.moves system t x m core).mails ≡ []
-  moves-none x Next core = refl
-  moves-none x RoundEnds core = refl
-  moves-none x AllDone core = refl
-
-  wakes-none : (x : ℕ) (core : Core) → (turns.wakes queue system t x core).mails ≡ []
-  wakes-none x core = append-nil _ ∙ moves-none x _ _
-
-  posts_as-none : (note : ℕ) (p : Posted) (core : Core) → (turns.posts_as queue system t note p core).mails ≡ []
-  posts_as-none note (Woke x word) core = wakes-none x _
-  posts_as-none note (Held word) core = refl
+  moves-none x m core = grind arith
 
   posts-none : (note badge : ℕ) (core : Core) → (turns.posts queue system t note badge core).mails ≡ []
-  posts-none note badge core = posts_as-none note (posted badge (note_of core note)) core
+  posts-none note badge core = grind arith
 
   arrives-none : (mail : Mail) (core : Core) → (turns.arrives queue system t mail core).mails ≡ []
   arrives-none mail core = posts-none mail.note mail.badge core
 
-  orders_running-none : (order : Order) (o : Option Chosen) (core : Core) → (turns.orders_running queue system t order o core).mails ≡ []
-  orders_running-none order None core = refl
-  orders_running-none order (Some chosen) core = cond-none ((turns.part_of system chosen.thread).context == order.context) _ _ refl refl
-
   obeys-none : (order : Order) (core : Core) → (turns.obeys queue system t order core).mails ≡ []
-  obeys-none order core = orders_running-none order core.running core
+  obeys-none order core = grind arith
 
   releases-none : (core : Core) → (turns.releases queue system t core).mails ≡ []
   releases-none core = each-none (turns.released queue system) (λ due core. refl) (filter (is_due t) core.releases) _
 
   preempts_by-none : (o : Option Chosen) (best : Option Queued) (core : Core) → (turns.preempts_by queue system t o best core).mails ≡ []
-  preempts_by-none (Some chosen) (Some best) core = cond-none (nat_lt (turns.part_of system chosen.thread).priority best.priority) _ _ refl refl
-  preempts_by-none (Some chosen) None core = refl
-  preempts_by-none None best core = refl
+  preempts_by-none o best core = grind arith
 
   chooses_of-none : (o : Option Chosen) (best : Option Queued) (core : Core) → (turns.chooses_of queue system t o best core).mails ≡ []
-  chooses_of-none (Some chosen) best core = refl
-  chooses_of-none None None core = refl
-  chooses_of-none None (Some best) core = refl
+  chooses_of-none o best core = grind arith
 
   -- only the end of the tick makes signals
   pub mails-turn : (mails : List Mail) (core : Core) → (turns.turn_with queue system c t mails core).mails ≡ (turns.tick queue system c t core).mails
@@ -111,10 +86,6 @@ module _ (queue : Discipline) (system : System) (c t : ℕ) where
   IsOutgoing-append : (xs ys : List Mail) → IsOutgoing xs → ys ≡ [] → IsOutgoing (xs ++ ys)
   IsOutgoing-append xs ys h e = rw (e, append-nil) h
 
-  IsOutgoing-cond : (b : Bool) (x y : Turn) → IsOutgoing x.mails → IsOutgoing y.mails → IsOutgoing (cond b x y).mails
-  IsOutgoing-cond true x y p q = p
-  IsOutgoing-cond false x y p q = q
-
   signals-out : (x note badge : ℕ) (core : Core) → IsSaid system note badge → IsOutgoing (turns.signals queue system c t x note badge core).mails
   signals-out x note badge core said = by ((note_part system note).core == c) refl
     where
@@ -129,8 +100,7 @@ module _ (queue : Discipline) (system : System) (c t : ℕ) where
   moves_on-none x core = moves-none x (turns.move_of system x core) core
 
   waits_as-none : (x note : ℕ) (w : Waited) (core : Core) → (turns.waits_as system t x note w core).mails ≡ []
-  waits_as-none x note (Got word) core = moves_on-none x _
-  waits_as-none x note Blocks core = refl
+  waits_as-none x note w core = grind arith
 
   takes_effect-out : (x i : ℕ) (item : Option Item) (core : Core) → slice_get (thread_part system x).script i ≡ item → IsOutgoing (turns.takes_effect queue system c t x item core).mails
   takes_effect-out x i (Some (Signal note badge)) core e =
@@ -141,10 +111,7 @@ module _ (queue : Discipline) (system : System) (c t : ℕ) where
   takes_effect-out x i None core e = tt
 
   pub may_stop-none : (x using : ℕ) (cause : AfterItem) (core : Core) → (turns.may_stop queue system t x using cause core).mails ≡ []
-  may_stop-none x using after.Ends core = refl
-  may_stop-none x using after.Blocks core = refl
-  may_stop-none x using after.Yields core = refl
-  may_stop-none x using after.GoesOn core = cond-none (using == head_amount (turns.its_context system x core)) _ _ refl refl
+  may_stop-none x using cause core = grind arith
 
   finishes-out : (x i using : ℕ) (item : Option Item) (core : Core) → slice_get (thread_part system x).script i ≡ item → IsOutgoing (turns.finishes queue system c t x using item core).mails
   finishes-out x i using item core e =
@@ -152,7 +119,7 @@ module _ (queue : Discipline) (system : System) (c t : ℕ) where
 
   after_count-out : (x using : ℕ) (core : Core) → IsOutgoing (turns.after_count queue system c t x using core).mails
   after_count-out x using core =
-      IsOutgoing-cond ((thread_of core x).place.left == 0) _ _ (finishes-out x (thread_of core x).place.item using (turns.item_of system x core) core refl) (IsOutgoing-none _ (may_stop-none x using after.GoesOn core))
+      either (λ (turn : Turn). IsOutgoing turn.mails) ((thread_of core x).place.left == 0) _ _ (finishes-out x (thread_of core x).place.item using (turns.item_of system x core) core refl) (IsOutgoing-none _ (may_stop-none x using after.GoesOn core))
 
   tick_of-out : (o : Option Chosen) (core : Core) → IsOutgoing (turns.tick_of queue system c t o core).mails
   tick_of-out None core = tt

@@ -2,6 +2,7 @@
 use Rattle.std.proofs.Common.{◌≡◌, ℕ, zero, suc, ◌+◌, ◌^◌, ◌<◌, ◌≤◌, ◌⊎◌, inl, inr, Bool, true, false, cond, List, [], ◌∷◌, ◌++◌, length, take, replicate, map, get_or, add-one, refl, sym, ap, ◌∙◌, arith}
 use Rattle.std.specs.Prelude.{◌==◌, Option, Some, None, unwrap_or, option_map, All}
 use Rattle.std.specs.List.{AllByRecursion}
+use Rattle.std.proofs.lemmas.Bool.{cases_lt}
 use Rattle.std.proofs.lemmas.Bool.Decides.{nat_tests}
 use Rattle.std.proofs.lemmas.List.{get_or-map, get_or_past, length-map}
 use Rattle.mcs_ticks.specs.declared.queue.Queued.{Queued}
@@ -25,7 +26,7 @@ use Rattle.mcs_system.specs.System.{System, context_part, thread_part, no_contex
 use Rattle.mcs_core.specs.stored.Contexts.{Kept, unboxed, seen_contexts, HasRoom, HaveRoom}
 use Rattle.mcs_core.specs.Contexts.{no_server, is_some, is_own}
 use Rattle.mcs_core.specs.Core.{Core, no_state, thread_of, context_of, opening_thread, opening_releases, opening_contexts, opening_core}
-use Rattle.mcs_core.specs.stored.Sound.{times_ready, times_pending, times_blocked, is_here, may_run, has_context, IsPlaced, AreEarly, IsContextOf, IsSound}
+use Rattle.mcs_core.specs.stored.Sound.{times_pending, is_here, has_context, IsPlaced, AreEarly, IsContextOf, IsSound}
 use Rattle.mcs_core.specs.Places.{times_dated, times_waiting}
 use Rattle.mcs_core.specs.stored.Sound.Phase.{Between}
 use Rattle.mcs_system.specs.WellFormed.{IsWellFormed, IsContext, IsThread}
@@ -33,16 +34,15 @@ use Rattle.mcs_control.specs.declared.config.Order.{Order}
 use Rattle.mcs_core.specs.Orders.{orders_of}
 use Rattle.mcs_core.specs.State.{State, Fits, delays_from, opening_state}
 use Rattle.mcs_core.proofs.Budgets.{IsAccepted, accepted-is}
+use Rattle.mcs_core.proofs.Counts.{either}
 use Rattle.mcs_core.proofs.Plans.{to_come-all}
 
 -- no start is later than a moment of a run
 pub start-early : (system : System) (threads : List ThreadPart) (k : ℕ) → All (IsThread system) threads → start_of threads k ≤ 2 ^ 40
 start-early system [] k h = omega arith
-start-early system (thread ∷ threads) k h = by (thread.context == k) (start-early system threads k (λ i d l. h (suc i) d (omega arith)))
-  where
-    by : (b : Bool) → start_of threads k ≤ 2 ^ 40 → cond b thread.start (start_of threads k) ≤ 2 ^ 40
-    by true i = let t : IsThread system thread = h 0 thread (omega arith) in t.start
-    by false i = i
+start-early system (thread ∷ threads) k h =
+    let t : IsThread system thread = h 0 thread (omega arith) in
+    either (λ n. n ≤ 2 ^ 40) (thread.context == k) thread.start (start_of threads k) t.start (start-early system threads k (λ i d l. h (suc i) d (omega arith)))
 
 -- nor is the head of a new context
 new-early : (config : Config) (mode : Mode) (at : ℕ) → at ≤ 2 ^ 40 → head_moment (new_context config mode at) ≤ 2 ^ 40
@@ -73,31 +73,13 @@ module _ (system : System) (c : ℕ) where
   -- the release queue has no thread before the first, and each thread of the core once
   none-before : (x n : ℕ) (threads : List ThreadPart) → x < n → times_dated x (opening_releases system c n threads) ≡ 0
   none-before x n [] l = refl
-  none-before x n (thread ∷ threads) l = by (core_of system thread == c) (n == x) refl (none-before x (n + 1) threads (omega arith))
-    where
-      by : (b t : Bool) → (n == x) ≡ t → times_dated x (opening_releases system c (n + 1) threads) ≡ 0 →
-          times_dated x (cond b (record { thread = n; date = thread.start } ∷ opening_releases system c (n + 1) threads) (opening_releases system c (n + 1) threads)) ≡ 0
-      by true true e i = absurd (grind (arith, nat_tests))
-      by true false e i = rw e (omega arith)
-      by false t e i = i
+  none-before x n (thread ∷ threads) l = grind (arith, nat_tests, none-before x (n + 1) threads (omega arith))
 
   once-each : (x n k : ℕ) (threads : List ThreadPart) → x ≡ n + k →
       times_dated x (opening_releases system c n threads) ≡ times_pending (get_or (map (opening_thread system c) threads) k no_state).standing
   once-each x n k [] e = refl
-  once-each x n zero (thread ∷ threads) e = by (core_of system thread == c) (n == x) refl (none-before x (n + 1) threads (omega arith))
-    where
-      by : (b t : Bool) → (n == x) ≡ t → times_dated x (opening_releases system c (n + 1) threads) ≡ 0 →
-          times_dated x (cond b (record { thread = n; date = thread.start } ∷ opening_releases system c (n + 1) threads) (opening_releases system c (n + 1) threads)) ≡ times_pending (cond b Pending Elsewhere)
-      by true true f i = rw f (omega arith)
-      by true false f i = absurd (grind (arith, nat_tests))
-      by false t f i = i
-  once-each x n (suc k) (thread ∷ threads) e = by (core_of system thread == c) (n == x) refl (once-each x (n + 1) k threads (omega arith))
-    where
-      by : (b t : Bool) → (n == x) ≡ t → times_dated x (opening_releases system c (n + 1) threads) ≡ times_pending (get_or (map (opening_thread system c) threads) k no_state).standing →
-          times_dated x (cond b (record { thread = n; date = thread.start } ∷ opening_releases system c (n + 1) threads) (opening_releases system c (n + 1) threads)) ≡ times_pending (get_or (map (opening_thread system c) threads) k no_state).standing
-      by true true f i = absurd (grind (arith, nat_tests))
-      by true false f i = rw f (omega arith)
-      by false t f i = i
+  once-each x n zero (thread ∷ threads) e = grind (arith, nat_tests, none-before x (n + 1) threads (omega arith))
+  once-each x n (suc k) (thread ∷ threads) e = grind (arith, nat_tests, once-each x (n + 1) k threads (omega arith))
 
   -- the contexts by number
   many-contexts : (n : ℕ) (contexts : List ContextPart) → length (opening_contexts system c n contexts) ≡ length contexts
@@ -114,11 +96,7 @@ module _ (system : System) (c : ℕ) where
   context-at j n (suc k) (context ∷ contexts) e l = context-at j (n + 1) k contexts (omega arith) (omega arith)
 
   context-own : (k : ℕ) → k < length system.contexts → has_context k (opening_core system c) ≡ ((context_part system k).core == c)
-  context-own k l = ap is_some (context-at k 0 k system.contexts (omega arith) l) ∙ by ((context_part system k).core == c)
-    where
-      by : (b : Bool) → is_some (cond b (Some (new_context (context_part system k).config (context_part system k).mode (start_of system.threads k))) None) ≡ b
-      by true = refl
-      by false = refl
+  context-own k l = ap is_some (context-at k 0 k system.contexts (omega arith) l) ∙ grind arith
 
   context-within : (k : ℕ) → has_context k (opening_core system c) ≡ true → k < length system.contexts
   context-within k h = within k 0 system.contexts h
@@ -132,12 +110,7 @@ module _ (system : System) (c : ℕ) where
       context_of (opening_core system c) k ≡ new_context (context_part system k).config (context_part system k).mode (start_of system.threads k)
   context-new k h =
       let l : k < length system.contexts = context-within k h in
-      ap (λ o. unwrap_or o no_server) (context-at k 0 k system.contexts (omega arith) l) ∙ by ((context_part system k).core == c) (sym (context-own k l) ∙ h)
-    where
-      by : (b : Bool) → b ≡ true →
-          unwrap_or (cond b (Some (new_context (context_part system k).config (context_part system k).mode (start_of system.threads k))) None) no_server ≡ new_context (context_part system k).config (context_part system k).mode (start_of system.threads k)
-      by true e = refl
-      by false e = cc
+      ap (λ o. unwrap_or o no_server) (context-at k 0 k system.contexts (omega arith) l) ∙ rw (sym (context-own k l) ∙ h) refl
 
   -- where a thread stands, and what it then is
   record IsOwn (x : ℕ) : Type 0 where
@@ -146,24 +119,17 @@ module _ (system : System) (c : ℕ) where
     state : thread_of (opening_core system c) x ≡ opening_thread system c (thread_part system x)
 
   opens : (x : ℕ) → IsOwn x ⊎ ((thread_of (opening_core system c) x).standing ≡ Elsewhere)
-  opens x = by (cases x (length system.threads))
+  opens x = elim (cases_lt x (length system.threads)) [
+    | inl l ↦ own (core_of system (thread_part system x) == c) refl l (get_or-map (opening_thread system c) system.threads x no_thread no_state l)
+    | inr l ↦
+        let past : length (map (opening_thread system c) system.threads) ≤ x = rw (length-map system.threads (opening_thread system c)) l in
+        inr (ap (λ (k : Thread). k.standing) (get_or_past (map (opening_thread system c) system.threads) x no_state past))
+  ]
     where
-      cases : (a b : ℕ) → (a < b) ⊎ (b ≤ a)
-      cases a b = grind arith
-
       own : (b : Bool) → (core_of system (thread_part system x) == c) ≡ b → x < length system.threads →
           thread_of (opening_core system c) x ≡ opening_thread system c (thread_part system x) → IsOwn x ⊎ ((thread_of (opening_core system c) x).standing ≡ Elsewhere)
       own true e l s = inl (record { known = l; own = e; state = s })
       own false e l s = inr (ap (λ (k : Thread). k.standing) s ∙ ap (λ b. cond b Pending Elsewhere) e)
-
-      by : (x < length system.threads) ⊎ (length system.threads ≤ x) → IsOwn x ⊎ ((thread_of (opening_core system c) x).standing ≡ Elsewhere)
-      by (inl l) = own (core_of system (thread_part system x) == c) refl l (get_or-map (opening_thread system c) system.threads x no_thread no_state l)
-      by (inr l) =
-          let past : length (map (opening_thread system c) system.threads) ≤ x = rw (length-map system.threads (opening_thread system c)) l in
-          inr (ap (λ (k : Thread). k.standing) (get_or_past (map (opening_thread system c) system.threads) x no_state past))
-
-  stands-own : (x : ℕ) → IsOwn x → (thread_of (opening_core system c) x).standing ≡ Pending
-  stands-own x h = ap (λ (k : Thread). k.standing) h.state ∙ ap (λ b. cond b Pending Elsewhere) h.own
 
   -- the core with which a run opens
   opening : IsWellFormed system → IsSound system c 0 Between None (opening_core system c)
@@ -171,11 +137,11 @@ module _ (system : System) (c : ℕ) where
     threads = length-map system.threads (opening_thread system c);
     contexts = many-contexts 0 system.contexts;
     notes = length-map system.notes (λ _. quiet_note);
-    ready = λ x. ready x (opens x);
+    ready = λ x. grind (arith, rests x);
     pending = λ x. once-each x 0 x system.threads (omega arith);
-    blocked = λ x. none-waits x system.notes ∙ blocked x (opens x);
+    blocked = λ x. none-waits x system.notes ∙ grind (arith, rests x);
     here = λ x h. placed x (opens x) h;
-    early = λ x h. absurd (resting x (opens x) h);
+    early = λ x h. absurd (grind (arith, rests x));
     dates = dates (opening_releases system c 0 system.threads);
     running = tt;
     budgets = budgets;
@@ -183,17 +149,11 @@ module _ (system : System) (c : ℕ) where
     later = later (opening_releases system c 0 system.threads);
   }
     where
-      ready : (x : ℕ) → IsOwn x ⊎ ((thread_of (opening_core system c) x).standing ≡ Elsewhere) → 0 ≡ times_ready (thread_of (opening_core system c) x).standing
-      ready x (inl h) = rw (stands-own x h) refl
-      ready x (inr h) = rw h refl
-
-      blocked : (x : ℕ) → IsOwn x ⊎ ((thread_of (opening_core system c) x).standing ≡ Elsewhere) → 0 ≡ times_blocked (thread_of (opening_core system c) x).standing
-      blocked x (inl h) = rw (stands-own x h) refl
-      blocked x (inr h) = rw h refl
-
-      resting : (x : ℕ) → IsOwn x ⊎ ((thread_of (opening_core system c) x).standing ≡ Elsewhere) → may_run (thread_of (opening_core system c) x).standing ≡ true → ⊥
-      resting x (inl h) g = let f : false ≡ true = ap may_run (sym (stands-own x h)) ∙ g in cc
-      resting x (inr h) g = let f : false ≡ true = ap may_run (sym h) ∙ g in cc
+      rests : (x : ℕ) → ((thread_of (opening_core system c) x).standing ≡ Pending) ⊎ ((thread_of (opening_core system c) x).standing ≡ Elsewhere)
+      rests x = elim (opens x) [
+        | inl h ↦ inl (ap (λ (k : Thread). k.standing) h.state ∙ ap (λ b. cond b Pending Elsewhere) h.own)
+        | inr h ↦ inr h
+      ]
 
       placed : (x : ℕ) → IsOwn x ⊎ ((thread_of (opening_core system c) x).standing ≡ Elsewhere) → is_here (thread_of (opening_core system c) x).standing ≡ true → IsPlaced system x (opening_core system c)
       placed x (inl h) g =
@@ -203,15 +163,8 @@ module _ (system : System) (c : ℕ) where
       placed x (inr h) g = let f : false ≡ true = ap is_here (sym h) ∙ g in absurd (let no : ⊥ = cc in no)
 
       head : (k : ℕ) → head_moment (context_of (opening_core system c) k) ≤ 2 ^ 40
-      head k = by (has_context k (opening_core system c)) refl
-        where
-          none : (o : Option Context) → is_some o ≡ false → head_moment (unwrap_or o no_server) ≤ 2 ^ 40
-          none None e = omega arith
-          none (Some context) e = cc
-
-          by : (b : Bool) → has_context k (opening_core system c) ≡ b → head_moment (context_of (opening_core system c) k) ≤ 2 ^ 40
-          by true e = rw (context-new k e) (new-early (context_part system k).config (context_part system k).mode (start_of system.threads k) (start-early system system.threads k w.threads))
-          by false e = none (get_or (opening_core system c).contexts k None) e
+      head k =
+          grind (arith, context-new k, new-early (context_part system k).config (context_part system k).mode (start_of system.threads k) (start-early system system.threads k w.threads))
 
       dates : (ds : List Dated) → AreEarly system (opening_core system c) ds
       dates [] = tt
@@ -256,13 +209,7 @@ state-opening system c core orders delays e f d = rw (e, f, d) refl
 module _ (system : System) (c : ℕ) where
   pub none-after : (x n : ℕ) (threads : List ThreadPart) → n + length threads ≤ x → times_dated x (opening_releases system c n threads) ≡ 0
   none-after x n [] l = refl
-  none-after x n (thread ∷ threads) l = by (core_of system thread == c) (n == x) refl (none-after x (n + 1) threads (omega arith))
-    where
-      by : (b t : Bool) → (n == x) ≡ t → times_dated x (opening_releases system c (n + 1) threads) ≡ 0 →
-          times_dated x (cond b (record { thread = n; date = thread.start } ∷ opening_releases system c (n + 1) threads) (opening_releases system c (n + 1) threads)) ≡ 0
-      by true true e i = let same : n ≡ x = grind (arith, nat_tests) in absurd (omega arith)
-      by true false e i = rw e (omega arith)
-      by false t e i = i
+  none-after x n (thread ∷ threads) l = grind (arith, nat_tests, none-after x (n + 1) threads (omega arith))
 
   next-release : (n k : ℕ) (threads : List ThreadPart) (i : ℕ) (x : ThreadPart) → i < length threads → x ≡ get_or threads i x → k ≡ n + i →
       opening_releases system c n (take (suc i) threads)
@@ -271,15 +218,7 @@ module _ (system : System) (c : ℕ) where
   next-release n k (y ∷ threads) zero x l e f =
       let same : n ≡ k = omega arith in
       rw (← e, ← same) refl
-  next-release n k (y ∷ threads) (suc i) x l e f = by (core_of system y == c) (next-release (n + 1) k threads i x (omega arith) e (omega arith))
-    where
-      by : (b : Bool) →
-          opening_releases system c (n + 1) (take (suc i) threads) ≡ opening_releases system c (n + 1) (take i threads) ++ cond (core_of system x == c) (record { thread = k; date = x.start } ∷ []) [] →
-          cond b (record { thread = n; date = y.start } ∷ opening_releases system c (n + 1) (take (suc i) threads)) (opening_releases system c (n + 1) (take (suc i) threads))
-          ≡ cond b (record { thread = n; date = y.start } ∷ opening_releases system c (n + 1) (take i threads)) (opening_releases system c (n + 1) (take i threads))
-          ++ cond (core_of system x == c) (record { thread = k; date = x.start } ∷ []) []
-      by true h = ap (λ ds. record { thread = n; date = y.start } ∷ ds) h
-      by false h = h
+  next-release n k (y ∷ threads) (suc i) x l e f = grind (arith, next-release (n + 1) k threads i x (omega arith) e (omega arith))
 
   pub released-next : (threads : List ThreadPart) (i : ℕ) (x : ThreadPart) (b : Bool) → i < length threads → x ≡ get_or threads i x → (core_of system x == c) ≡ b →
       opening_releases system c 0 (take (i + 1) threads) ≡ opening_releases system c 0 (take i threads) ++ cond b (record { thread = i; date = x.start } ∷ []) []

@@ -1,5 +1,5 @@
 -- The orders of a core by moment, and those that are left.
-use Rattle.std.proofs.Common.{◌≡◌, ℕ, suc, ◌+◌, ◌<◌, ◌≤◌, Bool, true, false, cond, ◌⊎◌, inl, inr, Less, Equal, Greater, List, [], ◌∷◌, ◌++◌, length, get_or, append-nil, append_assoc, refl, sym, ap, ◌∙◌, arith}
+use Rattle.std.proofs.Common.{◌≡◌, ℕ, suc, ◌+◌, ◌<◌, ◌≤◌, Bool, true, false, cond, ◌⊎◌, inl, inr, List, [], ◌∷◌, ◌++◌, length, get_or, append-nil, append_assoc, refl, sym, ap, ◌∙◌, arith}
 use Rattle.std.specs.Prelude.{nat_lt, nat_le, ◌==◌, ◌&&◌, not, filter, fold, All}
 use Rattle.std.specs.Ordering.{is_lt, nat_cmp}
 use Rattle.std.specs.List.{AllByRecursion}
@@ -10,9 +10,10 @@ use Rattle.mcs_system.specs.System.{System}
 use Rattle.mcs_core.specs.Turn.{is_for_now}
 use Rattle.mcs_core.specs.Orders.{with_order, by_moment, is_for_core, orders_of, to_come, due_now, AreByMoment, IsPlanned, ArePlanned}
 use Rattle.mcs_system.specs.WellFormed.{IsWellFormed, IsOrder}
+use Rattle.mcs_core.proofs.Counts.{either}
 
 -- orders that are all at u or later are all at an earlier moment or later
-from-earlier : (t u : ℕ) (os : List Order) → t ≤ u → AreByMoment u os → AreByMoment t os
+pub from-earlier : (t u : ℕ) (os : List Order) → t ≤ u → AreByMoment u os → AreByMoment t os
 from-earlier t u [] l h = tt
 from-earlier t u (o ∷ os) l h = (omega (arith, h.0), h.1)
 
@@ -38,11 +39,9 @@ orders_of-by_moment system c = fold-by_moment [] (filter (is_for_core system c) 
 -- those that are to come are by moment too, from then on
 to_come-from : (s t : ℕ) (os : List Order) → AreByMoment s os → AreByMoment s (to_come t os)
 to_come-from s t [] h = tt
-to_come-from s t (o ∷ os) h = by (nat_le t o.moment) (to_come-from o.moment t os h.1)
-  where
-    by : (b : Bool) → AreByMoment o.moment (to_come t os) → AreByMoment s (cond b (o ∷ to_come t os) (to_come t os))
-    by true i = (h.0, i)
-    by false i = from-earlier s o.moment (to_come t os) h.0 i
+to_come-from s t (o ∷ os) h =
+    let i = to_come-from o.moment t os h.1 in
+    either (AreByMoment s) (nat_le t o.moment) (o ∷ to_come t os) (to_come t os) (h.0, i) (from-earlier s o.moment (to_come t os) h.0 i)
 
 pub to_come-by_moment : (s t : ℕ) (os : List Order) → AreByMoment s os → AreByMoment t (to_come t os)
 to_come-by_moment s t [] h = tt
@@ -56,19 +55,11 @@ to_come-by_moment s t (o ∷ os) h = by (nat_le t o.moment) refl (to_come-from o
 module _ (P : Order → Type 0) where
   all-filter : (test : Order → Bool) (os : List Order) → AllByRecursion P os → AllByRecursion P (filter test os)
   all-filter test [] h = tt
-  all-filter test (o ∷ os) h = by (test o) (all-filter test os h.1)
-    where
-      by : (b : Bool) → AllByRecursion P (filter test os) → AllByRecursion P (cond b (o ∷ filter test os) (filter test os))
-      by true i = (h.0, i)
-      by false i = i
+  all-filter test (o ∷ os) h = let i = all-filter test os h.1 in either (AllByRecursion P) (test o) (o ∷ filter test os) (filter test os) (h.0, i) i
 
   all-with_order : (os : List Order) (order : Order) → P order → AllByRecursion P os → AllByRecursion P (with_order os order)
   all-with_order [] order p h = (p, tt)
-  all-with_order (o ∷ os) order p h = by (nat_lt order.moment o.moment) (all-with_order os order p h.1)
-    where
-      by : (b : Bool) → AllByRecursion P (with_order os order) → AllByRecursion P (cond b (order ∷ o ∷ os) (o ∷ with_order os order))
-      by true i = (p, h)
-      by false i = (h.0, i)
+  all-with_order (o ∷ os) order p h = either (AllByRecursion P) (nat_lt order.moment o.moment) (order ∷ o ∷ os) (o ∷ with_order os order) (p, h) (h.0, all-with_order os order p h.1)
 
   all-fold : (os xs : List Order) → AllByRecursion P os → AllByRecursion P xs → AllByRecursion P (fold with_order os xs)
   all-fold os [] h g = h
@@ -96,74 +87,35 @@ to_come-planned system c t os h = all-filter (IsPlanned system c) (λ order. nat
 -- those that are left a moment later
 pub to_come-next : (t : ℕ) (os : List Order) → to_come (t + 1) (to_come t os) ≡ to_come (t + 1) os
 to_come-next t [] = refl
-to_come-next t (o ∷ os) = by (nat_le t o.moment) (nat_le (t + 1) o.moment) refl refl (to_come-next t os)
-  where
-    by : (a b : Bool) → nat_le t o.moment ≡ a → nat_le (t + 1) o.moment ≡ b → to_come (t + 1) (to_come t os) ≡ to_come (t + 1) os →
-        to_come (t + 1) (cond a (o ∷ to_come t os) (to_come t os)) ≡ cond b (o ∷ to_come (t + 1) os) (to_come (t + 1) os)
-    by true true d e i = rw e (ap (λ xs. o ∷ xs) i)
-    by true false d e i = rw e i
-    by false true d e i = absurd (grind (arith, nat_tests))
-    by false false d e i = i
+to_come-next t (o ∷ os) = grind (arith, nat_tests, to_come-next t os)
 
 -- and at the start
 pub to_come-all : (os : List Order) → to_come 0 os ≡ os
 to_come-all [] = refl
-to_come-all (o ∷ os) = by (nat_le 0 o.moment) refl (to_come-all os)
-  where
-    by : (b : Bool) → nat_le 0 o.moment ≡ b → to_come 0 os ≡ os → cond b (o ∷ to_come 0 os) (to_come 0 os) ≡ o ∷ os
-    by true e i = ap (λ xs. o ∷ xs) i
-    by false e i = absurd (grind (arith, nat_tests))
+to_come-all (o ∷ os) = grind (arith, nat_tests, to_come-all os)
 
 -- the orders of the moment are among those that are to come
 pub due-to_come : (t : ℕ) (os : List Order) → due_now t (to_come t os) ≡ due_now t os
 due-to_come t [] = refl
-due-to_come t (o ∷ os) = by (nat_le t o.moment) (o.moment == t) refl refl (due-to_come t os)
-  where
-    by : (a b : Bool) → nat_le t o.moment ≡ a → (o.moment == t) ≡ b → due_now t (to_come t os) ≡ due_now t os →
-        due_now t (cond a (o ∷ to_come t os) (to_come t os)) ≡ cond b (o ∷ due_now t os) (due_now t os)
-    by true true d e i = rw e (ap (λ xs. o ∷ xs) i)
-    by true false d e i = rw e i
-    by false true d e i = absurd (grind (arith, nat_tests))
-    by false false d e i = i
+due-to_come t (o ∷ os) = grind (arith, nat_tests, due-to_come t os)
 
 -- where all are later there are none
 pub due-none : (t s : ℕ) (os : List Order) → t < s → AreByMoment s os → due_now t os ≡ []
 due-none t s [] l h = refl
-due-none t s (o ∷ os) l h = by (o.moment == t) refl (due-none t o.moment os (omega (arith, h.0)) h.1)
-  where
-    by : (b : Bool) → (o.moment == t) ≡ b → due_now t os ≡ [] → cond b (o ∷ due_now t os) (due_now t os) ≡ []
-    by true e i = let same : o.moment ≡ t = grind (arith, nat_tests) in absurd (omega (arith, h.0))
-    by false e i = i
+due-none t s (o ∷ os) l h = grind (arith, nat_tests, h.0, due-none t o.moment os (omega (arith, h.0)) h.1)
 
 -- one more order goes behind those of its moment
 due-with_order : (t s : ℕ) (os : List Order) (order : Order) → AreByMoment s os → due_now t (with_order os order) ≡ due_now t os ++ due_now t (order ∷ [])
 due-with_order t s [] order h = refl
 due-with_order t s (o ∷ os) order h = by (nat_lt order.moment o.moment) refl (due-with_order t o.moment os order h.1)
   where
-    behind : (b : Bool) → due_now t (with_order os order) ≡ due_now t os ++ due_now t (order ∷ []) →
-        cond b (o ∷ due_now t (with_order os order)) (due_now t (with_order os order)) ≡ cond b (o ∷ due_now t os) (due_now t os) ++ due_now t (order ∷ [])
-    behind true i = ap (λ xs. o ∷ xs) i
-    behind false i = i
-
-    before : (b : Bool) → (order.moment == t) ≡ b → order.moment < o.moment →
-        cond b (order ∷ due_now t (o ∷ os)) (due_now t (o ∷ os)) ≡ due_now t (o ∷ os) ++ cond b (order ∷ []) []
-    before true e l =
-        let same : order.moment ≡ t = grind (arith, nat_tests) in
-        let none : due_now t (o ∷ os) ≡ [] = due-none t o.moment (o ∷ os) (omega arith) (omega arith, h.1) in
-        rw none refl
-    before false e l = sym (append-nil (due_now t (o ∷ os)))
-
     by : (b : Bool) → nat_lt order.moment o.moment ≡ b → due_now t (with_order os order) ≡ due_now t os ++ due_now t (order ∷ []) →
         due_now t (cond b (order ∷ o ∷ os) (o ∷ with_order os order)) ≡ due_now t (o ∷ os) ++ due_now t (order ∷ [])
-    by true e i = before (order.moment == t) refl (grind (arith, nat_tests))
-    by false e i = behind (o.moment == t) i
+    by true e i = grind (arith, nat_tests, append-nil (due_now t (o ∷ os)), due-none t o.moment (o ∷ os))
+    by false e i = grind (arith, i)
 
 due-one : (t : ℕ) (x : Order) (xs : List Order) → due_now t (x ∷ []) ++ due_now t xs ≡ due_now t (x ∷ xs)
-due-one t x xs = by (x.moment == t)
-  where
-    by : (b : Bool) → cond b (x ∷ []) [] ++ due_now t xs ≡ cond b (x ∷ due_now t xs) (due_now t xs)
-    by true = refl
-    by false = refl
+due-one t x xs = grind arith
 
 due-fold : (t : ℕ) (os xs : List Order) → AreByMoment 0 os → due_now t (fold with_order os xs) ≡ due_now t os ++ due_now t xs
 due-fold t os [] h = sym (append-nil (due_now t os))
@@ -176,14 +128,7 @@ due-fold t os (x ∷ xs) h =
 -- those of the moment for a core, in file order
 due-filter : (system : System) (c t : ℕ) (os : List Order) → due_now t (filter (is_for_core system c) os) ≡ filter (is_for_now system c t) os
 due-filter system c t [] = refl
-due-filter system c t (o ∷ os) = by (is_for_core system c o) (o.moment == t) refl (due-filter system c t os)
-  where
-    by : (a b : Bool) → (o.moment == t) ≡ b → due_now t (filter (is_for_core system c) os) ≡ filter (is_for_now system c t) os →
-        due_now t (cond a (o ∷ filter (is_for_core system c) os) (filter (is_for_core system c) os)) ≡ cond (b && a) (o ∷ filter (is_for_now system c t) os) (filter (is_for_now system c t) os)
-    by true true e i = rw e (ap (λ xs. o ∷ xs) i)
-    by true false e i = rw e i
-    by false true e i = i
-    by false false e i = i
+due-filter system c t (o ∷ os) = grind (arith, due-filter system c t os)
 
 -- the orders that are due are those of the moment for the core, in file order
 pub due-of : (system : System) (c t : ℕ) → due_now t (to_come t (orders_of system c)) ≡ filter (is_for_now system c t) system.orders
@@ -210,8 +155,7 @@ same-orders s t (x ∷ xs) (y ∷ ys) h g f = by (least x.moment y.moment) (λ e
       where
         drop_one : (b : Bool) → cond b (x ∷ due_now o.moment xs) (due_now o.moment xs) ≡ cond b (x ∷ due_now o.moment ys) (due_now o.moment ys) →
             due_now o.moment xs ≡ due_now o.moment ys
-        drop_one true i = cc
-        drop_one false i = i
+        drop_one b i = grind arith
 
     by : (x.moment < y.moment) ⊎ ((y.moment < x.moment) ⊎ (x.moment ≡ y.moment)) → (x ≡ y → xs ≡ ys) → x ∷ xs ≡ y ∷ ys
     by (inl l) i =
@@ -235,22 +179,7 @@ not_falling t (o ∷ os) l h =
 
 -- those that tie by their moments are those of one moment
 moments-tie : (a b : ℕ) → (not (is_lt (nat_cmp a b)) && not (is_lt (nat_cmp b a))) ≡ (b == a)
-moments-tie a b =
-    ap (λ p. not p && not (is_lt (nat_cmp b a))) (less (nat_lt a b) (a == b)) ∙ ap (λ q. not (nat_lt a b) && not q) (less (nat_lt b a) (b == a))
-    ∙ by (nat_lt a b) (nat_lt b a) (b == a) refl refl refl
-  where
-    less : (p q : Bool) → is_lt (cond p Less (cond q Equal Greater)) ≡ p
-    less true q = refl
-    less false true = refl
-    less false false = refl
-
-    by : (p q r : Bool) → nat_lt a b ≡ p → nat_lt b a ≡ q → (b == a) ≡ r → (not p && not q) ≡ r
-    by true q true d e f = absurd (grind (arith, nat_tests))
-    by true q false d e f = refl
-    by false true true d e f = absurd (grind (arith, nat_tests))
-    by false true false d e f = refl
-    by false false true d e f = refl
-    by false false false d e f = absurd (grind (arith, nat_tests))
+moments-tie a b = grind (arith, nat_tests)
 
 ties-due : (o : Order) (os : List Order) → filter (λ (x : Order). not (is_lt (nat_cmp o.moment x.moment)) && not (is_lt (nat_cmp x.moment o.moment))) os ≡ due_now o.moment os
 ties-due o [] = refl

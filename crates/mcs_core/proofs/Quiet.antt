@@ -2,15 +2,10 @@
 use Rattle.std.proofs.Common.{◌≡◌, ◌≢◌, ℕ, zero, suc, ◌+◌, ◌-◌, ◌<◌, Bool, true, false, cond, List, [], ◌∷◌, ◌++◌, length, set, get_or, refl, sym, ap, subst, ◌∙◌, arith, get_or-set_same, add-zero}
 use Rattle.std.proofs.lemmas.List.{set-get_or}
 use Rattle.std.proofs.Math.ListN.{length-set}
-use Rattle.mcs_notify.specs.Note.{waited}
-use Rattle.mcs_notify.specs.declared.posted.Waited.{Waited}
-use Rattle.mcs_notify.specs.declared.posted.Waited.TheVariants.{Got, Blocks}
 use Rattle.mcs_script.specs.declared.item.Item.{Item}
-use Rattle.mcs_script.specs.declared.item.Item.TheVariants.{Compute, Signal, Wait, Yield}
-use Rattle.mcs_script.specs.declared.moved.Moved.{Moved}
-use Rattle.mcs_script.specs.declared.moved.Moved.TheVariants.{Next, RoundEnds, AllDone}
+use Rattle.mcs_script.specs.declared.moved.Moved.TheVariants.{Next}
 use Rattle.mcs_script.specs.Script.{place_after}
-use Rattle.std.specs.Prelude.{◌==◌, nat_lt, not, filter, Option, Some, None}
+use Rattle.std.specs.Prelude.{◌==◌, filter, Option, Some, None}
 use Rattle.std.specs.List.{slice_get}
 use Rattle.std.proofs.lemmas.Bool.Decides.{nat_tests}
 use Rattle.mcs_ticks.specs.Queue.{Discipline, by_priority, first_of}
@@ -20,13 +15,11 @@ use Rattle.mcs_control.specs.declared.config.Order.{Order}
 use Rattle.mcs_control.specs.Context.{head_amount}
 use Rattle.mcs_mail.specs.declared.mail.Mail.{Mail}
 use Rattle.mcs_mail.specs.Box.{arriving, staying}
-use Rattle.mcs_release.specs.declared.dated.Dated.{Dated}
 use Rattle.mcs_release.specs.Release.{is_due}
-use Rattle.mcs_core.specs.declared.standing.AfterItem.TheVariants as after
 use Rattle.mcs_core.specs.declared.standing.Chosen.{Chosen}
 use Rattle.mcs_system.specs.System.{System, thread_part}
-use Rattle.mcs_core.specs.Core.{Core, thread_of, no_state, note_of}
-use Rattle.mcs_core.specs.Turn.{move_of, moves, may_stop, after_move, after_waited, waits_as, placed, Turn, silent, ◌followed_by◌, each, its_context, counts, finishes, stops_to_back, stops_to_front, charged, tick, tick_of, arrives, obeys, is_for_now, releases, released, preempts, preempts_by, chooses, chooses_of, turn_with}
+use Rattle.mcs_core.specs.Core.{Core, thread_of, no_state}
+use Rattle.mcs_core.specs.Turn.{placed, Turn, silent, ◌followed_by◌, each, its_context, counts, finishes, stops_to_back, tick, tick_of, arrives, obeys, is_for_now, releases, released, preempts, preempts_by, chooses, chooses_of, turn_with}
 use Rattle.mcs_core.specs.Run.{ran_with, with_turn}
 use Rattle.mcs_core.specs.declared.standing.Thread.{Thread}
 use Rattle.mcs_core.specs.Busy.{IsBest, GoesOnAfter, counted_by, counted_for}
@@ -42,9 +35,6 @@ some-within [] i l e = omega arith
 some-within (x ∷ xs) zero l e = cc
 some-within (x ∷ xs) (suc i) l e = some-within xs i (omega arith) e
 
-followed-silent : (first : Turn) (part : Core → Turn) (core after : Core) → first ≡ silent core → part core ≡ silent after → (first followed_by part) ≡ silent after
-followed-silent first part core after e f = rw (e, f) refl
-
 pub set-same : (x : ℕ) (state : Thread) (threads : List Thread) → x < length threads → get_or (set threads x state) x no_state ≡ state
 set-same x state threads l = rw get_or-set_same refl
 
@@ -56,17 +46,62 @@ set-set (y ∷ ys) (suc x) a b = ap (λ zs. y ∷ zs) (set-set ys x a b)
 parts-same : (core : Core) (a b : Option Chosen) (xs ys : List Thread) → a ≡ b → xs ≡ ys → record core { running = a; threads = xs } ≡ record core { running = b; threads = ys }
 parts-same core a b xs ys e f = rw (e, f) refl
 
-module _ (system : System) (c : ℕ) where
+-- however the ready threads are kept
+module _ (queue : Discipline) (system : System) (c : ℕ) where
   -- the parts of a turn after the end of the tick
   abbrev pub after_tick : ℕ → List Mail → Turn → Turn
   after_tick t mails first =
       first
-      followed_by each (arrives by_priority system t) mails
-      followed_by each (obeys by_priority system t) (filter (is_for_now system c t) system.orders)
-      followed_by releases by_priority system t
-      followed_by preempts by_priority system t
-      followed_by chooses by_priority system t
+      followed_by each (arrives queue system t) mails
+      followed_by each (obeys queue system t) (filter (is_for_now system c t) system.orders)
+      followed_by releases queue system t
+      followed_by preempts queue system t
+      followed_by chooses queue system t
 
+  pub none-each : {A : Type 0} (part : A → Core → Turn) → ((x : A) (core : Core) → (part x core).rows ≡ [] → ⊥) → (xs : List A) (core : Core) → (each part xs core).rows ≡ [] → xs ≡ []
+  none-each part some [] core e = refl
+  none-each part some (x ∷ xs) core e = absurd (some x core (append-empty _ _ e).0)
+
+  arrives-some : (t : ℕ) (mail : Mail) (core : Core) → (arrives queue system t mail core).rows ≡ [] → ⊥
+  arrives-some t mail core e = cc
+
+  obeys-some : (t : ℕ) (order : Order) (core : Core) → (obeys queue system t order core).rows ≡ [] → ⊥
+  obeys-some t order core e = cc
+
+  -- where they make no row, each makes none: the end of the tick, arrivals, orders, releases, the one that gives way and the choice
+  pub record HasNoRow (t : ℕ) (mails : List Mail) (first : Turn) : Type 0 where
+    pub ticked : first.rows ≡ []
+    pub no_mail : mails ≡ []
+    pub no_order : filter (is_for_now system c t) system.orders ≡ []
+    pub released : (releases queue system t first.core).rows ≡ []
+    pub preempted : (preempts queue system t (releases queue system t first.core).core).rows ≡ []
+    pub chosen : (chooses queue system t (preempts queue system t (releases queue system t first.core).core).core).rows ≡ []
+
+  pub no-row : (t : ℕ) (mails : List Mail) (first : Turn) → (after_tick t mails first).rows ≡ [] → HasNoRow t mails first
+  no-row t mails first e =
+      let chosen = append-empty _ _ e in
+      let preempted = append-empty _ _ chosen.0 in
+      let released = append-empty _ _ preempted.0 in
+      let obeyed = append-empty _ _ released.0 in
+      let arrived = append-empty _ _ obeyed.0 in
+      let mail = none-each (arrives queue system t) (arrives-some t) mails first.core arrived.1 in
+      let order = none-each (obeys queue system t) (obeys-some t) (filter (is_for_now system c t) system.orders) (each (arrives queue system t) mails first.core).core obeyed.1 in
+      record {
+        ticked = arrived.0;
+        no_mail = mail;
+        no_order = order;
+        released = rw (order, mail) at released.1;
+        preempted = rw (order, mail) at preempted.1;
+        chosen = rw (order, mail) at chosen.1;
+      }
+
+  pub no_mail : (t : ℕ) (mails : List Mail) (core : Core) → IsQuietWith queue system c t mails core → mails ≡ []
+  no_mail t mails core q = (no-row t mails (tick queue system c t core) (ap (λ (turn : Turn). turn.rows) q)).no_mail
+
+  pub no_order : (t : ℕ) (mails : List Mail) (core : Core) → IsQuietWith queue system c t mails core → filter (is_for_now system c t) system.orders ≡ []
+  no_order t mails core q = (no-row t mails (tick queue system c t core) (ap (λ (turn : Turn). turn.rows) q)).no_order
+
+module _ (system : System) (c : ℕ) where
   -- nothing happens after the end of the tick
   pub record IsCalm (t : ℕ) (mails : List Mail) (core : Core) : Type 0 where
     pub no_mail : mails ≡ []
@@ -77,28 +112,22 @@ module _ (system : System) (c : ℕ) where
   preempts-best : (t : ℕ) (o : Option Chosen) (best : Option Queued) (core : Core) → IsBest system o best → preempts_by by_priority system t o best core ≡ silent core
   preempts-best t None best core h = refl
   preempts-best t (Some chosen) None core h = refl
-  preempts-best t (Some chosen) (Some best) core h = by (nat_lt (thread_part system chosen.thread).priority best.priority) h
-    where
-      by : (b : Bool) → b ≡ false → cond b (stops_to_front by_priority system t chosen.thread why.Preempt chosen.using (charged system chosen.thread chosen.using core)) (silent core) ≡ silent core
-      by false e = refl
-      by true e = cc
+  preempts-best t (Some chosen) (Some best) core h = rw h refl
 
   chooses-best : (t : ℕ) (o : Option Chosen) (best : Option Queued) (core : Core) → IsBest system o best → chooses_of by_priority system t o best core ≡ silent core
   chooses-best t None None core h = refl
   chooses-best t None (Some best) core h = absurd h
   chooses-best t (Some chosen) best core h = refl
 
-  calm-silent : (t : ℕ) (mails : List Mail) (core : Core) → IsCalm t mails core → after_tick t mails (silent core) ≡ silent core
+  calm-silent : (t : ℕ) (mails : List Mail) (core : Core) → IsCalm t mails core → after_tick by_priority system c t mails (silent core) ≡ silent core
   calm-silent t mails core h =
-      followed-silent _ (chooses by_priority system t) core core
-      (followed-silent _ (preempts by_priority system t) core core
-      (followed-silent _ (releases by_priority system t) core core
-      (followed-silent _ (each (obeys by_priority system t) (filter (is_for_now system c t) system.orders)) core core
-      (followed-silent (silent core) (each (arrives by_priority system t) mails) core core refl (rw h.no_mail refl))
-      (rw h.no_order refl))
-      (releases-none system t core h.no_release))
-      (preempts-best t core.running (first_of core.ready) core h.best))
-      (chooses-best t core.running (first_of core.ready) core h.best)
+      rw (
+        h.no_mail,
+        h.no_order,
+        releases-none system t core h.no_release,
+        preempts-best t core.running (first_of core.ready) core h.best,
+        chooses-best t core.running (first_of core.ready) core h.best,
+      ) refl
 
   -- the thread that has counted a tick
   counted-thread : (chosen : Chosen) (core : Core) → chosen.thread < length core.threads →
@@ -110,9 +139,10 @@ module _ (system : System) (c : ℕ) where
   tick-goes t None core k h = refl
   tick-goes t (Some chosen) core k h =
       let l : chosen.thread < length core.threads = k chosen refl in
-      by ((thread_of (counts chosen core) chosen.thread).place.left == 0)
-      (ap (λ (thread : Thread). thread.place.left == 0) (counted-thread chosen core l) ∙ over (thread_of core chosen.thread).place.left h.0)
-      (chosen.using + 1 == head_amount (its_context system chosen.thread core)) (other chosen.using (head_amount (its_context system chosen.thread core)) h.1)
+      rw (
+        ap (λ (thread : Thread). thread.place.left == 0) (counted-thread chosen core l) ∙ over (thread_of core chosen.thread).place.left h.0,
+        other chosen.using (head_amount (its_context system chosen.thread core)) h.1,
+      ) refl
     where
       over : (n : ℕ) → 0 + 1 < n → (n - 1 == 0) ≡ false
       over n h = grind (arith, nat_tests)
@@ -120,130 +150,41 @@ module _ (system : System) (c : ℕ) where
       other : (n m : ℕ) → n + 0 + 1 ≢ m → (n + 1 == m) ≡ false
       other n m h = grind (arith, nat_tests)
 
-      by : (a : Bool) → a ≡ false → (b : Bool) → b ≡ false →
-          cond a (finishes by_priority system c t chosen.thread (chosen.using + 1) (slice_get (thread_part system chosen.thread).script (thread_of (counts chosen core) chosen.thread).place.item) (counts chosen core))
-          (cond b (stops_to_back by_priority system t chosen.thread why.Spent (chosen.using + 1) (counts chosen core)) (silent (counts chosen core)))
-          ≡ silent (counts chosen core)
-      by true e b f = cc
-      by false e true f = cc
-      by false e false f = refl
-
   -- a turn is quiet when the thread that runs goes on and nothing else happens
   pub quiet-when : (t : ℕ) (mails : List Mail) (core : Core) → ((chosen : Chosen) → core.running ≡ Some chosen → chosen.thread < length core.threads) →
       GoesOnAfter system 0 core.running core → IsCalm t mails (counted system c core) → IsQuietWith by_priority system c t mails core
-  quiet-when t mails core k goes calm = ap (after_tick t mails) (tick-goes t core.running core k goes) ∙ calm-silent t mails (counted system c core) calm
-
-  none_released : (ds : List Dated) (core : Core) → (each (released by_priority system) ds core).rows ≡ [] → ds ≡ []
-  none_released [] core e = refl
-  none_released (d ∷ ds) core e = cc
+  quiet-when t mails core k goes calm = ap (after_tick by_priority system c t mails) (tick-goes t core.running core k goes) ∙ calm-silent t mails (counted system c core) calm
 
   none_preempted : (t : ℕ) (o : Option Chosen) (best : Option Queued) (core : Core) → (preempts_by by_priority system t o best core).rows ≡ [] → preempts_by by_priority system t o best core ≡ silent core
-  none_preempted t None best core e = refl
-  none_preempted t (Some chosen) None core e = refl
-  none_preempted t (Some chosen) (Some best) core e = by (nat_lt (thread_part system chosen.thread).priority best.priority) e
-    where
-      by : (b : Bool) → (cond b (stops_to_front by_priority system t chosen.thread why.Preempt chosen.using (charged system chosen.thread chosen.using core)) (silent core)).rows ≡ [] →
-          cond b (stops_to_front by_priority system t chosen.thread why.Preempt chosen.using (charged system chosen.thread chosen.using core)) (silent core) ≡ silent core
-      by false e = refl
-      by true e = cc
+  none_preempted t o best core e = grind arith
 
   best_is : (t : ℕ) (o : Option Chosen) (best : Option Queued) (core : Core) → (preempts_by by_priority system t o best core).rows ≡ [] → (chooses_of by_priority system t o best core).rows ≡ [] → IsBest system o best
   best_is t None None core e f = tt
   best_is t None (Some best) core e f = cc
   best_is t (Some chosen) None core e f = tt
-  best_is t (Some chosen) (Some best) core e f = by (nat_lt (thread_part system chosen.thread).priority best.priority) e
-    where
-      by : (b : Bool) → (cond b (stops_to_front by_priority system t chosen.thread why.Preempt chosen.using (charged system chosen.thread chosen.using core)) (silent core)).rows ≡ [] → b ≡ false
-      by false e = refl
-      by true e = cc
-
-  calm-releases : (t : ℕ) (core : Core) → (releases by_priority system t core).rows ≡ [] → (preempts by_priority system t (releases by_priority system t core).core).rows ≡ [] →
-      (chooses by_priority system t (preempts by_priority system t (releases by_priority system t core).core).core).rows ≡ [] → (filter (is_due t) core.releases ≡ []) × IsBest system core.running (first_of core.ready)
-  calm-releases t core r p k =
-      let none = none_released (filter (is_due t) core.releases) _ r in
-      let still = releases-none system t core none in
-      let P : Turn → Type 0 = λ first. (preempts by_priority system t first.core).rows ≡ [] in
-      let Q : Turn → Type 0 = λ first. (chooses by_priority system t (preempts by_priority system t first.core).core).rows ≡ [] in
-      let R : Turn → Type 0 = λ first. (chooses by_priority system t first.core).rows ≡ [] in
-      let p' : (preempts by_priority system t core).rows ≡ [] = subst P still p in
-      let k' : (chooses by_priority system t (preempts by_priority system t core).core).rows ≡ [] = subst Q still k in
-      let k'' : (chooses by_priority system t core).rows ≡ [] = subst R (none_preempted t core.running (first_of core.ready) core p') k' in
-      (none, best_is t core.running (first_of core.ready) core p' k'')
-
-  calm-orders : (t : ℕ) (os : List Order) (core : Core) → (each (obeys by_priority system t) os core).rows ≡ [] →
-      (releases by_priority system t (each (obeys by_priority system t) os core).core).rows ≡ [] →
-      (preempts by_priority system t (releases by_priority system t (each (obeys by_priority system t) os core).core).core).rows ≡ [] →
-      (chooses by_priority system t (preempts by_priority system t (releases by_priority system t (each (obeys by_priority system t) os core).core).core).core).rows ≡ [] →
-      (os ≡ []) × (filter (is_due t) core.releases ≡ []) × IsBest system core.running (first_of core.ready)
-  calm-orders t [] core o r p k = let h = calm-releases t core r p k in (refl, h.0, h.1)
-  calm-orders t (x ∷ xs) core o r p k = cc
+  best_is t (Some chosen) (Some best) core e f = grind arith
 
   -- where the parts after the end of the tick make no row, nothing happens in them
-  calm-rows : (t : ℕ) (mails : List Mail) (core : Core) → (after_tick t mails (silent core)).rows ≡ [] → IsCalm t mails core
-  calm-rows t [] core e =
-      let chosen = append-empty _ _ e in
-      let preempted = append-empty _ _ chosen.0 in
-      let released = append-empty _ _ preempted.0 in
-      let h = calm-orders t (filter (is_for_now system c t) system.orders) core released.0 released.1 preempted.1 chosen.1 in
-      record { no_mail = refl; no_order = h.0; no_release = h.1; best = h.2 }
-  calm-rows t (m ∷ ms) core e =
-      let chosen = append-empty _ _ e in
-      let preempted = append-empty _ _ chosen.0 in
-      let released = append-empty _ _ preempted.0 in
-      let obeyed = append-empty _ _ released.0 in
-      absurd (none m ms obeyed.0)
-    where
-      none : (m : Mail) (ms : List Mail) → (each (arrives by_priority system t) (m ∷ ms) core).rows ≡ [] → ⊥
-      none m ms e = cc
+  calm-rows : (t : ℕ) (mails : List Mail) (core : Core) → (after_tick by_priority system c t mails (silent core)).rows ≡ [] → IsCalm t mails core
+  calm-rows t mails core e =
+      let none = no-row by_priority system c t mails (silent core) e in
+      let released = none-each by_priority system c (released by_priority system) (λ d k e. cc) (filter (is_due t) core.releases) _ none.released in
+      let still = releases-none system t core released in
+      let preempted : (preempts by_priority system t core).rows ≡ [] = rw still at none.preempted in
+      let chosen : (chooses by_priority system t core).rows ≡ [] = rw (still, none_preempted t core.running (first_of core.ready) core preempted) at none.chosen in
+      record { no_mail = none.no_mail; no_order = none.no_order; no_release = released; best = best_is t core.running (first_of core.ready) core preempted chosen }
 
   -- a finished item without a row is a computation that another item follows
   finishes-silent : (t x using : ℕ) (item : Option Item) (core : Core) → item ≢ None → (finishes by_priority system c t x using item core).rows ≡ [] →
       finishes by_priority system c t x using item core ≡ silent (placed system t x Next (thread_of core x).since core)
-  finishes-silent t x using None core some e = absurd (some refl)
-  finishes-silent t x using (Some (Signal note badge)) core some e = cc
-  finishes-silent t x using (Some (Wait note)) core some e = by (waited (note_of core note)) e
-    where
-      by : (w : Waited) → (waits_as system t x note w core).rows ++ (may_stop by_priority system t x using (after_waited w) (waits_as system t x note w core).core).rows ≡ [] →
-          (waits_as system t x note w core followed_by may_stop by_priority system t x using (after_waited w)) ≡ silent (placed system t x Next (thread_of core x).since core)
-      by (Got word) e = cc
-      by Blocks e = cc
-  finishes-silent t x using (Some Yield) core some e = by (move_of system x core) e
-    where
-      by : (m : Moved) → (moves system t x m core).rows ++ (may_stop by_priority system t x using (after_move m after.Yields) (moves system t x m core).core).rows ≡ [] →
-          (moves system t x m core followed_by may_stop by_priority system t x using (after_move m after.Yields)) ≡ silent (placed system t x Next (thread_of core x).since core)
-      by Next e = cc
-      by RoundEnds e = cc
-      by AllDone e = cc
-  finishes-silent t x using (Some (Compute ticks)) core some e = by (move_of system x core) e
-    where
-      ends : (b : Bool) (k : Core) → (cond b (stops_to_back by_priority system t x why.Spent using k) (silent k)).rows ≡ [] →
-          cond b (stops_to_back by_priority system t x why.Spent using k) (silent k) ≡ silent k
-      ends true k e = cc
-      ends false k e = refl
-
-      by : (m : Moved) → (moves system t x m core).rows ++ (may_stop by_priority system t x using (after_move m after.GoesOn) (moves system t x m core).core).rows ≡ [] →
-          (moves system t x m core followed_by may_stop by_priority system t x using (after_move m after.GoesOn)) ≡ silent (placed system t x Next (thread_of core x).since core)
-      by Next e =
-          let k = placed system t x Next (thread_of core x).since core in
-          ends (using == head_amount (its_context system x k)) k e
-      by RoundEnds e = cc
-      by AllDone e = cc
-
-  tick-rows : (t : ℕ) (mails : List Mail) (first : Turn) → (after_tick t mails first).rows ≡ [] → first.rows ≡ []
-  tick-rows t mails first e =
-      let chosen = append-empty _ _ e in
-      let preempted = append-empty _ _ chosen.0 in
-      let released = append-empty _ _ preempted.0 in
-      let obeyed = append-empty _ _ released.0 in
-      (append-empty _ _ obeyed.0).0
+  finishes-silent t x using item core some e = grind (arith, some)
 
   -- a thread that moves on to another item is no quiet turn
   moved-busy : (t : ℕ) (mails : List Mail) (x : ℕ) (core : Core) (first : Turn) → x < length core.threads → first ≡ silent (placed system t x Next (thread_of core x).since core) →
-      after_tick t mails first ≡ silent core → ⊥
+      after_tick by_priority system c t mails first ≡ silent core → ⊥
   moved-busy t mails x core first l e q =
       let k = placed system t x Next (thread_of core x).since core in
-      let P : Turn → Type 0 = λ turn. after_tick t mails turn ≡ silent core in
-      let q' : after_tick t mails (silent k) ≡ silent core = subst P e q in
+      let q' : after_tick by_priority system c t mails (silent k) ≡ silent core = rw e at q in
       let calm = calm-rows t mails k (ap (λ (turn : Turn). turn.rows) q') in
       let same : silent k ≡ silent core = sym (calm-silent t mails k calm) ∙ q' in
       let threads : k.threads ≡ core.threads = ap (λ (turn : Turn). turn.core.threads) same in
@@ -258,7 +199,7 @@ module _ (system : System) (c : ℕ) where
       IsQuietWith by_priority system c t mails core → GoesOnAfter system 0 core.running core
   quiet-goes t mails core known q = by core.running refl q
     where
-      by : (o : Option Chosen) → core.running ≡ o → after_tick t mails (tick_of by_priority system c t o core) ≡ silent (counted_of system c o core) → GoesOnAfter system 0 o core
+      by : (o : Option Chosen) → core.running ≡ o → after_tick by_priority system c t mails (tick_of by_priority system c t o core) ≡ silent (counted_of system c o core) → GoesOnAfter system 0 o core
       by None e q = tt
       by (Some chosen) e' q =
           ends ((thread_of (counts chosen core) chosen.thread).place.left == 0)
@@ -275,55 +216,25 @@ module _ (system : System) (c : ℕ) where
           within e = some-within (thread_part system chosen.thread).script _ (rw (counted-thread chosen core (known chosen e').0) (known chosen e').1) e
 
           ends : (a : Bool) → ((thread_of (counts chosen core) chosen.thread).place.left == 0) ≡ a → (b : Bool) → (chosen.using + 1 == head_amount (its_context system chosen.thread core)) ≡ b →
-              after_tick t mails (cond a (finishes by_priority system c t chosen.thread (chosen.using + 1) (slice_get (thread_part system chosen.thread).script (thread_of (counts chosen core) chosen.thread).place.item) (counts chosen core))
+              after_tick by_priority system c t mails (cond a (finishes by_priority system c t chosen.thread (chosen.using + 1) (slice_get (thread_part system chosen.thread).script (thread_of (counts chosen core) chosen.thread).place.item) (counts chosen core))
               (cond b (stops_to_back by_priority system t chosen.thread why.Spent (chosen.using + 1) (counts chosen core)) (silent (counts chosen core)))) ≡ silent (counts chosen core) → GoesOnAfter system 0 (Some chosen) core
           ends false e false f q = (over (thread_of core chosen.thread).place.left (sym (ap (λ (thread : Thread). thread.place.left == 0) (counted-thread chosen core (known chosen e').0)) ∙ e), other _ _ f)
           ends false e true f q =
-              let rows = tick-rows t mails (stops_to_back by_priority system t chosen.thread why.Spent (chosen.using + 1) (counts chosen core)) (ap (λ (turn : Turn). turn.rows) q) in
-              absurd (row rows)
-            where
-              row : (stops_to_back by_priority system t chosen.thread why.Spent (chosen.using + 1) (counts chosen core)).rows ≡ [] → ⊥
-              row e = cc
+              let rows = (no-row by_priority system c t mails (stops_to_back by_priority system t chosen.thread why.Spent (chosen.using + 1) (counts chosen core)) (ap (λ (turn : Turn). turn.rows) q)).ticked in
+              cc
           ends true e b f q =
               let item = slice_get (thread_part system chosen.thread).script (thread_of (counts chosen core) chosen.thread).place.item in
               let first = finishes by_priority system c t chosen.thread (chosen.using + 1) item (counts chosen core) in
-              let rows = tick-rows t mails first (ap (λ (turn : Turn). turn.rows) q) in
+              let rows = (no-row by_priority system c t mails first (ap (λ (turn : Turn). turn.rows) q)).ticked in
               absurd (moved-busy t mails chosen.thread (counts chosen core) first (rw length-set (known chosen e').0) (finishes-silent t chosen.thread (chosen.using + 1) item (counts chosen core) within rows) q)
 
   -- and nothing else happens in it
   pub quiet-calm : (t : ℕ) (mails : List Mail) (core : Core) → ((chosen : Chosen) → core.running ≡ Some chosen → chosen.thread < length core.threads) → GoesOnAfter system 0 core.running core →
       IsQuietWith by_priority system c t mails core → IsCalm t mails (counted system c core)
   quiet-calm t mails core k goes q =
-      let P : Turn → Type 0 = λ turn. after_tick t mails turn ≡ silent (counted system c core) in
-      let q' : after_tick t mails (silent (counted system c core)) ≡ silent (counted system c core) = subst P (tick-goes t core.running core k goes) q in
+      let P : Turn → Type 0 = λ turn. after_tick by_priority system c t mails turn ≡ silent (counted system c core) in
+      let q' : after_tick by_priority system c t mails (silent (counted system c core)) ≡ silent (counted system c core) = subst P (tick-goes t core.running core k goes) q in
       calm-rows t mails (counted system c core) (ap (λ (turn : Turn). turn.rows) q')
-
--- however the ready threads are kept
-module _ (queue : Discipline) (system : System) (c : ℕ) where
-  none_arrives : (t : ℕ) (ms : List Mail) (core : Core) → (each (arrives queue system t) ms core).rows ≡ [] → ms ≡ []
-  none_arrives t [] core e = refl
-  none_arrives t (m ∷ ms) core e = cc
-
-  none_obeyed : (t : ℕ) (os : List Order) (core : Core) → (each (obeys queue system t) os core).rows ≡ [] → os ≡ []
-  none_obeyed t [] core e = refl
-  none_obeyed t (o ∷ os) core e = cc
-
-  pub no_mail : (t : ℕ) (mails : List Mail) (core : Core) → IsQuietWith queue system c t mails core → mails ≡ []
-  no_mail t mails core q =
-      let e = ap (λ (turn : Turn). turn.rows) q in
-      let chosen = append-empty _ _ e in
-      let preempted = append-empty _ _ chosen.0 in
-      let released = append-empty _ _ preempted.0 in
-      let obeyed = append-empty _ _ released.0 in
-      none_arrives t mails (tick queue system c t core).core (append-empty _ _ obeyed.0).1
-
-  pub no_order : (t : ℕ) (mails : List Mail) (core : Core) → IsQuietWith queue system c t mails core → filter (is_for_now system c t) system.orders ≡ []
-  no_order t mails core q =
-      let e = ap (λ (turn : Turn). turn.rows) q in
-      let chosen = append-empty _ _ e in
-      let preempted = append-empty _ _ chosen.0 in
-      let released = append-empty _ _ preempted.0 in
-      none_obeyed t (filter (is_for_now system c t) system.orders) (each (arrives queue system t) mails (tick queue system c t core).core).core (append-empty _ _ released.0).1
 
 module _ (system : System) (c : ℕ) where
   counted-first : (n : ℕ) (core : Core) → counted_times system c n (counted system c core) ≡ counted system c (counted_times system c n core)
@@ -370,11 +281,7 @@ module _ (system : System) (c : ℕ) where
 
   all-stay : (t : ℕ) (box : List Mail) → arriving t box ≡ [] → staying t box ≡ box
   all-stay t [] e = refl
-  all-stay t (x ∷ xs) e = by (x.arrives == t) e (all-stay t xs)
-    where
-      by : (b : Bool) → cond b (x ∷ arriving t xs) (arriving t xs) ≡ [] → (arriving t xs ≡ [] → staying t xs ≡ xs) → cond (not b) (x ∷ staying t xs) (staying t xs) ≡ x ∷ xs
-      by true e i = cc
-      by false e i = ap (λ ys. x ∷ ys) (i e)
+  all-stay t (x ∷ xs) e = grind (arith, all-stay t xs)
 
 -- however the ready threads are kept
 module _ (queue : Discipline) (system : System) (c : ℕ) where

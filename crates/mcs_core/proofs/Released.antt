@@ -1,36 +1,29 @@
 -- A thread that is due leaves the release queue, as the code takes it.
-use Rattle.std.proofs.Common.{◌≡◌, ℕ, ◌+◌, ◌^◌, ◌<◌, ◌≤◌, Bool, true, false, cond, List, [], ◌∷◌, length, refl, sym, ap, subst, ◌∙◌, arith}
-use Rattle.std.specs.Prelude.{◌==◌, Option, Some, None}
-use Rattle.std.proofs.lemmas.Bool.Decides.{nat_tests}
-use Rattle.mcs_ticks.specs.Queue.{by_priority, first_of, rest_of}
+use Rattle.std.proofs.Common.{◌≡◌, ℕ, ◌^◌, ◌<◌, ◌≤◌, Bool, List, [], ◌∷◌, length, refl, sym, ap, subst, ◌∙◌, arith}
+use Rattle.std.specs.Prelude.{Option, Some, None}
+use Rattle.mcs_ticks.specs.Queue.{by_priority, first_of}
 use Rattle.mcs_ticks.specs.declared.queue.Queued.{Queued}
 use Rattle.mcs_ticks.specs.declared.row.Row.{Row}
 use Rattle.mcs_ticks.specs.declared.row.What.TheVariants as row
 use Rattle.mcs_ready.specs.Ready.{thread_of as thread_of_queued}
 use Rattle.mcs_release.specs.declared.dated.Dated.{Dated}
 use Rattle.mcs_release.specs.Release.{first_due, without, without_first_due, when_left, thread_of}
-use Rattle.mcs_core.specs.declared.standing.Standing.{Standing}
 use Rattle.mcs_core.specs.declared.standing.Standing.TheVariants.{Done}
 use Rattle.mcs_system.specs.System.{System}
-use Rattle.mcs_core.specs.Core.{Core, thread_of as state_of}
+use Rattle.mcs_core.specs.Core.{Core}
 use Rattle.mcs_core.specs.Turn.{silent, says, ◌followed_by◌, enters_back, released, releases}
 use Rattle.mcs_core.specs.declared.log.Here.{Here}
 use Rattle.mcs_core.specs.declared.log.Log.{Log}
 use Rattle.mcs_core.specs.stored.Parts.{Makes}
 use Rattle.mcs_core.specs.stored.Sound.{times_ready, times_pending, Phase, IsFree, IsPlaced, IsSound}
-use Rattle.mcs_core.specs.Places.{times_queued, times_dated}
+use Rattle.mcs_core.specs.Places.{times_dated}
 use Rattle.mcs_core.specs.stored.Sound.Phase.{PastTick}
-use Rattle.mcs_core.proofs.Counts.{times_queued-rest}
-use Rattle.mcs_core.proofs.Soundness.{IsOneEach}
-use Rattle.mcs_core.proofs.Turning.{all_due, first_entered, first-due, stands-due, releases-step, releases-none, release-sound, leaves-sound, placed-from, at_most_once, ready_from_count}
+use Rattle.mcs_core.proofs.Soundness.{IsOneEach, itself}
+use Rattle.mcs_core.proofs.Turning.{all_due, first_entered, first-due, stands-due, releases-step, releases-none, release-sound, leaves-sound, placed-from, at_most_once, best-ready}
 
 fewer-without : (x : ℕ) (ds : List Dated) → 1 ≤ times_dated x ds → length (without x ds) < length ds
 fewer-without x [] h = absurd (omega arith)
-fewer-without x (d ∷ ds) h = by (d.thread == x) h (fewer-without x ds)
-  where
-    by : (b : Bool) → 1 ≤ cond b 1 0 + times_dated x ds → (1 ≤ times_dated x ds → length (without x ds) < length ds) → length (cond b ds (d ∷ without x ds)) < length (d ∷ ds)
-    by true h i = omega arith
-    by false h i = let j = i (omega arith) in omega arith
+fewer-without x (d ∷ ds) h = grind (arith, fewer-without x ds)
 
 -- the thread x that the code takes at t, and what follows
 pub record IsReleased (system : System) (c t x : ℕ) (core : Core) : Type 0 where
@@ -43,16 +36,6 @@ pub record IsReleased (system : System) (c t x : ℕ) (core : Core) : Type 0 whe
   pub step : releases by_priority system t core ≡ (released by_priority system due (record core { releases = without x core.releases }) followed_by releases by_priority system t)
 
 module _ (system : System) (c : ℕ) (one_each : IsOneEach system) (t : ℕ) (soon : t ≤ 2 ^ 40) where
-  none_at : (x : ℕ) (f : Standing → ℕ) (s : Standing) → f Done ≡ 0 → f (cond (x == x) Done s) ≡ 0
-  none_at x f s e = by (x == x) (same x)
-    where
-      same : (a : ℕ) → (a == a) ≡ true
-      same a = grind (arith, nat_tests)
-
-      by : (b : Bool) → b ≡ true → f (cond b Done s) ≡ 0
-      by true g = e
-      by false g = cc
-
   released-at : (core : Core) (d : Dated) (rest : List Dated) → all_due system t core.releases ≡ d ∷ rest → first_due t core.releases ≡ Some d → IsSound system c t PastTick None core →
       IsReleased system c t d.thread core
   released-at core d rest e first h =
@@ -68,8 +51,8 @@ module _ (system : System) (c : ℕ) (one_each : IsOneEach system) (t : ℕ) (so
         free = record {
           known = rw h.threads p.known;
           placed = p;
-          not_ready = left.ready d.thread ∙ none_at d.thread times_ready (state_of core d.thread).standing refl;
-          not_pending = left.pending d.thread ∙ none_at d.thread times_pending (state_of core d.thread).standing refl;
+          not_ready = left.ready d.thread ∙ ap times_ready (itself d.thread Done _);
+          not_pending = left.pending d.thread ∙ ap times_pending (itself d.thread Done _);
         };
         sound = release-sound system c one_each t soon core d rest e h;
         step = releases-step system t d rest core e few;
@@ -80,19 +63,13 @@ module _ (system : System) (c : ℕ) (one_each : IsOneEach system) (t : ℕ) (so
     where
       by : (ds : List Dated) → all_due system t core.releases ≡ ds → IsReleased system c t x core
       by [] f =
-          let none : first_due t core.releases ≡ None = first-due system t core.releases h.later ∙ ap first_entered_of f in
+          let none : first_due t core.releases ≡ None = first-due system t core.releases h.later ∙ ap (λ (ds : List Dated). first_entered system t ds) f in
           let g : thread_of None ≡ Some x = ap thread_of (sym none) ∙ e in cc
-        where
-          first_entered_of : List Dated → Option Dated
-          first_entered_of ds = first_entered system t ds
       by (d ∷ rest) f =
           let first : first_due t core.releases ≡ Some d = first-due system t core.releases h.later ∙ ap (λ ds. first_entered system t ds) f in
           let g : Some d.thread ≡ Some x = ap thread_of (sym first) ∙ e in
           let its : d.thread ≡ x = cc in
-          subst (IsReleased_at core) its (released-at core d rest f first h)
-        where
-          IsReleased_at : Core → ℕ → Type 0
-          IsReleased_at core y = IsReleased system c t y core
+          subst (λ (y : ℕ). IsReleased system c t y core) its (released-at core d rest f first h)
 
   pub none-released : (core : Core) → IsSound system c t PastTick None core → thread_of (first_due t core.releases) ≡ None → releases by_priority system t core ≡ silent core
   none-released core h e = by (all_due system t core.releases) refl
@@ -104,11 +81,7 @@ module _ (system : System) (c : ℕ) (one_each : IsOneEach system) (t : ℕ) (so
           let g : thread_of (Some d) ≡ None = ap thread_of (sym first) ∙ e in cc
 
   pub none-left : (core : Core) → thread_of (first_due t core.releases) ≡ None → without_first_due t core.releases ≡ core.releases
-  none-left core e = by (first_due t core.releases) refl e
-    where
-      by : (o : Option Dated) → first_due t core.releases ≡ o → thread_of o ≡ None → when_left o core.releases ≡ core.releases
-      by None f g = refl
-      by (Some d) f g = cc
+  none-left core e = grind arith
 
 -- what the code makes of the thread that it takes is what is made of one whose date has come
 pub made-released : {S : Type 0} {takes : S → Row → Bool → S → Type 0} (here : Here) (due : Dated) (x : ℕ) (core core' left : Core) (before after : Log S) → due.thread ≡ x → core' ≡ core →
@@ -126,11 +99,5 @@ best-placed system c from phase x core h e = by (first_of core.ready) refl e
     by None f g = cc
     by (Some best) f g =
         let its : best.thread ≡ x = cc in
-        let count = times_queued-rest best.thread best core.ready f in
-        let some : 1 ≤ times_queued best.thread core.ready = rw count (own best.thread (times_queued best.thread (rest_of core.ready))) in
-        let ready = ready_from_count (state_of core best.thread).standing (times_queued best.thread core.ready) (h.ready best.thread) some in
         let P : ℕ → Type 0 = λ y. IsPlaced system y core in
-        subst P its (h.here best.thread (rw ready refl))
-      where
-        own : (a n : ℕ) → 1 ≤ cond (a == a) 1 0 + n
-        own a n = grind (arith, nat_tests)
+        subst P its (h.here best.thread (rw (best-ready system c from phase core best h f) refl))

@@ -1,6 +1,6 @@
 -- Turns one after another.
 use Rattle.std.proofs.Common.{◌≡◌, ℕ, zero, suc, ◌+◌, ◌-◌, length, ◌<◌, ◌≤◌, Bool, true, false, cond, List, [], ◌∷◌, ◌++◌, refl, sym, ap, subst, ◌∙◌, append_assoc, append-nil, arith}
-use Rattle.std.specs.Prelude.{◌==◌, nat_le, not, max, All, Result, Ok, Err, OnOk, is_err}
+use Rattle.std.specs.Prelude.{◌==◌, not, max, All, Result, Ok, Err, OnOk, is_err}
 use Rattle.mcs_ticks.specs.Given.{Given}
 use Rattle.mcs_ticks.proofs.Givens.{given-append}
 use Rattle.mcs_control.specs.declared.config.Order.{Order}
@@ -15,6 +15,7 @@ use Rattle.mcs_core.specs.Orders.{orders_of, to_come}
 use Rattle.mcs_core.specs.State.{State, Fits, IsExpected, made_by, state_after}
 use Rattle.mcs_core.specs.Turn.{stamped, turn}
 use Rattle.mcs_core.specs.Run.{Ran, ran, with_turn}
+use Rattle.mcs_core.proofs.Counts.{either}
 
 -- mail that stays arrives later
 pub later-staying : (t : ℕ) (mails : List Mail) → All (λ (mail : Mail). t ≤ mail.arrives) mails → All (λ (mail : Mail). t + 1 ≤ mail.arrives) (staying t mails)
@@ -23,13 +24,10 @@ later-staying t (x ∷ xs) h = by (x.arrives == t) refl (later-staying t xs (λ 
   where
     by : (b : Bool) → (x.arrives == t) ≡ b → All (λ (mail : Mail). t + 1 ≤ mail.arrives) (staying t xs) → All (λ (mail : Mail). t + 1 ≤ mail.arrives) (cond (not b) (x ∷ staying t xs) (staying t xs))
     by true e i = i
-    by false e i = both
+    by false e i = All-cons (λ (mail : Mail). t + 1 ≤ mail.arrives) x (staying t xs) (first x.arrives (h 0 x (omega arith)) e) i
       where
         first : (a : ℕ) → t ≤ a → (a == t) ≡ false → t + 1 ≤ a
         first a l e = grind (arith, nat_tests)
-
-        both : All (λ (mail : Mail). t + 1 ≤ mail.arrives) (x ∷ staying t xs)
-        both = All-cons (λ (mail : Mail). t + 1 ≤ mail.arrives) x (staying t xs) (first x.arrives (h 0 x (omega arith)) e) i
 
 -- what turns make, and then what those after them make
 abbrev pub joined : Ran → Ran → Ran
@@ -106,25 +104,12 @@ same_state s number time core orders delays failed a b d e g f = rw (sym a, sym 
 -- what is to come from two moments on is what is to come from the later one on
 pub to_come-twice : (a b : ℕ) (os : List Order) → to_come a (to_come b os) ≡ to_come (max b a) os
 to_come-twice a b [] = refl
-to_come-twice a b (x ∷ xs) = by (nat_le b x.moment) (nat_le a x.moment) (nat_le (max b a) x.moment) refl refl refl (to_come-twice a b xs)
-  where
-    by : (p q r : Bool) → nat_le b x.moment ≡ p → nat_le a x.moment ≡ q → nat_le (max b a) x.moment ≡ r → to_come a (to_come b xs) ≡ to_come (max b a) xs →
-        to_come a (cond p (x ∷ to_come b xs) (to_come b xs)) ≡ cond r (x ∷ to_come (max b a) xs) (to_come (max b a) xs)
-    by true true true e f g i = rw f (ap (λ ys. x ∷ ys) i)
-    by true true false e f g i = absurd (no a b x.moment e f g)
-      where
-        no : (a b m : ℕ) → nat_le b m ≡ true → nat_le a m ≡ true → nat_le (max b a) m ≡ false → ⊥
-        no a b m e f g = grind (arith, nat_tests)
-    by true false true e f g i = absurd (no a b x.moment f g)
-      where
-        no : (a b m : ℕ) → nat_le a m ≡ false → nat_le (max b a) m ≡ true → ⊥
-        no a b m f g = grind (arith, nat_tests)
-    by true false false e f g i = rw f i
-    by false q true e f g i = absurd (no a b x.moment e g)
-      where
-        no : (a b m : ℕ) → nat_le b m ≡ false → nat_le (max b a) m ≡ true → ⊥
-        no a b m e g = grind (arith, nat_tests)
-    by false q false e f g i = i
+to_come-twice a b (x ∷ xs) = grind (arith, nat_tests, to_come-twice a b xs)
+
+-- what is so where nothing failed
+pub on_ok-map : {A E : Type 0} (P Q : Type 0) (r : Result A E) → (P → Q) → OnOk r P → OnOk r Q
+on_ok-map P Q (Ok x) f p = f p
+on_ok-map P Q (Err x) f p = tt
 
 -- the state after turns, from which more turns were taken, is the state after all of them; so are rows, signals and mail
 module _ (system : System) where
@@ -177,19 +162,15 @@ module _ (system : System) where
 -- what holds of each mail of a box holds of each that stays, and of each when one more is put
 kept-staying : (P : Mail → Type 0) (t : ℕ) (mails : List Mail) → All P mails → All P (staying t mails)
 kept-staying P t [] h = h
-kept-staying P t (x ∷ xs) h = by (x.arrives == t) (kept-staying P t xs (λ k d l. h (suc k) d (omega arith)))
-  where
-    by : (b : Bool) → All P (staying t xs) → All P (cond (not b) (x ∷ staying t xs) (staying t xs))
-    by true i = i
-    by false i = All-cons P x (staying t xs) (h 0 x (omega arith)) i
+kept-staying P t (x ∷ xs) h =
+    let i = kept-staying P t xs (λ k d l. h (suc k) d (omega arith)) in
+    either (All P) (not (x.arrives == t)) (x ∷ staying t xs) (staying t xs) (All-cons P x (staying t xs) (h 0 x (omega arith)) i) i
 
 pub all_put : (P : Mail → Type 0) (mail : Mail) (mails : List Mail) → P mail → All P mails → All P (put mail mails)
 all_put P mail [] p h = All-cons P mail [] p h
-all_put P mail (x ∷ xs) p h = by (is_before mail x) (all_put P mail xs p (λ k d l. h (suc k) d (omega arith)))
-  where
-    by : (b : Bool) → All P (put mail xs) → All P (cond b (mail ∷ x ∷ xs) (x ∷ put mail xs))
-    by true i = All-cons P mail (x ∷ xs) p h
-    by false i = All-cons P x (put mail xs) (h 0 x (omega arith)) i
+all_put P mail (x ∷ xs) p h =
+    either (All P) (is_before mail x) (mail ∷ x ∷ xs) (x ∷ put mail xs) (All-cons P mail (x ∷ xs) p h)
+    (All-cons P x (put mail xs) (h 0 x (omega arith)) (all_put P mail xs p (λ k d l. h (suc k) d (omega arith))))
 
 -- the mail that a stretch of turns leaves is mail for the core after it
 module _ (system : System) where

@@ -1,20 +1,19 @@
 -- Many quiet turns at once, and the next busy moment, on a sound core.
-use Rattle.std.proofs.Common.{◌≡◌, ℕ, zero, suc, ◌+◌, ◌-◌, ◌<◌, ◌≤◌, ◌^◌, Bool, true, false, cond, List, [], ◌∷◌, length, refl, sym, ap, subst, ◌∙◌, arith, ◌++◌}
-use Rattle.std.specs.Prelude.{◌==◌, nat_le, max, filter, All, Option, Some, None, IfSome, Result, Ok, Err, OnOk}
+use Rattle.std.proofs.Common.{◌≡◌, ℕ, zero, suc, ◌+◌, ◌-◌, ◌<◌, ◌≤◌, ◌^◌, Bool, false, List, [], ◌∷◌, length, refl, sym, ap, subst, ◌∙◌, arith, ◌++◌}
+use Rattle.std.specs.Prelude.{max, All, Option, Some, None, IfSome}
 use Rattle.std.proofs.lemmas.Bool.Decides.{nat_tests}
-use Rattle.mcs_ticks.specs.Queue.{Discipline, by_priority, first_of}
+use Rattle.mcs_ticks.specs.Queue.{Discipline, by_priority}
 use Rattle.mcs_ticks.specs.declared.row.Row.{Row}
-use Rattle.mcs_ticks.specs.declared.sink.FlowFault.{FlowFault}
 use Rattle.mcs_ticks.specs.Given.{Given}
 use Rattle.mcs_control.specs.declared.config.Order.{Order}
 use Rattle.mcs_mail.specs.declared.mail.Mail.{Mail}
 use Rattle.mcs_mail.specs.Box.{arriving, first_arrival, IsOrdered}
-use Rattle.mcs_release.specs.Release.{is_due, next_date}
+use Rattle.mcs_release.specs.Release.{next_date}
 use Rattle.mcs_core.specs.declared.standing.Chosen.{Chosen}
 use Rattle.mcs_system.specs.System.{System}
 use Rattle.mcs_core.specs.Core.{Core}
 use Rattle.mcs_core.specs.Orders.{due_now, to_come, orders_of}
-use Rattle.mcs_core.specs.Turn.{Turn, is_for_now}
+use Rattle.mcs_core.specs.Turn.{Turn}
 use Rattle.mcs_core.specs.stored.Sound.{IsSound}
 use Rattle.mcs_core.specs.stored.Sound.Phase.{Between}
 use Rattle.mcs_system.specs.WellFormed.{IsWellFormed}
@@ -22,7 +21,7 @@ use Rattle.mcs_core.specs.State.{State, Fits, IsExpected, made_by, state_after}
 use Rattle.mcs_core.specs.Run.{Ran, ran}
 use Rattle.mcs_core.proofs.Runs.{left_expected, joined, ran-more, same_state, to_come-twice}
 use Rattle.mcs_ticks.specs.Soonest.{sooner, before}
-use Rattle.mcs_core.specs.Busy.{first_moment, IsBest, GoesOnAfter, counted_for}
+use Rattle.mcs_core.specs.Busy.{first_moment, counted_for}
 use Rattle.mcs_core.specs.stored.Ends.{IsEnd}
 use Rattle.mcs_core.specs.Quiet.{counted_times, IsQuietWith, AreQuietWith, IsNextBusyWith}
 use Rattle.mcs_core.proofs.Effects.{runner_small}
@@ -32,33 +31,18 @@ use Rattle.mcs_core.proofs.Systems.{one-each, orders-proper, all-noted}
 use Rattle.mcs_core.proofs.Ticks.{runner-placed}
 use Rattle.mcs_core.proofs.Turning.{turn-sound}
 use Rattle.mcs_core.proofs.Quiet.{no_mail, no_order, counted-for, quiet-ran}
-use Rattle.mcs_core.proofs.Busy.{IsKnown, stays-quiet, quiet-stays, next-busy, first-mail, first-order-of, first-release}
+use Rattle.mcs_core.proofs.Busy.{IsKnown, next-busy, first-mail, first-order-of, first-release}
 
 abbrev pub IsEarlyTick : Option ℕ → Type 0
 IsEarlyTick o = IfSome o (λ m. m ≤ 2 ^ 42)
 
 early-some : (o : Option ℕ) → IsEarlyTick o → (m : ℕ) → o ≡ Some m → m ≤ 2 ^ 42
-early-some None h m e = cc
-early-some (Some n) h m e = let same : n ≡ m = cc in omega arith
+early-some o h m e = grind arith
 
 -- where no order is for this moment, those to come at it are those to come after it
 none-now : (t : ℕ) (os : List Order) → due_now t os ≡ [] → to_come t os ≡ to_come (t + 1) os
 none-now t [] e = refl
-none-now t (o ∷ os) e = by (o.moment == t) (nat_le t o.moment) (nat_le (t + 1) o.moment) refl refl refl e (none-now t os)
-  where
-    by : (a b d : Bool) → (o.moment == t) ≡ a → nat_le t o.moment ≡ b → nat_le (t + 1) o.moment ≡ d → cond a (o ∷ due_now t os) (due_now t os) ≡ [] → (due_now t os ≡ [] → to_come t os ≡ to_come (t + 1) os) →
-        cond b (o ∷ to_come t os) (to_come t os) ≡ cond d (o ∷ to_come (t + 1) os) (to_come (t + 1) os)
-    by true b d f g h e i = cc
-    by false true true f g h e i = ap (λ xs. o ∷ xs) (i e)
-    by false false false f g h e i = i e
-    by false true false f g h e i = absurd (no o.moment t f g h)
-      where
-        no : (m t : ℕ) → (m == t) ≡ false → nat_le t m ≡ true → nat_le (t + 1) m ≡ false → ⊥
-        no m t f g h = grind (arith, nat_tests)
-    by false false true f g h e i = absurd (no o.moment t f g h)
-      where
-        no : (m t : ℕ) → (m == t) ≡ false → nat_le t m ≡ false → nat_le (t + 1) m ≡ true → ⊥
-        no m t f g h = grind (arith, nat_tests)
+none-now t (o ∷ os) e = grind (arith, nat_tests, none-now t os)
 
 module _ (system : System) (c : ℕ) (w : IsWellFormed system) where
   -- quiet turns keep a sound core sound
@@ -89,35 +73,9 @@ module _ (system : System) (c : ℕ) (w : IsWellFormed system) where
       let p = runner-placed system c t (one-each system w) Between chosen core h e in
       record { thread = rw h.threads p.known; item = p.item }
 
-  -- on a sound core a turn is quiet when the thread that runs goes on, no ready thread is better, no date has come, and there is no
-  -- order and no mail ..
-  pub quiet-when-sound : (t : ℕ) (mails : List Mail) (core : Core) → IsSound system c t Between None core →
-      GoesOnAfter system 0 core.running core → IsBest system core.running (first_of core.ready) → filter (is_due t) core.releases ≡ [] →
-      filter (is_for_now system c t) system.orders ≡ [] → mails ≡ [] → IsQuietWith by_priority system c t mails core
-  quiet-when-sound t mails core h goes best date order mail =
-      let e : t + 0 ≡ t = omega arith in
-      let P : ℕ → Type 0 = λ u. filter (is_due u) core.releases ≡ [] in
-      let Q : ℕ → Type 0 = λ u. filter (is_for_now system c u) system.orders ≡ [] in
-      let R : ℕ → Type 0 = λ u. IsQuietWith by_priority system c u [] core in
-      let S : List Mail → Type 0 = λ ms. IsQuietWith by_priority system c t ms core in
-      subst S (sym mail) (subst R e (stays-quiet system c t [] 0 core (known t core h) (goes, best, subst P (sym e) date, subst Q (sym e) order, refl)))
-
-  -- .. and then alone
-  pub quiet-only-when : (t : ℕ) (mails : List Mail) (core : Core) → IsSound system c t Between None core → IsQuietWith by_priority system c t mails core →
-      GoesOnAfter system 0 core.running core × IsBest system core.running (first_of core.ready) × (filter (is_due t) core.releases ≡ [])
-      × (filter (is_for_now system c t) system.orders ≡ []) × (mails ≡ [])
-  quiet-only-when t mails core h q =
-      let e : t + 0 ≡ t = omega arith in
-      let none = no_mail by_priority system c t mails core q in
-      let P : ℕ → Type 0 = λ u. filter (is_due u) core.releases ≡ [] in
-      let Q : ℕ → Type 0 = λ u. filter (is_for_now system c u) system.orders ≡ [] in
-      let R : ℕ → Type 0 = λ u. IsQuietWith by_priority system c u [] core in
-      let S : List Mail → Type 0 = λ ms. IsQuietWith by_priority system c t ms core in
-      let stays = quiet-stays system c t [] 0 core (known t core h) (subst R (sym e) (subst S none q)) in
-      (stays.0, stays.1, subst P e stays.2, subst Q e stays.3, none)
-
-  pub counts-many : (n t : ℕ) (core : Core) → IsSound system c t Between None core → counted_times system c n core ≡ counted_for n core.running core
-  counts-many n t core h = counted-for system c n core (λ chosen e. (known t core h chosen e).thread)
+  pub counts-many : (n t ticks : ℕ) (core new : Core) → IsSound system c t Between None core → ticks ≡ n → new ≡ counted_for ticks core.running core → new ≡ counted_times system c n core
+  counts-many n t ticks core new h e f =
+      f ∙ ap (λ k. counted_for k core.running core) e ∙ sym (counted-for system c n core (λ chosen e. (known t core h chosen e).thread))
 
   pub counts-fit : (ticks t : ℕ) (core : Core) → IsSound system c t Between None core → ticks ≤ 2 ^ 42 → IfSome core.running (λ chosen. chosen.using + ticks < 2 ^ 63)
   counts-fit ticks t core h l = by core.running refl
@@ -147,27 +105,20 @@ module _ (system : System) (c : ℕ) (w : IsWellFormed system) where
       (rw e4 (first-order-of system c clock orders planned (rw planned (to_come-by_moment 0 clock (orders_of system c) (orders_of-by_moment system c))) (λ m e. early-some order l4 m (e4 ∙ e))))
       (rw e5 (first-mail clock box ordered come (λ m e. early-some mail l5 m (e5 ∙ e))))
 
-  -- a state after quiet turns
-  pub skipped-fits : (state : State) (to : ℕ) (core : Core) → c ≡ state.number → Fits system state → state.failed ≡ false → state.clock ≤ to → to ≤ 2 ^ 40 + 1 →
-      AreQuietWith by_priority system c state.clock [] state.core (to - state.clock) → core ≡ counted_times system c (to - state.clock) state.core →
-      Fits system (record state { clock = to; core = core })
-  skipped-fits state to core number fits going later in_time quiet e =
-      let there : state.clock + (to - state.clock) ≡ to = omega arith in
-      let P : ℕ → Type 0 = λ x. IsSound system x state.clock Between None state.core in
-      let Q : ℕ → Type 0 = λ x. IsSound system x to Between None core in
-      let R : ℕ → Type 0 = λ u. IsSound system c u Between None (counted_times system c (to - state.clock) state.core) in
-      let S : Core → Type 0 = λ k. IsSound system c to Between None k in
-      let sound : IsSound system c state.clock Between None state.core = subst P (sym number) (fits.sound going) in
-      let after = subst R there (quiet-sound (to - state.clock) state.clock state.core sound quiet (omega arith)) in
-      record {
-        known = fits.known;
-        early = in_time;
-        sound = λ f. subst Q number (subst S (sym e) after);
-        orders = λ f.
-            fits.orders going ∙ ap (λ x. to_come state.clock (orders_of system x)) (sym number) ∙ quiet-orders (to - state.clock) state.clock state.core quiet
-            ∙ ap (λ u. to_come u (orders_of system c)) there ∙ ap (λ x. to_come to (orders_of system x)) number;
-        delays = λ f. fits.delays going;
-      }
+-- a state after quiet turns
+pub skipped-fits : (system : System) (w : IsWellFormed system) (state : State) (to : ℕ) (core : Core) → Fits system state → state.failed ≡ false → state.clock ≤ to → to ≤ 2 ^ 40 + 1 →
+    AreQuietWith by_priority system state.number state.clock [] state.core (to - state.clock) → core ≡ counted_times system state.number (to - state.clock) state.core →
+    Fits system (record state { clock = to; core = core })
+skipped-fits system w state to core fits going later in_time quiet e =
+    let there : state.clock + (to - state.clock) ≡ to = omega arith in
+    let after = quiet-sound system state.number w (to - state.clock) state.clock state.core (fits.sound going) quiet (omega arith) in
+    record {
+      known = fits.known;
+      early = in_time;
+      sound = λ f. rw e (rw there at after);
+      orders = λ f. fits.orders going ∙ quiet-orders system state.number w (to - state.clock) state.clock state.core quiet ∙ ap (λ u. to_come u (orders_of system state.number)) there;
+      delays = λ f. fits.delays going;
+    }
 
 -- however the ready threads are kept
 module _ (queue : Discipline) (system : System) (c t : ℕ) where
@@ -196,9 +147,7 @@ module _ (system : System) (state : State) (box : List Mail) (to : ℕ) (o : Opt
 
   module _ (moment : ℕ) (e : before to o ≡ Some moment) where
     busy-here : IsNextBusyWith by_priority system state.number state.clock box state.core (Some moment)
-    busy-here =
-        let P : Option ℕ → Type 0 = λ o. IsNextBusyWith by_priority system state.number state.clock box state.core o in
-        subst P (before-some to o moment e).0 busy
+    busy-here = rw (before-some to o moment e).0 at busy
 
     pub busy-before : moment < to
     busy-before = (before-some to o moment e).1
@@ -249,59 +198,34 @@ module _ (system : System) (state : State) (box : List Mail) (until : ℕ) (late
       λ k d l. record { known = (kept k d l).known; home = (kept k d l).home; arrives = (let a = (kept k d l).arrives in omega arith) }
 
   -- a turn that is taken after them: with them it is one stretch, up to the clock
-  module _ (skipped new : State) (same : skipped ≡ quiet_state) (r : Result (Option ℕ) FlowFault) (took : OnOk r (new ≡ state_after skipped (skipped.clock + 1) (made_by system skipped (skipped.clock + 1) box))) where
-    whole-stretch : new ≡ state_after skipped (skipped.clock + 1) (made_by system skipped (skipped.clock + 1) box) →
-        made_by system skipped (skipped.clock + 1) box ≡ made_by system state new.clock box
-    whole-stretch e =
-        let next : max skipped.clock (skipped.clock + 1) ≡ skipped.clock + 1 = omega arith in
-        let time : new.clock ≡ skipped.clock + 1 = ap (λ (s : State). s.clock) e ∙ next in
-        let there : skipped.clock ≡ until = ap (λ (s : State). s.clock) same in
-        ap (λ (s : State). made_by system s (skipped.clock + 1) box) same ∙ sym (made-on (skipped.clock + 1) (omega arith))
+  module _ (skipped new : State) (same : skipped ≡ quiet_state) (took : new ≡ state_after skipped (skipped.clock + 1) (made_by system skipped (skipped.clock + 1) box)) where
+    there : skipped.clock ≡ until
+    there = ap (λ (s : State). s.clock) same
+
+    time : new.clock ≡ skipped.clock + 1
+    time = let next : max skipped.clock (skipped.clock + 1) ≡ skipped.clock + 1 = omega arith in ap (λ (s : State). s.clock) took ∙ next
+
+    whole-stretch : made_by system skipped (skipped.clock + 1) box ≡ made_by system state new.clock box
+    whole-stretch =
+        ap (λ (s : State). made_by system s (skipped.clock + 1) box) same ∙ sym (made-on (skipped.clock + 1) (omega (arith, there)))
         ∙ ap (λ t. made_by system state t box) (sym time)
 
-    pub stretch-state : OnOk r (new ≡ state_after state new.clock (made_by system state new.clock box))
-    stretch-state = by r took
-      where
-        by : (r : Result (Option ℕ) FlowFault) → OnOk r (new ≡ state_after skipped (skipped.clock + 1) (made_by system skipped (skipped.clock + 1) box)) →
-            OnOk r (new ≡ state_after state new.clock (made_by system state new.clock box))
-        by (Err x) e = tt
-        by (Ok x) e =
-            let next : max skipped.clock (skipped.clock + 1) ≡ skipped.clock + 1 = omega arith in
-            let time : new.clock ≡ skipped.clock + 1 = ap (λ (s : State). s.clock) e ∙ next in
-            let there : skipped.clock ≡ until = ap (λ (s : State). s.clock) same in
-            e ∙ ap (λ (s : State). state_after s (skipped.clock + 1) (made_by system s (skipped.clock + 1) box)) same ∙ after-on (skipped.clock + 1) (omega arith)
-            ∙ ap (λ t. state_after state t (made_by system state t box)) (sym time)
+    pub stretch-state : new ≡ state_after state new.clock (made_by system state new.clock box)
+    stretch-state =
+        took ∙ ap (λ (s : State). state_after s (skipped.clock + 1) (made_by system s (skipped.clock + 1) box)) same ∙ after-on (skipped.clock + 1) (omega (arith, there))
+        ∙ ap (λ t. state_after state t (made_by system state t box)) (sym time)
 
     -- no row is made before that turn
-    pub stretch-last : OnOk r ((made_by system state (new.clock - 1) box).rows ≡ [])
-    stretch-last = by r took
-      where
-        by : (r : Result (Option ℕ) FlowFault) → OnOk r (new ≡ state_after skipped (skipped.clock + 1) (made_by system skipped (skipped.clock + 1) box)) →
-            OnOk r ((made_by system state (new.clock - 1) box).rows ≡ [])
-        by (Err x) e = tt
-        by (Ok x) e =
-            let next : max skipped.clock (skipped.clock + 1) ≡ skipped.clock + 1 = omega arith in
-            let time : new.clock ≡ skipped.clock + 1 = ap (λ (s : State). s.clock) e ∙ next in
-            let there : skipped.clock ≡ until = ap (λ (s : State). s.clock) same in
-            no-rows (new.clock - 1) (omega arith)
+    pub stretch-last : (made_by system state (new.clock - 1) box).rows ≡ []
+    stretch-last = no-rows (new.clock - 1) (omega (arith, there, time))
 
     pub stretch-told : {A : Type 0} (part : Ran → List A) (before after : List A) →
-        OnOk r (after ≡ before ++ part (made_by system skipped (skipped.clock + 1) box)) → OnOk r (after ≡ before ++ part (made_by system state new.clock box))
-    stretch-told {A} part before after told = by r took told
-      where
-        by : (r : Result (Option ℕ) FlowFault) → OnOk r (new ≡ state_after skipped (skipped.clock + 1) (made_by system skipped (skipped.clock + 1) box)) →
-            OnOk r (after ≡ before ++ part (made_by system skipped (skipped.clock + 1) box)) → OnOk r (after ≡ before ++ part (made_by system state new.clock box))
-        by (Err x) e f = tt
-        by (Ok x) e f = f ∙ ap (λ (made : Ran). before ++ part made) (whole-stretch e)
+        after ≡ before ++ part (made_by system skipped (skipped.clock + 1) box) → after ≡ before ++ part (made_by system state new.clock box)
+    stretch-told part before after told = told ∙ ap (λ (made : Ran). before ++ part made) whole-stretch
 
     pub stretch-given : {S : Type 0} (takes : S → Row → Bool → S → Type 0) (before after : S) →
-        OnOk r (Given takes before (made_by system skipped (skipped.clock + 1) box).rows after) → OnOk r (Given takes before (made_by system state new.clock box).rows after)
-    stretch-given {S} takes before after told = by r took told
-      where
-        by : (r : Result (Option ℕ) FlowFault) → OnOk r (new ≡ state_after skipped (skipped.clock + 1) (made_by system skipped (skipped.clock + 1) box)) →
-            OnOk r (Given takes before (made_by system skipped (skipped.clock + 1) box).rows after) → OnOk r (Given takes before (made_by system state new.clock box).rows after)
-        by (Err x) e f = tt
-        by (Ok x) e f = subst (λ (made : Ran). Given takes before made.rows after) (whole-stretch e) f
+        Given takes before (made_by system skipped (skipped.clock + 1) box).rows after → Given takes before (made_by system state new.clock box).rows after
+    stretch-given takes before after told = subst (λ (made : Ran). Given takes before made.rows after) whole-stretch told
 
   -- where no turn is taken after them
   module _ (skipped : State) (same : skipped ≡ quiet_state) where

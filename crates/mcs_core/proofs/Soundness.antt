@@ -2,7 +2,9 @@
 use Rattle.std.proofs.Common.{◌≡◌, ℕ, ◌+◌, ◌^◌, ◌<◌, ◌≤◌, ◌≢◌, ◌⊎◌, inl, inr, Bool, true, false, cond, List, [], ◌∷◌, length, refl, sym, ap, subst, ◌∙◌, arith}
 use Rattle.std.specs.Prelude.{◌==◌, Option, Some, None, unwrap_or}
 use Rattle.std.specs.List.{AllByRecursion}
+use Rattle.std.proofs.lemmas.Bool.{cases_eq}
 use Rattle.std.proofs.lemmas.Bool.Decides.{nat_tests}
+use Rattle.std.proofs.lemmas.Grind.{common_steps}
 use Rattle.std.proofs.lemmas.List.{get_or-set_same, get_or-set_other}
 use Rattle.std.proofs.Math.ListN.{length-set}
 use Rattle.mcs_ticks.specs.declared.queue.Queued.{Queued}
@@ -11,10 +13,10 @@ use Rattle.mcs_notify.specs.Note.{Note}
 use Rattle.mcs_release.specs.declared.dated.Dated.{Dated}
 use Rattle.mcs_core.specs.declared.standing.Chosen.{Chosen}
 use Rattle.mcs_core.specs.declared.standing.Standing.{Standing}
-use Rattle.mcs_core.specs.declared.standing.Standing.TheVariants.{Blocked, Pending, Ready, Running, Done, Elsewhere}
+use Rattle.mcs_core.specs.declared.standing.Standing.TheVariants.{Running}
 use Rattle.mcs_core.specs.declared.standing.Thread.{Thread}
 use Rattle.mcs_system.specs.System.{System, thread_part}
-use Rattle.mcs_core.specs.Contexts.{no_server, is_some}
+use Rattle.mcs_core.specs.Contexts.{no_server}
 use Rattle.mcs_core.specs.Core.{Core, thread_of, context_of, with_thread, with_context, no_state}
 use Rattle.mcs_core.specs.stored.Sound.{times_ready, times_pending, times_blocked, is_here, may_run, Loose, Phase, standing_of, has_context, IsPlaced, IsEarly, AreEarly, IsContextOf, RunsRight, IsSound}
 use Rattle.mcs_core.specs.Places.{times_queued, times_dated, times_waiting}
@@ -27,11 +29,30 @@ IsOneEach system =
 -- a thread on its way, and how often it then stands in a queue
 one_way : (f : Standing → ℕ) (x y : ℕ) (s s' old : Standing) (before after : ℕ) →
     after + cond (x == y) (f s) 0 ≡ before + cond (x == y) (f s') 0 → before ≡ f (cond (x == y) s old) → after ≡ f (cond (x == y) s' old)
-one_way f x y s s' old before after e h = by (x == y) e h
-  where
-    by : (b : Bool) → after + cond b (f s) 0 ≡ before + cond b (f s') 0 → before ≡ f (cond b s old) → after ≡ f (cond b s' old)
-    by true e h = omega arith
-    by false e h = omega arith
+one_way f x y s s' old before after e h = grind (arith, nat_tests)
+
+-- a thread that stands so, as it is told when it is on its way
+its-standing : (x y : ℕ) (s : Standing) (core : Core) → (thread_of core x).standing ≡ s → cond (x == y) s (thread_of core y).standing ≡ (thread_of core y).standing
+its-standing x y s core e = grind (arith, nat_tests)
+
+-- of the thread on its way itself
+pub itself : (x : ℕ) (s old : Standing) → cond (x == x) s old ≡ s
+itself x s old = grind (arith, nat_tests)
+
+module _ (system : System) where
+  -- what a core with the same contexts has of a thread with the same item, of the same dates, and of a thread that still runs
+  module _ (core core' : Core) (same : core.contexts ≡ core'.contexts) where
+    pub placed-same : (x : ℕ) → (thread_of core x).place.item ≡ (thread_of core' x).place.item → IsPlaced system x core → IsPlaced system x core'
+    placed-same x item p = record { known = p.known; item = rw (← item) p.item; bound = p.bound; has = rw (← same) p.has }
+
+    pub dates-same : (ds : List Dated) → AreEarly system core ds → AreEarly system core' ds
+    dates-same [] p = tt
+    dates-same (d ∷ ds) p = (rw (← same) p.0, dates-same ds p.1)
+
+    pub runs-same : (phase : Phase) → ((x : ℕ) → (thread_of core x).standing ≡ Running → (thread_of core' x).standing ≡ Running) → (o : Option Chosen) →
+        RunsRight system phase o core → RunsRight system phase o core'
+    runs-same phase runs None p = tt
+    runs-same phase runs (Some chosen) p = record { stands = runs chosen.thread p.stands; used = p.used; unspent = rw (← same) p.unspent; early = rw (← same) p.early }
 
 module _ (system : System) (number from : ℕ) where
   -- the thread on its way is taken to stand otherwise, and its queues tell that
@@ -50,10 +71,10 @@ module _ (system : System) (number from : ℕ) where
     ready = λ y. one_way times_ready x y s s' (thread_of core y).standing (times_queued y core.ready) (times_queued y ready) (a y) (h.ready y);
     pending = λ y. one_way times_pending x y s s' (thread_of core y).standing (times_dated y core.releases) (times_dated y releases) (b y) (h.pending y);
     blocked = λ y. one_way times_blocked x y s s' (thread_of core y).standing (times_waiting y core.notes) (times_waiting y notes) (d y) (h.blocked y);
-    here = λ y. here_is y (x == y) refl (h.here y);
-    early = λ y. early_is y (x == y) refl (h.early y);
-    dates = dates_same releases dates;
-    running = runs_same running runs;
+    here = λ y g. placed-same system core new refl y refl (h.here y (here_is (x == y) (thread_of core y).standing g));
+    early = λ y g. grind (arith, nat_tests, h.early y, early);
+    dates = dates-same system core new refl releases dates;
+    running = runs-same system core new refl phase (λ y e. e) running runs;
     budgets = h.budgets;
     own = h.own;
     later = later;
@@ -62,53 +83,44 @@ module _ (system : System) (number from : ℕ) where
       new : Core
       new = record core { running = running; ready = ready; releases = releases; notes = notes }
 
-      here_is : (y : ℕ) (t : Bool) → (x == y) ≡ t → (is_here (cond t s (thread_of core y).standing) ≡ true → IsPlaced system y core) →
-          is_here (cond t s' (thread_of core y).standing) ≡ true → IsPlaced system y (record core { running = running; ready = ready; releases = releases; notes = notes })
-      here_is y true e f g = let p = f here in record { known = p.known; item = p.item; bound = p.bound; has = p.has }
-      here_is y false e f g = let p = f g in record { known = p.known; item = p.item; bound = p.bound; has = p.has }
+      here_is : (t : Bool) (old : Standing) → is_here (cond t s' old) ≡ true → is_here (cond t s old) ≡ true
+      here_is true old g = here
+      here_is false old g = g
 
-      early_is : (y : ℕ) (t : Bool) → (x == y) ≡ t → (may_run (cond t s (thread_of core y).standing) ≡ true → IsEarly system y core) →
-          may_run (cond t s' (thread_of core y).standing) ≡ true → IsEarly system y core
-      early_is y true e f g =
-          let same : x ≡ y = grind (arith, nat_tests) in
-          let P : ℕ → Type 0 = λ n. IsEarly system n core in subst P same (early g)
-      early_is y false e f g = f g
+  -- what is told of the threads in another way, or of another thread that runs or other words, in another phase or before another moment
+  pub retold : (later : ℕ) (phase phase' : Phase) (a b : Option Loose) (core : Core) (running : Option Chosen) (notes : List Note) →
+      ((y : ℕ) → standing_of a y core ≡ standing_of b y (record core { running = running; notes = notes })) → length notes ≡ length core.notes →
+      ((y : ℕ) → times_waiting y notes ≡ times_waiting y core.notes) → IsSound system number from phase a core → RunsRight system phase' running core →
+      AllByRecursion (λ dated. later ≤ dated.date) core.releases → IsSound system number later phase' b (record core { running = running; notes = notes })
+  retold later phase phase' a b core running notes same many waiting h runs yet = record {
+    threads = h.threads;
+    contexts = h.contexts;
+    notes = many ∙ h.notes;
+    ready = λ y. h.ready y ∙ ap times_ready (same y);
+    pending = λ y. h.pending y ∙ ap times_pending (same y);
+    blocked = λ y. waiting y ∙ h.blocked y ∙ ap times_blocked (same y);
+    here = λ y e. placed-same system core new refl y refl (h.here y (ap is_here (same y) ∙ e));
+    early = λ y e. h.early y (ap may_run (same y) ∙ e);
+    dates = dates-same system core new refl core.releases h.dates;
+    running = runs-same system core new refl phase' (λ y e. e) running runs;
+    budgets = h.budgets;
+    own = h.own;
+    later = yet;
+  }
+    where
+      new : Core
+      new = record core { running = running; notes = notes }
 
-      dates_same : (ds : List Dated) → AreEarly system core ds → AreEarly system (record core { running = running; ready = ready; releases = releases; notes = notes }) ds
-      dates_same [] p = tt
-      dates_same (z ∷ ds) p = (p.0, dates_same ds p.1)
-
-      runs_same : (o : Option Chosen) → RunsRight system phase o core → RunsRight system phase o (record core { running = running; ready = ready; releases = releases; notes = notes })
-      runs_same None p = tt
-      runs_same (Some chosen) p = record { stands = p.stands; used = p.used; unspent = p.unspent; early = p.early }
+  -- so of another thread that runs, or in another phase
+  pub re_runs : (phase phase' : Phase) (loose : Option Loose) (core : Core) (running : Option Chosen) → ((y : ℕ) → standing_of loose y core ≡ standing_of loose y (record core { running = running })) →
+      IsSound system number from phase loose core → RunsRight system phase' running core → IsSound system number from phase' loose (record core { running = running })
+  re_runs phase phase' loose core running same h runs = retold from phase phase' loose loose core running core.notes same refl (λ y. refl) h runs h.later
 
   -- a thread that stands somewhere may be taken to be on its way
   pub loosened : (phase : Phase) (x : ℕ) (s : Standing) (core : Core) → (thread_of core x).standing ≡ s → IsSound system number from phase None core →
       IsSound system number from phase (Some (record { thread = x; standing = s })) core
-  loosened phase x s core e h = record {
-    threads = h.threads;
-    contexts = h.contexts;
-    notes = h.notes;
-    ready = λ y. h.ready y ∙ ap times_ready (sym (same y));
-    pending = λ y. h.pending y ∙ ap times_pending (sym (same y));
-    blocked = λ y. h.blocked y ∙ ap times_blocked (sym (same y));
-    here = λ y p. h.here y (ap is_here (sym (same y)) ∙ p);
-    early = λ y p. h.early y (ap may_run (sym (same y)) ∙ p);
-    dates = h.dates;
-    running = h.running;
-    budgets = h.budgets;
-    own = h.own;
-    later = h.later;
-  }
-    where
-      same : (y : ℕ) → cond (x == y) s (thread_of core y).standing ≡ (thread_of core y).standing
-      same y = by (x == y) refl
-        where
-          by : (t : Bool) → (x == y) ≡ t → cond t s (thread_of core y).standing ≡ (thread_of core y).standing
-          by true f =
-              let g : x ≡ y = grind (arith, nat_tests) in
-              sym e ∙ ap (λ n. (thread_of core n).standing) g
-          by false f = refl
+  loosened phase x s core e h =
+      retold from phase phase None (Some (record { thread = x; standing = s })) core core.running core.notes (λ y. sym (its-standing x y s core e)) refl (λ y. refl) h h.running h.later
 
   -- the state of one thread changes, and its standing as it is told
   pub thread-same : (x y : ℕ) (state : Thread) (core : Core) → x < length core.threads → y ≡ x → thread_of (with_thread x state core) y ≡ state
@@ -117,60 +129,53 @@ module _ (system : System) (number from : ℕ) where
   pub thread-other : (x y : ℕ) (state : Thread) (core : Core) → y ≢ x → thread_of (with_thread x state core) y ≡ thread_of core y
   thread-other x y state core e = get_or-set_other core.threads x y state no_state e
 
-  -- the thread stands as it was taken to stand, and is on its way no more
-  pub arrived : (phase : Phase) (x : ℕ) (s : Standing) (state : Thread) (core : Core) → IsSound system number from phase (Some (record { thread = x; standing = s })) core →
-      x < length core.threads → state.standing ≡ s → (is_here s ≡ true → state.place.item < length (thread_part system x).script) →
+  -- the state of a thread on its way changes
+  pub rethreaded : (phase : Phase) (x : ℕ) (s : Standing) (state : Thread) (core : Core) → IsSound system number from phase (Some (record { thread = x; standing = s })) core →
+      x < length core.threads → (is_here s ≡ true → state.place.item < length (thread_part system x).script) →
       RunsRight system phase core.running (with_thread x state core) →
-      IsSound system number from phase None (with_thread x state core)
-  arrived phase x s state core h l e item runs = record {
+      IsSound system number from phase (Some (record { thread = x; standing = s })) (with_thread x state core)
+  rethreaded phase x s state core h l item runs = record {
     threads = length-set core.threads x state ∙ h.threads;
     contexts = h.contexts;
     notes = h.notes;
-    ready = λ y. h.ready y ∙ ap times_ready (sym (same y));
-    pending = λ y. h.pending y ∙ ap times_pending (sym (same y));
-    blocked = λ y. h.blocked y ∙ ap times_blocked (sym (same y));
-    here = λ y p. placed y (h.here y (ap is_here (sym (same y)) ∙ p)) (x == y) refl p;
-    early = λ y p. h.early y (ap may_run (sym (same y)) ∙ p);
-    dates = dates_same core.releases h.dates;
+    ready = λ y. h.ready y ∙ ap times_ready (same y);
+    pending = λ y. h.pending y ∙ ap times_pending (same y);
+    blocked = λ y. h.blocked y ∙ ap times_blocked (same y);
+    here = λ y p. placed y (ap is_here (same y) ∙ p) (h.here y (ap is_here (same y) ∙ p));
+    early = λ y p. h.early y (ap may_run (same y) ∙ p);
+    dates = dates-same system core (with_thread x state core) refl core.releases h.dates;
     running = runs;
     budgets = h.budgets;
     own = h.own;
     later = h.later;
   }
     where
-      same : (y : ℕ) → (thread_of (with_thread x state core) y).standing ≡ cond (x == y) s (thread_of core y).standing
-      same y = by (x == y) refl
-        where
-          by : (t : Bool) → (x == y) ≡ t → (thread_of (with_thread x state core) y).standing ≡ cond t s (thread_of core y).standing
-          by true f =
-              let g : y ≡ x = grind (arith, nat_tests) in
-              ap (λ (k : Thread). k.standing) (thread-same x y state core l g) ∙ e
-          by false f =
-              let g : y ≢ x = grind (arith, nat_tests) in
-              ap (λ (k : Thread). k.standing) (thread-other x y state core g)
+      same : (y : ℕ) → cond (x == y) s (thread_of core y).standing ≡ cond (x == y) s (thread_of (with_thread x state core) y).standing
+      same y = grind (arith, nat_tests, thread-other x y state core)
 
-      placed : (y : ℕ) → IsPlaced system y core → (t : Bool) → (x == y) ≡ t → is_here (thread_of (with_thread x state core) y).standing ≡ true → IsPlaced system y (with_thread x state core)
-      placed y p true f q =
-          let g : y ≡ x = grind (arith, nat_tests) in
-          let here_s : is_here s ≡ true = ap is_here (sym e) ∙ ap (λ (k : Thread). is_here k.standing) (sym (thread-same x y state core l g)) ∙ q in
-          let i : state.place.item < length (thread_part system y).script = rw g (item here_s) in
-          record { known = p.known; item = rw (thread-same x y state core l g) i; bound = p.bound; has = p.has }
-      placed y p false f q =
-          let g : y ≢ x = grind (arith, nat_tests) in
-          record { known = p.known; item = rw (thread-other x y state core g) p.item; bound = p.bound; has = p.has }
+      placed : (y : ℕ) → is_here (cond (x == y) s (thread_of core y).standing) ≡ true → IsPlaced system y core → IsPlaced system y (with_thread x state core)
+      placed y q p = record {
+        known = p.known;
+        item = grind (arith, nat_tests, thread-same x y state core l, thread-other x y state core, item, p.item);
+        bound = p.bound;
+        has = p.has;
+      }
 
-      dates_same : (ds : List Dated) → AreEarly system core ds → AreEarly system (with_thread x state core) ds
-      dates_same [] p = tt
-      dates_same (z ∷ ds) p = (p.0, dates_same ds p.1)
+  -- the thread stands as it was taken to stand, and is on its way no more
+  pub arrived : (phase : Phase) (x : ℕ) (s : Standing) (state : Thread) (core : Core) → IsSound system number from phase (Some (record { thread = x; standing = s })) core →
+      x < length core.threads → state.standing ≡ s → (is_here s ≡ true → state.place.item < length (thread_part system x).script) →
+      RunsRight system phase core.running (with_thread x state core) →
+      IsSound system number from phase None (with_thread x state core)
+  arrived phase x s state core h l e item runs =
+      let new : Core = with_thread x state core in
+      let stands : (thread_of new x).standing ≡ s = ap (λ (k : Thread). k.standing) (thread-same x x state core l refl) ∙ e in
+      retold from phase phase (Some (record { thread = x; standing = s })) None new core.running core.notes (λ y. its-standing x y s new stands) refl (λ y. refl) (rethreaded phase x s state core h l item runs) runs h.later
 
   -- a running thread other than this one still runs
   pub runs-other : (phase : Phase) (x : ℕ) (state : Thread) (core : Core) (o : Option Chosen) → (thread_of core x).standing ≢ Running → RunsRight system phase o core → RunsRight system phase o (with_thread x state core)
-  runs-other phase x state core None n h = tt
-  runs-other phase x state core (Some chosen) n h =
-      record { stands = ap (λ (k : Thread). k.standing) (thread-other x chosen.thread state core differs) ∙ h.stands; used = h.used; unspent = h.unspent; early = h.early }
-    where
-      differs : chosen.thread ≢ x
-      differs e = n (ap (λ y. (thread_of core y).standing) (sym e) ∙ h.stands)
+  runs-other phase x state core o n h =
+      runs-same system core (with_thread x state core) refl phase
+      (λ y e. ap (λ (k : Thread). k.standing) (thread-other x y state core (λ i. n (ap (λ z. (thread_of core z).standing) (sym i) ∙ e))) ∙ e) o h
 
   -- a context changes: the head of a thread that is bound to it, and that may be chosen or released, is early still
   context-same : (k j : ℕ) (context : Context) (core : Core) → k < length core.contexts → j ≡ k → context_of (with_context k context core) j ≡ context
@@ -180,15 +185,7 @@ module _ (system : System) (number from : ℕ) where
   context-other k j context core e = ap (λ o. unwrap_or o no_server) (get_or-set_other core.contexts k j (Some context) None e)
 
   has-context : (k j : ℕ) (context : Context) (core : Core) → k < length core.contexts → has_context k core ≡ true → has_context j (with_context k context core) ≡ has_context j core
-  has-context k j context core l h = by (j == k) refl
-    where
-      by : (t : Bool) → (j == k) ≡ t → has_context j (with_context k context core) ≡ has_context j core
-      by true e =
-          let f : j ≡ k = grind (arith, nat_tests) in
-          rw f (ap is_some (get_or-set_same core.contexts k (Some context) None l) ∙ sym h)
-      by false e =
-          let f : j ≢ k = grind (arith, nat_tests) in
-          ap is_some (get_or-set_other core.contexts k j (Some context) None f)
+  has-context k j context core l h = grind (arith, common_steps)
 
   -- what a change of context k must keep of its threads' heads
   abbrev pub KeepsEarly : Option Loose → ℕ → Context → Core → Type 0
@@ -204,50 +201,39 @@ module _ (system : System) (number from : ℕ) where
     threads = h.threads;
     contexts = length-set core.contexts k (Some context) ∙ h.contexts;
     notes = h.notes;
-    ready = λ y. h.ready y ∙ ap times_ready (sym (stands-same loose y));
-    pending = λ y. h.pending y ∙ ap times_pending (sym (stands-same loose y));
-    blocked = λ y. h.blocked y ∙ ap times_blocked (sym (stands-same loose y));
-    here = λ y p. placed y (h.here y (ap is_here (sym (stands-same loose y)) ∙ p));
-    early = λ y p. early_is y (inl (ap may_run (sym (stands-same loose y)) ∙ p)) (h.early y (ap may_run (sym (stands-same loose y)) ∙ p));
+    ready = λ y. h.ready y ∙ ap times_ready (stands loose y);
+    pending = λ y. h.pending y ∙ ap times_pending (stands loose y);
+    blocked = λ y. h.blocked y ∙ ap times_blocked (stands loose y);
+    here = λ y p. placed y (h.here y (ap is_here (stands loose y) ∙ p));
+    early = λ y p. early_is y (inl (ap may_run (stands loose y) ∙ p)) (h.early y (ap may_run (stands loose y) ∙ p));
     dates = dates_are core.releases (λ y. omega arith) h.dates;
     running = runs;
-    budgets = λ j p. budget_is j ((j == k)) refl (ap is_true (sym (has-context k j context core l has)) ∙ p);
+    budgets = λ j p. budget_is j (j == k) refl (sym (has-context k j context core l has) ∙ p);
     own = λ j p. has-context k j context core l has ∙ h.own j p;
     later = h.later;
   }
     where
-      is_true : Bool → Bool
-      is_true b = b
-
-      stands-same : (o : Option Loose) (y : ℕ) → standing_of o y (with_context k context core) ≡ standing_of o y core
-      stands-same None y = refl
-      stands-same (Some loose) y = refl
+      stands : (o : Option Loose) (y : ℕ) → standing_of o y core ≡ standing_of o y (with_context k context core)
+      stands None y = refl
+      stands (Some loose) y = refl
 
       placed : (y : ℕ) → IsPlaced system y core → IsPlaced system y (with_context k context core)
       placed y p = record { known = p.known; item = p.item; bound = p.bound; has = has-context k (thread_part system y).context context core l has ∙ p.has }
 
       early_is : (y : ℕ) → (may_run (standing_of loose y core) ≡ true) ⊎ (1 ≤ times_dated y core.releases) → IsEarly system y core → IsEarly system y (with_context k context core)
-      early_is y may old = by ((thread_part system y).context == k) refl
-        where
-          by : (t : Bool) → ((thread_part system y).context == k) ≡ t → IsEarly system y (with_context k context core)
-          by true e =
-              let f : (thread_part system y).context ≡ k = grind (arith, nat_tests) in
-              let g : head_moment (context_of core k) ≤ 2 ^ 40 = let P : ℕ → Type 0 = λ n. head_moment (context_of core n) ≤ 2 ^ 40 in subst P f old in
-              rw (context-same k (thread_part system y).context context core l f) (keeps y f may g)
-          by false e =
-              let f : (thread_part system y).context ≢ k = grind (arith, nat_tests) in
-              rw (context-other k (thread_part system y).context context core f) old
+      early_is y may old = elim (cases_eq (thread_part system y).context k) [
+        | inl e ↦
+            let g : head_moment (context_of core k) ≤ 2 ^ 40 = let P : ℕ → Type 0 = λ n. head_moment (context_of core n) ≤ 2 ^ 40 in subst P e old in
+            rw (context-same k (thread_part system y).context context core l e) (keeps y e may g)
+        | inr ne ↦ rw (context-other k (thread_part system y).context context core ne) old
+      ]
 
       dates_are : (ds : List Dated) → ((y : ℕ) → times_dated y ds ≤ times_dated y core.releases) → AreEarly system core ds → AreEarly system (with_context k context core) ds
       dates_are [] m p = tt
-      dates_are (z ∷ ds) m p =
-          (λ d. early_is z.thread (inr (one z.thread (times_dated z.thread ds) (times_dated z.thread core.releases) (m z.thread))) (p.0 d), dates_are ds (λ y. less y (m y)) p.1)
+      dates_are (z ∷ ds) m p = (λ d. early_is z.thread (inr (one z.thread (times_dated z.thread ds) (times_dated z.thread core.releases) (m z.thread))) (p.0 d), dates_are ds (λ y. omega (arith, m y)) p.1)
         where
-          one : (a n m : ℕ) → cond (a == a) 1 0 + n ≤ m → 1 ≤ m
-          one a n m h = grind (arith, nat_tests)
-
-          less : (y : ℕ) → times_dated y (z ∷ ds) ≤ times_dated y core.releases → times_dated y ds ≤ times_dated y core.releases
-          less y h = omega arith
+          one : (a n k : ℕ) → cond (a == a) 1 0 + n ≤ k → 1 ≤ k
+          one a n k h = grind (arith, nat_tests)
 
       budget_is : (j : ℕ) (t : Bool) → (j == k) ≡ t → has_context j core ≡ true → IsContextOf system j (context_of (with_context k context core) j)
       budget_is j true e p =
@@ -265,70 +251,9 @@ module _ (system : System) (number from : ℕ) where
   pub keeps_alone : (phase : Phase) (x : ℕ) (s : Standing) (context : Context) (core : Core) → IsOneEach system → IsSound system number from phase (Some (record { thread = x; standing = s })) core →
       x < length system.threads → may_run s ≡ false → times_pending s ≡ 0 →
       KeepsEarly (Some (record { thread = x; standing = s })) (thread_part system x).context context core
-  keeps_alone phase x s context core each h known still away y e m old = absurd (by (x == y) refl m (h.pending y) (h.here y) (h.early y))
-    where
-      by : (t : Bool) → (x == y) ≡ t →
-          (may_run (cond t s (thread_of core y).standing) ≡ true) ⊎ (1 ≤ times_dated y core.releases) →
-          times_dated y core.releases ≡ times_pending (cond t s (thread_of core y).standing) →
-          (is_here (cond t s (thread_of core y).standing) ≡ true → IsPlaced system y core) →
-          (may_run (cond t s (thread_of core y).standing) ≡ true → IsEarly system y core) → ⊥
-      by true f (inl p) q here early = cc
-      by true f (inr p) q here early = omega arith
-      by false f p q here early =
-          let g : x ≢ y = grind (arith, nat_tests) in
-          g (each x y known (here (is_here_of (thread_of core y).standing p q)).known (sym e))
-        where
-          is_here_of : (a : Standing) → (may_run a ≡ true) ⊎ (1 ≤ times_dated y core.releases) → times_dated y core.releases ≡ times_pending a → is_here a ≡ true
-          is_here_of Blocked p q = refl
-          is_here_of Pending p q = refl
-          is_here_of Ready p q = refl
-          is_here_of Running p q = refl
-          is_here_of Done p q = refl
-          is_here_of Elsewhere (inl p) q = cc
-          is_here_of Elsewhere (inr p) q = absurd (omega arith)
-
-  -- the state of a thread on its way changes
-  pub rethreaded : (phase : Phase) (x : ℕ) (s : Standing) (state : Thread) (core : Core) → IsSound system number from phase (Some (record { thread = x; standing = s })) core →
-      x < length core.threads → (is_here s ≡ true → state.place.item < length (thread_part system x).script) →
-      RunsRight system phase core.running (with_thread x state core) →
-      IsSound system number from phase (Some (record { thread = x; standing = s })) (with_thread x state core)
-  rethreaded phase x s state core h l item runs = record {
-    threads = length-set core.threads x state ∙ h.threads;
-    contexts = h.contexts;
-    notes = h.notes;
-    ready = λ y. h.ready y ∙ ap times_ready (sym (same y));
-    pending = λ y. h.pending y ∙ ap times_pending (sym (same y));
-    blocked = λ y. h.blocked y ∙ ap times_blocked (sym (same y));
-    here = λ y p. placed y (x == y) refl (ap is_here (sym (same y)) ∙ p) (h.here y (ap is_here (sym (same y)) ∙ p));
-    early = λ y p. h.early y (ap may_run (sym (same y)) ∙ p);
-    dates = dates_same core.releases h.dates;
-    running = runs;
-    budgets = h.budgets;
-    own = h.own;
-    later = h.later;
-  }
-    where
-      same : (y : ℕ) → cond (x == y) s (thread_of (with_thread x state core) y).standing ≡ cond (x == y) s (thread_of core y).standing
-      same y = by (x == y) refl
-        where
-          by : (t : Bool) → (x == y) ≡ t → cond t s (thread_of (with_thread x state core) y).standing ≡ cond t s (thread_of core y).standing
-          by true f = refl
-          by false f =
-              let g : y ≢ x = grind (arith, nat_tests) in
-              ap (λ (k : Thread). k.standing) (thread-other x y state core g)
-
-      placed : (y : ℕ) (t : Bool) → (x == y) ≡ t → is_here (cond t s (thread_of core y).standing) ≡ true → IsPlaced system y core → IsPlaced system y (with_thread x state core)
-      placed y true f q p =
-          let g : y ≡ x = grind (arith, nat_tests) in
-          let i : state.place.item < length (thread_part system y).script = rw g (item q) in
-          record { known = p.known; item = rw (thread-same x y state core l g) i; bound = p.bound; has = p.has }
-      placed y false f q p =
-          let g : y ≢ x = grind (arith, nat_tests) in
-          record { known = p.known; item = rw (thread-other x y state core g) p.item; bound = p.bound; has = p.has }
-
-      dates_same : (ds : List Dated) → AreEarly system core ds → AreEarly system (with_thread x state core) ds
-      dates_same [] p = tt
-      dates_same (z ∷ ds) p = (p.0, dates_same ds p.1)
+  keeps_alone phase x s context core each h known still away y e m old =
+      let placed : is_here (cond (x == y) s (thread_of core y).standing) ≡ true → y < length system.threads = λ q. (h.here y q).known in
+      absurd (grind (arith, nat_tests, h.pending y, placed, each x y known))
 
   -- the running thread, when another thread's context changes
   pub runs-context : (phase : Phase) (k : ℕ) (context : Context) (core : Core) (o : Option Chosen) →

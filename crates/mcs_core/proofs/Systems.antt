@@ -1,7 +1,8 @@
 -- What a well-formed system gives its cores.
-use Rattle.std.proofs.Common.{◌≡◌, ℕ, zero, suc, ◌^◌, ◌<◌, ◌≤◌, ◌⊎◌, inl, inr, ◌+◌, List, [], ◌∷◌, length, sym, ap, ◌∙◌, arith}
+use Rattle.std.proofs.Common.{◌≡◌, ℕ, zero, suc, ◌^◌, ◌<◌, ◌≤◌, inl, inr, ◌+◌, List, [], ◌∷◌, length, sym, ap, ◌∙◌, arith}
 use Rattle.std.specs.Prelude.{Some, All, slice_index}
 use Rattle.std.specs.List.{slice_get, AllByRecursion}
+use Rattle.std.proofs.lemmas.Bool.{cases_eq, cases_lt}
 use Rattle.std.proofs.lemmas.List.{get_or_past, ext_get_or}
 use Rattle.std.proofs.lemmas.List.FromFn.{get_or-map-range_with_len, length-map-range_with_len}
 use Rattle.mcs_control.specs.declared.config.Order.{Order}
@@ -19,15 +20,13 @@ use Rattle.mcs_core.proofs.Turning.{IsProperOrder}
 
 -- no two threads have one context
 pub one-each : (system : System) → IsWellFormed system → IsOneEach system
-one-each system w x y l m e = by (cases x y)
-  where
-    cases : (a b : ℕ) → (a < b) ⊎ ((b < a) ⊎ (a ≡ b))
-    cases a b = grind arith
-
-    by : (x < y) ⊎ ((y < x) ⊎ (x ≡ y)) → x ≡ y
-    by (inl h) = absurd (w.one_each x y no_thread h m e)
-    by (inr (inl h)) = absurd (w.one_each y x no_thread h l (sym e))
-    by (inr (inr h)) = h
+one-each system w x y l m e = elim (cases_eq x y) [
+  | inl same ↦ same
+  | inr ne ↦ elim (cases_lt x y) [
+    | inl h ↦ absurd (w.one_each x y no_thread h m e)
+    | inr h ↦ absurd (w.one_each y x no_thread (omega arith) l (sym e))
+  ]
+]
 
 -- each order is a proper one
 pub orders-proper : (system : System) → IsWellFormed system → AllByRecursion (IsProperOrder system) system.orders
@@ -41,11 +40,11 @@ orders-proper system w = each system.orders w.orders
 
 -- the notifications of all items are the system's
 pub all-noted : (system : System) → IsWellFormed system → (x i : ℕ) → IsNoted (length system.notes) (slice_get (thread_part system x).script i)
-all-noted system w x i = by (cases x (length system.threads))
+all-noted system w x i = elim (cases_lt x (length system.threads)) [
+  | inl h ↦ items (core_of system (thread_part system x)) (thread_part system x).script i (w.threads x no_thread h).items
+  | inr h ↦ rw (get_or_past system.threads x no_thread h) tt
+]
   where
-    cases : (a b : ℕ) → (a < b) ⊎ (b ≤ a)
-    cases a b = grind arith
-
     noted : (core : ℕ) (item : Item) → IsItem system core item → IsNoted (length system.notes) (Some item)
     noted core (Compute ticks) h = tt
     noted core (Signal note badge) h = h.0
@@ -56,12 +55,6 @@ all-noted system w x i = by (cases x (length system.threads))
     items core [] i h = tt
     items core (item ∷ script) zero h = noted core item (h 0 item (omega arith))
     items core (item ∷ script) (suc i) h = items core script i (λ k d l. h (suc k) d (omega arith))
-
-    by : (x < length system.threads) ⊎ (length system.threads ≤ x) → IsNoted (length system.notes) (slice_get (thread_part system x).script i)
-    by (inl h) = items (core_of system (thread_part system x)) (thread_part system x).script i (w.threads x no_thread h).items
-    by (inr h) =
-        let none : thread_part system x ≡ no_thread = get_or_past system.threads x no_thread h in
-        rw none tt
 
 -- how long a signal is under way
 pub delay-short : (system : System) → IsWellFormed system → (maker home : ℕ) → delay_between system maker home ≤ 2 ^ 20

@@ -1,5 +1,5 @@
 -- The end of the tick: the core stays sound.
-use Rattle.std.proofs.Common.{◌≡◌, ℕ, ◌+◌, ◌^◌, ◌<◌, ◌≤◌, Bool, true, false, cond, List, [], ◌∷◌, ◌++◌, length, set, refl, subst, ◌∙◌, arith}
+use Rattle.std.proofs.Common.{◌≡◌, ℕ, ◌+◌, ◌^◌, ◌<◌, ◌≤◌, Bool, true, false, cond, [], ◌∷◌, length, set, refl, subst, ◌∙◌, arith}
 use Rattle.std.specs.Prelude.{◌==◌, Option, Some, None}
 use Rattle.std.specs.List.{slice_get}
 use Rattle.std.proofs.lemmas.Bool.Decides.{nat_tests}
@@ -8,16 +8,12 @@ use Rattle.mcs_ticks.specs.Queue.{by_priority}
 use Rattle.mcs_ticks.specs.declared.row.Why.{Why}
 use Rattle.mcs_ticks.specs.declared.row.Why.TheVariants as why
 use Rattle.mcs_control.specs.Context.{head_amount}
-use Rattle.mcs_notify.specs.Note.{posted, waited, after_wait}
-use Rattle.mcs_notify.specs.declared.posted.Posted.{Posted}
-use Rattle.mcs_notify.specs.declared.posted.Posted.TheVariants.{Woke, Held}
+use Rattle.mcs_notify.specs.Note.{waited, after_wait}
 use Rattle.mcs_notify.specs.declared.posted.Waited.{Waited}
 use Rattle.mcs_notify.specs.declared.posted.Waited.TheVariants.{Got, Blocks}
-use Rattle.mcs_release.specs.declared.dated.Dated.{Dated}
 use Rattle.mcs_script.specs.declared.item.Item.{Item}
 use Rattle.mcs_script.specs.declared.item.Item.TheVariants.{Compute, Signal, Wait, Yield}
 use Rattle.mcs_script.specs.declared.moved.Moved.{Moved}
-use Rattle.mcs_script.specs.declared.moved.Moved.TheVariants.{Next, RoundEnds, AllDone}
 use Rattle.mcs_core.specs.declared.standing.AfterItem.{AfterItem}
 use Rattle.mcs_core.specs.declared.standing.AfterItem.TheVariants as after
 use Rattle.mcs_core.specs.declared.standing.Chosen.{Chosen}
@@ -25,43 +21,22 @@ use Rattle.mcs_core.specs.declared.standing.Standing.TheVariants.{Blocked, Runni
 use Rattle.mcs_system.specs.System.{System, thread_part, note_part}
 use Rattle.mcs_core.specs.Core.{Core, thread_of, note_of, with_note, off}
 use Rattle.mcs_core.specs.stored.Items.{IsNoted}
-use Rattle.mcs_core.specs.Turn.{its_context, date_of, queued, enters_back, with_woken_context, given, moves, moves_on, move_of, wakes, posts_as, posts, mail_to, signals, waits_as, after_waited, may_stop, after_move, finishes, after_count, counts, item_of, tick_of, tick, stops_to_back}
-use Rattle.mcs_core.specs.stored.Sound.{Phase, IsPlaced, IsRunning, RunsRight, AreEarly, IsSound}
-use Rattle.mcs_core.specs.Places.{times_queued}
+use Rattle.mcs_core.specs.Turn.{its_context, queued, moves_on, move_of, posts, mail_to, signals, waits_as, after_waited, may_stop, after_move, finishes, after_count, counts, item_of, tick_of, tick, stops_to_back}
+use Rattle.mcs_core.specs.stored.Sound.{Phase, IsPlaced, IsRunning, RunsRight, IsSound}
 use Rattle.mcs_core.specs.stored.Sound.Phase.{Between, InTick, PastTick}
-use Rattle.mcs_core.proofs.Counts.{one_if_same, times_queued-append, times_waiting-set}
-use Rattle.mcs_core.proofs.Soundness.{IsOneEach, re_stands, loosened}
+use Rattle.mcs_core.proofs.Counts.{times_queued-append, times_waiting-set}
+use Rattle.mcs_core.proofs.Soundness.{IsOneEach, placed-same, re_stands, re_runs, loosened}
 use Rattle.mcs_core.proofs.Budgets.{accepted-is, kept-head}
-use Rattle.mcs_core.proofs.Enters.{zero_if, zero_if-zero}
 use Rattle.mcs_core.proofs.Stopping.{off-sound, stops-sound, stops_to_back-sound, replaced, moves-sound, given-sound, reworded}
 use Rattle.mcs_core.proofs.Wakes.{posts-sound}
 
 module _ (system : System) (number from : ℕ) (each : IsOneEach system) where
   -- the running thread stays the same one
-
-  enters_back-running : (x : ℕ) (o : Option ℕ) (core : Core) → (enters_back by_priority system x o core).running ≡ core.running
-  enters_back-running x (Some date) core = refl
-  enters_back-running x None core = refl
-
   pub moves-running : (t x : ℕ) (core : Core) → (moves_on system t x core).core.running ≡ core.running
-  moves-running t x core = by (move_of system x core)
-    where
-      by : (m : Moved) → (moves system t x m core).core.running ≡ core.running
-      by Next = refl
-      by RoundEnds = refl
-      by AllDone = refl
-
-  wakes-running : (t x : ℕ) (core : Core) → (wakes by_priority system t x core).core.running ≡ core.running
-  wakes-running t x core =
-      enters_back-running x (date_of system t x (moves_on system t x (given t x (with_woken_context system t x core))).core) (moves_on system t x (given t x (with_woken_context system t x core))).core
-      ∙ moves-running t x (given t x (with_woken_context system t x core))
+  moves-running t x core = grind arith
 
   pub posts-running : (t note badge : ℕ) (core : Core) → (posts by_priority system t note badge core).core.running ≡ core.running
-  posts-running t note badge core = by (posted badge (note_of core note))
-    where
-      by : (p : Posted) → (posts_as by_priority system t note p core).core.running ≡ core.running
-      by (Woke x word) = wakes-running t x _
-      by (Held word) = refl
+  posts-running t note badge core = grind arith
 
   pub runner : (phase : Phase) (chosen : Chosen) (core : Core) → IsSound system number from phase None core → core.running ≡ Some chosen → IsRunning system phase chosen core
   runner phase chosen core h e = let P : Option Chosen → Type 0 = λ o. RunsRight system phase o core in subst P e h.running
@@ -81,45 +56,22 @@ module _ (system : System) (number from : ℕ) (each : IsOneEach system) where
   counts-sound chosen core h e =
       let r = runner Between chosen core h e in
       let p = runner-placed Between chosen core h e in
-      let counted : IsSound system number from InTick None (record core { running = Some (record { thread = chosen.thread; using = chosen.using + 1 }) }) = record {
-        threads = h.threads;
-        contexts = h.contexts;
-        notes = h.notes;
-        ready = h.ready;
-        pending = h.pending;
-        blocked = h.blocked;
-        here = λ y q. let i = h.here y q in record { known = i.known; item = i.item; bound = i.bound; has = i.has };
-        early = h.early;
-        dates = dates_same core.releases h.dates;
-        running = record { stands = r.stands; used = omega arith; unspent = more _ (head_amount (its_context system chosen.thread core)) r.unspent; early = r.early };
-        budgets = h.budgets;
-        own = h.own;
-        later = h.later;
-      } in
-      replaced system number from each InTick chosen.thread _ (record core { running = Some (record { thread = chosen.thread; using = chosen.using + 1 }) }) counted (rw h.threads p.known) refl (λ f. p.item)
-    where
-      more : (n m : ℕ) → n < m + 0 → n + 1 < m + 1
-      more n m h = omega arith
-
-      dates_same : (ds : List Dated) → AreEarly system core ds → AreEarly system (record core { running = Some (record { thread = chosen.thread; using = chosen.using + 1 }) }) ds
-      dates_same [] p = tt
-      dates_same (z ∷ ds) p = (p.0, dates_same ds p.1)
+      let u : chosen.using < head_amount (its_context system chosen.thread core) + 0 = r.unspent in
+      replaced system number from each InTick chosen.thread _ (record core { running = Some (record { thread = chosen.thread; using = chosen.using + 1 }) })
+      (re_runs system number from Between InTick None core (Some (record { thread = chosen.thread; using = chosen.using + 1 })) (λ y. refl) h
+      (record { stands = r.stands; used = omega arith; unspent = omega (arith, u); early = r.early }))
+      (rw h.threads p.known) refl (λ f. p.item)
 
   -- the running thread waits: it joins the waiters, or is given its word
 
   pub blocks-sound : (phase : Phase) (note x : ℕ) (core : Core) → IsSound system number from phase None core → (thread_of core x).standing ≡ Running → note < length core.notes →
       IsSound system number from phase (Some (record { thread = x; standing = Blocked })) (with_note note (after_wait Blocks (queued system x) (note_of core note)) core)
   blocks-sound phase note x core h e l =
-      let i = re_stands system number from phase x Running Blocked core core.running core.ready core.releases (set core.notes note (after_wait Blocks (queued system x) (note_of core note)))
+      re_stands system number from phase x Running Blocked core core.running core.ready core.releases (set core.notes note (after_wait Blocks (queued system x) (note_of core note)))
       (loosened system number from phase x Running core e h)
       (λ y. refl) (λ y. refl)
-      (λ y. joined (times_queued y (note_of core note).waiters) (one_if_same x y) (times_queued y ((note_of core note).waiters ++ queued system x ∷ [])) _ _ (zero_if (x == y)) (zero_if-zero (x == y))
-      (times_queued-append y (note_of core note).waiters (queued system x)) (times_waiting-set y note (after_wait Blocks (queued system x) (note_of core note)) core.notes l))
-      (length-set core.notes note _) refl (λ f. cc) h.dates h.later h.running in
-      record { threads = i.threads; contexts = i.contexts; notes = i.notes; ready = i.ready; pending = i.pending; blocked = i.blocked; here = i.here; early = i.early; dates = i.dates; running = i.running; budgets = i.budgets; own = i.own; later = i.later }
-    where
-      joined : (w d n a b z : ℕ) → z ≡ 0 → n ≡ d + w → a + w ≡ b + n → a + z ≡ b + d
-      joined w d n a b z o p q = omega arith
+      (λ y. grind (arith, times_queued-append y (note_of core note).waiters (queued system x), times_waiting-set y note (after_wait Blocks (queued system x) (note_of core note)) core.notes l))
+      (length-set core.notes note _) refl (λ f. cc) h.dates h.later h.running
 
   pub got-sound : (phase : Phase) (t note word : ℕ) (chosen : Chosen) (core : Core) → IsSound system number from phase None core → core.running ≡ Some chosen → note < length core.notes →
       IsSound system number from phase None (waits_as system t chosen.thread note (Got word) core).core
@@ -138,11 +90,7 @@ module _ (system : System) (number from : ℕ) (each : IsOneEach system) where
       by false = h
 
   pub signals-running : (c t note badge x : ℕ) (core : Core) → (signals by_priority system c t x note badge core).core.running ≡ core.running
-  signals-running c t note badge x core = by ((note_part system note).core == c)
-    where
-      by : (b : Bool) → (cond b (posts by_priority system t note badge core) (record { core = core; rows = []; mails = mail_to system c t note badge ∷ [] })).core.running ≡ core.running
-      by true = posts-running t note badge core
-      by false = refl
+  signals-running c t note badge x core = grind (arith, posts-running t note badge core)
 
   -- at most one stop, of a thread that did not block
   pub may_stop-sound : (c t : ℕ) (chosen : Chosen) (cause : AfterItem) (core : Core) → t ≤ 2 ^ 40 → from ≤ t + 1 → IsSound system number from InTick None core → core.running ≡ Some chosen → (cause ≡ after.Blocks → ⊥) →
@@ -162,24 +110,10 @@ module _ (system : System) (number from : ℕ) (each : IsOneEach system) where
       back k cause some = stops_to_back-sound system number from each PastTick t chosen.thread k cause core l f gone p some
 
       stays : (chosen.using == head_amount (its_context system chosen.thread core)) ≡ false → IsSound system number from PastTick None core
-      stays f = record {
-        threads = h.threads;
-        contexts = h.contexts;
-        notes = h.notes;
-        ready = h.ready;
-        pending = h.pending;
-        blocked = h.blocked;
-        here = h.here;
-        early = h.early;
-        dates = h.dates;
-        running = rw e (record { stands = r.stands; used = r.used; unspent = less chosen.using (head_amount (its_context system chosen.thread core)) f r.unspent; early = r.early });
-        budgets = h.budgets;
-        own = h.own;
-        later = h.later;
-      }
-        where
-          less : (a b : ℕ) → (a == b) ≡ false → a < b + 1 → a < b + 0
-          less a b f g = grind (arith, nat_tests)
+      stays f =
+          let u : chosen.using < head_amount (its_context system chosen.thread core) + 1 = r.unspent in
+          re_runs system number from InTick PastTick None core core.running (λ y. refl) h
+          (rw e (record { stands = r.stands; used = r.used; unspent = grind (arith, nat_tests, f, u); early = r.early }))
 
       spent : (b : Bool) → (chosen.using == head_amount (its_context system chosen.thread core)) ≡ b →
           IsSound system number from PastTick None (cond b (stops_to_back by_priority system t chosen.thread why.Spent chosen.using core) (record { core = core; rows = []; mails = [] })).core
@@ -201,12 +135,10 @@ module _ (system : System) (number from : ℕ) (each : IsOneEach system) where
       let waits = blocks-sound InTick note chosen.thread core h r.stands l in
       let gone = off-sound system number from each InTick PastTick chosen.thread chosen.using Blocked Blocked _ waits refl refl refl refl refl in
       stops-sound system number from each PastTick t chosen.thread chosen.using why.Wait Blocked (with_note note (after_wait Blocks (queued system chosen.thread) (note_of core note)) core) gone
-      (record { known = p.known; item = p.item; bound = p.bound; has = p.has }) refl refl refl r.used
+      (placed-same system core _ refl chosen.thread refl p) refl refl refl r.used
 
   moved-never : (m : Moved) (cause : AfterItem) → (cause ≡ after.Blocks → ⊥) → after_move m cause ≡ after.Blocks → ⊥
-  moved-never Next cause n e = n e
-  moved-never RoundEnds cause n e = n e
-  moved-never AllDone cause n e = cc
+  moved-never m cause n e = grind arith
 
   -- the finished item takes effect, and at most one stop follows
   pub finishes-sound : (c t : ℕ) (chosen : Chosen) (item : Option Item) (core : Core) → t ≤ 2 ^ 40 → from ≤ t + 1 → IsNoted (length system.notes) item → IsSound system number from InTick None core → core.running ≡ Some chosen →
@@ -233,21 +165,7 @@ module _ (system : System) (number from : ℕ) (each : IsOneEach system) where
 
   -- no thread runs: nothing happens
   idle-sound : (core : Core) → IsSound system number from Between None core → core.running ≡ None → IsSound system number from PastTick None core
-  idle-sound core h e = record {
-    threads = h.threads;
-    contexts = h.contexts;
-    notes = h.notes;
-    ready = h.ready;
-    pending = h.pending;
-    blocked = h.blocked;
-    here = h.here;
-    early = h.early;
-    dates = h.dates;
-    running = rw e tt;
-    budgets = h.budgets;
-    own = h.own;
-    later = h.later;
-  }
+  idle-sound core h e = re_runs system number from Between PastTick None core core.running (λ y. refl) h (rw e tt)
 
   pub tick-sound : (c t : ℕ) (core : Core) → t ≤ 2 ^ 40 → from ≤ t + 1 → AreNoted → IsSound system number from Between None core → IsSound system number from PastTick None (tick by_priority system c t core).core
   tick-sound c t core l f noted h = by core.running refl

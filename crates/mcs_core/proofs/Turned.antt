@@ -1,5 +1,5 @@
 -- A turn with the quiet ones before it.
-use Rattle.std.proofs.Common.{◌≡◌, ℕ, ◌+◌, ◌-◌, ◌≤◌, ◌^◌, false, List, [], refl, sym, ap, subst, ◌∙◌, arith}
+use Rattle.std.proofs.Common.{◌≡◌, ℕ, ◌+◌, ◌-◌, ◌≤◌, ◌^◌, false, List, [], refl, sym, ap, ◌∙◌, arith}
 use Rattle.std.specs.Prelude.{max, All, None}
 use Rattle.mcs_ticks.specs.Queue.{by_priority}
 use Rattle.mcs_control.specs.declared.config.Order.{Order}
@@ -26,13 +26,12 @@ module _ (system : System) (w : IsWellFormed system) (state : State) (moment : �
   found = counted_times system state.number (moment - state.clock) state.core
 
   found-fits : Fits system (skipped system moment state)
-  found-fits = skipped-fits system state.number w state moment found refl fits going later (omega arith) quiet refl
+  found-fits = skipped-fits system w state moment found fits going later (omega arith) quiet refl
 
   pub can-turn : (quiets : ℕ) → quiets ≡ moment - state.clock → All (IsExpected system (skipped system moment state)) box →
       CanTurn system state.number moment state.delays quiets state.orders box state.core
   can-turn quiets e expected =
-      let P : ℕ → Type 0 = λ n. CanTurn system state.number moment state.delays n state.orders box state.core in
-      subst P (sym e)
+      rw e
       (record {
         well_formed = w;
         sound = found-fits.sound going;
@@ -61,11 +60,10 @@ module _ (system : System) (w : IsWellFormed system) (state : State) (moment : �
 
     pub turned-fits : IsSound system state.number (moment + 1) Between None core → Fits system turned
     turned-fits sound =
-        let P : ℕ → Type 0 = λ t. IsSound system state.number t Between None core in
         record {
           known = fits.known;
           early = omega arith;
-          sound = λ _. subst P (sym next) sound;
+          sound = λ _. rw next sound;
           orders = λ _.
               left ∙ ap (to_come (moment + 1)) (found-fits.orders going) ∙ to_come-next moment (orders_of system state.number)
               ∙ ap (λ t. to_come t (orders_of system state.number)) (sym next);

@@ -1,10 +1,9 @@
 -- Posts, and the threads that they wake: the core stays sound.
-use Rattle.std.proofs.Common.{◌≡◌, ℕ, ◌+◌, ◌^◌, ◌<◌, ◌≤◌, ◌≢◌, Bool, true, false, cond, length, set, refl, sym, ap, subst, ◌∙◌, arith}
-use Rattle.std.specs.Prelude.{◌==◌, bit_or, Option, Some, None}
+use Rattle.std.proofs.Common.{◌≡◌, ℕ, ◌+◌, ◌^◌, ◌<◌, ◌≤◌, ◌≢◌, true, cond, length, set, refl, ap, ◌∙◌, arith}
+use Rattle.std.specs.Prelude.{◌==◌, Option, Some, None}
 use Rattle.std.proofs.lemmas.Bool.Decides.{nat_tests}
 use Rattle.std.proofs.Math.ListN.{length-set}
-use Rattle.mcs_ticks.specs.Queue.{by_priority, first_of_greatest, without}
-use Rattle.mcs_ticks.specs.declared.queue.Queued.{Queued}
+use Rattle.mcs_ticks.specs.Queue.{by_priority}
 use Rattle.mcs_control.specs.Context.{context_woken}
 use Rattle.mcs_notify.specs.Note.{Note, posted, after_post}
 use Rattle.mcs_notify.specs.declared.posted.Posted.{Posted}
@@ -14,37 +13,25 @@ use Rattle.mcs_script.specs.declared.moved.Moved.TheVariants.{Next, RoundEnds, A
 use Rattle.mcs_script.specs.Script.{place_after}
 use Rattle.mcs_core.specs.declared.standing.Chosen.{Chosen}
 use Rattle.mcs_core.specs.declared.standing.Standing.{Standing}
-use Rattle.mcs_core.specs.declared.standing.Standing.TheVariants.{Blocked, Pending, Ready, Running, Done, Elsewhere}
+use Rattle.mcs_core.specs.declared.standing.Standing.TheVariants.{Blocked, Done}
 use Rattle.mcs_core.specs.declared.standing.Thread.{Thread}
 use Rattle.mcs_system.specs.System.{System, thread_part}
 use Rattle.mcs_core.specs.Core.{Core, thread_of, note_of, with_thread, with_note}
 use Rattle.mcs_core.specs.Turn.{its_context, date_of, with_woken_context, enters_back, given, moves, moves_on, move_of, wakes, posts_as, posts}
 use Rattle.mcs_core.specs.stored.Sound.{times_blocked, is_here, Phase, IsPlaced, RunsRight, IsSound}
 use Rattle.mcs_core.specs.Places.{times_queued, times_waiting}
-use Rattle.mcs_core.proofs.Counts.{one_if_same, times_queued-without, greatest-stands, times_waiting-set, times_waiting-at}
-use Rattle.mcs_core.proofs.Soundness.{IsOneEach, re_stands, loosened, recontexted, rethreaded, keeps_if, runs-other, runs-context, thread-same}
-use Rattle.mcs_core.proofs.Enters.{zero_if, zero_if-zero, date-early, enters_back-sound}
+use Rattle.mcs_core.proofs.Counts.{times_queued-without, greatest-stands, times_waiting-set, times_waiting-at}
+use Rattle.mcs_core.proofs.Soundness.{IsOneEach, itself, placed-same, re_stands, loosened, recontexted, rethreaded, keeps_if, runs-other, runs-context, thread-same}
+use Rattle.mcs_core.proofs.Enters.{date-early, enters_back-sound}
 use Rattle.mcs_core.proofs.Stopping.{place-within, woken-early, woken-budget, reworded}
 
 -- a thread that waits stands blocked
 blocked_from : (s : Standing) (n : ℕ) → n ≡ times_blocked s → 1 ≤ n → s ≡ Blocked
-blocked_from Blocked n e h = refl
-blocked_from Pending n e h = absurd (omega arith)
-blocked_from Ready n e h = absurd (omega arith)
-blocked_from Running n e h = absurd (omega arith)
-blocked_from Done n e h = absurd (omega arith)
-blocked_from Elsewhere n e h = absurd (omega arith)
+blocked_from s n e h = grind arith
 
 -- who is woken is the first of greatest priority
 woken_is : (badge x word : ℕ) (note : Note) → posted badge note ≡ Woke x word → 1 ≤ times_queued x note.waiters
-woken_is badge x word note e = by (first_of_greatest note.waiters) refl e
-  where
-    by : (o : Option Queued) → first_of_greatest note.waiters ≡ o → posted badge note ≡ Woke x word → 1 ≤ times_queued x note.waiters
-    by None f e = let g : posted badge note ≡ Held (bit_or note.word badge) = rw f refl in cc
-    by (Some q) f e =
-        let g : posted badge note ≡ Woke q.thread badge = rw f refl in
-        let i : q.thread ≡ x = cc in
-        let P : ℕ → Type 0 = λ n. 1 ≤ times_queued n note.waiters in subst P i (greatest-stands note.waiters q f)
+woken_is badge x word note e = grind (arith, greatest-stands note.waiters)
 
 -- a thread that was woken and has left the waiters: it is on its way, and still stands blocked
 pub record IsWoken (system : System) (number from : ℕ) (phase : Phase) (x : ℕ) (core : Core) : Type 0 where
@@ -61,20 +48,15 @@ module _ (system : System) (number from : ℕ) (each : IsOneEach system) where
       let at = times_waiting-at x note core.notes in
       let blocked : (thread_of core x).standing ≡ Blocked = blocked_from _ (times_waiting x core.notes) (h.blocked x) (omega arith) in
       let here : IsPlaced system x core = h.here x (rw blocked refl) in
-      let i = re_stands system number from phase x Blocked Done core core.running core.ready core.releases (set core.notes note (after_post (Woke x word) (note_of core note)))
-      (loosened system number from phase x Blocked core blocked h)
-      (λ y. refl) (λ y. refl)
-      (λ y. left (times_queued y (without x (note_of core note).waiters)) (one_if_same x y) (times_queued y (note_of core note).waiters) _ _ (zero_if (x == y)) (zero_if-zero (x == y)) (times_queued-without y x (note_of core note).waiters waits)
-      (times_waiting-set y note (after_post (Woke x word) (note_of core note)) core.notes l))
-      (length-set core.notes note _) refl (λ f. cc) h.dates h.later h.running in
       record {
-        sound = record { threads = i.threads; contexts = i.contexts; notes = i.notes; ready = i.ready; pending = i.pending; blocked = i.blocked; here = i.here; early = i.early; dates = i.dates; running = i.running; budgets = i.budgets; own = i.own; later = i.later };
+        sound = re_stands system number from phase x Blocked Done core core.running core.ready core.releases (set core.notes note (after_post (Woke x word) (note_of core note)))
+            (loosened system number from phase x Blocked core blocked h)
+            (λ y. refl) (λ y. refl)
+            (λ y. grind (arith, times_queued-without y x (note_of core note).waiters waits, times_waiting-set y note (after_post (Woke x word) (note_of core note)) core.notes l))
+            (length-set core.notes note _) refl (λ f. cc) h.dates h.later h.running;
         stands = blocked;
-        placed = record { known = here.known; item = here.item; bound = here.bound; has = here.has };
+        placed = placed-same system core _ refl x refl here;
       }
-    where
-      left : (w d n a b z : ℕ) → z ≡ 0 → n ≡ d + w → a + n ≡ b + w → a + d ≡ b + z
-      left w d n a b z o p q = omega arith
 
   -- the woken thread goes on
   away_from : (phase : Phase) (x : ℕ) (core : Core) → (thread_of core x).standing ≡ Blocked → RunsRight system phase core.running core → (state : Thread) → RunsRight system phase core.running (with_thread x state core)
@@ -89,29 +71,13 @@ module _ (system : System) (number from : ℕ) (each : IsOneEach system) where
       p.has (rw h.contexts p.bound) (woken-budget system (thread_part system x).context t now.mode now (h.budgets (thread_part system x).context p.has))
       (keeps_if system number from (Some (record { thread = x; standing = Done })) (thread_part system x).context (context_woken t (its_context system x core)) core (woken-early t now.mode now l))
       (runs-context system number from phase (thread_part system x).context (context_woken t (its_context system x core)) core core.running (others core.running h.running) h.running) in
-      record { sound = i; stands = w.stands; placed = i.here x (here_x (x == x) (same x)) }
+      record { sound = i; stands = w.stands; placed = i.here x (ap is_here (itself x Done _)) }
     where
-      same : (a : ℕ) → (a == a) ≡ true
-      same a = grind (arith, nat_tests)
-
-      here_x : (b : Bool) → b ≡ true → is_here (cond b Done (thread_of core x).standing) ≡ true
-      here_x true e = refl
-      here_x false e = cc
-
       others : (o : Option Chosen) → RunsRight system phase o core → (chosen : Chosen) → o ≡ Some chosen → (thread_part system chosen.thread).context ≢ (thread_part system x).context
       others None r chosen e f = cc
       others (Some other) r chosen e f =
-          let g : other ≡ chosen = cc in
-          let s : (thread_of core chosen.thread).standing ≡ Running = ap (λ (k : Chosen). (thread_of core k.thread).standing) (sym g) ∙ r.stands in
-          let n : x ≢ chosen.thread = λ i. differs (ap (λ k. (thread_of core k).standing) i) s in
-          n (sym (each chosen.thread x (w.sound.here chosen.thread (here_other (x == chosen.thread) refl s)).known w.placed.known f))
-        where
-          differs : (thread_of core x).standing ≡ (thread_of core chosen.thread).standing → (thread_of core chosen.thread).standing ≡ Running → ⊥
-          differs i s = let j : Blocked ≡ Running = sym w.stands ∙ i ∙ s in cc
-
-          here_other : (b : Bool) → (x == chosen.thread) ≡ b → (thread_of core chosen.thread).standing ≡ Running → is_here (cond b Done (thread_of core chosen.thread).standing) ≡ true
-          here_other true e s = refl
-          here_other false e s = rw s refl
+          let known : is_here (cond (x == chosen.thread) Done (thread_of core chosen.thread).standing) ≡ true → chosen.thread < length system.threads = λ q. (w.sound.here chosen.thread q).known in
+          grind (arith, nat_tests, r.stands, w.stands, known, each chosen.thread x, w.placed.known)
 
   -- its state changes, but not how it stands
   changed : (phase : Phase) (x : ℕ) (state : Thread) (core : Core) → IsWoken system number from phase x core → state.standing ≡ (thread_of core x).standing →

@@ -7,7 +7,7 @@ use Rattle.mcs_core.specs.stored.Parts.{Makes}
 use Rattle.mcs_core.specs.Turn.{item_of, takes_effect, after_item, may_stop, finishes}
 use Rattle.mcs_core.proofs.Effects.{can_take_effect, can_stop_after}
 use Rattle.mcs_core.proofs.Loops.{then-makes}
-use Rattle.mcs_core.proofs.Whole.{on_ok-map}
+use Rattle.mcs_core.proofs.Runs.{on_ok-map}
 use Rattle.mcs_core.proofs.Systems.{one-each, all-noted, has-delays}
 use Rattle.mcs_core.proofs.local.Local.finish.Goals as goal
 

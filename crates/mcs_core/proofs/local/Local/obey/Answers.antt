@@ -5,7 +5,7 @@ use Rattle.mcs_core.specs.declared.standing.Chosen.{Chosen}
 use Rattle.mcs_core.specs.stored.Parts.{Makes}
 use Rattle.mcs_core.specs.Turn.{says, orders_running}
 use Rattle.mcs_core.proofs.Loops.{then-makes}
-use Rattle.mcs_core.proofs.Whole.{on_ok-map}
+use Rattle.mcs_core.proofs.Runs.{on_ok-map}
 use Rattle.mcs_core.proofs.local.Local.obey.Goals as goal
 
 pub returns-then-eq : goal.returns-then-eq

@@ -1,16 +1,11 @@
-use Rattle.std.proofs.Common.{◌≡◌, ◌+◌, ◌<◌, length, sym, ◌∙◌, subst, arith, rules, Option, Some}
-use Rattle.std.specs.Prelude.{IfSome, OnOk}
-use Rattle.mcs_core.specs.declared.standing.Chosen.{Chosen}
-use Rattle.mcs_core.specs.Busy.{GoesOnAfter}
+use Rattle.std.proofs.Common.{◌≡◌, ◌+◌, sym, ◌∙◌, subst, arith, rules, Some}
+use Rattle.std.specs.Prelude.{OnOk}
 use Rattle.mcs_core.specs.Turn.{Turn}
 use Rattle.mcs_core.specs.stored.Parts.{Makes}
-use Rattle.mcs_core.proofs.Counted.{tick-more, counted-sound, counted-can_stop, tick-idle}
+use Rattle.mcs_core.proofs.Counted.{known, tick-more, counted-sound, counted-can_stop, tick-idle}
 use Rattle.mcs_core.proofs.Ends.{counted-goes}
 use Rattle.mcs_core.proofs.Systems.{one-each}
 use Rattle.mcs_core.proofs.local.Local.tick.Goals as goal
-
-known-runner : (P : Chosen → Type 0) (o : Option Chosen) (chosen : Chosen) → IfSome o P → o ≡ Some chosen → P chosen
-known-runner P o chosen h e = subst (λ o. IfSome o P) e h
 
 pub returns-in_default : goal.returns-in_default
 returns-in_default g c =
@@ -20,46 +15,41 @@ returns-in_default g c =
 pub finish-requires-clause-sound : goal.finish-requires-clause-sound
 finish-requires-clause-sound g c =
     let runs : c.args.self.now.running ≡ Some c.in-Some.before = sym c.running.ensures ∙ c.in-Some.is in
-    let known = known-runner (λ chosen. chosen.thread < length c.args.self.now.threads) _ c.in-Some.before c.requires.known runs in
-    counted-sound c.args.here.now.system.now c.args.here.now.core c.args.quiet c.in-Some.before c.args.self.now runs known
+    counted-sound c.args.here.now.system.now c.args.here.now.core c.args.quiet c.in-Some.before c.args.self.now runs c.requires.known
     (c.in-Some.before.using + c.args.quiet + 1) c.count-left.new.self (omega arith) c.count-left.ensures.core
     (one-each c.args.here.now.system.now c.requires.well_formed) c.args.here.now.moment c.requires.sound
 
 pub may_stop-requires : goal.may_stop-requires
 may_stop-requires g c =
     let runs : c.args.self.now.running ≡ Some c.in-Some.before = sym c.running.ensures ∙ c.in-Some.is in
-    let known = known-runner (λ chosen. chosen.thread < length c.args.self.now.threads) _ c.in-Some.before c.requires.known runs in
-    counted-can_stop c.args.here.now.system.now c.args.here.now.core c.args.quiet c.in-Some.before c.args.self.now runs known
+    counted-can_stop c.args.here.now.system.now c.args.here.now.core c.args.quiet c.in-Some.before c.args.self.now runs c.requires.known
     (c.in-Some.before.using + (c.args.quiet + 1)) c.count-left.new.self (omega arith) c.count-left.ensures.core
     (one-each c.args.here.now.system.now c.requires.well_formed) c.args.here.now.moment c.requires.sound
 
 pub returns-then-goes_on : goal.returns-then-goes_on
 returns-then-goes_on g c =
     let runs : c.args.self.now.running ≡ Some c.in-Some.before = sym c.running.ensures ∙ c.in-Some.is in
-    let known = known-runner (λ chosen. chosen.thread < length c.args.self.now.threads) _ c.in-Some.before c.requires.known runs in
-    let G : Option Chosen → Type 0 = λ o. GoesOnAfter c.args.here.now.system.now c.args.quiet o c.args.self.now in
-    let goes = subst G runs (c.requires.goes c.if-goes_on.true) in
+    let within = known c.args.here.now.system.now c.args.here.now.core c.args.quiet c.in-Some.before c.args.self.now runs c.requires.known in
+    let goes = rw runs at (c.requires.goes c.if-goes_on.true) in
     let P : Turn → Type 0 = λ turn. Makes g.S.Sink.takes c.args.here.now turn c.count-left.new.self c.args.log.now c.args.log.now in
-    subst P (sym (tick-more c.args.here.now.system.now c.args.here.now.core c.args.quiet c.in-Some.before c.args.self.now runs known
+    subst P (sym (tick-more c.args.here.now.system.now c.args.here.now.core c.args.quiet c.in-Some.before c.args.self.now runs c.requires.known
     (c.in-Some.before.using + (c.args.quiet + 1)) c.count-left.new.self (omega arith) c.count-left.ensures.core c.args.here.now.moment
-    ∙ counted-goes c.args.here.now.system.now c.args.here.now.core c.args.here.now.moment c.args.quiet (c.in-Some.before.using + (c.args.quiet + 1)) c.in-Some.before c.args.self.now c.count-left.new.self known (omega arith)
+    ∙ counted-goes c.args.here.now.system.now c.args.here.now.core c.args.here.now.moment c.args.quiet (c.in-Some.before.using + (c.args.quiet + 1)) c.in-Some.before c.args.self.now c.count-left.new.self within (omega arith)
     c.count-left.ensures.core goes))
     (search rules)
 
 pub returns-then-left-eq0 : goal.returns-then-left-eq0
 returns-then-left-eq0 g c =
     let runs : c.args.self.now.running ≡ Some c.in-Some.before = sym c.running.ensures ∙ c.in-Some.is in
-    let known = known-runner (λ chosen. chosen.thread < length c.args.self.now.threads) _ c.in-Some.before c.requires.known runs in
     let P : Turn → Type 0 = λ turn. OnOk c.finish.result (Makes g.S.Sink.takes c.args.here.now turn c.finish.new.self c.args.log.now c.finish.new.log) in
-    subst P (sym (tick-more c.args.here.now.system.now c.args.here.now.core c.args.quiet c.in-Some.before c.args.self.now runs known
+    subst P (sym (tick-more c.args.here.now.system.now c.args.here.now.core c.args.quiet c.in-Some.before c.args.self.now runs c.requires.known
     (c.in-Some.before.using + (c.args.quiet + 1)) c.count-left.new.self (omega arith) c.count-left.ensures.core c.args.here.now.moment))
     (search rules)
 
 pub returns-else-left-eq0 : goal.returns-else-left-eq0
 returns-else-left-eq0 g c =
     let runs : c.args.self.now.running ≡ Some c.in-Some.before = sym c.running.ensures ∙ c.in-Some.is in
-    let known = known-runner (λ chosen. chosen.thread < length c.args.self.now.threads) _ c.in-Some.before c.requires.known runs in
     let P : Turn → Type 0 = λ turn. OnOk c.may_stop.result (Makes g.S.Sink.takes c.args.here.now turn c.may_stop.new.self c.args.log.now c.may_stop.new.log) in
-    subst P (sym (tick-more c.args.here.now.system.now c.args.here.now.core c.args.quiet c.in-Some.before c.args.self.now runs known
+    subst P (sym (tick-more c.args.here.now.system.now c.args.here.now.core c.args.quiet c.in-Some.before c.args.self.now runs c.requires.known
     (c.in-Some.before.using + (c.args.quiet + 1)) c.count-left.new.self (omega arith) c.count-left.ensures.core c.args.here.now.moment))
     (search rules)

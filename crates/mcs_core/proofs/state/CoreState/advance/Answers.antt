@@ -1,5 +1,4 @@
 use Rattle.std.proofs.Common.{◌≡◌, refl, ◌-◌, ◌++◌, ◌<◌, [], List, sym, subst, ap, ◌∙◌, append-nil, arith}
-use Rattle.std.specs.Prelude.{Ok}
 use Rattle.mcs_mail.specs.declared.mail.Mail.{Mail}
 use Rattle.mcs_ticks.specs.Given.{Given}
 use Rattle.mcs_ticks.specs.Queue.{by_priority}
@@ -28,27 +27,27 @@ turn_at-requires-clause-expected g c = expected-on c.args.system.now c.args.self
 pub returns-in-Ok-clause-state : goal.returns-in-Ok-clause-state
 returns-in-Ok-clause-state g c =
     stretch-state c.args.system.now c.args.self.now c.args.mail.now.mails c.in-Some.moment (busy-later c.args.system.now c.args.self.now c.args.mail.now.mails c.args.to c.soonest.result c.soonest.ensures c.in-Some.moment (sym c.before-2.ensures ∙ c.in-Some.is)) (quiet-first c.args.system.now c.args.self.now c.args.mail.now.mails c.args.to c.soonest.result c.soonest.ensures c.in-Some.moment (sym c.before-2.ensures ∙ c.in-Some.is))
-    (skipped c.args.system.now c.in-Some.moment c.args.self.now) c.turn_at.new.self refl (Ok c.in-Ok.ends) c.in-Ok.ensures.state
+    (skipped c.args.system.now c.in-Some.moment c.args.self.now) c.turn_at.new.self refl c.in-Ok.ensures.state
 
 pub returns-in-Ok-clause-rows : goal.returns-in-Ok-clause-rows
 returns-in-Ok-clause-rows g c =
     stretch-given c.args.system.now c.args.self.now c.args.mail.now.mails c.in-Some.moment (busy-later c.args.system.now c.args.self.now c.args.mail.now.mails c.args.to c.soonest.result c.soonest.ensures c.in-Some.moment (sym c.before-2.ensures ∙ c.in-Some.is)) (quiet-first c.args.system.now c.args.self.now c.args.mail.now.mails c.args.to c.soonest.result c.soonest.ensures c.in-Some.moment (sym c.before-2.ensures ∙ c.in-Some.is))
-    (skipped c.args.system.now c.in-Some.moment c.args.self.now) c.turn_at.new.self refl (Ok c.in-Ok.ends) c.in-Ok.ensures.state g.S.Sink.takes c.args.sink.now c.turn_at.new.sink c.in-Ok.ensures.rows
+    (skipped c.args.system.now c.in-Some.moment c.args.self.now) c.turn_at.new.self refl c.in-Ok.ensures.state g.S.Sink.takes c.args.sink.now c.turn_at.new.sink c.in-Ok.ensures.rows
 
 pub returns-in-Ok-clause-signals : goal.returns-in-Ok-clause-signals
 returns-in-Ok-clause-signals g c =
     stretch-told c.args.system.now c.args.self.now c.args.mail.now.mails c.in-Some.moment (busy-later c.args.system.now c.args.self.now c.args.mail.now.mails c.args.to c.soonest.result c.soonest.ensures c.in-Some.moment (sym c.before-2.ensures ∙ c.in-Some.is)) (quiet-first c.args.system.now c.args.self.now c.args.mail.now.mails c.args.to c.soonest.result c.soonest.ensures c.in-Some.moment (sym c.before-2.ensures ∙ c.in-Some.is))
-    (skipped c.args.system.now c.in-Some.moment c.args.self.now) c.turn_at.new.self refl (Ok c.in-Ok.ends) c.in-Ok.ensures.state (λ (made : Ran). made.mails) c.args.signals.now.items c.turn_at.new.signals.items c.in-Ok.ensures.signals
+    (skipped c.args.system.now c.in-Some.moment c.args.self.now) c.turn_at.new.self refl c.in-Ok.ensures.state (λ (made : Ran). made.mails) c.args.signals.now.items c.turn_at.new.signals.items c.in-Ok.ensures.signals
 
 pub returns-in-Ok-clause-mail : goal.returns-in-Ok-clause-mail
 returns-in-Ok-clause-mail g c =
     stretch-told c.args.system.now c.args.self.now c.args.mail.now.mails c.in-Some.moment (busy-later c.args.system.now c.args.self.now c.args.mail.now.mails c.args.to c.soonest.result c.soonest.ensures c.in-Some.moment (sym c.before-2.ensures ∙ c.in-Some.is)) (quiet-first c.args.system.now c.args.self.now c.args.mail.now.mails c.args.to c.soonest.result c.soonest.ensures c.in-Some.moment (sym c.before-2.ensures ∙ c.in-Some.is))
-    (skipped c.args.system.now c.in-Some.moment c.args.self.now) c.turn_at.new.self refl (Ok c.in-Ok.ends) c.in-Ok.ensures.state (λ (made : Ran). made.box) [] c.turn_at.new.mail.mails c.in-Ok.ensures.mail
+    (skipped c.args.system.now c.in-Some.moment c.args.self.now) c.turn_at.new.self refl c.in-Ok.ensures.state (λ (made : Ran). made.box) [] c.turn_at.new.mail.mails c.in-Ok.ensures.mail
 
 pub returns-in-Ok-clause-last : goal.returns-in-Ok-clause-last
 returns-in-Ok-clause-last g c =
     stretch-last c.args.system.now c.args.self.now c.args.mail.now.mails c.in-Some.moment (busy-later c.args.system.now c.args.self.now c.args.mail.now.mails c.args.to c.soonest.result c.soonest.ensures c.in-Some.moment (sym c.before-2.ensures ∙ c.in-Some.is)) (quiet-first c.args.system.now c.args.self.now c.args.mail.now.mails c.args.to c.soonest.result c.soonest.ensures c.in-Some.moment (sym c.before-2.ensures ∙ c.in-Some.is))
-    (skipped c.args.system.now c.in-Some.moment c.args.self.now) c.turn_at.new.self refl (Ok c.in-Ok.ends) c.in-Ok.ensures.state
+    (skipped c.args.system.now c.in-Some.moment c.args.self.now) c.turn_at.new.self refl c.in-Ok.ensures.state
 
 pub returns-in_default-clause-last : goal.returns-in_default-clause-last
 returns-in_default-clause-last g c =

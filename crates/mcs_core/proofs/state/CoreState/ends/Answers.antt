@@ -1,11 +1,11 @@
-use Rattle.std.proofs.Common.{◌≡◌, ℕ, refl, sym, subst, false}
-use Rattle.std.specs.Prelude.{Option, IfSome}
+use Rattle.std.proofs.Common.{ℕ, refl, sym, subst}
+use Rattle.std.specs.Prelude.{Option}
 use Rattle.mcs_ticks.specs.Queue.{first_of}
 use Rattle.mcs_system.specs.System.{System}
 use Rattle.mcs_core.specs.Busy.{IsFirst, IsBest, GoesOnAfter}
 use Rattle.mcs_core.specs.Core.{Core}
-use Rattle.mcs_core.specs.State.{State, Fits}
-use Rattle.mcs_core.specs.stored.Ends.{IsEnd, IsUnspent}
+use Rattle.mcs_core.specs.State.{State}
+use Rattle.mcs_core.specs.stored.Ends.{IsEnd}
 use Rattle.mcs_core.specs.stored.Sound.Phase.{Between}
 use Rattle.mcs_core.proofs.Ends.{unspent}
 use Rattle.mcs_core.proofs.Firsts.{first-both}
@@ -14,12 +14,10 @@ use Rattle.mcs_core.proofs.state.CoreState.ends.Goals as goal
 
 pub next_end-requires : goal.next_end-requires
 next_end-requires c =
-    let F : State → Type 0 = λ s. Fits c.args.system.now s in
-    let G : State → Type 0 = λ s. s.failed ≡ false in
-    let fits = subst F (sym c.self.view_is) c.requires.fits in
-    let going = subst G (sym c.self.view_is) c.requires.going in
-    let U : System → Type 0 = λ s. IfSome c.self.inside.local.running (IsUnspent s c.self.inside.local) in
-    subst U (sym c.parts.ensures.same) (unspent c.args.system.now c.self.inside.number c.self.inside.clock (one-each c.args.system.now c.parts.ensures.well_formed) Between c.self.inside.local refl (fits.sound going))
+    let fits = rw (← c.self.view_is) at c.requires.fits in
+    let going = rw (← c.self.view_is) at c.requires.going in
+    rw c.parts.ensures.same
+    (unspent c.args.system.now c.self.inside.number c.self.inside.clock (one-each c.args.system.now c.parts.ensures.well_formed) Between c.self.inside.local refl (fits.sound going))
 
 pub returns : goal.returns
 returns c =

@@ -1,57 +1,43 @@
-use Rattle.std.proofs.Common.{◌≡◌, ℕ, ◌≤◌, ◌-◌, [], refl, sym, ap, subst, ◌∙◌, false, arith}
-use Rattle.mcs_ticks.specs.Queue.{by_priority}
+use Rattle.std.proofs.Common.{◌≡◌, ℕ, ◌-◌, [], ap, subst, ◌∙◌, arith}
 use Rattle.mcs_core.specs.Core.{Core}
 use Rattle.mcs_system.specs.System.{System}
-use Rattle.mcs_core.specs.Busy.{counted_for}
-use Rattle.mcs_core.specs.Quiet.{AreQuietWith, counted_times}
-use Rattle.mcs_core.specs.State.{State, Fits}
+use Rattle.mcs_core.specs.Quiet.{counted_times}
+use Rattle.mcs_core.specs.State.{State}
 use Rattle.mcs_core.proofs.QuietAlike.{quiet-of-one-list, counted-of-one-list}
 use Rattle.mcs_core.proofs.Skips.{counts-fit, counts-many, skipped-fits}
 use Rattle.mcs_core.proofs.state.CoreState.skip.Goals as goal
 
 pub count_many-requires-clause-fits : goal.count_many-requires-clause-fits
 count_many-requires-clause-fits c =
-    let F : State → Type 0 = λ s. Fits c.args.system.now s in
-    let G : State → Type 0 = λ s. s.failed ≡ false in
-    let fits = subst F (sym c.self.view_is) c.requires.fits in
-    let going = subst G (sym c.self.view_is) c.requires.going in
+    let fits = rw (← c.self.view_is) at c.requires.fits in
+    let going = rw (← c.self.view_is) at c.requires.going in
     counts-fit c.args.system.now c.self.inside.number c.parts-parts.ensures.well_formed (c.get.result - c.get-2.result) c.self.inside.clock c.self.inside.local (fits.sound going) (omega arith)
 
 pub returns-clause-state : goal.returns-clause-state
 returns-clause-state c =
     let system : System = c.args.system.now in
-    let F : State → Type 0 = λ s. Fits system s in
-    let G : State → Type 0 = λ s. s.failed ≡ false in
     let P : State → Type 0 = λ s.
     record { number = c.self.inside.number; clock = c.args.to; core = c.count_many.new.self; orders = c.self.inside.agenda; delays = c.self.inside.delays; failed = c.self.inside.failed }
     ≡ record s { clock = c.args.to; core = counted_times system s.number (c.args.to - s.clock) s.core } in
-    let fits = subst F (sym c.self.view_is) c.requires.fits in
-    let going = subst G (sym c.self.view_is) c.requires.going in
-    let ticks : c.get.result - c.get-2.result ≡ c.args.to - c.self.inside.clock = omega arith in
-    let many = counts-many system c.self.inside.number c.parts-parts.ensures.well_formed (c.args.to - c.self.inside.clock) c.self.inside.clock c.self.inside.local (fits.sound going) in
-    let core : c.count_many.new.self ≡ counted_times system c.self.inside.number (c.args.to - c.self.inside.clock) c.self.inside.local =
-    c.count_many.ensures ∙ ap (λ n. counted_for n c.self.inside.local.running c.self.inside.local) ticks ∙ sym many in
+    let fits = rw (← c.self.view_is) at c.requires.fits in
+    let going = rw (← c.self.view_is) at c.requires.going in
+    let core = counts-many system c.self.inside.number c.parts-parts.ensures.well_formed (c.args.to - c.self.inside.clock) c.self.inside.clock (c.get.result - c.get-2.result)
+    c.self.inside.local c.count_many.new.self (fits.sound going) (omega arith) c.count_many.ensures in
     subst P c.self.view_is
     (ap (λ (k : Core). let made : State = record { number = c.self.inside.number; clock = c.args.to; core = k; orders = c.self.inside.agenda; delays = c.self.inside.delays; failed = c.self.inside.failed } in made) core)
 
 pub returns-clause-fits : goal.returns-clause-fits
 returns-clause-fits c =
     let system : System = c.args.system.now in
-    let F : State → Type 0 = λ s. Fits system s in
-    let G : State → Type 0 = λ s. s.failed ≡ false in
-    let L : State → Type 0 = λ s. s.clock ≤ c.args.to in
-    let A : State → Type 0 = λ s. AreQuietWith by_priority system s.number s.clock [] s.core (c.args.to - s.clock) in
-    let fits = subst F (sym c.self.view_is) c.requires.fits in
-    let going = subst G (sym c.self.view_is) c.requires.going in
-    let later = subst L (sym c.self.view_is) c.requires.later in
-    let quiet = subst A (sym c.self.view_is) c.requires.quiet in
-    let ticks : c.get.result - c.get-2.result ≡ c.args.to - c.self.inside.clock = omega arith in
-    let many = counts-many system c.self.inside.number c.parts-parts.ensures.well_formed (c.args.to - c.self.inside.clock) c.self.inside.clock c.self.inside.local (fits.sound going) in
-    let core : c.count_many.new.self ≡ counted_times system c.self.inside.number (c.args.to - c.self.inside.clock) c.self.inside.local =
-    c.count_many.ensures ∙ ap (λ n. counted_for n c.self.inside.local.running c.self.inside.local) ticks ∙ sym many in
-    skipped-fits system c.self.inside.number c.parts-parts.ensures.well_formed
+    let fits = rw (← c.self.view_is) at c.requires.fits in
+    let going = rw (← c.self.view_is) at c.requires.going in
+    let later = rw (← c.self.view_is) at c.requires.later in
+    let quiet = rw (← c.self.view_is) at c.requires.quiet in
+    let core = counts-many system c.self.inside.number c.parts-parts.ensures.well_formed (c.args.to - c.self.inside.clock) c.self.inside.clock (c.get.result - c.get-2.result)
+    c.self.inside.local c.count_many.new.self (fits.sound going) (omega arith) c.count_many.ensures in
+    skipped-fits system c.parts-parts.ensures.well_formed
     (record { number = c.self.inside.number; clock = c.self.inside.clock; core = c.self.inside.local; orders = c.self.inside.agenda; delays = c.self.inside.delays; failed = c.self.inside.failed })
-    c.args.to c.count_many.new.self refl fits going later c.requires.in_time quiet core
+    c.args.to c.count_many.new.self fits going later c.requires.in_time quiet core
 
 pub returns-clause-one_list : goal.returns-clause-one_list
 returns-clause-one_list c core e =

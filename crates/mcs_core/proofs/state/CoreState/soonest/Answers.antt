@@ -1,13 +1,12 @@
-use Rattle.std.proofs.Common.{rules, ◌≡◌, ◌∙◌, ℕ, ap, sym, subst, false, List}
-use Rattle.std.specs.Prelude.{All, Option}
+use Rattle.std.proofs.Common.{rules, ◌≡◌, ◌∙◌, ℕ, ap, sym, subst, List}
+use Rattle.std.specs.Prelude.{Option}
 use Rattle.mcs_ticks.specs.Queue.{by_priority}
 use Rattle.mcs_mail.specs.declared.mail.Mail.{Mail}
 use Rattle.mcs_core.specs.Core.{Core}
 use Rattle.mcs_system.specs.System.{System}
 use Rattle.mcs_ticks.specs.Soonest.{sooner}
-use Rattle.mcs_core.specs.stored.Ends.{IsEnd}
 use Rattle.mcs_core.specs.Quiet.{IsNextBusyWith}
-use Rattle.mcs_core.specs.State.{State, Fits, IsExpected}
+use Rattle.mcs_core.specs.State.{State}
 use Rattle.mcs_core.proofs.Skips.{IsEarlyTick, next-busy-of}
 use Rattle.mcs_core.proofs.state.CoreState.soonest.Goals as goal
 
@@ -19,14 +18,10 @@ returns c =
     let clock : ℕ = c.self.inside.clock in
     let core : Core = c.self.inside.local in
     let P : State → Type 0 = λ s. IsNextBusyWith by_priority system s.number s.clock mails s.core c.or-3.result in
-    let F : State → Type 0 = λ s. Fits system s in
-    let G : State → Type 0 = λ s. s.failed ≡ false in
-    let E : State → Type 0 = λ s. All (IsExpected system s) mails in
-    let fits = subst F (sym c.self.view_is) c.requires.fits in
-    let going = subst G (sym c.self.view_is) c.requires.going in
-    let expected = subst E (sym c.self.view_is) c.requires.expected in
-    let B : State → Type 0 = λ s. IsEnd system s.clock s.core c.args.ends in
-    let ends : IsEnd system clock core c.args.ends = subst B (sym c.self.view_is) c.requires.ends in
+    let fits = rw (← c.self.view_is) at c.requires.fits in
+    let going = rw (← c.self.view_is) at c.requires.going in
+    let expected = rw (← c.self.view_is) at c.requires.expected in
+    let ends = rw (← c.self.view_is) at c.requires.ends in
     let early_date : IsEarlyTick c.next_date-date.result = search rules in
     let early_order : IsEarlyTick c.next-order.result = search rules in
     let early_arrival : IsEarlyTick c.soonest-arrival.result = search rules in

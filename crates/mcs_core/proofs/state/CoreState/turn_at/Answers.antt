@@ -1,5 +1,5 @@
 use Rattle.std.proofs.Common.{ℕ, ◌≡◌, ◌+◌, ◌-◌, ◌≤◌, [], false, sym, ap, ◌∙◌, subst, arith, rules}
-use Rattle.std.specs.Prelude.{All, None}
+use Rattle.std.specs.Prelude.{None}
 use Rattle.mcs_mail.specs.Box.{arriving}
 use Rattle.mcs_ticks.proofs.Givens.{given-same}
 use Rattle.mcs_ticks.specs.Queue.{by_priority}
@@ -11,7 +11,7 @@ use Rattle.mcs_core.specs.Turn.{stamped, turn}
 use Rattle.mcs_core.specs.stored.Ends.{IsEnd}
 use Rattle.mcs_core.specs.stored.Sound.{IsSound}
 use Rattle.mcs_core.specs.stored.Sound.Phase.{Between}
-use Rattle.mcs_core.specs.State.{State, Fits, IsExpected, made_by, state_after, skipped}
+use Rattle.mcs_core.specs.State.{State, Fits, made_by, state_after, skipped}
 use Rattle.mcs_core.specs.stored.Parts.{CanTurn}
 use Rattle.mcs_core.proofs.Ends.{goes-before, not-come}
 use Rattle.mcs_core.proofs.Runs.{left-turn}
@@ -22,16 +22,11 @@ pub turn-requires-clause-can : goal.turn-requires-clause-can
 turn-requires-clause-can g c =
     let state : State = record { number = c.self.inside.number; clock = c.self.inside.clock; core = c.self.inside.local; orders = c.self.inside.agenda; delays = c.self.inside.delays; failed = c.self.inside.failed } in
     let system : System = c.args.system.now in
-    let F : State → Type 0 = λ s. Fits system s in
-    let G : State → Type 0 = λ s. s.failed ≡ false in
-    let L : State → Type 0 = λ s. s.clock ≤ c.args.moment in
-    let A : State → Type 0 = λ s. AreQuietWith by_priority system s.number s.clock [] s.core (c.args.moment - s.clock) in
-    let E : State → Type 0 = λ s. All (IsExpected system (skipped system c.args.moment s)) c.args.mail.now.mails in
-    let fits : Fits system state = subst F (sym c.self.view_is) c.requires.fits in
-    let going : state.failed ≡ false = subst G (sym c.self.view_is) c.requires.going in
-    let later : state.clock ≤ c.args.moment = subst L (sym c.self.view_is) c.requires.later in
-    let quiet = subst A (sym c.self.view_is) c.requires.quiet in
-    let expected = subst E (sym c.self.view_is) c.requires.expected in
+    let fits : Fits system state = rw (← c.self.view_is) at c.requires.fits in
+    let going : state.failed ≡ false = rw (← c.self.view_is) at c.requires.going in
+    let later : state.clock ≤ c.args.moment = rw (← c.self.view_is) at c.requires.later in
+    let quiet = rw (← c.self.view_is) at c.requires.quiet in
+    let expected = rw (← c.self.view_is) at c.requires.expected in
     let many : c.get.result - c.get-2.result ≡ c.args.moment - c.self.inside.clock = omega arith in
     let P : System → Type 0 = λ s. CanTurn s state.number c.args.moment state.delays (c.get.result - c.get-2.result) state.orders c.args.mail.now.mails state.core in
     subst P (sym c.parts.ensures.same)
@@ -41,10 +36,8 @@ pub turn-requires-clause-goes : goal.turn-requires-clause-goes
 turn-requires-clause-goes g c e =
     let core : Core = c.self.inside.local in
     let clock : ℕ = c.self.inside.clock in
-    let L : State → Type 0 = λ s. s.clock ≤ c.args.moment in
-    let B : State → Type 0 = λ s. IsEnd c.args.system.now s.clock s.core c.args.ends in
-    let later : clock ≤ c.args.moment = subst L (sym c.self.view_is) c.requires.later in
-    let ends : IsEnd c.args.system.now clock core c.args.ends = subst B (sym c.self.view_is) c.requires.ends in
+    let later : clock ≤ c.args.moment = rw (← c.self.view_is) at c.requires.later in
+    let ends : IsEnd c.args.system.now clock core c.args.ends = rw (← c.self.view_is) at c.requires.ends in
     let many : c.args.moment ≡ clock + (c.get.result - c.get-2.result) = omega arith in
     let P : System → Type 0 = λ s. GoesOnAfter s (c.get.result - c.get-2.result) core.running core in
     subst P (sym c.parts.ensures.same)
@@ -62,18 +55,16 @@ module _ (g : _) (c : goal.After-self-1 g) where
   quiets = c.get.result - c.get-2.result
 
   fits : Fits c.args.system.now kept
-  fits = let P : State → Type 0 = λ s. Fits c.args.system.now s in subst P (sym c.self.view_is) c.requires.fits
+  fits = rw (← c.self.view_is) at c.requires.fits
 
   going : kept.failed ≡ false
-  going = let P : State → Type 0 = λ s. s.failed ≡ false in subst P (sym c.self.view_is) c.requires.going
+  going = rw (← c.self.view_is) at c.requires.going
 
   later : kept.clock ≤ c.args.moment
-  later = let P : State → Type 0 = λ s. s.clock ≤ c.args.moment in subst P (sym c.self.view_is) c.requires.later
+  later = rw (← c.self.view_is) at c.requires.later
 
   quiet : AreQuietWith by_priority c.args.system.now kept.number kept.clock [] kept.core (c.args.moment - kept.clock)
-  quiet =
-      let P : State → Type 0 = λ s. AreQuietWith by_priority c.args.system.now s.number s.clock [] s.core (c.args.moment - s.clock) in
-      subst P (sym c.self.view_is) c.requires.quiet
+  quiet = rw (← c.self.view_is) at c.requires.quiet
 
   many : quiets ≡ c.args.moment - kept.clock
   many = omega arith
