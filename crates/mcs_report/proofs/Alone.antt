@@ -1,11 +1,10 @@
 -- What a row does to the accounts, it does to each account alone.
-use Rattle.std.proofs.Common.{◌≡◌, ℕ, suc, zero, ◌+◌, ◌<◌, Bool, true, false, Option, eqb, cond, if◌then◌else◌, ◌==◌, List, [], ◌∷◌, get_or, set, fold, refl, sym, ap, ◌∙◌, arith}
+use Rattle.std.proofs.Common.{◌≡◌, ℕ, suc, zero, ◌+◌, ◌<◌, Option, if◌then◌else◌, ◌==◌, List, [], ◌∷◌, get_or, set, fold, refl, sym, ap, ◌∙◌, arith}
 use Rattle.std.proofs.lemmas.Bool.Decides.{nat_tests}
 use Rattle.mcs_ticks.specs.declared.row.Row.{Row}
 use Rattle.mcs_ticks.specs.declared.row.What.{What}
 use Rattle.mcs_ticks.specs.declared.row.What.TheVariants as row
 use Rattle.mcs_ticks.specs.declared.row.Why.{Why}
-use Rattle.mcs_ticks.specs.declared.row.Why.TheVariants as why
 use Rattle.mcs_report.specs.declared.account.Account.{Account}
 use Rattle.mcs_report.specs.stored.CoreTally.{reopened}
 use Rattle.mcs_report.specs.Tally.{Tally, no_account, begun, stopped, responded, told, added}
@@ -21,19 +20,11 @@ abbrev pub told_alone : ℕ → ℕ → Account → Row → Account
 told_alone horizon number account r = alone horizon number r.moment r.what account
 
 -- a row changes neither core nor deadline of an account
-reopened_if : (b : Bool) (a c : Account) → reopened a ≡ reopened c → reopened (cond b a c) ≡ reopened c
-reopened_if true a c e = e
-reopened_if false a c e = refl
-
 pub reopened-stopped : (h m : ℕ) (cause : Why) (until : Option ℕ) (a : Account) → reopened (stopped h m cause until a) ≡ reopened a
-reopened-stopped h m why.Spent until a = refl
-reopened-stopped h m cause until a = refl
+reopened-stopped h m cause until a = grind arith
 
 pub reopened-alone : (h x m : ℕ) (what : What) (a : Account) → reopened (alone h x m what a) ≡ reopened a
-reopened-alone h x m (row.Run y) a = reopened_if (eqb y x) (begun m a) a refl
-reopened-alone h x m (row.Stop y cause charged until) a = reopened_if (eqb y x) (stopped h m cause until a) a (reopened-stopped h m cause until a)
-reopened-alone h x m (row.Round y number response) a = reopened_if (eqb y x) (responded response a) a refl
-reopened-alone h x m what a = refl
+reopened-alone h x m what a = grind arith
 
 -- each element with its number
 abbrev pub each_from : {A B : Type 0} → ℕ → (ℕ → A → B) → List A → List B

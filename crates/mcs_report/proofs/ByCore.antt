@@ -1,14 +1,12 @@
 -- The rows of each core may be counted by themselves.
-use Rattle.std.proofs.Common.{◌≡◌, ◌≢◌, ℕ, zero, suc, ◌+◌, ◌-◌, ◌<◌, ◌≤◌, Bool, true, false, ◌==◌, ◌⊎◌, inl, inr, List, [], ◌∷◌, ◌++◌, length, get_or, refl, sym, ap, subst, ◌∙◌, append_assoc, arith}
+use Rattle.std.proofs.Common.{◌≡◌, ◌≢◌, ℕ, zero, suc, ◌+◌, ◌-◌, ◌<◌, ◌≤◌, true, false, inl, inr, List, [], ◌∷◌, ◌++◌, length, get_or, refl, sym, ap, subst, ◌∙◌, append_assoc, arith}
 use Rattle.std.specs.Prelude.{filter, fold, flat_map, slice_index}
 use Rattle.std.specs.List.{range_with_len}
-use Rattle.std.proofs.lemmas.Bool.{cases_lt}
-use Rattle.std.proofs.lemmas.Bool.Decides.{nat_tests}
+use Rattle.std.proofs.lemmas.Bool.{cases_lt, cases_eq}
 use Rattle.std.proofs.lemmas.List.{ext_get_or, length-map}
 use Rattle.std.proofs.lemmas.List.Sums.{fold-append}
 use Rattle.mcs_ticks.specs.declared.row.Row.{Row}
 use Rattle.mcs_ticks.specs.declared.row.What.{What}
-use Rattle.mcs_ticks.specs.declared.row.What.TheVariants as row
 use Rattle.mcs_system.proofs.Linked.{takes_time}
 use Rattle.mcs_system.specs.System.{System, TakesTime}
 use Rattle.mcs_system.specs.WellFormed.{IsWellFormed}
@@ -23,10 +21,10 @@ use Rattle.mcs_report.specs.laws.Agreement.{tally_of}
 use Rattle.mcs_report.specs.laws.ByCore.{home_of, rows_within, CountsNone, CountsMore, CountsAll, CoresAreCounted}
 use Rattle.mcs_report.proofs.Alone.{alone, told_alone, each_from, accounts-fold, horizon-fold, cores-fold}
 use Rattle.mcs_report.proofs.Agree.{same_tally}
-use Rattle.mcs_report.proofs.Walks.{ArePlain}
+use Rattle.mcs_report.proofs.Walks.{plain}
 use Rattle.mcs_laws.proofs.Homes.{own_core, own_core_known, away}
 use Rattle.mcs_report.proofs.Schedules.{turn-plain, reported}
-use Rattle.mcs_report.proofs.Rounds.{ends_round, AreRoundless, turn-roundless}
+use Rattle.mcs_report.proofs.Rounds.{ends_round, roundless, turn-roundless}
 
 -- folding over the parts of a range, in order
 module _ {A B : Type 0} (f : B → A → B) (g : ℕ → List A) where
@@ -44,48 +42,42 @@ module _ {A B : Type 0} (f : B → A → B) (g : ℕ → List A) where
   fold-one home zero a l m silent b = absurd (omega arith)
   fold-one home (suc n) a l m silent b =
       fold-append f b (g a) (flat_map g (range_with_len (a + 1) n))
-      ∙ by (cases_lt a home) (λ less. fold-one home n (a + 1) (omega arith) (omega arith) (λ c p q r. silent c (omega arith) (omega arith) r))
-    where
-      by : (a < home) ⊎ (home ≤ a) → (a < home → (d : B) → fold f d (flat_map g (range_with_len (a + 1) n)) ≡ fold f d (g home))
-          → fold f (fold f b (g a)) (flat_map g (range_with_len (a + 1) n)) ≡ fold f b (g home)
-      by (inl less) rest = rest less (fold f b (g a)) ∙ ap (λ d. fold f d (g home)) (silent a (omega arith) (omega arith) (omega arith) b)
-      by (inr at) rest =
-          let here : a ≡ home = omega arith in
-          fold-silent n (a + 1) (λ c p q. silent c (omega arith) (omega arith) (omega arith)) (fold f b (g a)) ∙ ap (λ c. fold f b (g c)) here
+      ∙ elim (cases_lt a home) [
+        | inl less ↦
+            fold-one home n (a + 1) (omega arith) (omega arith) (λ c p q r. silent c (omega arith) (omega arith) r) (fold f b (g a))
+            ∙ ap (λ d. fold f d (g home)) (silent a (omega arith) (omega arith) (omega arith) b)
+        | inr at ↦
+            let here : a ≡ home = omega arith in
+            fold-silent n (a + 1) (λ c p q. silent c (omega arith) (omega arith) (omega arith)) (fold f b (g a)) ∙ ap (λ c. fold f b (g c)) here
+      ]
 
--- stretches join, the first from any number, or from 0
+-- stretches join, the first from any number
 range-join : {A : Type 0} (g : ℕ → List A) (m n a : ℕ) → flat_map g (range_with_len a m) ++ flat_map g (range_with_len (a + m) n) ≡ flat_map g (range_with_len a (m + n))
 range-join g zero n a = ap (λ b. flat_map g (range_with_len b n)) (omega arith) ∙ ap (λ k. flat_map g (range_with_len a k)) (omega arith)
 range-join g (suc m) n a =
     let next : a + suc m ≡ a + 1 + m = omega arith in
-    let count : suc (m + n) ≡ suc m + n = omega arith in
-    append_assoc (g a) (flat_map g (range_with_len (a + 1) m)) (flat_map g (range_with_len (a + suc m) n))
-    ∙ ap (λ b. g a ++ (flat_map g (range_with_len (a + 1) m) ++ flat_map g (range_with_len b n))) next
-    ∙ ap (λ xs. g a ++ xs) (range-join g m n (a + 1))
-    ∙ ap (λ k. flat_map g (range_with_len a k)) count
-
-from_first : {A : Type 0} (g : ℕ → List A) (m n b k : ℕ) → b ≡ 0 + m → m + n ≡ k → flat_map g (range_with_len 0 m) ++ flat_map g (range_with_len b n) ≡ flat_map g (range_with_len 0 k)
-from_first g m n b k e f =
-    ap (λ c. flat_map g (range_with_len 0 m) ++ flat_map g (range_with_len c n)) e
-    ∙ range-join g m n 0
-    ∙ ap (λ l. flat_map g (range_with_len 0 l)) f
+    let count : suc m + n ≡ suc (m + n) = omega arith in
+    rw (next, count, append_assoc (g a)) (ap (λ xs. g a ++ xs) (range-join g m n (a + 1)))
 
 within-join : (system : System) (c s past : ℕ) → s ≤ past → rows_within system c 0 s ++ rows_within system c s past ≡ rows_within system c 0 past
-within-join system c s past l = from_first (clocks.rows_of system c) (s - 0) (past - s) s (past - 0) (omega arith) (omega arith)
+within-join system c s past l =
+    let start : 0 + (s - 0) ≡ s = omega arith in
+    let count : s - 0 + (past - s) ≡ past - 0 = omega arith in
+    cc (range-join (clocks.rows_of system c) (s - 0) (past - s) 0)
 
 -- what a row says to the account of another thread
 module _ (h x : ℕ) where
   row-silent : (m : ℕ) (what : What) (a : Account) → runs x what ≡ false → stops x what ≡ false → ends_round x what ≡ false → alone h x m what a ≡ a
-  row-silent m (row.Run y) a e f g = rw e refl
-  row-silent m (row.Stop y cause charged until) a e f g = rw f refl
-  row-silent m (row.Round y number response) a e f g = rw g refl
-  row-silent m what a e f g = refl
+  row-silent m what a e f g = grind (arith, e, f, g)
 
-  rows-silent : (c t : ℕ) (whats : List What) → ArePlain x whats → AreRoundless x whats → (a : Account) → fold (told_alone h x) a (stamped c t whats) ≡ a
-  rows-silent c t [] plain roundless a = refl
-  rows-silent c t (what ∷ whats) plain roundless a =
-      ap (λ b. fold (told_alone h x) b (stamped c t whats)) (row-silent t what a plain.0 plain.1 roundless.0)
-      ∙ rows-silent c t whats plain.2 roundless.1 a
+  rows-silent : (c t : ℕ) (whats : List What) → plain x whats ≡ true → roundless x whats ≡ true → (a : Account) → fold (told_alone h x) a (stamped c t whats) ≡ a
+  rows-silent c t [] quiet rounds a = refl
+  rows-silent c t (what ∷ whats) quiet rounds a =
+      let run : runs x what ≡ false = grind (arith, quiet) in
+      let stop : stops x what ≡ false = grind (arith, quiet) in
+      let rest : plain x whats ≡ true = grind (arith, quiet) in
+      let round : ends_round x what ≡ false = grind (arith, rounds) in
+      ap (λ b. fold (told_alone h x) b (stamped c t whats)) (row-silent t what a run stop round) ∙ rows-silent c t whats rest (grind (arith, rounds)) a
 
 -- each account of a tally
 get_or-each : {A B : Type 0} (f : ℕ → A → B) (d : A) (e : B) (n i j : ℕ) (xs : List A) → i < length xs → n + i ≡ j → get_or (each_from n f xs) i e ≡ f j (get_or xs i d)
@@ -123,7 +115,7 @@ module _ (system : System) (takes_time : TakesTime system) (h x : ℕ) where
   turn-silent t c known other a =
       rows-silent h x c t (clocks.turn_of system c t).rows
       (turn-plain system takes_time x t c known other)
-      (subst (λ (made : Turn). AreRoundless x made.rows) (sym (turn_of-kept system c t))
+      (subst (λ (made : Turn). roundless x made.rows ≡ true) (sym (turn_of-kept system c t))
       (turn-roundless system c t x (filter (clocks.arrives_at system t c) (clocks.world system t).mails) (clocks.core_shown system (clocks.world system t) c) (away system takes_time x t c known other)))
       a
 
@@ -177,33 +169,30 @@ counts-more system well h c past pasts later tally known before there others cou
           account-fold rows tally x (omega (arith, counts.many_are))
           ∙ ap (λ k. fold (told_alone k x) (get_or tally.accounts x no_account) rows) counts.horizon_is
           ∙ ap (λ a. fold (told_alone h x) a rows) (counts.own x in_threads ∙ account-rows system h x (rows_within system (home_of system x) 0 (slice_index pasts (home_of system x))) in_threads)
-          ∙ by x (home_of system x == c) refl
+          ∙ by x
           ∙ sym (account-rows system h x (rows_within system (home_of system x) 0 (slice_index later (home_of system x))) in_threads);
     }
   where
     rows : List Row
     rows = rows_within system c (slice_index pasts c) past
 
-    by : (x : ℕ) (b : Bool) → (home_of system x == c) ≡ b
-        → fold (told_alone h x) (fold (told_alone h x) (first_account system h x) (rows_within system (home_of system x) 0 (slice_index pasts (home_of system x)))) rows
+    by : (x : ℕ) → fold (told_alone h x) (fold (told_alone h x) (first_account system h x) (rows_within system (home_of system x) 0 (slice_index pasts (home_of system x)))) rows
         ≡ fold (told_alone h x) (first_account system h x) (rows_within system (home_of system x) 0 (slice_index later (home_of system x)))
-    by x true e =
-        let same : home_of system x ≡ c = grind (arith, nat_tests) in
-        let told = told_alone h x in
-        let first = first_account system h x in
-        ap (λ k. fold told (fold told first (rows_within system k 0 (slice_index pasts k))) rows) same
-        ∙ sym (fold-append told first (rows_within system c 0 (slice_index pasts c)) rows)
-        ∙ ap (fold told first) (within-join system c (slice_index pasts c) past before)
-        ∙ ap (λ n. fold told first (rows_within system c 0 n)) (sym there)
-        ∙ ap (λ k. fold told first (rows_within system k 0 (slice_index later k))) (sym same)
-    by x false e =
+    by x =
         let home = home_of system x in
-        let other : home_of system x ≢ c = grind (arith, nat_tests) in
-        let another : c ≢ home_of system x = grind (arith, nat_tests) in
         let told = told_alone h x in
         let first = first_account system h x in
-        within-silent system (takes_time system well) h x c (slice_index pasts c) past known another (fold told first (rows_within system home 0 (slice_index pasts home)))
-        ∙ ap (λ n. fold told first (rows_within system home 0 n)) (sym (others home (home_known system well x) other))
+        elim (cases_eq home c) [
+          | inl same ↦
+              ap (λ k. fold told (fold told first (rows_within system k 0 (slice_index pasts k))) rows) same
+              ∙ sym (fold-append told first (rows_within system c 0 (slice_index pasts c)) rows)
+              ∙ ap (fold told first) (within-join system c (slice_index pasts c) past before)
+              ∙ ap (λ n. fold told first (rows_within system c 0 n)) (sym there)
+              ∙ ap (λ k. fold told first (rows_within system k 0 (slice_index later k))) (sym same)
+          | inr other ↦
+              within-silent system (takes_time system well) h x c (slice_index pasts c) past known (λ e. other (sym e)) (fold told first (rows_within system home 0 (slice_index pasts home)))
+              ∙ ap (λ n. fold told first (rows_within system home 0 n)) (sym (others home (home_known system well x) other))
+        ]
 
 same_finished : (a b : Tally) → a.horizon ≡ b.horizon → a.cores ≡ b.cores → a.accounts ≡ b.accounts → finished a ≡ finished b
 same_finished a b horizon cores accounts = ap finished (same_tally (record a { last = b.last }) b horizon cores refl accounts)

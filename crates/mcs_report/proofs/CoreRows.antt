@@ -1,9 +1,10 @@
 -- The account of a thread in the tally of its core is that of the whole tally, of the same rows.
-use Rattle.std.proofs.Common.{◌≡◌, ◌≢◌, ℕ, ◌<◌, Bool, true, false, cond, ◌==◌, List, [], ◌∷◌, length, get_or, map, fold, refl, sym, ap, subst, ◌∙◌, Option, Some, None, arith}
+use Rattle.std.proofs.Common.{◌≡◌, ℕ, ◌<◌, true, cond, ◌==◌, List, [], ◌∷◌, length, get_or, map, fold, refl, sym, ap, ◌∙◌, arith}
 use Rattle.std.specs.Prelude.{slice_index}
 use Rattle.std.proofs.Math.ListN as listn
 use Rattle.std.proofs.lemmas.Bool.Decides.{nat_tests}
-use Rattle.std.proofs.lemmas.List.{length-map, length-set, get_or-map, get_or-set_same, get_or-set_other}
+use Rattle.std.proofs.lemmas.Grind.{common_steps}
+use Rattle.std.proofs.lemmas.List.{length-map, get_or-map, get_or-set_same, get_or-set_other}
 use Rattle.std.proofs.lemmas.List.FromFn.{get_or-map-range_with_len, length-map-range_with_len}
 use Rattle.mcs_ticks.specs.declared.row.Row.{Row}
 use Rattle.mcs_ticks.specs.declared.row.What.{What}
@@ -18,8 +19,7 @@ use Rattle.mcs_report.specs.laws.Agreement.{tally_of}
 use Rattle.mcs_report.specs.laws.ByCore.{home_of, rows_within}
 use Rattle.mcs_report.specs.laws.CoreTallies.{GivenAreAddedByCore, AreOfCores, JoinedCount, CoreTalliesGiveReports}
 use Rattle.mcs_report.proofs.Alone.{alone, told_alone}
-use Rattle.mcs_report.proofs.Homes.{filter-at, place-here, place-within, places-differ}
-use Rattle.mcs_report.proofs.OnCore.{placed}
+use Rattle.mcs_report.proofs.Homes.{filter-at, place-within, places-differ}
 use Rattle.mcs_report.proofs.ByCore.{length-opened, account-fold, home_known, cores-counted}
 
 pub given_to_a_core : GivenAreAddedByCore
@@ -27,44 +27,24 @@ given_to_a_core before after [] g = sym g
 given_to_a_core before after (row ∷ rows) g =
     given_to_a_core g.0 after rows g.2 ∙ ap (λ tally. fold core_added tally rows) g.1.1
 
-length-changed : (o : Option ℕ) (f : Account → Account) (accounts : List Account) → length (changed_at o f accounts) ≡ length accounts
-length-changed None f accounts = refl
-length-changed (Some place) f accounts = length-set accounts place _
-
 length-told : (system : System) (c h m : ℕ) (what : What) (accounts : List Account) → length (told_at (place_on system c) h m what accounts) ≡ length accounts
-length-told system c h m (row.Run y) accounts = length-changed (place_on system c y) (begun m) accounts
-length-told system c h m (row.Stop y cause charged until) accounts = length-changed (place_on system c y) (stopped h m cause until) accounts
-length-told system c h m (row.Round y number response) accounts = length-changed (place_on system c y) (responded response) accounts
-length-told system c h m what accounts = refl
+length-told system c h m what accounts = grind (arith, common_steps)
 
 -- thread x and its core
 module _ (system : System) (x : ℕ) (known : x < length system.threads) where
-  -- what changes at the place of another thread
-  changed-other : (y : ℕ) (o : Option ℕ) (f : Account → Account) (accounts : List Account) → place_on system (core_of system (thread_part system x)) y ≡ o → y ≢ x
-      → get_or (changed_at o f accounts) (place_of system x) no_account ≡ get_or accounts (place_of system x) no_account
-  changed-other y None f accounts e other = refl
-  changed-other y (Some place) f accounts e other =
-      let p = placed system (core_of system (thread_part system x)) y place e in
-      let differ : place_of system x ≢ place_of system y = places-differ system x y known p.known (sym p.home) (λ q. other (sym q)) in
-      let away : place_of system x ≢ place = subst (λ k. place_of system x ≢ k) p.at differ in
-      get_or-set_other accounts place (place_of system x) _ no_account away
-
+  -- what changes at the place of a thread
   changed-place : (y : ℕ) (f : Account → Account) (accounts : List Account) → place_of system x < length accounts
       → get_or (changed_at (place_on system (core_of system (thread_part system x)) y) f accounts) (place_of system x) no_account
       ≡ cond (y == x) (f (get_or accounts (place_of system x) no_account)) (get_or accounts (place_of system x) no_account)
-  changed-place y f accounts within = by (y == x) refl
-    where
-      by : (b : Bool) → (y == x) ≡ b
-          → get_or (changed_at (place_on system (core_of system (thread_part system x)) y) f accounts) (place_of system x) no_account
-          ≡ cond b (f (get_or accounts (place_of system x) no_account)) (get_or accounts (place_of system x) no_account)
-      by true e =
-          let same : y ≡ x = grind (arith, nat_tests) in
-          ap (λ z. get_or (changed_at (place_on system (core_of system (thread_part system x)) z) f accounts) (place_of system x) no_account) same
-          ∙ ap (λ o. get_or (changed_at o f accounts) (place_of system x) no_account) (place-here system (core_of system (thread_part system x)) x known refl)
-          ∙ get_or-set_same accounts (place_of system x) _ no_account within
-      by false e =
-          let other : y ≢ x = grind (arith, nat_tests) in
-          changed-other y (place_on system (core_of system (thread_part system x)) y) f accounts refl other
+  changed-place y f accounts within =
+      let other = place_of system y in
+      grind (
+        arith,
+        nat_tests,
+        places-differ system x y known,
+        get_or-set_same accounts (place_of system x) (f (get_or accounts (place_of system x) no_account)) no_account within,
+        get_or-set_other accounts other (place_of system x) (f (get_or accounts other no_account)) no_account,
+      )
 
   told-place : (h m : ℕ) (what : What) (accounts : List Account) → place_of system x < length accounts
       → get_or (told_at (place_on system (core_of system (thread_part system x))) h m what accounts) (place_of system x) no_account

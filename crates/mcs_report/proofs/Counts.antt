@@ -1,16 +1,13 @@
 -- What the rows say of one thread, but for the ticks that it ran.
-use Rattle.std.proofs.Common.{◌≡◌, ℕ, ◌+◌, ◌-◌, ◌≤◌, ◌^◌, min, max, Bool, true, false, eqb, cond, if◌then◌else◌, ◌==◌, List, [], ◌∷◌, ◌++◌, length, fold, sum, count_by, Some, None, length-append, refl, sym, ap, subst, ◌∙◌, arith}
+use Rattle.std.proofs.Common.{◌≡◌, ℕ, ◌+◌, ◌-◌, ◌≤◌, ◌^◌, min, max, cond, if◌then◌else◌, ◌==◌, List, [], ◌∷◌, ◌++◌, length, fold, sum, count_by, length-append, sym, ap, subst, ◌∙◌, arith}
 use Rattle.std.proofs.lemmas.Bool.Decides.{nat_tests}
 use Rattle.std.proofs.lemmas.List.Sums.{fold-append, sum_by-cons, sum_by-append}
 use Rattle.mcs_ticks.specs.declared.row.Row.{Row}
 use Rattle.mcs_ticks.specs.declared.row.What.{What}
-use Rattle.mcs_ticks.specs.declared.row.What.TheVariants as row
-use Rattle.mcs_ticks.specs.declared.row.Why.TheVariants as why
 use Rattle.mcs_report.specs.declared.reports.ThreadReport.{ThreadReport}
 use Rattle.mcs_report.specs.declared.account.Account.{Account}
 use Rattle.mcs_ticks.specs.Capped.{capped}
 use Rattle.mcs_report.specs.Reports.{is_late, response_in, wait_in, is_spent, responses, waits}
-use Rattle.mcs_report.specs.Tally.{begun, ended, waited, responded}
 use Rattle.mcs_report.proofs.Alone.{alone, told_alone, reopened-alone}
 
 -- each number is one that is given
@@ -42,14 +39,8 @@ nothing d a g = grind arith
 pub is_given : {d : ℕ} {a b : ThreadReport} {rs ws : List ℕ} {s : ℕ} → Counts d a b rs ws s → IsGiven b
 is_given {d} {a} {b} {rs} {ws} {s} c = grind arith
 
-capped_twice : (a b c x y z : ℕ) → b ≡ capped (a + x) → c ≡ capped (b + y) → z ≡ x + y → c ≡ capped (a + z)
-capped_twice a b c x y z e f g = omega arith
-
 past_first : (a b least x : ℕ) (xs ys : List ℕ) → b ≡ capped (a + length (x ∷ xs)) → least_after b least ys ≡ fold min least ys
-past_first a b least x xs [] e = refl
-past_first a b least x xs (y ∷ ys) e =
-    let more : eqb b 0 ≡ false = grind (arith, nat_tests) in
-    ap (λ t. fold min (cond t y (min least y)) ys) more
+past_first a b least x xs ys e = grind (arith, nat_tests)
 
 least_after-append : (a b least : ℕ) (xs ys : List ℕ) → a ≤ 2 ^ 64 - 1 → b ≡ capped (a + length xs)
     → least_after b (least_after a least xs) ys ≡ least_after a least (xs ++ ys)
@@ -61,13 +52,13 @@ least_after-append a b least (x ∷ xs) ys h e =
 pub then_counts : {d : ℕ} {a b c : ThreadReport} {rs qs ws vs : List ℕ} {s t : ℕ} → IsGiven a
     → Counts d a b rs ws s → Counts d b c qs vs t → Counts d a c (rs ++ qs) (ws ++ vs) (s + t)
 then_counts {d} {a} {b} {c} {rs} {qs} {ws} {vs} {s} {t} g first second = record {
-  rounds = capped_twice a.rounds b.rounds c.rounds (length rs) (length qs) _ first.rounds second.rounds (length-append rs qs);
+  rounds = omega (arith, first.rounds, second.rounds, length-append rs qs);
   least = second.least ∙ ap (λ n. least_after b.rounds n qs) first.least ∙ least_after-append a.rounds b.rounds a.least rs qs g.rounds first.rounds;
   greatest = second.greatest ∙ ap (λ n. fold max n qs) first.greatest ∙ sym (fold-append max a.greatest rs qs);
-  total = capped_twice a.total b.total c.total (sum rs) (sum qs) _ first.total second.total (sum_by-append (λ x. x) rs qs);
-  late = capped_twice a.late b.late c.late _ _ _ first.late second.late (sum_by-append (λ x. cond (is_late d x) 1 0) rs qs);
-  spent = capped_twice a.spent b.spent c.spent s t _ first.spent second.spent refl;
-  throttled = capped_twice a.throttled b.throttled c.throttled (sum ws) (sum vs) _ first.throttled second.throttled (sum_by-append (λ x. x) ws vs);
+  total = omega (arith, first.total, second.total, sum_by-append (λ x. x) rs qs);
+  late = omega (arith, first.late, second.late, sum_by-append (λ x. cond (is_late d x) 1 0) rs qs);
+  spent = omega (arith, first.spent, second.spent);
+  throttled = omega (arith, first.throttled, second.throttled, sum_by-append (λ x. x) ws vs);
   longest = second.longest ∙ ap (λ n. fold max n vs) first.longest ∙ sym (fold-append max a.longest ws vs);
 }
 
@@ -79,36 +70,8 @@ abbrev Step : ℕ → ℕ → ℕ → What → Account → Type 0
 Step h x m what a =
     Counts a.deadline a.report (alone h x m what a).report (response_in x what) (wait_in h x m what) (spent_in x what)
 
-step_run : (b : Bool) (m : ℕ) (a : Account) → IsGiven a.report → Counts a.deadline a.report (cond b (begun m a) a).report [] [] 0
-step_run true m a g = nothing a.deadline a.report g
-step_run false m a g = nothing a.deadline a.report g
-
-step_end : (b : Bool) (m : ℕ) (a : Account) → IsGiven a.report → Counts a.deadline a.report (cond b (ended m a) a).report [] [] 0
-step_end true m a g = grind arith
-step_end false m a g = nothing a.deadline a.report g
-
-step_spent : (b : Bool) (m : ℕ) (a : Account) → IsGiven a.report
-    → Counts a.deadline a.report (cond b (waited 0 (ended m a)) a).report [] [] (cond b 1 0)
-step_spent true m a g = grind arith
-step_spent false m a g = nothing a.deadline a.report g
-
-step_wait : (b : Bool) (wait m : ℕ) (a : Account) → IsGiven a.report
-    → Counts a.deadline a.report (cond b (waited wait (ended m a)) a).report [] (cond b (wait ∷ []) []) (cond b 1 0)
-step_wait true wait m a g = grind arith
-step_wait false wait m a g = nothing a.deadline a.report g
-
-step_round : (b : Bool) (response : ℕ) (a : Account) → IsGiven a.report
-    → Counts a.deadline a.report (cond b (responded response a) a).report (cond b (response ∷ []) []) [] 0
-step_round true response a g = grind arith
-step_round false response a g = nothing a.deadline a.report g
-
 pub step : (h x m : ℕ) (what : What) (a : Account) → IsGiven a.report → Step h x m what a
-step h x m (row.Run y) a g = step_run (eqb y x) m a g
-step h x m (row.Stop y why.Spent charged None) a g = step_spent (eqb y x) m a g
-step h x m (row.Stop y why.Spent charged (Some until)) a g = step_wait (eqb y x) (min until h - m) m a g
-step h x m (row.Stop y cause charged until) a g = step_end (eqb y x) m a g
-step h x m (row.Round y number response) a g = step_round (eqb y x) response a g
-step h x m what a g = nothing a.deadline a.report g
+step h x m what a g = grind (arith, g)
 
 -- all rows
 pub counts-fold : (h x : ℕ) (rows : List Row) (a : Account) → IsGiven a.report

@@ -1,13 +1,12 @@
 -- The place of each thread among those of its core.
-use Rattle.std.proofs.Common.{◌≡◌, ◌≢◌, ℕ, zero, suc, ◌+◌, ◌<◌, ◌≤◌, Bool, true, false, cond, ◌⊎◌, inl, inr, List, [], ◌∷◌, ◌++◌, length, get_or, take, map, replicate, slice_index, slice_set, sym, ap, ◌∙◌, Some, None, arith}
-use Rattle.std.specs.Prelude.{filter, count_by, nat_lt, ◌&&◌}
+use Rattle.std.proofs.Common.{◌≡◌, ◌≢◌, ℕ, zero, suc, ◌+◌, ◌<◌, ◌≤◌, Bool, true, cond, List, [], ◌∷◌, ◌++◌, length, get_or, take, map, replicate, slice_index, slice_set, sym, ap, ◌∙◌, Some, None, arith}
+use Rattle.std.specs.Prelude.{filter, count_by}
 use Rattle.std.specs.List.{range_with_len}
-use Rattle.std.proofs.lemmas.Bool.{cases_lt}
 use Rattle.std.proofs.lemmas.Bool.Decides.{nat_tests}
 use Rattle.std.proofs.lemmas.Grind.{common_steps}
-use Rattle.std.proofs.lemmas.List.{get_or-replicate, length-replicate, length-set, length-take, get_or_default}
+use Rattle.std.proofs.lemmas.List.{get_or-replicate, length-replicate, length-set, get_or_default}
 use Rattle.std.proofs.lemmas.List.FromFn.{get_or-map-range_with_len, length-map-range_with_len, map-range_with_len_more}
-use Rattle.std.proofs.lemmas.List.Sums.{sum_by-cons, sum_by-take-le, count_by_more_yes, count_by_more_no, count_by-le-length, length-filter}
+use Rattle.std.proofs.lemmas.List.Sums.{sum_by-cons, sum_by-take-le, count_by_more_yes, count_by_more_no, length-filter}
 use Rattle.mcs_system.specs.declared.part.ThreadPart.{ThreadPart}
 use Rattle.mcs_system.specs.System.{System, thread_part, core_of, no_thread}
 use Rattle.mcs_system.specs.WellFormed.{IsWellFormed}
@@ -37,12 +36,7 @@ module _ {A : Type 0} (p : A → Bool) where
   pub filter-at : (xs : List A) (x : ℕ) (d : A) → x < length xs → p (get_or xs x d) ≡ true → get_or (filter p xs) (count_by p (take x xs)) d ≡ get_or xs x d
   filter-at [] x d within passes = absurd (omega arith)
   filter-at (y ∷ xs) zero d within passes = ap (λ b. get_or (cond b (y ∷ filter p xs) (filter p xs)) 0 d) passes
-  filter-at (y ∷ xs) (suc x) d within passes =
-      ap (λ n. get_or (filter p (y ∷ xs)) n d) (count-cons y (take x xs)) ∙ by (p y) ∙ filter-at xs x d (omega arith) passes
-    where
-      by : (b : Bool) → get_or (cond b (y ∷ filter p xs) (filter p xs)) (cond b 1 0 + count_by p (take x xs)) d ≡ get_or (filter p xs) (count_by p (take x xs)) d
-      by true = let e : 1 + count_by p (take x xs) ≡ suc (count_by p (take x xs)) = omega arith in ap (λ n. get_or (y ∷ filter p xs) n d) e
-      by false = let e : 0 + count_by p (take x xs) ≡ count_by p (take x xs) = omega arith in ap (λ n. get_or (filter p xs) n d) e
+  filter-at (y ∷ xs) (suc x) d within passes = grind (arith, count-cons y (take x xs), filter-at xs x d (omega arith) passes)
 
 module _ (system : System) where
   -- the table has each thread
@@ -53,61 +47,34 @@ module _ (system : System) where
   homes-at homes x other e known =
       ap (λ hs. get_or hs x other) e ∙ get_or-map-range_with_len (home_in system) 0 (length system.threads) x x other known (omega arith)
 
-  -- who has a place on a core
-  on-here : (c x : ℕ) → (nat_lt x (length system.threads) && is_on system c (thread_part system x)) ≡ true → place_on system c x ≡ Some (place_of system x)
-  on-here c x e = ap (λ b. cond b (Some (place_of system x)) None) e
-
-  on-away : (c x : ℕ) → (nat_lt x (length system.threads) && is_on system c (thread_part system x)) ≡ false → place_on system c x ≡ None
-  on-away c x e = ap (λ b. cond b (Some (place_of system x)) None) e
-
-  pub place-here : (c x : ℕ) → x < length system.threads → core_of system (thread_part system x) ≡ c → place_on system c x ≡ Some (place_of system x)
-  place-here c x known home = on-here c x (grind (arith, nat_tests))
-
-  pub place-other : (c x : ℕ) → core_of system (thread_part system x) ≢ c → place_on system c x ≡ None
-  place-other c x away = on-away c x (grind (arith, nat_tests))
-
-  pub place-past : (c x : ℕ) → length system.threads ≤ x → place_on system c x ≡ None
-  place-past c x past = on-away c x (grind (arith, nat_tests))
-
   -- by the table
   pub kept-here : (homes : List Home) (c x : ℕ) (home : Home) → AreHomes system homes → x < length homes → home ≡ get_or homes x home → home.core ≡ c
       → Some home.place ≡ place_on system c x
   kept-here homes c x home are within is here =
       let known : x < length system.threads = omega (arith, homes-length homes are) in
-      let same : home ≡ home_in system x = is ∙ homes-at homes x home are known in
-      ap (λ (h : Home). Some h.place) same ∙ sym (place-here c x known (sym (ap (λ (h : Home). h.core) same) ∙ here))
+      grind (arith, nat_tests, homes-at homes x home are known)
 
   pub kept-away : (homes : List Home) (c x : ℕ) (home : Home) → AreHomes system homes → x < length homes → home ≡ get_or homes x home → home.core ≢ c
       → None ≡ place_on system c x
   kept-away homes c x home are within is away =
       let known : x < length system.threads = omega (arith, homes-length homes are) in
-      let same : home ≡ home_in system x = is ∙ homes-at homes x home are known in
-      sym (place-other c x (λ e. away (ap (λ (h : Home). h.core) same ∙ e)))
+      grind (arith, nat_tests, homes-at homes x home are known)
 
   pub kept-past : (homes : List Home) (c x : ℕ) → AreHomes system homes → length homes ≤ x → None ≡ place_on system c x
-  kept-past homes c x are past = sym (place-past c x (omega (arith, homes-length homes are)))
+  kept-past homes c x are past = grind (arith, nat_tests, homes-length homes are)
 
   -- two threads of one core have two places there, and each place has an account
   pub places-differ : (x y : ℕ) → x < length system.threads → y < length system.threads → core_of system (thread_part system x) ≡ core_of system (thread_part system y)
       → x ≢ y → place_of system x ≢ place_of system y
-  places-differ x y x_known y_known same differ = by (cases_lt x y)
-    where
-      itself : (z : ℕ) → is_on system (core_of system (thread_part system z)) (thread_part system z) ≡ true
-      itself z = grind (arith, nat_tests)
-
-      place-y : place_of system y ≡ count_by (is_on system (core_of system (thread_part system x))) (take y system.threads)
-      place-y = ap (λ c. count_by (is_on system c) (take y system.threads)) (sym same)
-
-      by : (x < y) ⊎ (y ≤ x) → place_of system x ≢ place_of system y
-      by (inl less) = λ e.
-          absurd (omega (arith, e, place-y, count-rises (is_on system (core_of system (thread_part system x))) system.threads x y no_thread less x_known (itself x)))
-      by (inr more) = λ e.
-          absurd (omega (
-            arith,
-            e,
-            count-rises (is_on system (core_of system (thread_part system y))) system.threads y x no_thread (omega (arith, more, differ)) y_known (itself y),
-            ap (λ c. count_by (is_on system c) (take x system.threads)) same,
-          ))
+  places-differ x y x_known y_known same differ =
+      let c = core_of system (thread_part system x) in
+      grind (
+        arith,
+        nat_tests,
+        same,
+        count-rises (is_on system c) system.threads x y no_thread,
+        count-rises (is_on system c) system.threads y x no_thread,
+      )
 
   pub place-within : (x : ℕ) → x < length system.threads → place_of system x < length (threads_on system (core_of system (thread_part system x)))
   place-within x known = count-within (is_on system (core_of system (thread_part system x))) system.threads x no_thread known (grind (arith, nat_tests))
@@ -133,9 +100,6 @@ module _ (system : System) (well : IsWellFormed system) (many : List ℕ) (n : �
 
   pub place-counted : slice_index many (core_of system thread) ≡ place_of system n
   place-counted = counted.each (core_of system thread) (core-known system well thread) ∙ ap (λ c. count_by (is_on system c) (take n system.threads)) (sym its-home)
-
-  pub few-counted : slice_index many (core_of system thread) ≤ n
-  few-counted = omega (arith, counted.each (core_of system thread) (core-known system well thread), count_by-le-length (is_on system (core_of system thread)) (take n system.threads), length-take n system.threads)
 
   pub home-added : (homes : List Home) → homes ≡ map (home_in system) (range_with_len 0 n)
       → homes ++ record { core = core_of system thread; place = slice_index many (core_of system thread) } ∷ [] ≡ map (home_in system) (range_with_len 0 (n + 1))

@@ -1,8 +1,8 @@
 -- The accounts of all cores put together.
-use Rattle.std.proofs.Common.{◌≡◌, ◌≢◌, ℕ, ◌+◌, ◌<◌, ◌≤◌, Bool, true, false, ◌==◌, List, length, get_or, set, map, refl, sym, ap, ◌∙◌, arith}
+use Rattle.std.proofs.Common.{◌≡◌, ℕ, ◌+◌, ◌<◌, ◌≤◌, List, length, get_or, set, map, sym, ◌∙◌, arith}
 use Rattle.std.specs.List.{range_with_len}
-use Rattle.std.proofs.lemmas.Bool.Decides.{nat_tests}
-use Rattle.std.proofs.lemmas.List.{get_or-set_same, get_or-set_other, ext_get_or}
+use Rattle.std.proofs.lemmas.Grind.{common_steps}
+use Rattle.std.proofs.lemmas.List.{get_or-set_other, ext_get_or}
 use Rattle.std.proofs.lemmas.List.FromFn.{get_or-map-range_with_len, length-map-range_with_len}
 use Rattle.mcs_report.specs.declared.account.Account.{Account}
 use Rattle.mcs_report.specs.Tally.{no_account}
@@ -16,15 +16,7 @@ module _ (account : ℕ → Account) where
   put-none accounts = record { each = λ k l. absurd (omega arith) }
 
   pub put-more : (accounts : List Account) (n : ℕ) (a : Account) → ArePut accounts n → n < length accounts → a ≡ account n → ArePut (set accounts n a) (n + 1)
-  put-more accounts n a put within is = record { each = λ k l. by k l (k == n) refl }
-    where
-      by : (k : ℕ) → k < n + 1 → (b : Bool) → (k == n) ≡ b → get_or (set accounts n a) k no_account ≡ account k
-      by k l true e =
-          let same : k ≡ n = grind (arith, nat_tests) in
-          ap (λ i. get_or (set accounts n a) i no_account) same ∙ get_or-set_same accounts n a no_account within ∙ is ∙ ap account (sym same)
-      by k l false e =
-          let differ : k ≢ n = grind (arith, nat_tests) in
-          get_or-set_other accounts n k a no_account differ ∙ put.each k (omega (arith, l, differ))
+  put-more accounts n a put within is = record { each = λ k l. grind (arith, common_steps, is, put.each k, get_or-set_other accounts n k a no_account) }
 
   pub put-all : (accounts : List Account) (n many : ℕ) → ArePut accounts n → many ≤ n → length accounts ≡ many → accounts ≡ map account (range_with_len 0 many)
   put-all accounts n many put all long =

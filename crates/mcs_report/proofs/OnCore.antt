@@ -1,6 +1,5 @@
 -- The accounts of one core.
-use Rattle.std.proofs.Common.{◌≡◌, ℕ, ◌+◌, ◌<◌, ◌≤◌, Bool, true, false, cond, List, [], ◌∷◌, length, get_or, set, map, refl, sym, ap, subst, ◌∙◌, Option, Some, None, arith}
-use Rattle.std.specs.Prelude.{nat_lt, ◌&&◌}
+use Rattle.std.proofs.Common.{◌≡◌, ℕ, ◌+◌, ◌<◌, ◌≤◌, List, [], ◌∷◌, length, get_or, set, map, refl, sym, ap, subst, ◌∙◌, Option, Some, None, arith}
 use Rattle.std.proofs.Math.Seq.{map-set_same}
 use Rattle.std.proofs.lemmas.Bool.Decides.{nat_tests}
 use Rattle.std.proofs.lemmas.Grind.{common_steps}
@@ -11,7 +10,7 @@ use Rattle.mcs_system.specs.declared.part.ThreadPart.{ThreadPart}
 use Rattle.mcs_system.specs.System.{System, thread_part, core_of}
 use Rattle.mcs_report.specs.declared.account.Account.{Account}
 use Rattle.mcs_report.specs.Tally.{no_account, opened, begun, stopped, responded, changed_at, told_at}
-use Rattle.mcs_report.specs.Places.{is_on, threads_on, place_of, place_on}
+use Rattle.mcs_report.specs.Places.{threads_on, place_of, place_on}
 use Rattle.mcs_report.specs.CoreTally.{opened_on}
 use Rattle.mcs_report.specs.stored.CoreTally.{reopened}
 use Rattle.mcs_report.proofs.Alone.{reopened-stopped}
@@ -24,12 +23,7 @@ pub record IsPlaced (system : System) (c x place : ℕ) : Type 0 where
   pub at : place_of system x ≡ place
 
 pub placed : (system : System) (c x place : ℕ) → place_on system c x ≡ Some place → IsPlaced system c x place
-placed system c x place e = by (nat_lt x (length system.threads) && is_on system c (thread_part system x)) refl e
-  where
-    by : (b : Bool) → (nat_lt x (length system.threads) && is_on system c (thread_part system x)) ≡ b → cond b (Some (place_of system x)) None ≡ Some place
-        → IsPlaced system c x place
-    by true passes e = record { known = grind (arith, nat_tests); home = grind (arith, nat_tests); at = cc }
-    by false fails e = absurd (cc)
+placed system c x place e = record { known = grind (arith, nat_tests, e); home = grind (arith, nat_tests, e); at = grind (arith, nat_tests, e) }
 
 changed-reopened : (o : Option ℕ) (f : Account → Account) (accounts : List Account) → ((a : Account) → reopened (f a) ≡ reopened a)
     → map reopened (changed_at o f accounts) ≡ map reopened accounts

@@ -1,5 +1,5 @@
 -- In a schedule each run of a thread is stopped before the next one.
-use Rattle.std.proofs.Common.{◌≡◌, ◌≢◌, ℕ, zero, suc, ◌+◌, ◌<◌, ◌≤◌, Bool, true, false, cond, ◌⊎◌, inl, inr, List, [], ◌∷◌, ◌++◌, map, Option, Some, None, refl, sym, ap, subst, ◌∙◌, arith}
+use Rattle.std.proofs.Common.{◌≡◌, ◌≢◌, ℕ, zero, suc, ◌+◌, ◌<◌, ◌≤◌, Bool, true, false, cond, inl, inr, List, [], ◌∷◌, ◌++◌, map, Option, refl, sym, ap, subst, ◌∙◌, arith}
 use Rattle.std.specs.Prelude.{filter, flat_map}
 use Rattle.std.specs.List.{range_with_len}
 use Rattle.std.proofs.lemmas.Bool.Decides.{nat_tests}
@@ -21,41 +21,29 @@ use Rattle.mcs_report.specs.Reports.{runs, stops}
 use Rattle.mcs_report.specs.laws.Agreement.{StopsFirst, RunsApart}
 use Rattle.mcs_report.specs.laws.Schedules.{SchedulesRunApart, SchedulesAreReported}
 use Rattle.mcs_report.proofs.Agree.{agree}
-use Rattle.mcs_report.proofs.Walks.{Walks, ArePlain, is_open, after_row, walks-append, walks-plain, turn-turns}
+use Rattle.mcs_report.proofs.Walks.{Walks, plain, is_open, after_row, walks-append, walks-plain, turn-turns}
 
 abbrev pub whats : List Row → List What
 whats rows = map (λ r. r.what) rows
 
-not_again : (run before : Bool) → before ≡ true → (run ≡ true → before ≡ false) → run ≡ false
-not_again true before e h = absurd (let g = h refl in cc)
-not_again false before e h = refl
-
-still : (run stop before : Bool) → before ≡ true → stop ≡ false → cond run true (cond stop false before) ≡ true
-still true stop before e f = refl
-still false stop before e f = rw (f, e) refl
-
 -- rows through which a thread walks keep its runs apart
-apart-walks : (x : ℕ) (rows : List Row) (before last : Bool) → Walks x before (whats rows) last → RunsApart x rows × (before ≡ true → StopsFirst x rows)
+pub apart-walks : (x : ℕ) (rows : List Row) (before last : Bool) → Walks x before (whats rows) last → RunsApart x rows × (before ≡ true → StopsFirst x rows)
 apart-walks x [] before last walks = (tt, λ e. tt)
 apart-walks x (r ∷ rows) before last walks =
     let rest = apart-walks x rows (after_row x r.what before) last walks.1 in
     let began : runs x r.what ≡ true → after_row x r.what before ≡ true = λ e. ap (λ b. cond b true (cond (stops x r.what) false before)) e in (
       (λ e. rest.1 (began e), rest.0),
-      λ e. (not_again (runs x r.what) before e walks.0, λ f. rest.1 (still (runs x r.what) (stops x r.what) before e f)),
+      λ e. (grind (arith, e, walks.0), λ f. rest.1 (grind (arith, e, f))),
     )
 
 -- a thread that has no place on a core does not run there
 shut : (x : ℕ) (running : Option Chosen) → times_running x running ≡ 0 → is_open x running ≡ false
-shut x None e = refl
-shut x (Some chosen) e = grind (arith, nat_tests)
+shut x running e = grind (arith, nat_tests)
 
 pub absent : (x : ℕ) (k : Core) → places x k ≡ 0 → is_open x k.running ≡ false
 absent x k e = shut x k.running (omega arith)
 
 module _ (system : System) (takes_time : TakesTime system) (x : ℕ) where
-  core : ℕ → ℕ → Core
-  core t c = clocks.core_shown system (clocks.world system t) c
-
   unfoldable pub going : ℕ → ℕ → Bool
   going t c = is_open x (clocks.core_shown system (clocks.world system t) c).running
 
@@ -67,11 +55,11 @@ module _ (system : System) (takes_time : TakesTime system) (x : ℕ) where
       (subst (λ (made : Turn). Walks x (going t c) made.rows (is_open x made.core.running)) (sym (turn_of-kept system c t))
       (turn-turns system c t x (filter (clocks.arrives_at system t c) (clocks.world system t).mails) (clocks.core_shown system (clocks.world system t) c)).walks)
 
-  pub turn-plain : (t c : ℕ) → c < system.cores → c ≢ own_core system x → ArePlain x (clocks.turn_of system c t).rows
+  pub turn-plain : (t c : ℕ) → c < system.cores → c ≢ own_core system x → plain x (clocks.turn_of system c t).rows ≡ true
   turn-plain t c known other =
       let turn = turn-turns system c t x (filter (clocks.arrives_at system t c) (clocks.world system t).mails) (clocks.core_shown system (clocks.world system t) c) in
       let after = absent x (clocks.core_shown system (clocks.world system (suc t)) c) (away system takes_time x (suc t) c known other) in
-      subst (λ (made : Turn). ArePlain x made.rows) (sym (turn_of-kept system c t))
+      subst (λ (made : Turn). plain x made.rows ≡ true) (sym (turn_of-kept system c t))
       (turn.plain
       (absent x (clocks.core_shown system (clocks.world system t) c) (away system takes_time x t c known other))
       (subst (λ (k : Core). is_open x k.running ≡ false) (core_shown-kept system takes_time t c known) after))
@@ -106,26 +94,17 @@ module _ (system : System) (takes_time : TakesTime system) (x : ℕ) where
   walks-from t zero a before after within = absurd (omega arith)
   walks-from t (suc n) a before after within =
       subst (λ (ws : List What). Walks x (going t (own_core system x)) ws (going (suc t) (own_core system x))) (sym (whats-rows t a (flat_map (λ c. clocks.rows_of system c t) (range_with_len (a + 1) n))))
-      (by (cases_lt a (own_core system x)) (λ less. walks-from t n (a + 1) (omega arith) (omega arith) (omega arith)))
-    where
-      others : List What
-      others = whats (flat_map (λ c. clocks.rows_of system c t) (range_with_len (a + 1) n))
-
-      here : a ≡ own_core system x → Walks x (going t (own_core system x)) (clocks.turn_of system a t).rows (going (suc t) (own_core system x))
-      here e =
-          subst (λ (c : ℕ). Walks x (going t c) (clocks.turn_of system a t).rows (going (suc t) c)) e (turn-walks t a (omega arith))
-
-      by : (a < own_core system x) ⊎ (own_core system x ≤ a)
-          → (a < own_core system x → Walks x (going t (own_core system x)) others (going (suc t) (own_core system x)))
-          → Walks x (going t (own_core system x)) ((clocks.turn_of system a t).rows ++ others) (going (suc t) (own_core system x))
-      by (inl less) rest =
-          walks-append x (clocks.turn_of system a t).rows others (going t (own_core system x)) (going t (own_core system x)) (going (suc t) (own_core system x))
-          (walks-plain x (clocks.turn_of system a t).rows (going t (own_core system x)) (turn-plain t a (omega arith) (λ e. omega arith)))
-          (rest less)
-      by (inr at) rest =
-          walks-append x (clocks.turn_of system a t).rows others (going t (own_core system x)) (going (suc t) (own_core system x)) (going (suc t) (own_core system x))
-          (here (omega arith))
-          (walks-past t n (a + 1) (omega arith) (omega arith) (going (suc t) (own_core system x)))
+      (elim (cases_lt a (own_core system x)) [
+        | inl less ↦
+            walks-append x (clocks.turn_of system a t).rows _ (going t (own_core system x)) (going t (own_core system x)) (going (suc t) (own_core system x))
+            (walks-plain x (clocks.turn_of system a t).rows (going t (own_core system x)) (turn-plain t a (omega arith) (λ e. omega arith)))
+            (walks-from t n (a + 1) (omega arith) (omega arith) (omega arith))
+        | inr at ↦
+            let here : a ≡ own_core system x = omega arith in
+            walks-append x (clocks.turn_of system a t).rows _ (going t (own_core system x)) (going (suc t) (own_core system x)) (going (suc t) (own_core system x))
+            (subst (λ (c : ℕ). Walks x (going t c) (clocks.turn_of system a t).rows (going (suc t) c)) here (turn-walks t a (omega arith)))
+            (walks-past t n (a + 1) (omega arith) (omega arith) (going (suc t) (own_core system x)))
+      ])
 
   pub walks-clock : own_core system x < system.cores → (t : ℕ) → Walks x false (whats (clocks.clock system t).rows) (going t (own_core system x))
   unfolding going rows_from

@@ -1,10 +1,11 @@
 -- The runs of a thread in a schedule last as many ticks as there are in which it runs.
-use Rattle.std.proofs.Common.{◌≡◌, ℕ, zero, suc, ◌+◌, ◌-◌, ◌<◌, ◌≤◌, Bool, true, false, cond, List, [], ◌∷◌, ◌++◌, map, sum, Option, Some, None, refl, sym, ap, subst, ◌∙◌, arith}
+use Rattle.std.proofs.Common.{◌≡◌, ℕ, zero, suc, ◌+◌, ◌<◌, ◌≤◌, Bool, true, false, cond, List, [], ◌∷◌, ◌++◌, map, sum, Option, Some, None, refl, sym, ap, subst, ◌∙◌, arith}
 use Rattle.std.specs.Prelude.{flat_map, is_some}
 use Rattle.std.specs.List.{range_with_len, AllByRecursion}
+use Rattle.std.proofs.lemmas.Bool.{cond_both}
+use Rattle.std.proofs.lemmas.Bool.Decides.{nat_tests}
 use Rattle.mcs_ticks.specs.declared.row.Row.{Row}
 use Rattle.mcs_ticks.specs.declared.row.What.{What}
-use Rattle.mcs_ticks.specs.declared.row.What.TheVariants as row
 use Rattle.mcs_core.specs.declared.standing.Chosen.{Chosen}
 use Rattle.mcs_system.proofs.Linked.{takes_time}
 use Rattle.mcs_system.specs.System.{System, TakesTime}
@@ -12,103 +13,25 @@ use Rattle.mcs_core.specs.Clock as clocks
 use Rattle.mcs_core.proofs.Clock.{rows-clock}
 use Rattle.mcs_laws.specs.Places.{times_running}
 use Rattle.mcs_laws.specs.Demand.{ticks_run}
-use Rattle.mcs_report.specs.Reports.{runs, stops, next_stop, run_lengths}
+use Rattle.mcs_report.specs.Reports.{runs, stops, run_lengths}
 use Rattle.mcs_report.specs.Tally.{ticks_since}
 use Rattle.mcs_report.specs.laws.Demand.{RunsAreTicks}
-use Rattle.mcs_report.proofs.Runs.{open_run, open_run-stop, open_run-other, run_lengths-run, run_lengths-other}
+use Rattle.mcs_report.proofs.Runs.{next_since, since_after, ticks_at, ran_in, since-append, ran-append, total}
 use Rattle.mcs_report.proofs.Walks.{Walks, is_open, after_row}
 use Rattle.mcs_laws.proofs.Homes.{one_if, own_core, own_core_known}
-use Rattle.mcs_report.proofs.Schedules.{whats, going, rows_from, walks-from, walks-clock}
-
--- what a row says of a thread: it begins to run, it stops, or neither
-data Says (x : ℕ) (what : What) : Type 0 where
-  Begins : runs x what ≡ true → stops x what ≡ false → Says x what
-  Ends : runs x what ≡ false → stops x what ≡ true → Says x what
-  Neither : runs x what ≡ false → stops x what ≡ false → Says x what
-
-says : (x : ℕ) (what : What) → Says x what
-says x what = by (runs x what) (stops x what) refl refl (apart what)
-  where
-    apart : (what : What) → runs x what ≡ true → stops x what ≡ false
-    apart (row.Stop y cause charged until) e = cc
-    apart what e = refl
-
-    by : (a b : Bool) → runs x what ≡ a → stops x what ≡ b → (runs x what ≡ true → stops x what ≡ false) → Says x what
-    by true b e f h = Begins e (h e)
-    by false true e f h = Ends e f
-    by false false e f h = Neither e f
+use Rattle.mcs_report.proofs.Schedules.{whats, going, rows_from, apart-walks, walks-from, walks-clock}
 
 module _ (x : ℕ) where
-  -- when the open run began, after a row and after several
-  next_since : Option ℕ → Row → Option ℕ
-  next_since since r = cond (runs x r.what) (Some r.moment) (cond (stops x r.what) None since)
-
-  since_after : Option ℕ → List Row → Option ℕ
-  since_after since [] = since
-  since_after since (r ∷ rows) = since_after (next_since since r) rows
-
-  -- the ticks of the runs that end in these rows
-  ticks_at : Option ℕ → Row → ℕ
-  ticks_at since r = cond (stops x r.what) (ticks_since r.moment since) 0
-
-  ran_in : Option ℕ → List Row → ℕ
-  ran_in since [] = 0
-  ran_in since (r ∷ rows) = ticks_at since r + ran_in (next_since since r) rows
-
-  since-append : (since : Option ℕ) (rows more : List Row) → since_after since (rows ++ more) ≡ since_after (since_after since rows) more
-  unfolding since_after
-  since-append since [] more = refl
-  since-append since (r ∷ rows) more = since-append (next_since since r) rows more
-
-  ran-append : (since : Option ℕ) (rows more : List Row) → ran_in since (rows ++ more) ≡ ran_in since rows + ran_in (since_after since rows) more
-  unfolding since_after ran_in
-  ran-append since [] more = omega arith
-  ran-append since (r ∷ rows) more = omega (arith, ran-append (next_since since r) rows more)
-
   -- whether a run is open is what the walk says
-  open-next : (since : Option ℕ) (r : Row) → is_some (next_since since r) ≡ after_row x r.what (is_some since)
+  open-next : (since : Option ℕ) (r : Row) → is_some (next_since x since r) ≡ after_row x r.what (is_some since)
   unfolding next_since
   open-next since r = grind arith
 
-  open-after : (since : Option ℕ) (rows : List Row) (last : Bool) → Walks x (is_some since) (whats rows) last → is_some (since_after since rows) ≡ last
+  open-after : (since : Option ℕ) (rows : List Row) (last : Bool) → Walks x (is_some since) (whats rows) last → is_some (since_after x since rows) ≡ last
   unfolding since_after
   open-after since [] last walks = walks
   open-after since (r ∷ rows) last walks =
-      open-after (next_since since r) rows last (subst (λ (b : Bool). Walks x b (whats rows) last) (sym (open-next since r)) walks.1)
-
-  not_open : (since : Option ℕ) → is_some since ≡ false → since ≡ None
-  not_open None e = refl
-  not_open (Some begin) e = cc
-
-  -- the runs of rows: those that end in them, and the open one, which lasts to the horizon
-  total : (h : ℕ) (since : Option ℕ) (rows : List Row) (last : Bool) → Walks x (is_some since) (whats rows) last →
-      open_run h x since rows + sum (run_lengths h x rows) ≡ ran_in since rows + ticks_since h (since_after since rows)
-  unfolding since_after ran_in next_since ticks_at
-  total h None [] last walks = refl
-  total h (Some begin) [] last walks = omega arith
-  total h since (r ∷ rows) last walks =
-      by (says x r.what) (total h (next_since since r) rows last (subst (λ (b : Bool). Walks x b (whats rows) last) (sym (open-next since r)) walks.1))
-    where
-      by : Says x r.what →
-          open_run h x (next_since since r) rows + sum (run_lengths h x rows) ≡ ran_in (next_since since r) rows + ticks_since h (since_after (next_since since r) rows) →
-          open_run h x since (r ∷ rows) + sum (run_lengths h x (r ∷ rows)) ≡ ticks_at since r + ran_in (next_since since r) rows + ticks_since h (since_after (next_since since r) rows)
-      by (Begins e f) i =
-          let none : since ≡ None = not_open since (walks.0 e) in
-          let before : open_run h x since (r ∷ rows) ≡ 0 = ap (λ o. open_run h x o (r ∷ rows)) none in
-          let next : cond (runs x r.what) (Some r.moment) (cond (stops x r.what) None since) ≡ Some r.moment = ap (λ b. cond b (Some r.moment) (cond (stops x r.what) None since)) e in
-          let after : open_run h x (cond (runs x r.what) (Some r.moment) (cond (stops x r.what) None since)) rows ≡ next_stop h x rows - r.moment = ap (λ o. open_run h x o rows) next in
-          let here : cond (stops x r.what) (ticks_since r.moment since) 0 ≡ 0 = ap (λ b. cond b (ticks_since r.moment since) 0) f in
-          omega (arith, i, before, after, here, run_lengths-run h x r rows e)
-      by (Ends e f) i =
-          let next : cond (runs x r.what) (Some r.moment) (cond (stops x r.what) None since) ≡ None = rw (e, f) refl in
-          let after : open_run h x (cond (runs x r.what) (Some r.moment) (cond (stops x r.what) None since)) rows ≡ 0 = ap (λ o. open_run h x o rows) next in
-          let here : cond (stops x r.what) (ticks_since r.moment since) 0 ≡ ticks_since r.moment since = ap (λ b. cond b (ticks_since r.moment since) 0) f in
-          omega (arith, i, open_run-stop h x since r rows f, after, here, run_lengths-other h x r rows e)
-      by (Neither e f) i =
-          let next : cond (runs x r.what) (Some r.moment) (cond (stops x r.what) None since) ≡ since = rw (e, f) refl in
-          let after : open_run h x (cond (runs x r.what) (Some r.moment) (cond (stops x r.what) None since)) rows ≡ open_run h x since rows = ap (λ o. open_run h x o rows) next in
-          let here : cond (stops x r.what) (ticks_since r.moment since) 0 ≡ 0 = ap (λ b. cond b (ticks_since r.moment since) 0) f in
-          omega (arith, i, open_run-other h x since r rows f, after, here, run_lengths-other h x r rows e)
+      open-after (next_since x since r) rows last (subst (λ (b : Bool). Walks x b (whats rows) last) (sym (open-next since r)) walks.1)
 
   -- an open run began at this moment or before
   IsBegun : ℕ → Option ℕ → Type 0
@@ -119,19 +42,16 @@ module _ (x : ℕ) where
   abbrev AreOf : ℕ → List Row → Type 0
   AreOf t rows = AllByRecursion (λ (r : Row). r.moment ≡ t) rows
 
-  begun-next : (t : ℕ) (since : Option ℕ) (r : Row) → r.moment ≡ t → IsBegun t since → IsBegun t (next_since since r)
+  begun-next : (t : ℕ) (since : Option ℕ) (r : Row) → r.moment ≡ t → IsBegun t since → IsBegun t (next_since x since r)
   unfolding IsBegun next_since
-  begun-next t since r e h = by (runs x r.what) (stops x r.what)
-    where
-      by : (a b : Bool) → IsBegun t (cond a (Some r.moment) (cond b None since))
-      by true b = omega (arith, e)
-      by false true = tt
-      by false false = h
+  begun-next t since r e h =
+      cond_both (runs x r.what) (Some r.moment) (cond (stops x r.what) None since) (IsBegun t) (λ run. omega (arith, e))
+      (λ run. cond_both (stops x r.what) None since (IsBegun t) (λ stop. tt) (λ stop. h))
 
-  begun-after : (t : ℕ) (since : Option ℕ) (rows : List Row) → AreOf t rows → IsBegun t since → IsBegun t (since_after since rows)
+  begun-after : (t : ℕ) (since : Option ℕ) (rows : List Row) → AreOf t rows → IsBegun t since → IsBegun t (since_after x since rows)
   unfolding since_after
   begun-after t since [] h b = b
-  begun-after t since (r ∷ rows) h b = begun-after t (next_since since r) rows h.1 (begun-next t since r h.0 b)
+  begun-after t since (r ∷ rows) h b = begun-after t (next_since x since r) rows h.1 (begun-next t since r h.0 b)
 
   begun-later : (t : ℕ) (since : Option ℕ) → IsBegun t since → IsBegun (suc t) since
   unfolding IsBegun
@@ -140,22 +60,16 @@ module _ (x : ℕ) where
 
   -- a row of the moment ends or begins a run there: no tick more
   no-ticks : (t : ℕ) (since : Option ℕ) (r : Row) → r.moment ≡ t → (runs x r.what ≡ true → is_some since ≡ false) →
-      ticks_at since r + ticks_since t (next_since since r) ≡ ticks_since t since
+      ticks_at x since r + ticks_since t (next_since x since r) ≡ ticks_since t since
   unfolding ticks_at next_since
-  no-ticks t since r e h = by (says x r.what)
-    where
-      by : Says x r.what →
-          cond (stops x r.what) (ticks_since r.moment since) 0 + ticks_since t (cond (runs x r.what) (Some r.moment) (cond (stops x r.what) None since)) ≡ ticks_since t since
-      by (Begins f g) = rw (f, g, not_open since (h f)) (omega (arith, e))
-      by (Ends f g) = rw (f, g, e) (omega arith)
-      by (Neither f g) = rw (f, g) (omega arith)
+  no-ticks t since r e h = grind (arith, nat_tests, e, h)
 
   same-ticks : (t : ℕ) (since : Option ℕ) (rows : List Row) (last : Bool) → AreOf t rows → Walks x (is_some since) (whats rows) last →
-      ran_in since rows + ticks_since t (since_after since rows) ≡ ticks_since t since
+      ran_in x since rows + ticks_since t (since_after x since rows) ≡ ticks_since t since
   unfolding since_after ran_in
   same-ticks t since [] last h walks = omega arith
   same-ticks t since (r ∷ rows) last h walks =
-      omega (arith, no-ticks t since r h.0 walks.0, same-ticks t (next_since since r) rows last h.1 (subst (λ (b : Bool). Walks x b (whats rows) last) (sym (open-next since r)) walks.1))
+      omega (arith, no-ticks t since r h.0 walks.0, same-ticks t (next_since x since r) rows last h.1 (subst (λ (b : Bool). Walks x b (whats rows) last) (sym (open-next since r)) walks.1))
 
   -- from one moment to the next an open run lasts one tick more
   tick-more : (t : ℕ) (since : Option ℕ) → IsBegun t since → ticks_since (suc t) since ≡ ticks_since t since + one_if (is_some since)
@@ -242,7 +156,9 @@ module _ (system : System) (takes_time : TakesTime system) (x : ℕ) (known : ow
 
   ticks : (h : ℕ) → sum (run_lengths h x (clocks.schedule system h)) ≡ ticks_run system x h
   unfolding since
-  ticks h = omega (arith, total x h None (clocks.schedule system h) _ (walks-clock system takes_time x known (suc h)), ran-now h, counted h)
+  ticks h =
+      let apart = (apart-walks x (clocks.schedule system h) false _ (walks-clock system takes_time x known (suc h))).0 in
+      omega (arith, total h x None (clocks.schedule system h) apart tt, ran-now h, counted h)
 
 pub runs-ticks : RunsAreTicks
 runs-ticks system well h x = ticks system (takes_time system well) x (own_core_known system well x) h

@@ -1,6 +1,7 @@
 -- On each core no thread runs before the one that runs has stopped.
 use Rattle.std.proofs.Common.{◌≡◌, ℕ, ◌+◌, Bool, true, false, not, cond, ◌==◌, List, [], ◌∷◌, ◌++◌, Option, Some, None, refl, sym, ap, subst, ◌∙◌, arith}
 use Rattle.std.specs.Prelude.{filter, nat_lt}
+use Rattle.std.proofs.lemmas.Bool.{cond_both}
 use Rattle.mcs_ticks.specs.Queue.{by_priority, first_of}
 use Rattle.mcs_ticks.specs.declared.queue.Queued.{Queued}
 use Rattle.mcs_ticks.specs.declared.row.What.{What}
@@ -17,18 +18,17 @@ use Rattle.mcs_notify.specs.declared.posted.Waited.TheVariants.{Got, Blocks}
 use Rattle.mcs_script.specs.declared.item.Item.{Item}
 use Rattle.mcs_script.specs.declared.item.Item.TheVariants.{Compute, Signal, Wait, Yield}
 use Rattle.mcs_script.specs.declared.moved.Moved.{Moved}
-use Rattle.mcs_script.specs.declared.moved.Moved.TheVariants.{Next, RoundEnds, AllDone}
 use Rattle.mcs_release.specs.declared.dated.Dated.{Dated}
 use Rattle.mcs_mail.specs.declared.mail.Mail.{Mail}
 use Rattle.mcs_core.specs.declared.standing.AfterItem.{AfterItem}
 use Rattle.mcs_core.specs.declared.standing.AfterItem.TheVariants as after
 use Rattle.mcs_core.specs.declared.standing.Chosen.{Chosen}
 use Rattle.mcs_core.specs.declared.standing.Standing.TheVariants.{Blocked, Done}
-use Rattle.mcs_system.specs.System.{System, note_part}
+use Rattle.mcs_system.specs.System.{System}
 use Rattle.mcs_core.specs.Core.{Core, note_of, thread_of, with_note, off}
 use Rattle.mcs_release.specs.Release.{is_due}
 use Rattle.mcs_core.specs.Turn as turns
-use Rattle.mcs_core.specs.Turn.{Turn, each, silent, says, ◌followed_by◌, is_for_now}
+use Rattle.mcs_core.specs.Turn.{Turn, each, silent, ◌followed_by◌, is_for_now}
 use Rattle.mcs_report.specs.Reports.{runs, stops}
 
 module _ (x : ℕ) where
@@ -41,26 +41,29 @@ module _ (x : ℕ) where
   Walks before [] last = before ≡ last
   Walks before (what ∷ rows) last = (runs x what ≡ true → before ≡ false) × Walks (after_row what before) rows last
 
-  -- no row is of a run or a stop of the thread
-  abbrev pub ArePlain : List What → Type 0
-  ArePlain [] = Unit {0}
-  ArePlain (what ∷ rows) = (runs x what ≡ false) × (stops x what ≡ false) × ArePlain rows
+  -- whether no row is of a run or a stop of the thread
+  abbrev pub plain : List What → Bool
+  plain [] = true
+  plain (what ∷ rows) = cond (runs x what) false (cond (stops x what) false (plain rows))
 
   pub walks-append : (rows more : List What) (a b c : Bool) → Walks a rows b → Walks b more c → Walks a (rows ++ more) c
   walks-append [] more a b c first second = let P : Bool → Type 0 = λ d. Walks d more c in subst P (sym first) second
   walks-append (what ∷ rows) more a b c first second = (first.0, walks-append rows more (after_row what a) b c first.1 second)
 
-  plain-append : (rows more : List What) → ArePlain rows → ArePlain more → ArePlain (rows ++ more)
-  plain-append [] more first second = second
-  plain-append (what ∷ rows) more first second = (first.0, first.1, plain-append rows more first.2 second)
+  plain-append : (rows more : List What) → plain (rows ++ more) ≡ cond (plain rows) (plain more) false
+  plain-append [] more = refl
+  plain-append (what ∷ rows) more = grind (arith, plain-append rows more)
 
-  plain_row : (what : What) (going : Bool) → runs x what ≡ false → stops x what ≡ false → after_row what going ≡ going
-  plain_row what going e f = rw (e, f) refl
+  plain-both : (rows more : List What) → plain rows ≡ true → plain more ≡ true → plain (rows ++ more) ≡ true
+  plain-both rows more p q = rw (plain-append rows more, p) q
 
-  pub walks-plain : (rows : List What) (going : Bool) → ArePlain rows → Walks going rows going
-  walks-plain [] going plain = refl
-  walks-plain (what ∷ rows) going plain =
-      (λ e. absurd (let h = plain.0 in cc), subst (λ (b : Bool). Walks b rows going) (sym (plain_row what going plain.0 plain.1)) (walks-plain rows going plain.2))
+  pub walks-plain : (rows : List What) (going : Bool) → plain rows ≡ true → Walks going rows going
+  walks-plain [] going h = refl
+  walks-plain (what ∷ rows) going h =
+      let run : runs x what ≡ false = grind (arith, h) in
+      let stop : stops x what ≡ false = grind (arith, h) in
+      let rest : plain rows ≡ true = grind (arith, h) in
+      rw (run, stop) (λ e. cc, walks-plain rows going rest)
 
   -- whether the thread is the one that runs
   abbrev pub is_open : Option Chosen → Bool
@@ -70,15 +73,15 @@ module _ (x : ℕ) where
   -- a part of a turn without a run or a stop
   pub record Plain (k : Core) (turn : Turn) : Type 0 where
     pub running : turn.core.running ≡ k.running
-    pub rows : ArePlain turn.rows
+    pub rows : plain turn.rows ≡ true
 
   -- a part that may stop the running thread
   pub record Quits (k : Core) (turn : Turn) : Type 0 where
     pub walks : Walks (is_open k.running) turn.rows (is_open turn.core.running)
-    pub plain : is_open k.running ≡ false → (is_open turn.core.running ≡ false) × ArePlain turn.rows
+    pub plain : is_open k.running ≡ false → (is_open turn.core.running ≡ false) × (plain turn.rows ≡ true)
 
   plain-then : (k : Core) (first : Turn) (part : Core → Turn) → Plain k first → Plain first.core (part first.core) → Plain k (first followed_by part)
-  plain-then k first part p q = record { running = q.running ∙ p.running; rows = plain-append first.rows (part first.core).rows p.rows q.rows }
+  plain-then k first part p q = record { running = q.running ∙ p.running; rows = plain-both first.rows (part first.core).rows p.rows q.rows }
 
   plain-quits : (k : Core) (turn : Turn) → Plain k turn → Quits k turn
   plain-quits k turn p =
@@ -89,80 +92,49 @@ module _ (x : ℕ) where
   quits-then k first part p q =
       record {
         walks = walks-append first.rows (part first.core).rows (is_open k.running) (is_open first.core.running) (is_open (part first.core).core.running) p.walks q.walks;
-        plain = λ e. let f = p.plain e in let g = q.plain f.0 in (g.0, plain-append first.rows (part first.core).rows f.1 g.1);
+        plain = λ e. let f = p.plain e in let g = q.plain f.0 in (g.0, plain-both first.rows (part first.core).rows f.1 g.1);
       }
 
   quits-each : {A : Type 0} (part : A → Core → Turn) → ((item : A) (k : Core) → Quits k (part item k)) → (items : List A) (k : Core) → Quits k (each part items k)
-  quits-each part h [] k = plain-quits k (silent k) record { running = refl; rows = tt }
+  quits-each part h [] k = plain-quits k (silent k) record { running = refl; rows = refl }
   quits-each part h (item ∷ items) k =
       quits-then k (part item k) (each part items) (h item k) (quits-each part h items (part item k).core)
 
-  by_test : (P : Turn → Type 0) (b : Bool) (u v : Turn) → P u → P v → P (cond b u v)
-  by_test P true u v p q = p
-  by_test P false u v p q = q
-
   -- the running thread stops
-  stop_row : (y k : ℕ) (cause : Why) (date : Option ℕ) (running : Option Chosen) (using : ℕ) → running ≡ Some (record { thread = y; using = using })
-      → (after_row (row.Stop y cause k date) (is_open running) ≡ false) × (is_open running ≡ false → stops x (row.Stop y cause k date) ≡ false)
-  stop_row y k cause date running using e =
-      (ap (λ o. cond (y == x) false (is_open o)) e ∙ by (y == x), λ f. sym (ap is_open e) ∙ f)
-    where
-      by : (b : Bool) → cond b false b ≡ false
-      by true = refl
-      by false = refl
-
   quits-stop : (y k using : ℕ) (cause : Why) (date : Option ℕ) (from : Core) (turn : Turn) → from.running ≡ Some (record { thread = y; using = using })
       → turn.rows ≡ row.Stop y cause k date ∷ [] → turn.core.running ≡ None → Quits from turn
   quits-stop y k using cause date from turn e rows gone =
-      let s = stop_row y k cause date from.running using e in
-      let shut : is_open turn.core.running ≡ false = ap is_open gone in
       record {
-        walks = subst (λ (ws : List What). Walks (is_open from.running) ws (is_open turn.core.running)) (sym rows) (λ f. cc, s.0 ∙ sym shut);
-        plain = λ f. (shut, subst ArePlain (sym rows) (refl, s.1 f, tt));
+        walks = rw (rows, gone, e) (λ f. cc, grind arith);
+        plain = λ f. (ap is_open gone, rw rows (let other : (y == x) ≡ false = sym (ap is_open e) ∙ f in rw other refl));
       }
 
 -- the parts of a turn
 module _ (system : System) (t x : ℕ) where
   enters_back-running : (y : ℕ) (date : Option ℕ) (k : Core) → (turns.enters_back by_priority system y date k).running ≡ k.running
-  enters_back-running y None k = refl
-  enters_back-running y (Some date) k = refl
+  enters_back-running y date k = grind arith
 
   enters_front-running : (y : ℕ) (date : Option ℕ) (k : Core) → (turns.enters_front by_priority system y date k).running ≡ k.running
-  enters_front-running y None k = refl
-  enters_front-running y (Some date) k = refl
+  enters_front-running y date k = grind arith
 
   moves-plain : (y : ℕ) (move : Moved) (k : Core) → Plain x k (turns.moves system t y move k)
-  moves-plain y Next k = record { running = refl; rows = tt }
-  moves-plain y RoundEnds k = record { running = refl; rows = (refl, refl, tt) }
-  moves-plain y AllDone k = record { running = refl; rows = (refl, refl, tt) }
-
-  wakes-plain : (y : ℕ) (k : Core) → Plain x k (turns.wakes by_priority system t y k)
-  wakes-plain y k =
-      let woken = turns.given t y (turns.with_woken_context system t y k) in
-      let first = turns.moves_on system t y woken in
-      let p = moves-plain y (turns.move_of system y woken) woken in
-      plain-then x k first (λ core. silent (turns.enters_back by_priority system y (turns.date_of system t y core) core))
-      record { running = p.running; rows = p.rows }
-      record { running = enters_back-running y (turns.date_of system t y first.core) first.core; rows = tt }
+  moves-plain y move k = grind arith
 
   posts_as-plain : (note : ℕ) (post : Posted) (k : Core) → Plain x k (turns.posts_as by_priority system t note post k)
   posts_as-plain note (Woke y word) k =
-      let noted = with_note note (after_post (Woke y word) (note_of k note)) k in
-      let p = wakes-plain y noted in
-      record { running = p.running; rows = plain-append x (row.Wake y note word ∷ []) (turns.wakes by_priority system t y noted).rows (refl, refl, tt) p.rows }
-  posts_as-plain note (Held word) k = record { running = refl; rows = (refl, refl, tt) }
-
-  posts-plain : (note badge : ℕ) (k : Core) → Plain x k (turns.posts by_priority system t note badge k)
-  posts-plain note badge k = posts_as-plain note (posted badge (note_of k note)) k
+      let woken = turns.given t y (turns.with_woken_context system t y (with_note note (after_post (Woke y word) (note_of k note)) k)) in
+      let first = turns.moves_on system t y woken in
+      let p = moves-plain y (turns.move_of system y woken) woken in
+      record { running = enters_back-running y (turns.date_of system t y first.core) first.core ∙ p.running; rows = plain-both x first.rows [] p.rows refl }
+  posts_as-plain note (Held word) k = record { running = refl; rows = refl }
 
   arrives-quits : (mail : Mail) (k : Core) → Quits x k (turns.arrives by_priority system t mail k)
   arrives-quits mail k =
-      let p = posts-plain mail.note mail.badge k in
-      plain-quits x k (turns.arrives by_priority system t mail k)
-      record { running = p.running; rows = plain-append x (row.Arrive mail.note mail.badge mail.maker ∷ []) (turns.posts by_priority system t mail.note mail.badge k).rows (refl, refl, tt) p.rows }
+      let p = posts_as-plain mail.note (posted mail.badge (note_of k mail.note)) k in
+      plain-quits x k (turns.arrives by_priority system t mail k) record { running = p.running; rows = p.rows }
 
   silent-quits : (k after : Core) → after.running ≡ k.running → Quits x k (silent after)
-  silent-quits k after e = plain-quits x k (silent after) record { running = e; rows = tt }
+  silent-quits k after e = plain-quits x k (silent after) record { running = e; rows = refl }
 
   stops_to_front-quits : (y using k : ℕ) (cause : Why) (from core : Core) → from.running ≡ Some (record { thread = y; using = using })
       → Quits x from (turns.stops_to_front by_priority system t y cause k core)
@@ -174,23 +146,15 @@ module _ (system : System) (t x : ℕ) where
   orders_running-quits order None k e = silent-quits k (turns.applied t order k) refl
   orders_running-quits order (Some chosen) k e =
       let core = turns.applied t order (turns.charged system chosen.thread chosen.using k) in
-      by_test x (λ turn. Quits x k turn) ((turns.part_of system chosen.thread).context == order.context)
-      (turns.stops_to_front by_priority system t chosen.thread why.Order chosen.using core)
-      (silent (turns.applied t order k))
-      (stops_to_front-quits chosen.thread chosen.using chosen.using why.Order k core e)
-      (silent-quits k (turns.applied t order k) refl)
-
-  says-quits : (what : What) (k : Core) → runs x what ≡ false → stops x what ≡ false → Quits x k (says what k)
-  says-quits what k e f = plain-quits x k (says what k) record { running = refl; rows = (e, f, tt) }
+      cond_both ((turns.part_of system chosen.thread).context == order.context) _ (silent (turns.applied t order k)) (Quits x k)
+      (λ i. stops_to_front-quits chosen.thread chosen.using chosen.using why.Order k core e)
+      (λ i. silent-quits k (turns.applied t order k) refl)
 
   obeys-quits : (order : Order) (k : Core) → Quits x k (turns.obeys by_priority system t order k)
-  obeys-quits order k =
-      quits-then x k (says (row.Order order.context) k) (λ core. turns.orders_running by_priority system t order core.running core)
-      (says-quits (row.Order order.context) k refl refl)
-      (orders_running-quits order k.running k refl)
+  obeys-quits order k = let q = orders_running-quits order k.running k refl in record { walks = (λ e. cc, q.walks); plain = q.plain }
 
   released-quits : (due : Dated) (k : Core) → Quits x k (turns.released by_priority system due k)
-  released-quits due k = plain-quits x k (turns.released by_priority system due k) record { running = refl; rows = (refl, refl, tt) }
+  released-quits due k = plain-quits x k (turns.released by_priority system due k) record { running = refl; rows = refl }
 
   releases-quits : (k : Core) → Quits x k (turns.releases by_priority system t k)
   releases-quits k =
@@ -201,11 +165,9 @@ module _ (system : System) (t x : ℕ) where
   preempts_by-quits : (o : Option Chosen) (best : Option Queued) (k : Core) → k.running ≡ o → Quits x k (turns.preempts_by by_priority system t o best k)
   preempts_by-quits (Some chosen) (Some best) k e =
       let core = turns.charged system chosen.thread chosen.using k in
-      by_test x (λ turn. Quits x k turn) (nat_lt (turns.part_of system chosen.thread).priority best.priority)
-      (turns.stops_to_front by_priority system t chosen.thread why.Preempt chosen.using core)
-      (silent k)
-      (stops_to_front-quits chosen.thread chosen.using chosen.using why.Preempt k core e)
-      (silent-quits k k refl)
+      cond_both (nat_lt (turns.part_of system chosen.thread).priority best.priority) _ (silent k) (Quits x k)
+      (λ i. stops_to_front-quits chosen.thread chosen.using chosen.using why.Preempt k core e)
+      (λ i. silent-quits k k refl)
   preempts_by-quits (Some chosen) None k e = silent-quits k k refl
   preempts_by-quits None best k e = silent-quits k k refl
 
@@ -218,41 +180,25 @@ module _ (system : System) (c t x : ℕ) where
       quits-stop x y k using cause (turns.date_of system t y after) core (turns.stops_to_back by_priority system t y cause k core) e refl
       (enters_back-running system t x y (turns.date_of system t y after) (off after))
 
-  spent-quits : (y using : ℕ) (k : Core) → k.running ≡ Some (record { thread = y; using = using })
-      → Quits x k (turns.may_stop by_priority system t y using after.GoesOn k)
-  spent-quits y using k e =
-      by_test x (λ turn. Quits x k turn) (using == head_amount (turns.its_context system y k))
-      (turns.stops_to_back by_priority system t y why.Spent using k)
-      (silent k)
-      (stops_to_back-quits y using using why.Spent k e)
-      (silent-quits system t x k k refl)
-
   may_stop-quits : (y using : ℕ) (cause : AfterItem) (k : Core) → k.running ≡ Some (record { thread = y; using = using })
       → Quits x k (turns.may_stop by_priority system t y using cause k)
   may_stop-quits y using after.Ends k e = quits-stop x y using using why.Done None k (turns.stops system y why.Done using Done k) e refl refl
   may_stop-quits y using after.Blocks k e = quits-stop x y using using why.Wait None k (turns.stops system y why.Wait using Blocked k) e refl refl
   may_stop-quits y using after.Yields k e = stops_to_back-quits y using (head_amount (turns.its_context system y k)) why.Yield k e
-  may_stop-quits y using after.GoesOn k e = spent-quits y using k e
+  may_stop-quits y using after.GoesOn k e =
+      cond_both (using == head_amount (turns.its_context system y k)) _ (silent k) (Quits x k)
+      (λ i. stops_to_back-quits y using using why.Spent k e)
+      (λ i. silent-quits system t x k k refl)
 
   signals-plain : (y note badge : ℕ) (k : Core) → Plain x k (turns.signals by_priority system c t y note badge k)
-  signals-plain y note badge k =
-      let sent : Turn = record { core = k; rows = []; mails = turns.mail_to system c t note badge ∷ [] } in
-      let p : Plain x k (cond ((note_part system note).core == c) (turns.posts by_priority system t note badge k) sent) =
-      by_test x (λ turn. Plain x k turn) ((note_part system note).core == c) (turns.posts by_priority system t note badge k) sent
-      (posts-plain system t x note badge k)
-      record { running = refl; rows = tt }
-      in
-      plain-then x k (says (row.Signal y note badge) k)
-      (λ core. cond ((note_part system note).core == c) (turns.posts by_priority system t note badge core) (record { core = core; rows = []; mails = turns.mail_to system c t note badge ∷ [] }))
-      record { running = refl; rows = (refl, refl, tt) }
-      p
+  signals-plain y note badge k = grind (arith, posts_as-plain system t x note (posted badge (note_of k note)) k)
 
   waits_as-plain : (y note : ℕ) (w : Waited) (k : Core) → Plain x k (turns.waits_as system t y note w k)
   waits_as-plain y note (Got word) k =
       let given = turns.given t y (with_note note (after_wait (Got word) (turns.queued system y) (note_of k note)) k) in
       let p = moves-plain system t x y (turns.move_of system y given) given in
-      record { running = p.running; rows = plain-append x (row.Got y note word ∷ []) (turns.moves_on system t y given).rows (refl, refl, tt) p.rows }
-  waits_as-plain y note Blocks k = record { running = refl; rows = tt }
+      record { running = p.running; rows = p.rows }
+  waits_as-plain y note Blocks k = record { running = refl; rows = refl }
 
   effect-plain : (y : ℕ) (item : Option Item) (k : Core) → Plain x k (turns.takes_effect by_priority system c t y item k)
   effect-plain y (Some (Signal note badge)) k =
@@ -261,7 +207,7 @@ module _ (system : System) (c t x : ℕ) where
   effect-plain y (Some (Wait note)) k = waits_as-plain y note (waited (note_of k note)) k
   effect-plain y (Some (Compute ticks)) k = moves-plain system t x y (turns.move_of system y k) k
   effect-plain y (Some Yield) k = moves-plain system t x y (turns.move_of system y k) k
-  effect-plain y None k = record { running = refl; rows = tt }
+  effect-plain y None k = record { running = refl; rows = refl }
 
   finishes-quits : (y using : ℕ) (item : Option Item) (k : Core) → k.running ≡ Some (record { thread = y; using = using })
       → Quits x k (turns.finishes by_priority system c t y using item k)
@@ -274,27 +220,20 @@ module _ (system : System) (c t x : ℕ) where
   after_count-quits : (y using : ℕ) (k : Core) → k.running ≡ Some (record { thread = y; using = using })
       → Quits x k (turns.after_count by_priority system c t y using k)
   after_count-quits y using k e =
-      by_test x (λ turn. Quits x k turn) ((thread_of k y).place.left == 0)
-      (turns.finishes by_priority system c t y using (turns.item_of system y k) k)
-      (turns.may_stop by_priority system t y using after.GoesOn k)
-      (finishes-quits y using (turns.item_of system y k) k e)
-      (spent-quits y using k e)
-
-  same_runner : (k from : Core) (turn : Turn) → is_open x from.running ≡ is_open x k.running → Quits x from turn → Quits x k turn
-  same_runner k from turn e q =
-      record { walks = subst (λ (b : Bool). Walks x b turn.rows (is_open x turn.core.running)) e q.walks; plain = λ f. q.plain (e ∙ f) }
+      cond_both ((thread_of k y).place.left == 0) _ _ (Quits x k)
+      (λ i. finishes-quits y using (turns.item_of system y k) k e)
+      (λ i. may_stop-quits y using after.GoesOn k e)
 
   tick_of-quits : (o : Option Chosen) (k : Core) → k.running ≡ o → Quits x k (turns.tick_of by_priority system c t o k)
   tick_of-quits None k e = silent-quits system t x k k refl
   tick_of-quits (Some chosen) k e =
-      same_runner k (turns.counts chosen k) (turns.tick_of by_priority system c t (Some chosen) k)
-      (sym (ap (is_open x) e))
-      (after_count-quits chosen.thread (chosen.using + 1) (turns.counts chosen k) refl)
+      let q = after_count-quits chosen.thread (chosen.using + 1) (turns.counts chosen k) refl in
+      record { walks = rw e q.walks; plain = λ f. q.plain (sym (ap (is_open x) e) ∙ f) }
 
   -- a turn, or its last part: the thread may begin to run
   pub record Turns (k : Core) (turn : Turn) : Type 0 where
     pub walks : Walks x (is_open x k.running) turn.rows (is_open x turn.core.running)
-    pub plain : is_open x k.running ≡ false → is_open x turn.core.running ≡ false → ArePlain x turn.rows
+    pub plain : is_open x k.running ≡ false → is_open x turn.core.running ≡ false → plain x turn.rows ≡ true
 
   quits-turns : (k : Core) (turn : Turn) → Quits x k turn → Turns k turn
   quits-turns k turn q = record { walks = q.walks; plain = λ e f. (q.plain e).1 }
@@ -303,18 +242,15 @@ module _ (system : System) (c t x : ℕ) where
   turns-last k first part p q =
       record {
         walks = walks-append x first.rows (part first.core).rows (is_open x k.running) (is_open x first.core.running) (is_open x (part first.core).core.running) p.walks q.walks;
-        plain = λ e f. let g = p.plain e in plain-append x first.rows (part first.core).rows g.1 (q.plain g.0 f);
+        plain = λ e f. let g = p.plain e in plain-both x first.rows (part first.core).rows g.1 (q.plain g.0 f);
       }
-
-  run_row : (y : ℕ) (before : Bool) → before ≡ false → after_row x (row.Run y) before ≡ (y == x)
-  run_row y before e = grind arith
 
   chooses_of-turns : (o : Option Chosen) (best : Option Queued) (k : Core) → k.running ≡ o → Turns k (turns.chooses_of by_priority system t o best k)
   chooses_of-turns (Some chosen) best k e = quits-turns k (silent k) (silent-quits system t x k k refl)
   chooses_of-turns None None k e = quits-turns k (silent k) (silent-quits system t x k k refl)
   chooses_of-turns None (Some best) k e =
       let shut : is_open x k.running ≡ false = ap (is_open x) e in
-      record { walks = (λ f. shut, run_row best.thread (is_open x k.running) shut); plain = λ f g. (g, refl, tt) }
+      record { walks = (λ f. shut, rw shut (grind arith)); plain = λ f g. rw g refl }
 
   pub turn-turns : (mails : List Mail) (k : Core) → Turns k (turns.turn_with by_priority system c t mails k)
   turn-turns mails k =
