@@ -1,6 +1,7 @@
 -- What is kept of a thread or a notification is that of the rows of its own core.
-use Rattle.std.proofs.Common.{◌≡◌, ℕ, Bool, true, false, cond, eqb, nat_lt, List, [], ◌∷◌, ◌++◌, length, Option, Some, None, refl, sym, ap, ◌∙◌}
-use Rattle.std.proofs.lemmas.Bool.{eqb-true, eq-eqb}
+use Rattle.std.proofs.Common.{◌≡◌, ℕ, Bool, true, false, cond, eqb, nat_lt, List, [], ◌∷◌, length, Option, Some, None, refl, sym, ap, ◌∙◌, arith}
+use Rattle.std.proofs.lemmas.Bool.{cond_both, eqb-true, eq-eqb}
+use Rattle.std.proofs.lemmas.Bool.Decides.{nat_tests}
 use Rattle.std.proofs.lemmas.List.Elements.{filter-append}
 use Rattle.mcs_ticks.specs.declared.row.Row.{Row}
 use Rattle.mcs_ticks.specs.declared.row.What.{What}
@@ -13,57 +14,29 @@ use Rattle.mcs_verdict.specs.declared.finding.Found.{Found}
 use Rattle.mcs_verdict.specs.declared.held.Held.{Held}
 use Rattle.mcs_verdict.specs.Rounds.{first_wait}
 use Rattle.mcs_verdict.specs.Jobs.{job}
-use Rattle.mcs_verdict.specs.Words.{no_word, held, held_after, held_with, taken, leaves}
-use Rattle.mcs_verdict.specs.Misses.{missed, overdue, never, unended, first_of, first_word, word_for}
+use Rattle.mcs_verdict.specs.Words.{no_word, held, held_after, leaves}
+use Rattle.mcs_verdict.specs.Misses.{missed, unended, word_for}
 use Rattle.mcs_verdict.specs.Findings.{UpTo, past_of, found_at, finding, found_in}
-use Rattle.mcs_verdict.specs.Account.{account_of, seen_own, set_for, subject, is_some_of, is_about, job_by, overdue_by, never_by}
+use Rattle.mcs_verdict.specs.Account.{account_of, seen_own, set_for, subject, is_some_of, is_about, job_by}
 use Rattle.mcs_verdict.specs.laws.ByCore.{rows_on, found_on, word_told, home_of, note_home_of, IsAtHome, ComeHome, WaitsAtHome, CoresAreWatched}
 use Rattle.mcs_verdict.proofs.Accounts.{same, own}
 use Rattle.mcs_verdict.proofs.Watches.{since-up_to}
-use Rattle.mcs_verdict.proofs.Kept.{account_at, job-kept, overdue-kept, never-kept}
+use Rattle.mcs_verdict.proofs.Kept.{job-kept, overdue-kept, never-kept}
 
 up_to-on : (c m : ℕ) (past : List Row) → UpTo m past → UpTo m (rows_on c past)
 up_to-on c m [] up = tt
-up_to-on c m (r ∷ past) up = by (eqb r.core c) (up_to-on c m past up.1)
-  where
-    by : (b : Bool) → UpTo m (rows_on c past) → UpTo m (cond b (r ∷ rows_on c past) (rows_on c past))
-    by true rest = (up.0, rest)
-    by false rest = rest
+up_to-on c m (r ∷ past) up =
+    let rest = up_to-on c m past up.1 in
+    cond_both (eqb r.core c) (r ∷ rows_on c past) (rows_on c past) (UpTo m) (λ e. (up.0, rest)) (λ e. rest)
 
 -- a row that changes another word
 held_after-other : (note m : ℕ) (what : What) (before : Held) → (word_told what ≡ Some note → ⊥) → held_after note m what before ≡ before
-held_after-other note m (row.Release x) before other = refl
-held_after-other note m (row.Run x) before other = refl
-held_after-other note m (row.Stop x cause charged until) before other = refl
-held_after-other note m (row.Signal x n badge) before other = refl
-held_after-other note m (row.Arrive n badge maker) before other = refl
-held_after-other note m (row.Wake x n word) before other = refl
-held_after-other note m (row.Hold n word) before other = by (eqb n note) refl
-  where
-    by : (b : Bool) → eqb n note ≡ b → cond b (held_with m word before) before ≡ before
-    by true e = absurd (other (ap Some (eqb-true n note e)))
-    by false e = refl
-held_after-other note m (row.Got x n word) before other = by (eqb n note) refl
-  where
-    by : (b : Bool) → eqb n note ≡ b → cond b (taken before) before ≡ before
-    by true e = absurd (other (ap Some (eqb-true n note e)))
-    by false e = refl
-held_after-other note m (row.Round x number response) before other = refl
-held_after-other note m (row.Order context) before other = refl
+held_after-other note m what before other = grind (arith, nat_tests, other)
 
 -- when the word was set that is taken
 set-same : (notes : ℕ) (some all : List Row) (what : What) → ((n : ℕ) → word_told what ≡ Some n → held n some ≡ held n all)
     → set_for notes some what ≡ set_for notes all what
-set-same notes some all (row.Release x) same = refl
-set-same notes some all (row.Run x) same = refl
-set-same notes some all (row.Stop x cause charged until) same = refl
-set-same notes some all (row.Signal x n badge) same = refl
-set-same notes some all (row.Arrive n badge maker) same = refl
-set-same notes some all (row.Wake x n word) same = refl
-set-same notes some all (row.Hold n word) same = refl
-set-same notes some all (row.Got x n word) same = ap (λ (h : Held). (cond (nat_lt n notes) h no_word).since) (same n refl)
-set-same notes some all (row.Round x number response) same = refl
-set-same notes some all (row.Order context) same = refl
+set-same notes some all what same = grind (arith, same)
 
 about-some : (s : Option ℕ) (thread : ℕ) → is_some_of s thread ≡ true → s ≡ Some thread
 about-some None thread e = cc
@@ -81,43 +54,35 @@ module _ (system : System) where
   -- the word of a notification of the core
   held-on : (c note : ℕ) (past : List Row) → note_home_of system note ≡ c → AreHome past → held note (rows_on c past) ≡ held note past
   held-on c note [] home h = refl
-  held-on c note (r ∷ past) home h = by (eqb r.core c) refl (held-on c note past home h.2)
-    where
-      by : (b : Bool) → eqb r.core c ≡ b → held note (rows_on c past) ≡ held note past
-          → held note (cond b (r ∷ rows_on c past) (rows_on c past)) ≡ held note (r ∷ past)
-      by true e before = ap (held_after note r.moment r.what) before
-      by false e before =
-          before
-          ∙ sym (held_after-other note r.moment r.what (held note past) (λ (t : word_told r.what ≡ Some note).
-          let at : r.core ≡ c = sym (h.0.note note t) ∙ home in
-          let yes : eqb r.core c ≡ true = eq-eqb r.core c at in
-          cc))
+  held-on c note (r ∷ past) home h =
+      let before = held-on c note past home h.2 in
+      cond_both (eqb r.core c) (r ∷ rows_on c past) (rows_on c past) (λ rows. held note rows ≡ held note (r ∷ past))
+      (λ e. ap (held_after note r.moment r.what) before)
+      (λ e. before ∙ sym (held_after-other note r.moment r.what (held note past) (λ t. grind (arith, nat_tests, h.0.note note t))))
 
   -- the account of a thread of the core
   account-on : (c thread : ℕ) (part : ThreadPart) (past : List Row) → home_of system thread ≡ c → AreHome past
       → account_of notes part thread (rows_on c past) ≡ account_of notes part thread past
   account-on c thread part [] home h = refl
-  account-on c thread part (r ∷ past) home h = by (eqb r.core c) refl (is_about thread r.what) refl (account-on c thread part past home h.2)
+  account-on c thread part (r ∷ past) home h = by (is_about thread r.what) refl (account-on c thread part past home h.2)
     where
-      by : (b : Bool) → eqb r.core c ≡ b → (a : Bool) → is_about thread r.what ≡ a
-          → account_of notes part thread (rows_on c past) ≡ account_of notes part thread past
-          → account_of notes part thread (cond b (r ∷ rows_on c past) (rows_on c past)) ≡ account_of notes part thread (r ∷ past)
-      by true e true a before =
-          let at : r.core ≡ c = eqb-true r.core c e in
-          let set : set_for notes past r.what ≡ set_for notes (rows_on c past) r.what =
-          sym (set-same notes (rows_on c past) past r.what (λ n t. held-on c n past (h.0.note n t ∙ at) h.2))
-          in
-          sym (own notes part thread (rows_on c past) r.moment r.core (set_for notes past r.what) r.what a set
-          (since-up_to thread r.moment (rows_on c past) (up_to-on c r.moment past h.1)))
-          ∙ ap (seen_own (set_for notes past r.what) r.moment r.what) before
-          ∙ own notes part thread past r.moment r.core (set_for notes past r.what) r.what a refl (since-up_to thread r.moment past h.1)
-      by true e false a before =
-          same notes part thread (rows_on c past) r.moment r.core r.what a ∙ before ∙ sym (same notes part thread past r.moment r.core r.what a)
-      by false e true a before =
+      some : List Row
+      some = rows_on c past
+
+      by : (a : Bool) → is_about thread r.what ≡ a → account_of notes part thread some ≡ account_of notes part thread past
+          → account_of notes part thread (rows_on c (r ∷ past)) ≡ account_of notes part thread (r ∷ past)
+      by true a before =
           let at : r.core ≡ c = sym (h.0.thread thread (about-some (subject r.what) thread a)) ∙ home in
-          let yes : eqb r.core c ≡ true = eq-eqb r.core c at in
-          cc
-      by false e false a before = before ∙ sym (same notes part thread past r.moment r.core r.what a)
+          let put = set_for notes past r.what in
+          let set : put ≡ set_for notes some r.what = sym (set-same notes some past r.what (λ n t. held-on c n past (h.0.note n t ∙ at) h.2)) in
+          rw (eq-eqb r.core c at)
+          (sym (own notes part thread some r.moment r.core put r.what a set (since-up_to thread r.moment some (up_to-on c r.moment past h.1)))
+          ∙ ap (seen_own put r.moment r.what) before
+          ∙ own notes part thread past r.moment r.core put r.what a refl (since-up_to thread r.moment past h.1))
+      by false a before =
+          cond_both (eqb r.core c) (r ∷ some) some (λ rows. account_of notes part thread rows ≡ account_of notes part thread past)
+          (λ e. same notes part thread some r.moment r.core r.what a ∙ before) (λ e. before)
+          ∙ sym (same notes part thread past r.moment r.core r.what a)
 
   job-on : (c thread moment number : ℕ) (past : List Row) → home_of system thread ≡ c → AreHome past → UpTo moment past
       → job system (rows_on c past) moment thread number ≡ job system past moment thread number
@@ -143,55 +108,27 @@ module _ (system : System) where
       ap (missed (thread_part system x).deadline) (job-on c x moment number past (thread x refl) h up)
   finding-on c moment past (row.Order context) thread note h up = refl
 
-  found_at-on : (c moment core : ℕ) (finding : Option Finding) (b : Bool) → eqb core c ≡ b
-      → found_on c (found_at moment core finding) ≡ cond b (found_at moment core finding) []
-  found_at-on c moment core None true e = refl
-  found_at-on c moment core None false e = refl
-  found_at-on c moment core (Some finding) b e =
-      ap (λ b. cond b (record { moment = moment; core = core; finding = finding } ∷ []) []) e ∙ ap (λ b. b) refl
+  found_at-on : (c moment core : ℕ) (finding : Option Finding)
+      → found_on c (found_at moment core finding) ≡ cond (eqb core c) (found_at moment core finding) []
+  found_at-on c moment core finding = grind arith
 
   found-on : (c : ℕ) (past rows : List Row) → AreHome past → ComeHome system past rows
       → found_in system (rows_on c past) (rows_on c rows) ≡ found_on c (found_in system past rows)
   found-on c past [] h come = refl
-  found-on c past (r ∷ rows) h come = by (eqb r.core c) refl (found-on c (r ∷ past) rows (come.0, come.1, h) come.2)
-    where
-      told : List Found
-      told = found_at r.moment r.core (finding system past r.moment r.what)
-
-      split : found_on c (told ++ found_in system (r ∷ past) rows) ≡ found_on c told ++ found_on c (found_in system (r ∷ past) rows)
-      split = filter-append (λ (f : Found). eqb f.core c) told (found_in system (r ∷ past) rows)
-
-      by : (b : Bool) → eqb r.core c ≡ b
-          → found_in system (rows_on c (r ∷ past)) (rows_on c rows) ≡ found_on c (found_in system (r ∷ past) rows)
-          → found_in system (rows_on c past) (cond b (r ∷ rows_on c rows) (rows_on c rows)) ≡ found_on c (told ++ found_in system (r ∷ past) rows)
-      by true e rest =
-          let at : r.core ≡ c = eqb-true r.core c e in
-          let here = finding-on c r.moment past r.what (λ x t. come.0.thread x t ∙ at) (λ n t. come.0.note n t ∙ at) h come.1 in
-          let on : rows_on c (r ∷ past) ≡ r ∷ rows_on c past = ap (λ b. cond b (r ∷ rows_on c past) (rows_on c past)) e in
-          ap (λ f. found_at r.moment r.core f ++ found_in system (r ∷ rows_on c past) (rows_on c rows)) here
-          ∙ ap (λ some. told ++ found_in system some (rows_on c rows)) (sym on)
-          ∙ ap (λ found. told ++ found) rest
-          ∙ ap (λ found. found ++ found_on c (found_in system (r ∷ past) rows))
-          (sym (found_at-on c r.moment r.core (finding system past r.moment r.what) true e))
-          ∙ sym split
-      by false e rest =
-          let on : rows_on c (r ∷ past) ≡ rows_on c past = ap (λ b. cond b (r ∷ rows_on c past) (rows_on c past)) e in
-          ap (λ some. found_in system some (rows_on c rows)) (sym on)
-          ∙ rest
-          ∙ ap (λ found. found ++ found_on c (found_in system (r ∷ past) rows))
-          (sym (found_at-on c r.moment r.core (finding system past r.moment r.what) false e))
-          ∙ sym split
+  found-on c past (r ∷ rows) h come =
+      let told = found_at r.moment r.core (finding system past r.moment r.what) in
+      grind (
+        arith,
+        nat_tests,
+        found-on c (r ∷ past) rows (come.0, come.1, h) come.2,
+        found_at-on c r.moment r.core (finding system past r.moment r.what),
+        filter-append (λ (f : Found). eqb f.core c) told (found_in system (r ∷ past) rows),
+        λ (at : r.core ≡ c). finding-on c r.moment past r.what (λ x t. come.0.thread x t ∙ at) (λ n t. come.0.note n t ∙ at) h come.1,
+      )
 
   past-on : (c : ℕ) (past rows : List Row) → past_of (rows_on c past) (rows_on c rows) ≡ rows_on c (past_of past rows)
   past-on c past [] = refl
-  past-on c past (r ∷ rows) = by (eqb r.core c) refl (past-on c (r ∷ past) rows)
-    where
-      by : (b : Bool) → eqb r.core c ≡ b → past_of (rows_on c (r ∷ past)) (rows_on c rows) ≡ rows_on c (past_of (r ∷ past) rows)
-          → past_of (rows_on c past) (cond b (r ∷ rows_on c rows) (rows_on c rows)) ≡ rows_on c (past_of (r ∷ past) rows)
-      by true e rest =
-          ap (λ some. past_of some (rows_on c rows)) (sym (ap (λ b. cond b (r ∷ rows_on c past) (rows_on c past)) e)) ∙ rest
-      by false e rest =
-          ap (λ some. past_of some (rows_on c rows)) (sym (ap (λ b. cond b (r ∷ rows_on c past) (rows_on c past)) e)) ∙ rest
+  past-on c past (r ∷ rows) = grind (arith, past-on c (r ∷ past) rows)
 
   come-home : (past rows : List Row) → AreHome past → ComeHome system past rows → AreHome (past_of past rows)
   come-home past [] h come = h
@@ -208,17 +145,14 @@ module _ (system : System) where
       let c = home_of system thread in
       let some = rows_on c past in
       let less = up_to-on c horizon past up in
-      let account : account_at system thread some ≡ account_at system thread past = account-on c thread (thread_part system thread) past refl h in
-      let word : first_word system thread some ≡ first_word system thread past = word-on c (first_wait (thread_part system thread)) past waits h in
-      let late : overdue system some horizon thread ≡ overdue system past horizon thread =
-      sym (overdue-kept system thread some horizon less) ∙ ap (λ w. overdue_by horizon thread w (account_at system thread some)) word
-      ∙ ap (overdue_by horizon thread (first_word system thread past)) account ∙ overdue-kept system thread past horizon up
-      in
-      let none : never system some horizon thread ≡ never system past horizon thread =
-      sym (never-kept system thread horizon some less) ∙ ap (λ w. never_by horizon thread w (account_at system thread some)) word
-      ∙ ap (never_by horizon thread (first_word system thread past)) account ∙ never-kept system thread horizon past up
-      in
-      ap (λ found. first_of found (never system some horizon thread)) late ∙ ap (first_of (overdue system past horizon thread)) none
+      cc (
+        account-on c thread (thread_part system thread) past refl h,
+        word-on c (first_wait (thread_part system thread)) past waits h,
+        overdue-kept system thread some horizon less,
+        overdue-kept system thread past horizon up,
+        never-kept system thread horizon some less,
+        never-kept system thread horizon past up,
+      )
 
 pub cores_watched : CoresAreWatched
 cores_watched system = (

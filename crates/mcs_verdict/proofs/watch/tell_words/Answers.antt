@@ -32,4 +32,4 @@ returns-else-note-words-2 c parts past e =
 
 pub returns-in_default : goal.returns-in_default
 returns-in_default c parts past e =
-    e ∙ sym (words_unsaid 0 parts c.args.row.now past (says_none c.args.row.now.what c.in_default.not-Hold c.in_default.not-Got))
+    e ∙ sym (words_unsaid 0 parts c.args.row.now past (λ k before h. says_none c.args.row.now.what c.in_default.not-Hold c.in_default.not-Got c.args.row.now.moment k before))

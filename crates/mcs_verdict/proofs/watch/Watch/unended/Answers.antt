@@ -1,4 +1,4 @@
-use Rattle.std.proofs.Common.{ℕ, ◌<◌, ◌≤◌, length, arith, subst, ap, ◌∙◌}
+use Rattle.std.proofs.Common.{◌<◌, length, arith, ap, ◌∙◌}
 use Rattle.mcs_verdict.specs.Watch.{Watch}
 use Rattle.mcs_verdict.proofs.Kept.{unended_found, unended_unknown}
 use Rattle.mcs_verdict.proofs.watch.Watch.unended.Goals as goal
@@ -15,6 +15,5 @@ returns-then-thread-len c system past e up =
 pub returns-else-thread-len : goal.returns-else-thread-len
 returns-else-thread-len c system past e up =
     let a = ap (λ (watch : Watch). watch.accounts) (c.self.view_is ∙ e) in
-    let P : ℕ → Type 0 = λ n. length c.self.inside.accounts.items ≤ n in
-    let has : length c.self.inside.accounts.items ≤ c.thread.inside.0 = omega (arith, c.if-thread-len.false, c.len.ensures) in
-    unended_unknown system past c.self.inside.accounts.items c.args.horizon c.args.thread a (subst P c.thread.view_is has)
+    unended_unknown system past c.self.inside.accounts.items c.args.horizon c.args.thread a
+    (omega (arith, c.thread.view_is, c.if-thread-len.false, c.len.ensures))
