@@ -57,6 +57,7 @@ CHECKS = (
     Check('library'),
     Check('theorems', tries_program=False),
     Check('believe', tries_program=False),
+    Check('comments', tries_program=False),
     Check('faults'),
     Check('checker'),
     Check('progress'),

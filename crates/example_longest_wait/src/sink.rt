@@ -31,7 +31,7 @@ impl Sink for LongestWait {
     }
 }
 
-// How long the thread waits for its budget after this row, in ticks.
+/// How long the thread waits for its budget after this row, in ticks.
 fn wait(row: &Row, thread: ThreadId) -> u64
     ensures { result ≡ wait_after thread row.now }
 {

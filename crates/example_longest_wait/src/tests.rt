@@ -4,7 +4,7 @@ use mcs_ticks::{ThreadId, Tick};
 use std::sync::Arc;
 use std::test::Fail;
 
-// The example overrun_within_a_budget with a budget of 2 ticks in 7 for the first thread.
+/// The example overrun_within_a_budget with a budget of 2 ticks in 7 for the first thread.
 static OVERRUN: &str = "
 version = 1
 cores = 1

@@ -11,7 +11,7 @@ use std::marker::Model;
 pub(crate) struct Agenda {
     orders: Vec<Order>,
     next: usize,
-    // the moment of the next order, so that the order is looked at only when it has come
+    /// the moment of the next order, so that the order is looked at only when it has come
     soonest: Soonest,
 }
 

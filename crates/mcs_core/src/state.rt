@@ -19,7 +19,7 @@ pub struct CoreState {
     pub(crate) failed: bool,
     pub(crate) local: Local,
     pub(crate) agenda: Agenda,
-    // The delay of a signal of this core to each core.
+    /// The delay of a signal of this core to each core.
     pub(crate) delays: [u64; Limits::CORES],
 }
 

@@ -12,7 +12,7 @@ use mcs_verdict::{Finding, Job};
 use std::alloc::Global;
 use std::marker::Model;
 
-// The thread of which a round missed its deadline.
+/// The thread of which a round missed its deadline.
 fn missed_by(found: &Option<Finding>) -> Option<usize>
     ensures { result ≡ missed_by found.now }
 {
@@ -22,7 +22,7 @@ fn missed_by(found: &Option<Finding>) -> Option<usize>
     }
 }
 
-// The notification at which a signal was lost.
+/// The notification at which a signal was lost.
 fn lost_at(found: &Option<Finding>) -> Option<usize>
     ensures { result ≡ lost_at found.now }
 {
@@ -32,7 +32,7 @@ fn lost_at(found: &Option<Finding>) -> Option<usize>
     }
 }
 
-// The thread that stops since its head or its time slice is wholly used.
+/// The thread that stops since its head or its time slice is wholly used.
 fn spent_by(what: &What) -> Option<usize>
     ensures { result ≡ spent_by what.now }
 {
@@ -46,7 +46,7 @@ fn spent_by(what: &What) -> Option<usize>
     }
 }
 
-// The greater of a response and what was the greatest before it.
+/// The greater of a response and what was the greatest before it.
 fn greater(before: Option<u64>, response: u64) -> u64
     ensures { result ≡ greater before response }
 {
@@ -56,7 +56,7 @@ fn greater(before: Option<u64>, response: u64) -> u64
     }
 }
 
-// One more at a place, if there is one.
+/// One more at a place, if there is one.
 fn count(counts: &mut [u64], place: Option<usize>)
     ensures { counts.new ≡ counted place counts.old }
 {
@@ -67,7 +67,7 @@ fn count(counts: &mut [u64], place: Option<usize>)
     }
 }
 
-// A response more of the job's thread, if there is one.
+/// A response more of the job's thread, if there is one.
 fn raise(greatest: &mut [Option<u64>], job: &Option<Job>)
     ensures { greatest.new ≡ raised job.now greatest.old }
 {
@@ -80,7 +80,7 @@ fn raise(greatest: &mut [Option<u64>], job: &Option<Job>)
     }
 }
 
-// A mark at a place, if there is one.
+/// A mark at a place, if there is one.
 fn mark(marks: &mut [bool], place: Option<usize>)
     ensures { marks.new ≡ marked place marks.old }
 {
@@ -187,7 +187,7 @@ impl Course {
     }
 }
 
-// The number at a place, and 0 where there is none.
+/// The number at a place, and 0 where there is none.
 fn number_at(numbers: &[u64], place: usize) -> u64
     ensures { result ≡ get_or numbers.now place 0 }
 {

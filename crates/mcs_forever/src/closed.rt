@@ -26,7 +26,7 @@ pub fn closed_sets(alloc: Global, system: &System) -> Result<Vec<CoreSet>, NoMem
     Ok(sets)
 }
 
-// For each core those whose threads signal it.
+/// For each core those whose threads signal it.
 fn makers(alloc: Global, system: &System) -> Result<Vec<CoreSet>, NoMemory>
     ensures { IfOk result (λ makers. AreMakers system.now makers.items) }
 {
@@ -37,7 +37,7 @@ fn makers(alloc: Global, system: &System) -> Result<Vec<CoreSet>, NoMemory>
     Ok(makers)
 }
 
-// No script was read yet.
+/// No script was read yet.
 fn no_makers(alloc: Global, system: &System) -> Result<Vec<CoreSet>, NoMemory>
     ensures { IfOk result (λ makers. AreMakersUntil system.now 0 0 makers.items) }
 {
@@ -49,7 +49,7 @@ fn no_makers(alloc: Global, system: &System) -> Result<Vec<CoreSet>, NoMemory>
     Ok(makers)
 }
 
-// Notes the signals of one thread more.
+/// Notes the signals of one thread more.
 fn add_maker(system: &System, thread: ThreadId, makers: &mut [CoreSet])
     requires known { thread < length system.now.threads }
     requires before { AreMakersUntil system.now thread 0 makers.old }
@@ -60,7 +60,7 @@ fn add_maker(system: &System, thread: ThreadId, makers: &mut [CoreSet])
     add_items(system, thread, maker, makers);
 }
 
-// Notes the signals of a thread's items, whose maker is the thread's core.
+/// Notes the signals of a thread's items, whose maker is the thread's core.
 fn add_items(system: &System, thread: ThreadId, maker: CoreId, makers: &mut [CoreSet])
     requires known { thread < length system.now.threads }
     requires own { maker ≡ core_of system.now (thread_part system.now thread) }
@@ -77,7 +77,7 @@ fn add_items(system: &System, thread: ThreadId, maker: CoreId, makers: &mut [Cor
     }
 }
 
-// The home of the notification that an item signals.
+/// The home of the notification that an item signals.
 fn home_signalled(system: &System, item: &Option<Item>) -> Option<CoreId>
     ensures home { result ≡ home_signalled system.now item.now }
     ensures known { IfSome result (λ home. home < system.now.cores) }
@@ -92,7 +92,7 @@ fn home_signalled(system: &System, item: &Option<Item>) -> Option<CoreId>
     }
 }
 
-// One maker more that signals the home.
+/// One maker more that signals the home.
 fn add(makers: &mut [CoreSet], home: CoreId, maker: CoreId)
     requires home { home < length makers.old }
     requires maker { maker < 64 }
@@ -101,7 +101,7 @@ fn add(makers: &mut [CoreSet], home: CoreId, maker: CoreId)
     makers[home.0][maker.0] = true;
 }
 
-// The least set with this core that has each maker of each of its cores.
+/// The least set with this core that has each maker of each of its cores.
 fn closed_set(makers: &[CoreSet], core: CoreId) -> CoreSet
     requires { core < 64 }
     ensures { IsLeastFor makers.now core result }
@@ -113,7 +113,7 @@ fn closed_set(makers: &[CoreSet], core: CoreId) -> CoreSet
     set
 }
 
-// The set with this core alone.
+/// The set with this core alone.
 fn only(core: CoreId) -> CoreSet
     requires { core < 64 }
     ensures { result ≡ set (replicate 64 false) core true }
@@ -123,7 +123,7 @@ fn only(core: CoreId) -> CoreSet
     set
 }
 
-// A core outside the set that signals one in it.
+/// A core outside the set that signals one in it.
 fn outside(makers: &[CoreSet], set: &CoreSet) -> Option<CoreId>
     ensures { MatchOption result (NoneIsOutside makers.now set.now) (IsOutside makers.now set.now) }
 {
@@ -138,7 +138,7 @@ fn outside(makers: &[CoreSet], set: &CoreSet) -> Option<CoreId>
     None
 }
 
-// The first core of the one set that is not in the other one.
+/// The first core of the one set that is not in the other one.
 fn missing(some: &CoreSet, set: &CoreSet) -> Option<CoreId>
     ensures { MatchOption result (Has set.now some.now) (IsMissing set.now some.now) }
 {

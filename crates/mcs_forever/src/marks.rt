@@ -19,7 +19,7 @@ pub struct Mark {
 }
 
 impl Mark {
-    // Nothing was compared yet.
+    /// Nothing was compared yet.
     fn none() -> Self
         ensures { result ≡ no_mark }
     {
@@ -29,7 +29,7 @@ impl Mark {
         }
     }
 
-    // What either mark says.
+    /// What either mark says.
     fn joined(self, other: Mark) -> Self
         ensures { result ≡ joined self other }
     {
@@ -40,7 +40,7 @@ impl Mark {
     }
 }
 
-// The mode of the thread's context, as the file has it.
+/// The mode of the thread's context, as the file has it.
 fn mode_of(parts: &SystemParts, thread: ThreadId) -> Mode
     ensures { result ≡ mode_of parts.now thread }
 {
@@ -54,7 +54,7 @@ fn mode_of(parts: &SystemParts, thread: ThreadId) -> Mode
     }
 }
 
-// The thread of whose dates a row shows that they were compared with now, and which of them.
+/// The thread of whose dates a row shows that they were compared with now, and which of them.
 fn compared(parts: &SystemParts, what: &What) -> Option<(ThreadId, Mark)>
     ensures { result ≡ compared parts.now what.now }
 {

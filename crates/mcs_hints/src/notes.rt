@@ -25,14 +25,14 @@ impl Mark {
         signals: false,
     };
 
-    // A script waits on it.
+    /// A script waits on it.
     fn wait(&mut self)
         ensures { self.new ≡ waits_with self.old }
     {
         self.waits = true;
     }
 
-    // A script signals it.
+    /// A script signals it.
     fn signal(&mut self)
         ensures { self.new ≡ signals_with self.old }
     {
@@ -86,7 +86,7 @@ fn mark_threads(marks: &mut [Mark], threads: &[ThreadPart])
     }
 }
 
-// In one pass over all items.
+/// In one pass over all items.
 pub(crate) fn mark_notes(alloc: Global, parts: &SystemParts) -> Result<Vec<Mark>, NoMemory>
     ensures { IfOk result (λ marks. marks.items ≡ marks_of (length parts.now.notes) (items_of parts.now.threads)) }
 {

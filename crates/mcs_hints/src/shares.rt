@@ -28,7 +28,7 @@ fn share_of(config: Config, bound: bool) -> u64
     if bound { share(config) } else { 0 }
 }
 
-// What each context is granted, once for all cores.
+/// What each context is granted, once for all cores.
 pub(crate) fn shares(alloc: Global, system: &System, bounds: &[bool]) -> Result<Vec<u64>, NoMemory>
     requires { bounds.now ≡ bounds_of (length system.now.contexts) system.now.threads }
     ensures { IfOk result (λ shares. shares.items ≡ shares_of system.now) }

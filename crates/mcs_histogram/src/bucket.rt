@@ -4,7 +4,7 @@ ghost use Rattle.mcs_histogram.specs.Buckets.{bucket, bucket_end};
 /// How many buckets the values of 64 bits have: 128 of width 1, and 64 of each of the widths from 2 to 2^57.
 pub(crate) const BUCKETS: usize = 128 + 57 * 64;
 
-// The number of the bucket in which the value lies.
+/// The number of the bucket in which the value lies.
 pub(crate) fn bucket(value: u64) -> usize
     ensures number { result ≡ bucket value }
     ensures known { result < BUCKETS }
@@ -14,7 +14,7 @@ pub(crate) fn bucket(value: u64) -> usize
     64 * doublings as usize + (value >> doublings) as usize
 }
 
-// The greatest value of the bucket with this number.
+/// The greatest value of the bucket with this number.
 pub(crate) fn bucket_end(number: usize) -> u64
     requires { number < BUCKETS }
     ensures { (value : ℕ) → number ≡ bucket value → result ≡ bucket_end value }

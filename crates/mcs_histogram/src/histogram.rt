@@ -29,7 +29,7 @@ impl Model for Histogram {
     ghost invariant = { λ a. AreFields a.limit a.count a.counts.items };
 }
 
-// By nearest rank: the place of the percentile among so many values in rising order, from 1.
+/// By nearest rank: the place of the percentile among so many values in rising order, from 1.
 fn rank(percent: u64, count: u64) -> u64
     requires { percent ≤ 100 }
     ensures { result ≡ div_ceil (percent * count) 100 }
@@ -37,7 +37,7 @@ fn rank(percent: u64, count: u64) -> u64
     (u128::from(percent) * u128::from(count)).div_ceil(100) as u64
 }
 
-// The number of the bucket in which the value of this place lies.
+/// The number of the bucket in which the value of this place lies.
 fn bucket_at(counts: &[u64], place: u64) -> usize
     requires { (0 < place) × (place ≤ sum counts.now) }
     ensures known { result < length counts.now }

@@ -25,7 +25,7 @@ struct Numbered {
 #[derive(Debug, Drop)]
 pub(crate) struct Late {
     heap: BinaryHeap<Reverse<Numbered>>,
-    // above the numbers of all that are held
+    /// above the numbers of all that are held
     next: usize,
 }
 

@@ -12,7 +12,7 @@ use std::marker::Model;
 #[derive(Debug, Drop)]
 pub struct Mailbox {
     mail: Merged,
-    // when the first mail arrives, so that a look costs nothing
+    /// when the first mail arrives, so that a look costs nothing
     next: Soonest,
 }
 
@@ -105,7 +105,7 @@ impl Mailbox {
         self.mail.len()
     }
 
-    // Takes the first mail.
+    /// Takes the first mail.
     #[inline(never)]
     fn take_first(&mut self) -> Option<Mail>
         ensures taken { result ≡ slice_get self.old.mails 0 }

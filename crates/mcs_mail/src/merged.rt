@@ -14,9 +14,9 @@ use std::marker::Model;
 /// there surely is room.
 #[derive(Debug, Drop)]
 pub(crate) struct Merged {
-    // in order of delivery, with room for the late mail too
+    /// in order of delivery, with room for the late mail too
     ring: VecDeque<Mail>,
-    // mail that was put when the ring's last was delivered after it
+    /// mail that was put when the ring's last was delivered after it
     late: Late,
 }
 
@@ -110,7 +110,7 @@ impl Merged {
     }
 }
 
-// Whether the first mail is late. Of equal mail that in the ring was put earlier.
+/// Whether the first mail is late. Of equal mail that in the ring was put earlier.
 fn late_is_first(ring: &VecDeque<Mail>, late: &Late) -> bool
     ensures { result ≡ late_is_first late.now.mails ring.now.items }
 {
@@ -120,7 +120,7 @@ fn late_is_first(ring: &VecDeque<Mail>, late: &Late) -> bool
     }
 }
 
-// When the sooner of the ring's first and the first late mail arrives. Without mail in the ring there is none that is late.
+/// When the sooner of the ring's first and the first late mail arrives. Without mail in the ring there is none that is late.
 fn sooner(front: Option<Mail>, late: Option<Mail>) -> Option<Tick>
     ensures { result ≡ sooner_of front late }
 {
@@ -131,7 +131,7 @@ fn sooner(front: Option<Mail>, late: Option<Mail>) -> Option<Tick>
     }
 }
 
-// Makes the two ready for a put: in the ring there is room for one more, and late mail can have a number.
+/// Makes the two ready for a put: in the ring there is room for one more, and late mail can have a number.
 fn prepare(ring: &mut VecDeque<Mail>, late: &mut Late) -> Result<(), NoMemory>
     requires { IsMerged late.old.mails ring.old.items (deque_capacity ring.old) }
     ensures merged { IsMerged late.new.mails ring.new.items (deque_capacity ring.new) }
@@ -150,7 +150,7 @@ fn prepare(ring: &mut VecDeque<Mail>, late: &mut Late) -> Result<(), NoMemory>
     Ok(())
 }
 
-// Makes room in the ring for so much late mail and for `n` more. It grows by as much late mail again, so that many puts share the cost.
+/// Makes room in the ring for so much late mail and for `n` more. It grows by as much late mail again, so that many puts share the cost.
 fn make_room(ring: &mut VecDeque<Mail>, late: usize, n: usize) -> Result<(), NoMemory>
     requires { deque_len ring.old + late ≤ deque_capacity ring.old }
     ensures items { ring.new.items ≡ ring.old.items }
@@ -164,7 +164,7 @@ fn make_room(ring: &mut VecDeque<Mail>, late: usize, n: usize) -> Result<(), NoM
     Ok(())
 }
 
-// Whether the ring's last is delivered after the mail.
+/// Whether the ring's last is delivered after the mail.
 fn is_late(ring: &VecDeque<Mail>, mail: &Mail) -> bool
     ensures { result ≡ is_before mail.now (last_or mail.now ring.now.items) }
 {
@@ -174,7 +174,7 @@ fn is_late(ring: &VecDeque<Mail>, mail: &Mail) -> bool
     }
 }
 
-// Moves the late mail to its places in the ring, so that its numbers begin at 0 again: at most once in 2^64 - 1 puts of late mail.
+/// Moves the late mail to its places in the ring, so that its numbers begin at 0 again: at most once in 2^64 - 1 puts of late mail.
 fn settle(ring: &mut VecDeque<Mail>, late: &mut Late)
     requires order { IsOrdered ring.old.items }
     requires room { deque_len ring.old + length late.old.mails ≤ deque_capacity ring.old }
@@ -194,7 +194,7 @@ fn settle(ring: &mut VecDeque<Mail>, late: &mut Late)
     late.restart();
 }
 
-// Where to insert the mail: behind all that is not delivered after it.
+/// Where to insert the mail: behind all that is not delivered after it.
 fn place_of(mails: &VecDeque<Mail>, mail: &Mail) -> usize
     requires { IsOrdered mails.now.items }
     ensures within { result ≤ length mails.now.items }

@@ -10,14 +10,14 @@ const CORES: u64 = Limits::CORES as u64;
 /// What comes next of a core.
 #[derive(Clone, Copy, Debug)]
 pub(crate) struct Head {
-    // heads are ordered by it: by moment, and then by core
+    /// heads are ordered by it: by moment, and then by core
     rank: u64,
 }
 
 /// The heads of all cores. Contracts see them by core, and behind them a few of no core.
 #[derive(Debug, Drop)]
 pub(crate) struct Heads {
-    // a tree: below place i stand the four from 4 * i + 1 on, and the heads themselves stand behind those that have any below them
+    /// a tree: below place i stand the four from 4 * i + 1 on, and the heads themselves stand behind those that have any below them
     nodes: Vec<Head>,
     inner: usize,
 }
@@ -36,7 +36,7 @@ impl Model for Heads {
 }
 
 impl Head {
-    // What comes after all that any core has.
+    /// What comes after all that any core has.
     const FAR: Head = Head { rank: u64::MAX };
 
     /// That of a core of which this moment is next, or none.
@@ -97,7 +97,7 @@ impl Heads {
     }
 }
 
-// Changes a leaf, and what stands above it.
+/// Changes a leaf, and what stands above it.
 fn play(nodes: &mut [Head], inner: usize, core: usize, head: Head)
     requires tree { IsTree inner nodes.old }
     requires core { inner + core < length nodes.old }
@@ -112,7 +112,7 @@ fn play(nodes: &mut [Head], inner: usize, core: usize, head: Head)
     }
 }
 
-// The first of the four that stand below a place.
+/// The first of the four that stand below a place.
 fn least_below(nodes: &[Head], place: usize) -> Head
     requires { 4 * place + 4 < length nodes.now }
     ensures { result ≡ least_below place nodes.now }
@@ -123,7 +123,7 @@ fn least_below(nodes: &[Head], place: usize) -> Head
     lesser(least, nodes[last])
 }
 
-// The one that comes first.
+/// The one that comes first.
 fn lesser(a: Head, b: Head) -> Head
     ensures { result ≡ lesser a b }
 {

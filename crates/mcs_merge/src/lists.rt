@@ -16,7 +16,7 @@ pub fn merge(alloc: Global, lists: Vec<Vec<Row>>) -> Result<Vec<Row>, NoMemory>
     Ok(rows)
 }
 
-// The first half and the second half, each merged, and then joined.
+/// The first half and the second half, each merged, and then joined.
 fn merge_lists(alloc: Global, mut lists: Vec<Vec<Row>>) -> Result<Vec<Row>, NoMemory>
     requires in_order { All (λ rows. DoNotFall rows.items) lists.items }
     ensures { IfOk result (λ rows. AreMerged (rows_of_lists lists.items) rows.items) }
@@ -31,7 +31,7 @@ fn merge_lists(alloc: Global, mut lists: Vec<Vec<Row>>) -> Result<Vec<Row>, NoMe
     Ok(rows)
 }
 
-// Two lists as one in order of the moments; of one moment the first list's rows stand before the second's.
+/// Two lists as one in order of the moments; of one moment the first list's rows stand before the second's.
 fn join(alloc: Global, first: &[Row], second: &[Row]) -> Result<Vec<Row>, NoMemory>
     requires first { DoNotFall first.now }
     requires second { DoNotFall second.now }

@@ -16,13 +16,13 @@ use mcs_ticks::{CoreId, NoMemory, Refused, Soonest, Tick};
 use std::alloc::Global;
 use std::marker::Model;
 
-// So many steps are made in the tree of heads before a sweep is tried ..
+/// So many steps are made in the tree of heads before a sweep is tried ..
 const FEW: u32 = 64;
 
-// .. and so many before the next, where a sweep gave out less than enough.
+/// .. and so many before the next, where a sweep gave out less than enough.
 const MANY: u32 = 1024;
 
-// Of so many moments of cores a sweep costs less than the tree.
+/// Of so many moments of cores a sweep costs less than the tree.
 const ENOUGH: u32 = 32;
 
 /// A merge of parts, of which more are added while others are given out: by moment, then core, then place. Contracts see the parts of each
@@ -30,7 +30,7 @@ const ENOUGH: u32 = 32;
 #[derive(Drop)]
 pub struct Merger<P: Part> {
     cores: Vec<Waiting<P>>,
-    // the first moment of each core
+    /// the first moment of each core
     heads: Heads,
 }
 
@@ -99,7 +99,7 @@ impl<P: Part> Merger<P> {
         Ok(())
     }
 
-    // Gives out what comes next within a few moments before this one. Answers after how many steps to try it again.
+    /// Gives out what comes next within a few moments before this one. Answers after how many steps to try it again.
     fn sweep(&mut self, until: Tick, out: &mut P::Out) -> Result<u32, Refused>
         ensures goes_on { OnOk result (ArePouring P.Out.takes P.holds until out.old out.new self.old self.new) }
         ensures stops { OnErr result (IsStopped P.Out.takes P.holds until out.old out.new self.old) }
@@ -116,7 +116,7 @@ impl<P: Part> Merger<P> {
         Ok(if poured? < ENOUGH { MANY } else { 0 })
     }
 
-    // The core whose first moment comes first, where that is before this moment.
+    /// The core whose first moment comes first, where that is before this moment.
     fn next_before(&self, until: Tick) -> Option<usize>
         ensures next { IfSome result (λ core. IsNextCore P.first self.now until core) }
         ensures none { IfNone result (NoneBefore P.first self.now until) }
@@ -130,7 +130,7 @@ impl<P: Part> Merger<P> {
         }
     }
 
-    // Gives out all rows of the first moment that the first part of this core has.
+    /// Gives out all rows of the first moment that the first part of this core has.
     fn pour(&mut self, core: usize, out: &mut P::Out) -> Result<(), Refused>
         requires within { core < length self.old }
         requires some { IsSome (first_of P.first (parts_of core self.old)) }
@@ -149,7 +149,7 @@ impl<P: Part> Merger<P> {
     }
 }
 
-// Each part alone.
+/// Each part alone.
 fn waiting_of<P: Part>(alloc: Global, parts: Vec<P>) -> Result<Vec<Waiting<P>>, NoMemory>
     ensures { IfOk result (λ cores. cores.items ≡ map (λ part. part ∷ []) parts.items) }
 {
@@ -160,7 +160,7 @@ fn waiting_of<P: Part>(alloc: Global, parts: Vec<P>) -> Result<Vec<Waiting<P>>, 
     Ok(cores)
 }
 
-// The heads of all cores.
+/// The heads of all cores.
 fn heads_of<P: Part>(alloc: Global, cores: &[Waiting<P>]) -> Result<Heads, NoMemory>
     requires few { length cores.now ≤ 64 }
     requires in_line { (core : ℕ) → core < length cores.now → IsInLine P.first (parts_of core cores.now) }
@@ -171,7 +171,7 @@ fn heads_of<P: Part>(alloc: Global, cores: &[Waiting<P>]) -> Result<Heads, NoMem
     Ok(heads)
 }
 
-// Changes the head of each core.
+/// Changes the head of each core.
 fn set_heads<P: Part>(heads: &mut Heads, cores: &[Waiting<P>])
     requires few { length cores.now ≤ 64 }
     requires enough { length cores.now ≤ length heads.old }
@@ -185,7 +185,7 @@ fn set_heads<P: Part>(heads: &mut Heads, cores: &[Waiting<P>])
     }
 }
 
-// What comes next of a core.
+/// What comes next of a core.
 fn head_at<P: Part>(cores: &[Waiting<P>], core: usize) -> Head
     requires within { core < length cores.now }
     requires few { core < 64 }
@@ -194,7 +194,7 @@ fn head_at<P: Part>(cores: &[Waiting<P>], core: usize) -> Head
     Head::of_next(core, next_at(cores, core))
 }
 
-// The first moment of a core, or never.
+/// The first moment of a core, or never.
 #[inline(always)]
 fn next_at<P: Part>(cores: &[Waiting<P>], core: usize) -> Soonest
     requires { core < length cores.now }
@@ -203,7 +203,7 @@ fn next_at<P: Part>(cores: &[Waiting<P>], core: usize) -> Soonest
     cores[core].next()
 }
 
-// A sweep from the first moment of this core, which comes first, with all cores in it.
+/// A sweep from the first moment of this core, which comes first, with all cores in it.
 fn sweep_of<P: Part>(cores: &[Waiting<P>], core: usize, until: Tick) -> Sweep
     requires next { IsNextCore P.first cores.now until core }
     requires few { length cores.now ≤ 64 }
@@ -218,7 +218,7 @@ fn sweep_of<P: Part>(cores: &[Waiting<P>], core: usize, until: Tick) -> Sweep
     sweep
 }
 
-// Gives out what comes next, core by core, as long as the sweep knows it. Answers how many moments of cores that was.
+/// Gives out what comes next, core by core, as long as the sweep knows it. Answers how many moments of cores that was.
 fn pour_sweep<P: Part>(
     cores: &mut [Waiting<P>],
     sweep: &mut Sweep,
@@ -244,7 +244,7 @@ fn pour_sweep<P: Part>(
     Ok(poured)
 }
 
-// Adds a part of a core.
+/// Adds a part of a core.
 fn add_to<P: Part>(
     cores: &mut [Waiting<P>],
     core: usize,
@@ -264,7 +264,7 @@ fn add_to<P: Part>(
     waiting.add(part)
 }
 
-// Gives out all rows of the first moment that the first part of a core has.
+/// Gives out all rows of the first moment that the first part of a core has.
 #[inline(always)]
 fn pour_of<P: Part>(cores: &mut [Waiting<P>], core: usize, out: &mut P::Out) -> Result<(), Refused>
     requires within { core < length cores.old }

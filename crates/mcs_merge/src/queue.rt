@@ -5,7 +5,7 @@ use std::collections::VecDeque;
 use std::marker::Model;
 use std::mem;
 
-// How many moments are read at once
+/// How many moments are read at once
 const AHEAD: usize = 8;
 
 /// Rows in their order, and the moments of the next few beside them. A row that has left the processor's cache is waited for, and
@@ -14,7 +14,7 @@ const AHEAD: usize = 8;
 #[derive(Debug, Drop)]
 pub(crate) struct RowQueue {
     rows: VecDeque<Row>,
-    // that of the first row is in the place `at`, that of the second in the next one, and so on, as far as there are rows
+    /// that of the first row is in the place `at`, that of the second in the next one, and so on, as far as there are rows
     moments: [Tick; AHEAD],
     at: usize,
 }
@@ -89,7 +89,7 @@ impl RowQueue {
     }
 }
 
-// The moments of the first eight rows, or 0 where there is none. No read needs what another one gave.
+/// The moments of the first eight rows, or 0 where there is none. No read needs what another one gave.
 #[inline(never)]
 fn moments_of(rows: &VecDeque<Row>) -> [Tick; AHEAD]
     ensures some { (k : ℕ) → k < 8 → IfSome (slice_get rows.now.items k) (λ row. slice_index result k ≡ row.moment) }
@@ -102,7 +102,7 @@ fn moments_of(rows: &VecDeque<Row>) -> [Tick; AHEAD]
     moments
 }
 
-// The moment of the row in this place, or 0 where there is none.
+/// The moment of the row in this place, or 0 where there is none.
 fn moment_at(rows: &VecDeque<Row>, place: usize) -> Tick
     ensures some { IfSome (slice_get rows.now.items place) (λ row. result ≡ row.moment) }
     ensures none { IfNone (slice_get rows.now.items place) (result ≡ 0) }

@@ -82,7 +82,7 @@ impl<S: Sink> Part for RowPart<S> {
     ghost holds_on = { λ before after part rows row held taken. held };
 }
 
-// Takes the first row where it is of this moment.
+/// Takes the first row where it is of this moment.
 #[inline(always)]
 fn pop_at(rows: &mut RowQueue, moment: Tick) -> Option<Row>
     ensures first { IfSome result (λ row. (row.moment ≡ moment) × (rows.old.items ≡ row ∷ rows.new.items)) }

@@ -10,13 +10,13 @@ const MOMENTS: usize = 256;
 /// A sweep over a few moments that follow one another: for each of them the cores of which something comes next at it.
 #[derive(Debug, Drop)]
 pub(crate) struct Sweep {
-    // a core is in the set of a moment where its bit is 1
+    /// a core is in the set of a moment where its bit is 1
     sets: [u64; MOMENTS],
-    // the moment of the first set
+    /// the moment of the first set
     start: Tick,
-    // the place up to which the sweep has come
+    /// the place up to which the sweep has come
     at: usize,
-    // the moment before which it ends
+    /// the moment before which it ends
     end: Tick,
 }
 
@@ -81,7 +81,7 @@ impl Sweep {
     }
 }
 
-// The lowest core of a set that has any.
+/// The lowest core of a set that has any.
 #[inline(always)]
 fn lowest(set: u64) -> usize
     requires { 0 < set }

@@ -16,7 +16,7 @@ use std::mem;
 pub(crate) struct Waiting<P: Part> {
     front: P,
     later: VecDeque<P>,
-    // a part of which all was given out
+    /// a part of which all was given out
     spare: Option<P>,
 }
 
@@ -92,7 +92,7 @@ impl<P: Part> Waiting<P> {
     }
 }
 
-// Where the part at the front is empty, the next one comes to the front, and it is spare.
+/// Where the part at the front is empty, the next one comes to the front, and it is spare.
 fn go_on<P: Part>(front: &mut P, later: &mut VecDeque<P>, spare: &mut Option<P>)
     requires behind { All (λ part. IsSome (P.first part)) later.old.items }
     requires unused { IfSome spare.old (λ part. P.first part ≡ None) }

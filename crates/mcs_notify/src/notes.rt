@@ -19,7 +19,7 @@ struct Kept {
 #[derive(Debug, Drop)]
 pub struct Notes {
     notes: Vec<Kept>,
-    // a place for each thread
+    /// a place for each thread
     places: Vec<Place>,
 }
 

@@ -94,7 +94,7 @@ pub(crate) fn lost_line(span: &Span<'_>, allowed: &[bool], note: NoteId) -> Opti
     }
 }
 
-// What is told of what is found of a thread.
+/// What is told of what is found of a thread.
 fn end_told(moment: Tick, thread: ThreadId, found: &Option<Finding>) -> Option<Line>
     ensures { result ≡ end_told moment thread found.now }
 {
@@ -124,14 +124,14 @@ pub(crate) fn end_line(
     }
 }
 
-// From when on the thread ends no round, where it ended none in the first period.
+/// From when on the thread ends no round, where it ended none in the first period.
 fn silent_from(from: Tick, ended: bool) -> Option<Tick>
     ensures { result ≡ silent_from from ended }
 {
     if ended { None } else { Some(from) }
 }
 
-// What is told of a thread for ever.
+/// What is told of a thread for ever.
 fn thread_line(
     system: &System,
     own: &CoreSet,
@@ -155,7 +155,7 @@ fn thread_line(
     }
 }
 
-// What is told of a thread so far.
+/// What is told of a thread so far.
 fn thread_so_far(system: &System, own: &CoreSet, course: &Course, thread: ThreadId) -> Option<Line>
     requires { thread < length system.now.threads }
     ensures { result ≡ thread_so_far system.now own.now course.now thread }
@@ -180,7 +180,7 @@ pub(crate) fn push<T: Copy>(items: &mut Vec<T>, one: Option<T>) -> Result<(), No
     Ok(())
 }
 
-// Puts the lines of missed deadlines behind the others.
+/// Puts the lines of missed deadlines behind the others.
 fn push_misses(lines: &mut Vec<Line>, span: &Span<'_>) -> Result<(), NoMemory>
     ensures { OnOk result (lines.new.items ≡ lines.old.items ++ of_threads span.now.system.now
         (miss_line span.now.system.now span.now.own.now span.now.forever span.now.before.now span.now.after.now)) }
@@ -191,7 +191,7 @@ fn push_misses(lines: &mut Vec<Line>, span: &Span<'_>) -> Result<(), NoMemory>
     Ok(())
 }
 
-// Puts the lines of lost signals behind the others.
+/// Puts the lines of lost signals behind the others.
 fn push_losses(lines: &mut Vec<Line>, span: &Span<'_>, allowed: &[bool]) -> Result<(), NoMemory>
     ensures { OnOk result (lines.new.items ≡ lines.old.items ++ of_notes span.now.system.now
         (lost_line span.now.system.now span.now.own.now span.now.forever span.now.before.now span.now.after.now allowed.now)) }

@@ -70,7 +70,7 @@ pub(crate) fn finds_again(look: &Look<'_>, group: &Group, by: u64) -> bool
     )
 }
 
-// Whether what horizons tell of a thread recurs, where the set does.
+/// Whether what horizons tell of a thread recurs, where the set does.
 fn ends_again(look: &Look<'_>, by: u64, thread: ThreadId) -> bool
     requires known { thread < length look.now.system.now.threads }
     requires look { IsLook look.now.system.now look.now.search.now }
@@ -90,7 +90,7 @@ fn ends_again(look: &Look<'_>, by: u64, thread: ThreadId) -> bool
     )
 }
 
-// Whether the thread has no deadline, or takes its first word alone.
+/// Whether the thread has no deadline, or takes its first word alone.
 fn is_alone(system: &System, thread: ThreadId) -> bool
     requires { thread < length system.now.threads }
     ensures { IsTrue result → (thread_part system.now thread).deadline ≢ 0 → WaitsAlone system.now thread }
@@ -98,7 +98,7 @@ fn is_alone(system: &System, thread: ThreadId) -> bool
     system.parts().thread(thread).deadline == 0 || waits_alone(system, thread)
 }
 
-// Whether nothing was found of the thread at the horizon before the kept moment.
+/// Whether nothing was found of the thread at the horizon before the kept moment.
 fn was_clear(look: &Look<'_>, thread: ThreadId) -> bool
     requires { IsLook look.now.system.now look.now.search.now }
     ensures { IsTrue result → unended_at look.now.system.now (look.now.search.now.kept - 1) thread ≡ None }

@@ -123,7 +123,7 @@ impl Outlook {
         self.close(alloc)
     }
 
-    // What is told, where something is told of all sets or the horizon is met.
+    /// What is told, where something is told of all sets or the horizon is met.
     fn close(&mut self, alloc: Global) -> Result<Vec<Told>, NoMemory>
         requires { (nat_le self.old.clock self.old.horizon && self.old.left) ≡ false }
         ensures { IfOk result (λ told. AreTold self.old.system self.old.allowed self.old.horizon told.items) }

@@ -14,21 +14,21 @@ pub(crate) struct Group {
     pub(crate) own: CoreSet,
 }
 
-// Whether the set of a core has another one.
+/// Whether the set of a core has another one.
 fn set_has(sets: &[CoreSet], core: CoreId, other: CoreId) -> bool
     ensures { result ≡ set_has sets.now core other }
 {
     core.0 < sets.len() && other.0 < Limits::CORES && sets[core.0][other.0]
 }
 
-// Whether two cores have one set.
+/// Whether two cores have one set.
 fn have_one_set(sets: &[CoreSet], core: CoreId, other: CoreId) -> bool
     ensures { result ≡ have_one_set sets.now core other }
 {
     set_has(sets, core, other) && set_has(sets, other, core)
 }
 
-// The cores that are told with the set of this one.
+/// The cores that are told with the set of this one.
 fn own_of(sets: &[CoreSet], core: CoreId) -> CoreSet
     ensures { result ≡ own_of sets.now core }
 {
@@ -39,7 +39,7 @@ fn own_of(sets: &[CoreSet], core: CoreId) -> CoreSet
     own
 }
 
-// Whether no lesser core has the same set.
+/// Whether no lesser core has the same set.
 fn is_first(sets: &[CoreSet], core: CoreId) -> bool
     ensures { result ≡ is_first sets.now core }
 {
@@ -51,7 +51,7 @@ fn is_first(sets: &[CoreSet], core: CoreId) -> bool
     true
 }
 
-// The set of a core.
+/// The set of a core.
 fn group_of(sets: &[CoreSet], core: CoreId) -> Group
     requires { core < length sets.now }
     ensures { result ≡ group_of sets.now core }
@@ -62,7 +62,7 @@ fn group_of(sets: &[CoreSet], core: CoreId) -> Group
     }
 }
 
-// Puts the set of a core behind the others, unless a lesser core has it, too.
+/// Puts the set of a core behind the others, unless a lesser core has it, too.
 fn push_group(groups: &mut Vec<Group>, sets: &[CoreSet], core: CoreId) -> Result<(), NoMemory>
     requires { core < length sets.now }
     ensures { OnOk result (groups.new.items ≡ groups.old.items ++ cond (is_first sets.now core) (group_of sets.now core ∷ []) []) }

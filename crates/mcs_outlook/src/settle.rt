@@ -12,7 +12,7 @@ use mcs_ticks::{NoteId, ThreadId};
 use mcs_verdict_forever::{no_deadline_is_missed, no_signal_is_lost, thread_is_never_found};
 use mcs_verdict_laws::{schedules_are_in_order, who_waits_alone_takes_it};
 
-// Whether it is known that the thread is never found, where nothing is found of it at the end of the first period.
+/// Whether it is known that the thread is never found, where nothing is found of it at the end of the first period.
 fn is_never_found(look: &Look<'_>, group: &Group, by: u64, thread: ThreadId) -> bool
     requires known { thread < length look.now.system.now.threads }
     requires look { IsLook look.now.system.now look.now.search.now }
@@ -30,7 +30,7 @@ fn is_never_found(look: &Look<'_>, group: &Group, by: u64, thread: ThreadId) -> 
     end_is_known(look, group, by, thread)
 }
 
-// Whether a miss or an end is told of the thread, or it is never found.
+/// Whether a miss or an end is told of the thread, or it is never found.
 fn thread_is_settled(look: &Look<'_>, group: &Group, by: u64, thread: ThreadId) -> bool
     requires known { thread < length look.now.system.now.threads }
     requires look { IsLook look.now.system.now look.now.search.now }
@@ -62,7 +62,7 @@ fn thread_is_settled(look: &Look<'_>, group: &Group, by: u64, thread: ThreadId) 
     is_never_found(look, group, by, thread)
 }
 
-// So it is of all threads.
+/// So it is of all threads.
 fn threads_are_settled(look: &Look<'_>, group: &Group, by: u64) -> bool
     requires look { IsLook look.now.system.now look.now.search.now }
     ensures { IsTrue result → HasRecurred look.now.system.now look.now.search.now group.now.set by →
@@ -77,14 +77,14 @@ fn threads_are_settled(look: &Look<'_>, group: &Group, by: u64) -> bool
     true
 }
 
-// Whether the notification may lose signals.
+/// Whether the notification may lose signals.
 fn may_lose(allowed: &[bool], note: NoteId) -> bool
     ensures { result ≡ has allowed.now note }
 {
     note.0 < allowed.len() && allowed[note.0]
 }
 
-// Whether a lost signal is told of the notification, or it may lose some, or it never loses one.
+/// Whether a lost signal is told of the notification, or it may lose some, or it never loses one.
 fn note_is_settled(look: &Look<'_>, group: &Group, by: u64, note: NoteId) -> bool
     requires known { note < length look.now.system.now.notes }
     requires look { IsLook look.now.system.now look.now.search.now }
@@ -115,7 +115,7 @@ fn note_is_settled(look: &Look<'_>, group: &Group, by: u64, note: NoteId) -> boo
     is_own(&group.set, home)
 }
 
-// So it is of all notifications.
+/// So it is of all notifications.
 fn notes_are_settled(look: &Look<'_>, group: &Group, by: u64) -> bool
     requires look { IsLook look.now.system.now look.now.search.now }
     ensures { IsTrue result → HasRecurred look.now.system.now look.now.search.now group.now.set by →

@@ -19,7 +19,7 @@ use mcs_ticks::NoMemory;
 use mcs_verdict_laws::schedules_are_in_order;
 use std::alloc::Global;
 
-// The line of the set.
+/// The line of the set.
 fn first_line(alloc: Global, line: Line) -> Result<Vec<Line>, NoMemory>
     ensures { IfOk result (λ lines. lines.items ≡ line ∷ []) }
 {
@@ -28,7 +28,7 @@ fn first_line(alloc: Global, line: Line) -> Result<Vec<Line>, NoMemory>
     Ok(lines)
 }
 
-// Puts behind the lines that nothing is ever found, where there are no findings.
+/// Puts behind the lines that nothing is ever found, where there are no findings.
 fn push_clean(lines: &mut Vec<Line>, set: &CoreSet, findings: usize) -> Result<(), NoMemory>
     ensures { (found : List TheLine) → findings ≡ length found →
         OnOk result (lines.new.items ≡ lines.old.items ++ clean_lines set.now found) }
@@ -39,7 +39,7 @@ fn push_clean(lines: &mut Vec<Line>, set: &CoreSet, findings: usize) -> Result<(
     push(lines, Some(Line::Clean { cores: *set }))
 }
 
-// What is told of a set that recurs, where all is settled.
+/// What is told of a set that recurs, where all is settled.
 fn told_for_ever(alloc: Global, look: &Look<'_>, group: &Group, by: u64) -> Result<Told, NoMemory>
     requires { IsLook look.now.system.now look.now.search.now }
     ensures { (horizon : ℕ) → HasRecurred look.now.system.now look.now.search.now group.now.set by →
@@ -89,7 +89,7 @@ fn told_for_ever(alloc: Global, look: &Look<'_>, group: &Group, by: u64) -> Resu
     })
 }
 
-// What is told of a set that no core outside signals, where it recurs now and all is settled.
+/// What is told of a set that no core outside signals, where it recurs now and all is settled.
 fn told_now(alloc: Global, look: &Look<'_>, group: &Group) -> Result<Option<Told>, NoMemory>
     requires look { IsLook look.now.system.now look.now.search.now }
     requires closed { IsClosed look.now.system.now (has group.now.set) }
@@ -105,7 +105,7 @@ fn told_now(alloc: Global, look: &Look<'_>, group: &Group) -> Result<Option<Told
     Ok(Some(told_for_ever(alloc, look, group, shifts.by)?))
 }
 
-// The set is told, where nothing is told of it yet, it recurs now and all is settled.
+/// The set is told, where nothing is told of it yet, it recurs now and all is settled.
 fn tell_one(
     alloc: Global,
     look: &Look<'_>,
@@ -144,7 +144,7 @@ pub(crate) fn tell_now(
     Ok(())
 }
 
-// What is told of a set of which no repetition was found.
+/// What is told of a set of which no repetition was found.
 fn told_open(alloc: Global, look: &Look<'_>, group: &Group) -> Result<Told, NoMemory>
     requires look { IsLook look.now.system.now look.now.search.now }
     requires some { 1 ≤ look.now.search.now.clock }
@@ -183,7 +183,7 @@ fn told_open(alloc: Global, look: &Look<'_>, group: &Group) -> Result<Told, NoMe
     })
 }
 
-// What is told of a set, or that no repetition was found.
+/// What is told of a set, or that no repetition was found.
 fn told_or_open(
     alloc: Global,
     look: &Look<'_>,

@@ -7,7 +7,7 @@ use std::marker::Model;
 #[derive(Debug, Drop)]
 pub(crate) struct Priorities {
     words: [u64; 4],
-    // One more than the greatest priority in the set, and 0 where the set is empty.
+    /// One more than the greatest priority in the set, and 0 where the set is empty.
     end: u16,
 }
 

@@ -15,11 +15,11 @@ const NONE: ThreadId = ThreadId(usize::MAX);
 /// first out within one, and `room`, the number of threads that there is room for.
 #[derive(Debug, Drop)]
 pub struct Ready {
-    // the priorities with a thread
+    /// the priorities with a thread
     priorities: Priorities,
-    // for each priority the last thread of its line
+    /// for each priority the last thread of its line
     lasts: Vec<ThreadId>,
-    // for each thread the one behind it in its line; behind the last stands the first
+    /// for each thread the one behind it in its line; behind the last stands the first
     next: Vec<ThreadId>,
 }
 

@@ -8,14 +8,14 @@ use mcs_system::{System, ThreadPart};
 use mcs_ticks::{NoteId, ThreadId};
 use mcs_verdict::first_wait;
 
-// Whether an item is a wait for the notification.
+/// Whether an item is a wait for the notification.
 fn is_wait(item: &Option<Item>, note: NoteId) -> bool
     ensures { IsTrue result ↔ (item.now ≡ Some (Wait note)) }
 {
     matches!(item, Some(Item::Wait(other)) if *other == note)
 }
 
-// Whether a script has a wait for it.
+/// Whether a script has a wait for it.
 fn has_wait(part: &ThreadPart, note: NoteId) -> bool
     ensures { MatchBool result (HasWait part.now note) (¬ HasWait part.now note) }
 {
@@ -27,7 +27,7 @@ fn has_wait(part: &ThreadPart, note: NoteId) -> bool
     false
 }
 
-// Whether another thread's has one.
+/// Whether another thread's has one.
 fn has_other(system: &System, thread: ThreadId, note: NoteId) -> bool
     ensures { MatchBool result (HasOther system.now thread note) (HasNone system.now thread note (length system.now.threads)) }
 {

@@ -10,7 +10,7 @@ use mcs_ticks::{NoMemory, NoteId, ThreadId, What};
 use std::alloc::Global;
 use std::marker::Model;
 
-// The thread of which the row ends a round.
+/// The thread of which the row ends a round.
 fn ended_by(what: &What) -> Option<usize>
     ensures { result ≡ ended_by what.now }
 {
@@ -20,7 +20,7 @@ fn ended_by(what: &What) -> Option<usize>
     }
 }
 
-// The thread that the row is about.
+/// The thread that the row is about.
 fn subject(what: &What) -> Option<usize>
     ensures { result ≡ subject what.now }
 {
@@ -35,7 +35,7 @@ fn subject(what: &What) -> Option<usize>
     }
 }
 
-// The notification whose word a thread takes.
+/// The notification whose word a thread takes.
 fn taken_by(what: &What) -> Option<usize>
     ensures { result ≡ taken_by what.now }
 {
@@ -45,7 +45,7 @@ fn taken_by(what: &What) -> Option<usize>
     }
 }
 
-// The notification in whose word a signal is held.
+/// The notification in whose word a signal is held.
 fn held_by(what: &What) -> Option<usize>
     ensures { result ≡ held_by what.now }
 {
@@ -55,7 +55,7 @@ fn held_by(what: &What) -> Option<usize>
     }
 }
 
-// Sets the flag of that number, if there is one.
+/// Sets the flag of that number, if there is one.
 fn mark(flags: &mut [bool], number: Option<usize>)
     ensures { flags.new ≡ marked number flags.old }
 {
@@ -66,14 +66,14 @@ fn mark(flags: &mut [bool], number: Option<usize>)
     }
 }
 
-// No flag is set any more.
+/// No flag is set any more.
 fn unmark(flags: &mut [bool])
     ensures { flags.new ≡ unmarked flags.old }
 {
     flags.fill(false);
 }
 
-// The flag of that number, and no where there is none.
+/// The flag of that number, and no where there is none.
 fn is_marked(flags: &[bool], number: usize) -> bool
     ensures { result ≡ get_or flags.now number false }
 {

@@ -11,14 +11,14 @@ use mcs_system::{System, ThreadPart};
 use mcs_ticks::{NoteId, ThreadId};
 use mcs_verdict::{Watch, first_wait};
 
-// Whether the word is 0, and no signal is held in it.
+/// Whether the word is 0, and no signal is held in it.
 fn is_empty(before: &Watch, doings: &Doings, note: NoteId) -> bool
     ensures { IsTrue result ↔ IsEmpty before.now doings.now note }
 {
     !before.word_is_set(note) && !doings.holds_word(note)
 }
 
-// So is the word for which the script waits first, if it does.
+/// So is the word for which the script waits first, if it does.
 fn is_first_empty(before: &Watch, doings: &Doings, part: &ThreadPart) -> bool
     ensures { IsTrue result ↔ FirstIsEmpty before.now doings.now part.now }
 {
@@ -28,7 +28,7 @@ fn is_first_empty(before: &Watch, doings: &Doings, part: &ThreadPart) -> bool
     }
 }
 
-// Whether it was set later, or is empty.
+/// Whether it was set later, or is empty.
 fn first_recurs(by: u64, before: &Watch, after: &Watch, doings: &Doings, part: &ThreadPart) -> bool
     ensures { IsTrue result ↔ FirstRecurs by before.now after.now doings.now part.now }
 {
@@ -38,7 +38,7 @@ fn first_recurs(by: u64, before: &Watch, after: &Watch, doings: &Doings, part: &
     }
 }
 
-// Whether the thread's account is later, and so is its first word.
+/// Whether the thread's account is later, and so is its first word.
 fn is_later(
     by: u64,
     before: &Watch,
@@ -52,14 +52,14 @@ fn is_later(
     after.thread_is_later(before, thread, by) && first_recurs(by, before, after, doings, part)
 }
 
-// Whether no round of the thread can begin.
+/// Whether no round of the thread can begin.
 fn begins_none(before: &Watch, doings: &Doings, part: &ThreadPart, thread: ThreadId) -> bool
     ensures { IsTrue result ↔ (IsDoneThread before.now thread ⊎ FirstIsEmpty before.now doings.now part.now) }
 {
     before.is_done(thread) || is_first_empty(before, doings, part)
 }
 
-// Whether no round of the thread is under way, and none can begin.
+/// Whether no round of the thread is under way, and none can begin.
 fn is_idle(before: &Watch, doings: &Doings, part: &ThreadPart, thread: ThreadId) -> bool
     ensures { IsTrue result ↔ IsIdle before.now doings.now part.now thread }
 {
@@ -68,7 +68,7 @@ fn is_idle(before: &Watch, doings: &Doings, part: &ThreadPart, thread: ThreadId)
         && begins_none(before, doings, part, thread)
 }
 
-// Whether the thread has no deadline, or is later, or idle.
+/// Whether the thread has no deadline, or is later, or idle.
 fn thread_ends(
     by: u64,
     before: &Watch,

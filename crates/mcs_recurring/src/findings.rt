@@ -12,14 +12,14 @@ use mcs_system::System;
 use mcs_ticks::{NoteId, ThreadId};
 use mcs_verdict::Watch;
 
-// Whether the thread is later, or no round of it ended.
+/// Whether the thread is later, or no round of it ended.
 fn thread_recurs(by: u64, before: &Watch, after: &Watch, doings: &Doings, thread: ThreadId) -> bool
     ensures { IsTrue result ↔ ThreadRecurs by before.now after.now doings.now thread }
 {
     after.thread_is_later(before, thread, by) || !doings.ends_round(thread)
 }
 
-// Whether the word is the same, and was set later or is not taken.
+/// Whether the word is the same, and was set later or is not taken.
 fn word_recurs(by: u64, before: &Watch, after: &Watch, doings: &Doings, note: NoteId) -> bool
     ensures { IsTrue result ↔ WordRecurs by before.now after.now doings.now note }
 {
@@ -27,7 +27,7 @@ fn word_recurs(by: u64, before: &Watch, after: &Watch, doings: &Doings, note: No
         && (after.word_is_later(before, note, by) || !doings.takes_word(note))
 }
 
-// So it is of each thread on a core of the group.
+/// So it is of each thread on a core of the group.
 fn threads_recur(
     system: &System,
     group: &CoreSet,
@@ -50,7 +50,7 @@ fn threads_recur(
     true
 }
 
-// And of each notification there.
+/// And of each notification there.
 fn words_recur(
     system: &System,
     group: &CoreSet,

@@ -9,17 +9,17 @@ use mcs_ticks::{NoMemory, ThreadId, Tick};
 use std::alloc::Global;
 use std::marker::Model;
 
-// There are no more places than this.
+/// There are no more places than this.
 const PLACES: u64 = 1 << 21;
 
 /// Places for threads that wait, each empty or with a thread and its date. Contracts see them in their order.
 #[derive(Debug, Drop)]
 pub(crate) struct Places {
-    // the thread of each place, where it is not empty
+    /// the thread of each place, where it is not empty
     threads: Vec<ThreadId>,
-    // a tree of least numbers over the places, whose root is that of the thread of least date and then of least place
+    /// a tree of least numbers over the places, whose root is that of the thread of least date and then of least place
     nodes: Vec<u64>,
-    // how many of these nodes are inner ones
+    /// how many of these nodes are inner ones
     inner: usize,
 }
 

@@ -8,23 +8,23 @@ use mcs_ticks::{NoMemory, Soonest, ThreadId, Tick};
 use std::alloc::Global;
 use std::marker::Model;
 
-// No more threads than this have places.
+/// No more threads than this have places.
 const MOST: usize = 1 << 20;
 
-// So many places there are beyond five for each four threads.
+/// So many places there are beyond five for each four threads.
 const MORE: usize = 34;
 
 /// The threads of one core that wait for a date, each with its date. Contracts see them in the order in which they entered, and
 /// `room`, the number of threads that there is room for.
 #[derive(Debug, Drop)]
 pub struct Releases {
-    // the least date of all
+    /// the least date of all
     soonest: Soonest,
-    // the only one, where it came when there was none: so all places stay empty where one thread waits
+    /// the only one, where it came when there was none: so all places stay empty where one thread waits
     lone: Option<Dated>,
-    // else all, in the order in which they entered; the place of one that has left is empty
+    /// else all, in the order in which they entered; the place of one that has left is empty
     places: Places,
-    // the place of the next thread that enters, behind all that are held
+    /// the place of the next thread that enters, behind all that are held
     end: usize,
     room: usize,
 }

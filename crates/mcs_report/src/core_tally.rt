@@ -36,7 +36,7 @@ impl Model for CoreTally {
     ghost invariant = { λ a. map reopened a.accounts.items ≡ opened_on (arc_value a.own.places) a.own.core };
 }
 
-// A core, whose threads have their places on it.
+/// A core, whose threads have their places on it.
 #[derive(Drop)]
 struct Own {
     places: Arc<Places>,
@@ -129,7 +129,7 @@ impl CoreTally {
         own.core == core && self.horizon == horizon && *own.places.system() == *system
     }
 
-    // The account at this place.
+    /// The account at this place.
     pub(crate) fn account(&self, place: usize) -> Account
         ensures { result ≡ get_or self.now.accounts place no_account }
     {

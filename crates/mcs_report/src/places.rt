@@ -38,7 +38,7 @@ impl Model for Places {
     ghost invariant = { λ a. AreHomes (arc_value a.system) a.homes.items };
 }
 
-// The threads of each core are counted as they come.
+/// The threads of each core are counted as they come.
 fn homes_of(alloc: Global, parts: &SystemParts) -> Result<Vec<Home>, NoMemory>
     requires { IsWellFormed parts.now }
     ensures { IfOk result (λ homes. homes.items ≡ map (home_in parts.now) (range_with_len 0 (length parts.now.threads))) }
@@ -71,7 +71,7 @@ impl Places {
         &self.system
     }
 
-    // A thread's core and place.
+    /// A thread's core and place.
     pub(crate) fn home(&self, thread: ThreadId) -> Home
         requires { thread < length self.now.threads }
         ensures { result ≡ home_in self.now thread }
@@ -79,7 +79,7 @@ impl Places {
         self.homes[thread.0]
     }
 
-    // A thread's place on this core, if it has one there.
+    /// A thread's place on this core, if it has one there.
     #[inline(always)]
     pub(crate) fn place_on(&self, core: CoreId, thread: ThreadId) -> Option<usize>
         ensures { result ≡ place_on self.now core thread }

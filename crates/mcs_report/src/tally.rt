@@ -24,7 +24,7 @@ pub struct Tally {
     cores: usize,
     last: Tick,
     accounts: Vec<Account>,
-    // empty, with room for the reports
+    /// empty, with room for the reports
     thread_reports: Vec<ThreadReport>,
     core_reports: Vec<CoreReport>,
 }
@@ -55,7 +55,7 @@ fn opened_accounts(alloc: Global, parts: &SystemParts) -> Result<Vec<Account>, N
     Ok(accounts)
 }
 
-// Each account at its thread's number.
+/// Each account at its thread's number.
 #[derive(Clone, Copy)]
 struct Numbers {
     many: usize,
@@ -86,7 +86,7 @@ fn tell_numbered(accounts: &mut [Account], horizon: Tick, moment: Tick, what: Wh
     tell(accounts, &numbers, horizon, moment, what);
 }
 
-// Tells rows one after another. Answers the moment of the last one, or `last` where there is none.
+/// Tells rows one after another. Answers the moment of the last one, or `last` where there is none.
 fn tell_all(accounts: &mut [Account], horizon: Tick, last: Tick, rows: &[Row]) -> Tick
     ensures { (cores : ℕ) →
         fold added (record { horizon = horizon; cores = cores; last = last; accounts = accounts.old }) rows.now

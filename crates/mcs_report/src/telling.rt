@@ -15,7 +15,7 @@ pub(crate) trait Stand {
         ensures { result ≡ place self.now thread };
 }
 
-// Tells a row to the account of its thread. One whose kind is known where it is told is counted by that kind's steps alone.
+/// Tells a row to the account of its thread. One whose kind is known where it is told is counted by that kind's steps alone.
 #[inline(always)]
 pub(crate) fn tell<S: Stand>(
     accounts: &mut [Account],

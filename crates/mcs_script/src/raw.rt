@@ -87,7 +87,7 @@ fn read_yield(rest: &str) -> Result<RawItem<'_>, ItemFault>
     Ok(RawItem::Yield)
 }
 
-// The first part of a text and what stands behind it.
+/// The first part of a text and what stands behind it.
 fn next_part(text: &str) -> Option<(&str, &str)>
     ensures { MatchOption result (parts text.now ≡ []) (λ found. parts text.now ≡ found.0.now ∷ parts found.1.now) }
 {
@@ -105,7 +105,7 @@ fn next_part(text: &str) -> Option<(&str, &str)>
     }
 }
 
-// The number, from 1 to `most`, that decimal digits without a leading zero say.
+/// The number, from 1 to `most`, that decimal digits without a leading zero say.
 fn number_up_to(most: u64, digits: &str) -> Option<u64>
     ensures { result ≡ number_up_to most digits.now }
 {

@@ -8,7 +8,7 @@ use mcs_ticks::{CoreId, Limits};
 /// Pairs of cores, a core with itself among them.
 const PAIRS: usize = Limits::CORES * Limits::CORES;
 
-// Of several links of one pair the first counts, so it is written last.
+/// Of several links of one pair the first counts, so it is written last.
 fn row_from(links: &[Link], delay: u64, maker: CoreId) -> [u64; Limits::CORES]
     requires { All (λ link. link.home < 64) links.now }
     ensures { (home : ℕ) → home < 64 → slice_index result home ≡ delay_by_link links.now maker home delay }
@@ -37,7 +37,7 @@ fn row_to(links: &[Link], delay: u64, home: CoreId) -> [u64; Limits::CORES]
     delays
 }
 
-// The delays from each core to each core, by pairs: that of the pair (maker, home) stands at maker * 64 + home.
+/// The delays from each core to each core, by pairs: that of the pair (maker, home) stands at maker * 64 + home.
 fn table_of(links: &[Link], delay: u64) -> [u64; PAIRS]
     requires { All (λ link. (link.maker < 64) × (link.home < 64)) links.now }
     ensures { AreDelays links.now delay result }
@@ -69,7 +69,7 @@ impl System {
         row_to(parts.links.as_slice(), parts.delay, home)
     }
 
-    // The least of the delays from this core to others, or the greatest delay where that is less.
+    /// The least of the delays from this core to others, or the greatest delay where that is less.
     fn least_from(&self, delays: &[u64; PAIRS], maker: usize) -> u64
         requires known { maker < self.now.cores }
         requires delays { AreDelays self.now.links self.now.delay delays.now }

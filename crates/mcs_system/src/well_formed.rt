@@ -55,7 +55,7 @@ fn shares_name<T: Named>(thing: &T, earlier: &[T]) -> bool
     earlier.iter().any(|other| other.name() == thing.name())
 }
 
-// Each name is compared with all earlier ones: it takes no memory, and is done once for a system.
+/// Each name is compared with all earlier ones: it takes no memory, and is done once for a system.
 fn have_distinct_names<T: Named>(things: &[T]) -> bool
     ensures { IsTrue result ↔ AllPairs (λ a b. T.name a ≢ T.name b) things.now }
 {
@@ -67,14 +67,14 @@ fn have_distinct_names<T: Named>(things: &[T]) -> bool
     true
 }
 
-// The limits of contexts, notifications and threads are the same.
+/// The limits of contexts, notifications and threads are the same.
 fn are_named<T: Named>(things: &[T]) -> bool
     ensures { IsTrue result ↔ AreNamed T.name things.now }
 {
     things.len() <= Limits::THREADS && have_names(things) && have_distinct_names(things)
 }
 
-// Marks the contexts that a thread has. The marks stand on the stack, so this takes no memory either.
+/// Marks the contexts that a thread has. The marks stand on the stack, so this takes no memory either.
 fn have_contexts_of_their_own(threads: &[ThreadPart]) -> bool
     requires { All (λ thread. thread.context < 4096) threads.now }
     ensures { IsTrue result ↔ AllPairs (λ a b. a.context ≢ b.context) threads.now }
@@ -90,7 +90,7 @@ fn have_contexts_of_their_own(threads: &[ThreadPart]) -> bool
     true
 }
 
-// Marks the pairs of cores that have a link, on the stack too.
+/// Marks the pairs of cores that have a link, on the stack too.
 fn have_cores_of_their_own(links: &[Link]) -> bool
     requires { All (λ link. (link.maker < 64) × (link.home < 64)) links.now }
     ensures { IsTrue result ↔ AllPairs DifferInCores links.now }
@@ -213,7 +213,7 @@ impl SystemParts {
         true
     }
 
-    // The context with this number, if there is one: its core and its configuration.
+    /// The context with this number, if there is one: its core and its configuration.
     fn accepted_at(&self, context: ContextId) -> Option<(CoreId, Config)>
         ensures there { IsSome result ↔ (context < length self.now.contexts) }
         ensures value { IfSome result

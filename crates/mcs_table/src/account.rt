@@ -25,7 +25,7 @@ fn is_above(deadline: u64, ticks: u64) -> bool
     deadline != 0 && deadline < ticks
 }
 
-// One more where this is so.
+/// One more where this is so.
 fn counted(count: u64, is_so: bool) -> u64
     ensures { (before : ℕ) → count ≡ capped before → result ≡ capped ((if is_so then 1 else 0) + before) }
 {
@@ -36,7 +36,7 @@ fn counted(count: u64, is_so: bool) -> u64
     }
 }
 
-// The greatest of responses and one more.
+/// The greatest of responses and one more.
 fn or_greater(before: Option<u64>, response: u64) -> Option<u64>
     ensures { (responses : List ℕ) → before ≡ greatest responses → result ≡ greatest (response ∷ responses) }
 {

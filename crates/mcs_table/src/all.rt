@@ -11,7 +11,7 @@ use mcs_ticks::{NoMemory, Row, Tick};
 use mcs_verdict::Watch;
 use std::alloc::Global;
 
-// What the watch tells of the row, the table takes.
+/// What the watch tells of the row, the table takes.
 fn see(watch: &mut Watch, table: &mut Table, row: &Row)
     ensures watch { (system : TheSystem) (past : List TheRow) → watch.old ≡ watch_of system past → UpTo row.now.moment past →
         watch.new ≡ watch_of system (row.now ∷ past) }

@@ -35,7 +35,7 @@ pub(crate) fn lost_note(found: Option<Finding>) -> Option<NoteId>
     }
 }
 
-// The notification whose word a row tells after a signal.
+/// The notification whose word a row tells after a signal.
 fn held_note(what: &What) -> Option<NoteId>
     ensures { result ≡ held_note what.now }
 {

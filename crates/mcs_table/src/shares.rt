@@ -6,7 +6,7 @@ use crate::Share;
 use mcs_control::Config;
 use mcs_ticks::Tick;
 
-// A part of a whole, small enough that its millionths don't wrap.
+/// A part of a whole, small enough that its millionths don't wrap.
 fn millionths(part: u64, whole: u64) -> u64
     ensures { part ≤ 2 ^ 42 → result ≡ millionths part whole }
 {

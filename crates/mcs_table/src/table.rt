@@ -64,7 +64,7 @@ fn opened_accounts(
     Ok(accounts)
 }
 
-// The job is the round that the row ends, if it ends one.
+/// The job is the round that the row ends, if it ends one.
 fn end_round(accounts: &mut [Account], job: Option<Job>, row: &Row)
     ensures { (system : TheSystem) (horizon : ℕ) (past : List TheRow) → accounts.old ≡ accounts_of system horizon 0 system.threads past →
         job ≡ job_of system past row.now.moment row.now.what →
@@ -93,7 +93,7 @@ impl Table {
         })
     }
 
-    // The same of any row. It stands apart, so that other rows, which are most, copy no job.
+    /// The same of any row. It stands apart, so that other rows, which are most, copy no job.
     #[inline(never)]
     fn see_any(&mut self, job: Option<Job>, found: Option<Finding>, is_merged: bool, row: &Row)
         ensures { (system : TheSystem) (horizon : ℕ) (past : List TheRow) → self.old ≡ table_of system horizon past →
@@ -124,7 +124,7 @@ impl Table {
         }
     }
 
-    // Of the notification for which a script waits first.
+    /// Of the notification for which a script waits first.
     fn signals_for(&self, waits: Option<NoteId>) -> Option<Signals>
         ensures { (system : TheSystem) (horizon : ℕ) (past : List TheRow) → self.now ≡ table_of system horizon past →
             result ≡ signals_for system waits past }

@@ -11,14 +11,14 @@ use mcs_system::{System, SystemParts};
 use mcs_ticks::{ContextId, ThreadId, Tick};
 use mcs_verdict::Watch;
 
-// Whether an order names the context.
+/// Whether an order names the context.
 fn is_ordered(context: ContextId, orders: &[Order]) -> bool
     ensures { result ≡ is_ordered context orders.now }
 {
     orders.iter().any(|order| order.context == context)
 }
 
-// The most ticks that a context with this configuration can let run before the horizon.
+/// The most ticks that a context with this configuration can let run before the horizon.
 fn most_before(horizon: Tick, config: Config) -> u64
     requires { IsConfig config }
     ensures { result ≡ most_before horizon config }
@@ -27,7 +27,7 @@ fn most_before(horizon: Tick, config: Config) -> u64
     config.budget * (horizon / config.period) + config.budget.min(horizon % config.period)
 }
 
-// How many ticks before the horizon the threads ran that are bound to the context.
+/// How many ticks before the horizon the threads ran that are bound to the context.
 fn ran(parts: &SystemParts, watch: &Watch, horizon: Tick, context: ContextId) -> u64
     requires { length watch.now.accounts ≡ length parts.now.threads }
     ensures { (past : List TheRow) → watch.now ≡ watch_of parts.now past → UpTo horizon past →

@@ -9,7 +9,7 @@ const WAITER: ThreadId = ThreadId(2);
 
 const NOTE: NoteId = NoteId(0);
 
-// The rows of the waiting thread before any mail arrives.
+/// The rows of the waiting thread before any mail arrives.
 const BEFORE: [(u64, What); 3] = [
     (0, What::Release { thread: WAITER }),
     (0, What::Run { thread: WAITER }),
@@ -24,7 +24,7 @@ const BEFORE: [(u64, What); 3] = [
     ),
 ];
 
-// The word of the first letter wakes the thread, and that of the second is held.
+/// The word of the first letter wakes the thread, and that of the second is held.
 const AFTER: [(u64, What); 5] = [
     (
         4,
@@ -68,7 +68,7 @@ fn are(rt: &impl Abort, rows: &[Row], first: &[(u64, What)], then: &[(u64, What)
     }
 }
 
-// Runs the core of the waiting thread up to moment 4, with these letters in its box.
+/// Runs the core of the waiting thread up to moment 4, with these letters in its box.
 fn makes(
     rt: &impl Abort,
     alloc: Global,
@@ -87,7 +87,7 @@ fn made_of(alloc: Global, letters: &[Letter]) -> Result<Made, Fail> {
     made_by(alloc, &makers, 2, letters, 4, 1_000)
 }
 
-// What was made earlier is delivered before what a lower core made. With one delay for all cores no run has two such signals.
+/// What was made earlier is delivered before what a lower core made. With one delay for all cores no run has two such signals.
 #[test]
 fn made_before_maker(rt: HostRuntime) -> Result<(), Fail> {
     let letters = [Letter(4, 2, 0, 1), Letter(4, 1, 1, 2)];

@@ -32,7 +32,7 @@ const LINES: &str = "0 0 release A
 11 0 stop A done 1
 ";
 
-// The turns of core 0 before moment 13 tell their rows to a sink that refuses one only where there is no memory.
+/// The turns of core 0 before moment 13 tell their rows to a sink that refuses one only where there is no memory.
 fn tell<S: Sink>(alloc: Global, system: &System, sink: &mut S) -> Result<(), Fail> {
     let mut core = opened(alloc, system, CoreId(0))?;
     let mut mail = Mailbox::new(alloc);

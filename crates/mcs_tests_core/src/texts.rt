@@ -50,7 +50,7 @@ const OF_CORE_1: &str = "5 1 release B
 8 1 stop B done 3
 ";
 
-// The turns of a core before moment 12 tell their rows to lines, which refuse one only where there is no memory.
+/// The turns of a core before moment 12 tell their rows to lines, which refuse one only where there is no memory.
 fn tell(alloc: Global, system: &System, core: usize, told: &mut ToldLines<'_>) -> Result<(), Fail> {
     let mut core = opened(alloc, system, CoreId(core))?;
     let mut mail = Mailbox::new(alloc);
@@ -61,7 +61,7 @@ fn tell(alloc: Global, system: &System, core: usize, told: &mut ToldLines<'_>) -
     Ok(())
 }
 
-// The lines of the turns of a core before moment 12, which wait to be given out.
+/// The lines of the turns of a core before moment 12, which wait to be given out.
 fn part_of<'a>(
     alloc: Global,
     system: &System,
@@ -73,7 +73,7 @@ fn part_of<'a>(
     Ok(LinesPart::new(told.into_lines()))
 }
 
-// The lines of both cores, which wait to be given out.
+/// The lines of both cores, which wait to be given out.
 fn merger_of<'a>(
     alloc: Global,
     system: &System,

@@ -146,7 +146,7 @@ fn with_doubles(alloc: Global, count: usize) -> Result<String, Fail> {
     with_all_links(alloc, rows.as_str())
 }
 
-// 4,032 pairs of 64 cores; the 4,033rd row is double, and 4,097 rows are too many
+/// 4,032 pairs of 64 cores; the 4,033rd row is double, and 4,097 rows are too many
 #[test]
 fn most_links(rt: HostRuntime) -> Result<(), Fail> {
     let cases = [

@@ -109,7 +109,7 @@ fn most_rows(rt: HostRuntime) -> Result<(), Fail> {
     Ok(())
 }
 
-// each thread has a context of its own
+/// each thread has a context of its own
 #[test]
 fn most_threads(rt: HostRuntime) -> Result<(), Fail> {
     let begin = with_rows(rt.alloc(), TOP, CONTEXTS, 4_096)?;

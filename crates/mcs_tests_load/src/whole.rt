@@ -4,7 +4,7 @@ use crate::files::answer;
 use mcs_load::{FaultKind, Key, LoadFault, Section, Spot, accepted_systems_are_well_formed};
 use std::test::Fail;
 
-// a file with all of its keys but the defaults of the second context, thread and order
+/// a file with all of its keys but the defaults of the second context, thread and order
 const WHOLE: &str = "version = 1\ncores = 2\ndelay = 7\ncall = 3\nmin_budget = 2
 note = [{name='n',core=1}]
 
@@ -52,7 +52,7 @@ budget = 6
 period = 6
 ";
 
-// with ample memory
+/// with ample memory
 #[test]
 fn a_whole_file_is_accepted(rt: HostRuntime) -> Result<(), Fail> {
     let found = answer(rt.alloc(), WHOLE)?;

@@ -44,7 +44,7 @@ thread = [
 ]
 "#;
 
-// The loop is activated at each release, computes for two ticks, and yields in a third one: each round takes 3 ticks. At 10, before its release, it stands as 10 ticks later.
+/// The loop is activated at each release, computes for two ticks, and yields in a third one: each round takes 3 ticks. At 10, before its release, it stands as 10 ticks later.
 #[test]
 fn a_loop_is_told_for_ever(rt: HostRuntime) -> Result<(), Fail> {
     let text = lines(rt.alloc(), YIELDS, 1000)?;
@@ -55,7 +55,7 @@ fn a_loop_is_told_for_ever(rt: HostRuntime) -> Result<(), Fail> {
     Ok(())
 }
 
-// The second release is the first moment that shows it: up to 18 no repetition is seen.
+/// The second release is the first moment that shows it: up to 18 no repetition is seen.
 #[test]
 fn a_loop_is_told_so_far(rt: HostRuntime) -> Result<(), Fail> {
     let text = lines(rt.alloc(), YIELDS, 18)?;
@@ -65,7 +65,7 @@ fn a_loop_is_told_so_far(rt: HostRuntime) -> Result<(), Fail> {
     Ok(())
 }
 
-// The thread ends at 1, and nothing happens from 2 on: it ends no round then.
+/// The thread ends at 1, and nothing happens from 2 on: it ends no round then.
 #[test]
 fn a_system_at_rest(rt: HostRuntime) -> Result<(), Fail> {
     let text = lines(rt.alloc(), RESTS, 1000)?;
@@ -76,7 +76,7 @@ fn a_system_at_rest(rt: HostRuntime) -> Result<(), Fail> {
     Ok(())
 }
 
-// What core 0 does rests on core 1, which no other core signals: two sets, and each repeats with the period of the clock.
+/// What core 0 does rests on core 1, which no other core signals: two sets, and each repeats with the period of the clock.
 #[test]
 fn a_clock_is_told_apart_from_its_loop(rt: HostRuntime) -> Result<(), Fail> {
     let all = told(rt.alloc(), CLOCK, 1000)?;
@@ -90,7 +90,7 @@ fn a_clock_is_told_apart_from_its_loop(rt: HostRuntime) -> Result<(), Fail> {
     Ok(())
 }
 
-// The thread above never stops for long, so the one below never runs: a round of it is overdue from moment 20 on.
+/// The thread above never stops for long, so the one below never runs: a round of it is overdue from moment 20 on.
 #[test]
 fn a_starved_thread_is_found(rt: HostRuntime) -> Result<(), Fail> {
     let all = told(rt.alloc(), STARVES, 1000)?;

@@ -6,7 +6,7 @@ use mcs_ticks::{CoreId, NoMemory, Row, ThreadId, Tick, What};
 use std::alloc::Global;
 use std::test::Fail;
 
-// Rows of one core, of which each tells its moment and a number of its own. The moments may not fall.
+/// Rows of one core, of which each tells its moment and a number of its own. The moments may not fall.
 fn rows_of(alloc: Global, core: usize, rows: &[(u64, usize)]) -> Result<Vec<Row>, Fail>
     ensures { IfOk result (λ rows. DoNotFall rows.items) }
 {
@@ -29,7 +29,7 @@ fn rows_of(alloc: Global, core: usize, rows: &[(u64, usize)]) -> Result<Vec<Row>
     Ok(all)
 }
 
-// The moment, core and number of each row.
+/// The moment, core and number of each row.
 fn told(alloc: Global, rows: &[Row]) -> Result<Vec<(u64, usize, usize)>, NoMemory> {
     let mut all = Vec::new(alloc);
     for row in rows {

@@ -18,7 +18,7 @@ use Step::{Back, Best, Front, Take};
 
 const ROOM: usize = 6;
 
-// What is taken is that of the theorem of the same name in proofs/Worked.antt of mcs_ready, where the definition is evaluated.
+/// What is taken is that of the theorem of the same name in proofs/Worked.antt of mcs_ready, where the definition is evaluated.
 const SIX_THREADS: [Step; 17] = [
     Back(0, 3),
     Back(1, 7),
@@ -83,7 +83,7 @@ fn six_threads(rt: HostRuntime) -> Result<(), Fail> {
     Ok(())
 }
 
-// The greatest priority first, and within one in order of entering, but for one that entered at the front.
+/// The greatest priority first, and within one in order of entering, but for one that entered at the front.
 #[test]
 fn a_list_of_threads_is_by_priority(rt: HostRuntime) -> Result<(), Fail> {
     let mut ready = Ready::new(rt.alloc(), ROOM)?;

@@ -19,7 +19,7 @@ const ROOM: usize = 4;
 
 const LATEST: u64 = 1 << 40;
 
-// What is left is that of the theorem `reconfigure_to_fewer_refills` in proofs/Sequences.antt of mcs_refills, where the definitions are evaluated.
+/// What is left is that of the theorem `reconfigure_to_fewer_refills` in proofs/Sequences.antt of mcs_refills, where the definitions are evaluated.
 const CALLS: [Call; 7] = [
     Charge(2, 1),
     Unblock(20),

@@ -2,7 +2,7 @@ use mcs_release::{Dated, Releases};
 use mcs_ticks::{ThreadId, Tick};
 use std::test::Fail;
 
-// The least date first, of two equal ones the one that entered first, and none before its date.
+/// The least date first, of two equal ones the one that entered first, and none before its date.
 #[test]
 fn threads_leave_by_date_then_in_order_of_entering(rt: HostRuntime) -> Result<(), Fail> {
     let four = Tick::new(4).ok_or("a tick")?;
@@ -22,7 +22,7 @@ fn threads_leave_by_date_then_in_order_of_entering(rt: HostRuntime) -> Result<()
     Ok(())
 }
 
-// The list has those that are still held, in the order in which they entered, whatever their dates.
+/// The list has those that are still held, in the order in which they entered, whatever their dates.
 #[test]
 fn a_list_of_threads_is_in_order_of_entering(rt: HostRuntime) -> Result<(), Fail> {
     let four = Tick::new(4).ok_or("a tick")?;

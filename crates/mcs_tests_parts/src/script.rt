@@ -23,7 +23,7 @@ fn items_as_they_are_written(rt: HostRuntime) {
     }
 }
 
-// Each fault alone, and each beside a later one.
+/// Each fault alone, and each beside a later one.
 #[test]
 fn the_first_fault_of_an_item(rt: HostRuntime) {
     let rows = [

@@ -8,7 +8,7 @@ use std::process::Abort;
 use std::sync::Arc;
 use std::test::Fail;
 
-// Threads A and C are on core 1, and B is on core 0.
+/// Threads A and C are on core 1, and B is on core 0.
 const TWO_CORES: &str = r#"
 version = 1
 cores = 2
@@ -43,8 +43,8 @@ fn round(thread: usize, response: u64) -> What {
     }
 }
 
-// B runs to the end. A runs for two ticks and then waits until moment 5. C runs from then on, and its round takes longer than
-// its deadline. There is no thread 7.
+/// B runs to the end. A runs for two ticks and then waits until moment 5. C runs from then on, and its round takes longer than
+/// its deadline. There is no thread 7.
 fn rows(alloc: Global) -> Result<Vec<Row>, Fail> {
     let stop = What::Stop {
         thread: ThreadId(0),
@@ -63,7 +63,7 @@ fn rows(alloc: Global) -> Result<Vec<Row>, Fail> {
     Ok(rows)
 }
 
-// The reports up to moment 6, of which each core counts its own part. The first tally is told the rows twice, and cleared between.
+/// The reports up to moment 6, of which each core counts its own part. The first tally is told the rows twice, and cleared between.
 fn counted_apart(alloc: Global, system: Arc<System>) -> Result<Reports, Fail> {
     let horizon = tick(6)?;
     let room = Tally::new(alloc, &system, horizon)?;

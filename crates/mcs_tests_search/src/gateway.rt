@@ -57,7 +57,7 @@ thread = [
 ]
 "#;
 
-// Each device signals once in its period, and no core signals it. The cores of the system on chip wait for all of them, and do not repeat so soon.
+/// Each device signals once in its period, and no core signals it. The cores of the system on chip wait for all of them, and do not repeat so soon.
 #[test]
 fn devices_repeat_with_their_periods(rt: HostRuntime) -> Result<(), Fail> {
     let found = repeats_up_to(rt.alloc(), GATEWAY, 20000)?;

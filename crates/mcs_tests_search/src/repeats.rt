@@ -42,9 +42,9 @@ thread = [{ name = "Once", context = "a", priority = 9, rounds = 1, script = ["c
 order = [{ at = 100, core = 0, context = "a", budget = 4, period = 10 }]
 "#;
 
-// The loop computes for two ticks and yields in a third one, and each of its rounds but the first begins where the one before ended: at 0, 3, 13, 23
-// and so on. It goes on to its next item, ends a round or is released at 0, 2, 3, 10, 12, 13, 20 and so on. Of these 2 is kept, and 10 two later. At
-// 20 the loop waits for its budget as at 10, and the round that is under way began 10 ticks later.
+/// The loop computes for two ticks and yields in a third one, and each of its rounds but the first begins where the one before ended: at 0, 3, 13, 23
+/// and so on. It goes on to its next item, ends a round or is released at 0, 2, 3, 10, 12, 13, 20 and so on. Of these 2 is kept, and 10 two later. At
+/// 20 the loop waits for its budget as at 10, and the round that is under way began 10 ticks later.
 #[test]
 fn a_loop_repeats_with_its_period(rt: HostRuntime) -> Result<(), Fail> {
     let found = repeats_up_to(rt.alloc(), YIELDS, 1000)?;
@@ -53,7 +53,7 @@ fn a_loop_repeats_with_its_period(rt: HostRuntime) -> Result<(), Fail> {
     Ok(())
 }
 
-// The last moment that is compared is the one after the horizon. So a horizon of 19 suffices, and one of 18 does not.
+/// The last moment that is compared is the one after the horizon. So a horizon of 19 suffices, and one of 18 does not.
 #[test]
 fn a_horizon_that_is_met_first(rt: HostRuntime) -> Result<(), Fail> {
     let found = repeats_up_to(rt.alloc(), YIELDS, 19)?;
@@ -63,7 +63,7 @@ fn a_horizon_that_is_met_first(rt: HostRuntime) -> Result<(), Fail> {
     Ok(())
 }
 
-// Both cores repeat with the period of the clock: no date of theirs is later by less.
+/// Both cores repeat with the period of the clock: no date of theirs is later by less.
 #[test]
 fn a_clock_and_its_loop_repeat_with_their_period(rt: HostRuntime) -> Result<(), Fail> {
     let found = repeats_up_to(rt.alloc(), CLOCK, 1000)?;
@@ -73,7 +73,7 @@ fn a_clock_and_its_loop_repeat_with_their_period(rt: HostRuntime) -> Result<(), 
     Ok(())
 }
 
-// The thread ends at 1, and nothing happens from 2 on.
+/// The thread ends at 1, and nothing happens from 2 on.
 #[test]
 fn a_system_at_rest_repeats_with_each_tick(rt: HostRuntime) -> Result<(), Fail> {
     let found = repeats_up_to(rt.alloc(), RESTS, 1000)?;
@@ -82,7 +82,7 @@ fn a_system_at_rest_repeats_with_each_tick(rt: HostRuntime) -> Result<(), Fail> 
     Ok(())
 }
 
-// With an order to come nothing is told before: the system rests from the moment after the order on, which is 101.
+/// With an order to come nothing is told before: the system rests from the moment after the order on, which is 101.
 #[test]
 fn nothing_repeats_before_the_last_order(rt: HostRuntime) -> Result<(), Fail> {
     let found = repeats_up_to(rt.alloc(), ORDERED, 1000)?;

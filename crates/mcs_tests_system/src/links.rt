@@ -7,7 +7,7 @@ use std::alloc::Global;
 use std::process::Abort;
 use std::test::Fail;
 
-// A system with no threads, whose signals are under way for 5 ticks but for the links.
+/// A system with no threads, whose signals are under way for 5 ticks but for the links.
 fn parts(alloc: Global, cores: usize, links: Vec<Link>) -> SystemParts {
     SystemParts {
         cores,
@@ -30,7 +30,7 @@ fn system(alloc: Global, cores: usize, links: Vec<Link>) -> Result<System, Fail>
     Ok(System::new(parts))
 }
 
-// A link from each core to each other one.
+/// A link from each core to each other one.
 fn all_links(alloc: Global, cores: usize, delay: u64) -> Result<Vec<Link>, Fail> {
     let mut links = Vec::new(alloc);
     for maker in 0..cores {
@@ -43,7 +43,7 @@ fn all_links(alloc: Global, cores: usize, delay: u64) -> Result<Vec<Link>, Fail>
     Ok(links)
 }
 
-// The first three entries of a row.
+/// The first three entries of a row.
 fn of_three(row: [u64; 64]) -> [u64; 3] {
     [row[0], row[1], row[2]]
 }
@@ -60,7 +60,7 @@ fn a_link_goes_one_way(rt: HostRuntime) -> Result<(), Fail> {
     Ok(())
 }
 
-// The delay of the system counts only where a pair has no link.
+/// The delay of the system counts only where a pair has no link.
 #[test]
 fn the_least_delay(rt: HostRuntime) -> Result<(), Fail> {
     let alloc = rt.alloc();
@@ -81,7 +81,7 @@ fn the_least_delay(rt: HostRuntime) -> Result<(), Fail> {
     Ok(())
 }
 
-// Each pair of 64 cores may have a link, and no pair a second one, wherever it stands.
+/// Each pair of 64 cores may have a link, and no pair a second one, wherever it stands.
 #[test]
 fn each_pair_has_one_link(rt: HostRuntime) -> Result<(), Fail> {
     let alloc = rt.alloc();

@@ -20,7 +20,7 @@ fn all_are(
     Ok(())
 }
 
-// Each number at its limits, one at a time.
+/// Each number at its limits, one at a time.
 #[test]
 fn limits_are_accepted(rt: HostRuntime) -> Result<(), Fail> {
     let changes = [
@@ -48,7 +48,7 @@ fn limits_are_accepted(rt: HostRuntime) -> Result<(), Fail> {
     all_are(&rt, rt.alloc(), true, &changes)
 }
 
-// One number past its limit, and nothing else.
+/// One number past its limit, and nothing else.
 #[test]
 fn one_past_a_limit_is_refused(rt: HostRuntime) -> Result<(), Fail> {
     let changes = [
@@ -73,9 +73,9 @@ fn one_past_a_limit_is_refused(rt: HostRuntime) -> Result<(), Fail> {
     all_are(&rt, rt.alloc(), false, &changes)
 }
 
-// One part that does not fit the others: a core, a context or a notification that is not there, a configuration that is refused, a
-// context that two threads have, a wait away from home, an order that changes the kind, a name that another one has, a link from a
-// core to itself, a second link of two cores.
+/// One part that does not fit the others: a core, a context or a notification that is not there, a configuration that is refused, a
+/// context that two threads have, a wait away from home, an order that changes the kind, a name that another one has, a link from a
+/// core to itself, a second link of two cores.
 #[test]
 fn parts_that_do_not_fit_are_refused(rt: HostRuntime) -> Result<(), Fail> {
     let changes = [

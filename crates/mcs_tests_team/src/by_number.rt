@@ -7,7 +7,7 @@ use mcs_window::{Desk, Done};
 use std::process::Abort;
 use std::test::Fail;
 
-// Whether a core is lent, from one moment to before another. Its stretch is run at once, and kept until it comes back.
+/// Whether a core is lent, from one moment to before another. Its stretch is run at once, and kept until it comes back.
 fn lends(
     desk: &mut Desk,
     away: &mut Vec<Done>,
@@ -29,7 +29,7 @@ fn lends(
     Ok(same)
 }
 
-// Whether a core is not lent.
+/// Whether a core is not lent.
 fn stays(desk: &mut Desk, core: usize) -> bool
     requires { core < desk.old.system.cores }
     ensures { desk.new.system ≡ desk.old.system }
@@ -37,7 +37,7 @@ fn stays(desk: &mut Desk, core: usize) -> bool
     desk.lend_core(CoreId(core)).is_none()
 }
 
-// Whether the stretch that was lent last comes back.
+/// Whether the stretch that was lent last comes back.
 fn comes_back(desk: &mut Desk, away: &mut Vec<Done>) -> bool
     ensures { desk.new.system ≡ desk.old.system }
 {
@@ -47,7 +47,7 @@ fn comes_back(desk: &mut Desk, away: &mut Vec<Done>) -> bool
     }
 }
 
-// Signals are under way for 3 from either of two cores to the other one.
+/// Signals are under way for 3 from either of two cores to the other one.
 #[test]
 fn the_second_core_is_lent_first(rt: HostRuntime) -> Result<(), Fail> {
     let alloc = rt.alloc();

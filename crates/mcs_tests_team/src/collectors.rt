@@ -8,7 +8,7 @@ use std::alloc::Global;
 use std::process::Abort;
 use std::test::Fail;
 
-// A desk of two cores, which tell on to lists that begin with the rows that lie on it.
+/// A desk of two cores, which tell on to lists that begin with the rows that lie on it.
 fn told_on(alloc: Global, desk: Desk) -> Result<Desk, Fail>
     requires { desk.system.cores ≡ 2 }
     ensures { IfOk result (λ on. on.system ≡ desk.system) }
@@ -37,7 +37,7 @@ pub(crate) fn told_to_none(alloc: Global, desk: Desk) -> Result<Desk<Nothing>, F
     Ok(desk.retold(taken, told))
 }
 
-// Takes turns until so much lies on a desk.
+/// Takes turns until so much lies on a desk.
 fn go<S: Collector + Drop>(desk: Desk<S>, enough: usize) -> Result<Desk<S>, Fail>
     ensures { IfOk result (λ gone. gone.system ≡ desk.system) }
 {
@@ -57,7 +57,7 @@ pub(crate) fn are_at(rt: &impl Abort, rows: &[Row], moments: &[u64]) {
     }
 }
 
-// Two signals are under way when the cores begin to tell to other lists.
+/// Two signals are under way when the cores begin to tell to other lists.
 #[test]
 fn cores_tell_on(rt: HostRuntime) -> Result<(), Fail> {
     let alloc = rt.alloc();

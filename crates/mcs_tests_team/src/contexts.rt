@@ -25,7 +25,7 @@ thread = [
 ]
 "#;
 
-// So many steps of a core, none of which is refused.
+/// So many steps of a core, none of which is refused.
 fn steps(cores: &mut Cores, core: usize, many: usize) -> Result<(), Fail>
     requires { core < cores.old.system.cores }
     ensures { cores.new.system ≡ cores.old.system }
@@ -36,7 +36,7 @@ fn steps(cores: &mut Cores, core: usize, many: usize) -> Result<(), Fail>
     Ok(())
 }
 
-// A sporadic context's one refill: when it begins, and of how many ticks it is; and the ticks in use.
+/// A sporadic context's one refill: when it begins, and of how many ticks it is; and the ticks in use.
 fn shows_refill(rt: &impl Abort, view: &ContextView, refill: (u64, u64), using: u64) {
     let refills = view.refills.as_slice();
     assert_eq!(rt; refills.len(), 1);
@@ -44,14 +44,14 @@ fn shows_refill(rt: &impl Abort, view: &ContextView, refill: (u64, u64), using: 
     assert_eq!(rt; (view.left, view.using), (None, using));
 }
 
-// What is left of a round robin context's slice, and the ticks in use.
+/// What is left of a round robin context's slice, and the ticks in use.
 fn shows_slice(rt: &impl Abort, view: &ContextView, left: u64, using: u64) {
     assert!(rt; view.refills.as_slice().is_empty());
     assert_eq!(rt; (view.left, view.using), (Some(left), using));
 }
 
-// What the contexts show: of the first one always the refill at 5, of the second one its refill and its ticks in use, of the third one
-// what is left of its slice and its ticks in use.
+/// What the contexts show: of the first one always the refill at 5, of the second one its refill and its ticks in use, of the third one
+/// what is left of its slice and its ticks in use.
 fn shows(
     rt: &impl Abort,
     alloc: Global,

@@ -26,7 +26,7 @@ fn a_core_is_lent_while_another_one_is_away(rt: HostRuntime) -> Result<(), Fail>
     Ok(())
 }
 
-// From 0 to before 2 no core makes a signal. All three are away when the first two signals come, which arrive at 4.
+/// From 0 to before 2 no core makes a signal. All three are away when the first two signals come, which arrive at 4.
 static BY_THE_DESK: [Step; 18] = [
     Step::Lends(0, 0, 2),
     Step::Lends(1, 0, 2),
@@ -48,7 +48,7 @@ static BY_THE_DESK: [Step; 18] = [
     Step::Mail(2, 0, 2),
 ];
 
-// Cores 0 and 1 have links of delay 1 both ways, and all other signals are under way for 3.
+/// Cores 0 and 1 have links of delay 1 both ways, and all other signals are under way for 3.
 static BY_LINKS: [Step; 7] = [
     Step::Lends(0, 0, 1),
     Step::Lends(1, 0, 1),
@@ -73,7 +73,7 @@ fn mail_comes_by_way_of_the_desk(rt: HostRuntime) -> Result<(), Fail> {
     Ok(())
 }
 
-// Both cores are lent up to the horizon: the least delay is longer.
+/// Both cores are lent up to the horizon: the least delay is longer.
 static ONE_THREAD: [Step; 5] = [
     Step::Lends(0, 0, 2),
     Step::Lends(1, 0, 2),

@@ -10,12 +10,12 @@ use std::alloc::Global;
 use std::process::Abort;
 use std::test::Fail;
 
-// Which of what a desk says of itself is so: that all its cores are here, that it is finished, that a piece was lost.
+/// Which of what a desk says of itself is so: that all its cores are here, that it is finished, that a piece was lost.
 fn says(desk: &Desk) -> (bool, bool, bool) {
     (desk.all_are_here(), desk.finished(), desk.lost())
 }
 
-// How many rows a core has made.
+/// How many rows a core has made.
 fn rows_of(desk: &mut Desk, core: usize) -> usize
     requires { core < desk.old.system.cores }
     ensures { desk.new.system ≡ desk.old.system }
@@ -45,7 +45,7 @@ fn finishes(rt: &impl Abort, desk: &mut Desk) -> Result<(), Fail> {
     Ok(())
 }
 
-// Whether rows are those that a schedule has of a core, in order.
+/// Whether rows are those that a schedule has of a core, in order.
 fn are_of(rows: &[Row], core: CoreId, schedule: &[Row]) -> bool {
     let mut many = 0usize;
     for row in schedule {
@@ -59,7 +59,7 @@ fn are_of(rows: &[Row], core: CoreId, schedule: &[Row]) -> bool {
     many == rows.len()
 }
 
-// Whether a core has made the rows that a schedule has of it.
+/// Whether a core has made the rows that a schedule has of it.
 fn has_made(desk: &mut Desk, core: usize, schedule: &[Row]) -> bool
     requires { core < desk.old.system.cores }
     ensures { desk.new.system ≡ desk.old.system }
@@ -68,7 +68,7 @@ fn has_made(desk: &mut Desk, core: usize, schedule: &[Row]) -> bool
     are_of(rows.as_slice(), CoreId(core), schedule)
 }
 
-// All three cores are lent before any comes back, and they come back in this order. Then the desk takes the turns that are left.
+/// All three cores are lent before any comes back, and they come back in this order. Then the desk takes the turns that are left.
 fn makes(rt: &impl Abort, alloc: Global, order: [usize; 3], schedule: &[Row]) -> Result<(), Fail> {
     let mut desk = desk(alloc, ONE_ROUND, 4)?;
     all_come_back(rt, alloc, &mut desk, order)?;

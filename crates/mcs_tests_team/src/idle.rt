@@ -12,7 +12,7 @@ use std::test::Fail;
 
 const LONGEST: u64 = 1_099_511_627_776;
 
-// One thread runs for one tick, and never again.
+/// One thread runs for one tick, and never again.
 const ONE_TICK: &str = r#"
 version = 1
 cores = 1
@@ -32,7 +32,7 @@ fn one_tick_rows() -> [(u64, usize, What); 4] {
     ]
 }
 
-// A thread waits on core 0 from moment 1 on, and the other one, on core 1, starts 10^9 ticks later and signals it.
+/// A thread waits on core 0 from moment 1 on, and the other one, on core 1, starts 10^9 ticks later and signals it.
 const FAR_APART: &str = r#"
 version = 1
 cores = 2
@@ -96,7 +96,7 @@ fn far_apart_rows() -> [(u64, usize, What); 13] {
     ]
 }
 
-// The first round of a thread ends.
+/// The first round of a thread ends.
 fn ends(thread: ThreadId, response: u64) -> What {
     What::Round {
         thread,
@@ -105,7 +105,7 @@ fn ends(thread: ThreadId, response: u64) -> What {
     }
 }
 
-// A thread stops without a date.
+/// A thread stops without a date.
 fn stops(thread: ThreadId, why: Why, charged: u64) -> What {
     What::Stop {
         thread,
@@ -123,7 +123,7 @@ fn are(rt: &impl Abort, rows: &[Row], expected: &[(u64, usize, What)]) {
     }
 }
 
-// Compares the schedule of a system with rows.
+/// Compares the schedule of a system with rows.
 fn rows_are(
     rt: &impl Abort,
     alloc: Global,
@@ -156,7 +156,7 @@ fn idle_between_two_starts(rt: HostRuntime) -> Result<(), Fail> {
     rows_are(&rt, rt.alloc(), FAR_APART, horizon, expected.as_slice())
 }
 
-// A sink that keeps the rows.
+/// A sink that keeps the rows.
 #[derive(Drop)]
 struct Kept {
     rows: Vec<Row>,
@@ -189,7 +189,7 @@ fn a_sink_gets_rows_that_are_far_apart(rt: HostRuntime) -> Result<(), Fail> {
     Ok(())
 }
 
-// The clocks of both cores.
+/// The clocks of both cores.
 fn clocks(cores: &Cores) -> (u64, u64)
     requires { cores.now.system.cores ≡ 2 }
 {

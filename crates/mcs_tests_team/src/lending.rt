@@ -35,7 +35,7 @@ pub(crate) fn desk(alloc: Global, text: &str, horizon: u64) -> Result<Desk, Fail
     Ok(Desk::new(alloc, system, moment(horizon)?)?)
 }
 
-// Whether the next core that is lent is this one, from one moment to before another.
+/// Whether the next core that is lent is this one, from one moment to before another.
 fn lends(
     desk: &mut Desk,
     away: &mut Vec<Done>,
@@ -63,7 +63,7 @@ pub(crate) fn lends_none(desk: &mut Desk) -> bool
     desk.lend().is_none()
 }
 
-// How many arrivals the rows tell.
+/// How many arrivals the rows tell.
 fn arrivals(rows: &[Row]) -> usize {
     let mut many = 0usize;
     for row in rows {
@@ -74,7 +74,7 @@ fn arrivals(rows: &[Row]) -> usize {
     many
 }
 
-// The stretch of a core that is kept.
+/// The stretch of a core that is kept.
 fn kept(away: &[Done], core: usize) -> Option<&Done> {
     for done in away {
         if done.core.0 == core {
@@ -84,13 +84,13 @@ fn kept(away: &[Done], core: usize) -> Option<&Done> {
     None
 }
 
-// Takes the stretch of a core out of those that are kept.
+/// Takes the stretch of a core out of those that are kept.
 fn taken_out(away: &mut Vec<Done>, core: usize) -> Option<Done> {
     let at = away.iter().position(|done| done.core.0 == core)?;
     Some(away.remove(at))
 }
 
-// Why the stretch of a core is refused, or None where it comes back.
+/// Why the stretch of a core is refused, or None where it comes back.
 fn refusal(desk: &mut Desk, done: Done) -> Option<SettleFault>
     ensures { desk.new.system ≡ desk.old.system }
 {
@@ -118,7 +118,7 @@ pub(crate) fn settles(
     }
 }
 
-// Gives the stretch of a core up.
+/// Gives the stretch of a core up.
 fn forfeits(desk: &mut Desk, away: &mut Vec<Done>, core: usize) -> bool
     ensures { desk.new.system ≡ desk.old.system }
 {
@@ -135,7 +135,7 @@ fn forfeits(desk: &mut Desk, away: &mut Vec<Done>, core: usize) -> bool
     }
 }
 
-// Whether a stretch was lent by these clocks.
+/// Whether a stretch was lent by these clocks.
 fn is_by(done: Option<&Done>, front: [u64; 3]) -> bool {
     match done {
         Some(done) => {
@@ -150,7 +150,7 @@ fn is_by(done: Option<&Done>, front: [u64; 3]) -> bool {
     }
 }
 
-// Whether a stretch made so many signals, and so many arrived at it.
+/// Whether a stretch made so many signals, and so many arrived at it.
 fn has_mail(done: Option<&Done>, out: usize, arrived: usize) -> bool {
     match done {
         Some(done) => done.out.len() == out && arrivals(done.rows.as_slice()) == arrived,
@@ -158,7 +158,7 @@ fn has_mail(done: Option<&Done>, out: usize, arrived: usize) -> bool {
     }
 }
 
-// Whether a row tells that a thread's first round, which took this long, ended at this moment.
+/// Whether a row tells that a thread's first round, which took this long, ended at this moment.
 fn ends_round(row: &Row, took: u64, moment: u64) -> bool {
     match row.what {
         What::Round {
@@ -170,8 +170,8 @@ fn ends_round(row: &Row, took: u64, moment: u64) -> bool {
     }
 }
 
-// Whether a stretch has four rows, the third of which tells the end of a thread's first round, with the clock one moment later, and no
-// mail.
+/// Whether a stretch has four rows, the third of which tells the end of a thread's first round, with the clock one moment later, and no
+/// mail.
 fn is_round(done: Option<&Done>, took: u64, moment: u64) -> bool {
     match done {
         Some(done) => {
@@ -184,7 +184,7 @@ fn is_round(done: Option<&Done>, took: u64, moment: u64) -> bool {
     }
 }
 
-// Whether a step goes as it is to go.
+/// Whether a step goes as it is to go.
 fn goes(desk: &mut Desk, away: &mut Vec<Done>, step: Step) -> Result<bool, Fail>
     ensures { OnOk result (desk.new.system ≡ desk.old.system) }
 {

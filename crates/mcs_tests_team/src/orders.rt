@@ -21,7 +21,7 @@ pub(crate) fn step(cores: &mut Cores, core: usize) -> Result<(), StepFault>
     cores.step(CoreId(core))
 }
 
-// The rows of each core.
+/// The rows of each core.
 fn taken(alloc: Global, cores: &mut Cores, many: usize) -> Result<Vec<Vec<Row>>, NoMemory>
     requires { many ≡ cores.old.system.cores }
     ensures { IfOk result (λ lists. All (λ rows. DoNotFall rows.items) lists.items) }
@@ -35,7 +35,7 @@ fn taken(alloc: Global, cores: &mut Cores, many: usize) -> Result<Vec<Vec<Row>>,
     Ok(lists)
 }
 
-// Cores step as a generator of numbers names them. Answers how many steps were taken, or that there was no memory.
+/// Cores step as a generator of numbers names them. Answers how many steps were taken, or that there was no memory.
 fn step_at_random(cores: &mut Cores, many: usize, seed: usize) -> Result<usize, NoMemory>
     requires some { 1 ≤ many }
     requires many { many ≡ cores.old.system.cores }
@@ -55,7 +55,7 @@ fn step_at_random(cores: &mut Cores, many: usize, seed: usize) -> Result<usize, 
     Ok(steps)
 }
 
-// The rows of all cores, merged, after steps up to the horizon.
+/// The rows of all cores, merged, after steps up to the horizon.
 fn rows_of_steps(
     rt: &impl Abort,
     alloc: Global,

@@ -7,7 +7,7 @@ use std::alloc::Global;
 use std::process::Abort;
 use std::test::Fail;
 
-// Whether the stretches that a desk has lent, by its steps, are those of another one, by the steps of that.
+/// Whether the stretches that a desk has lent, by its steps, are those of another one, by the steps of that.
 fn differs_at_another(
     alloc: Global,
     from: (&str, u64, &[Step]),
@@ -19,7 +19,7 @@ fn differs_at_another(
     Ok((first, second))
 }
 
-// A stretch of an equal desk that is no longer lent.
+/// A stretch of an equal desk that is no longer lent.
 #[test]
 fn a_stretch_that_is_not_lent(rt: HostRuntime) -> Result<(), Fail> {
     let lent = [Step::Lends(0, 0, 1)];
@@ -50,7 +50,7 @@ fn a_stretch_of_another_system(rt: HostRuntime) -> Result<(), Fail> {
     Ok(())
 }
 
-// The horizon of the first desk is nearer, so it lends a shorter stretch.
+/// The horizon of the first desk is nearer, so it lends a shorter stretch.
 #[test]
 fn a_stretch_of_another_length(rt: HostRuntime) -> Result<(), Fail> {
     let lent = [Step::Lends(0, 0, 2)];
@@ -68,7 +68,7 @@ fn a_stretch_of_another_length(rt: HostRuntime) -> Result<(), Fail> {
     Ok(())
 }
 
-// Whether a desk refuses the stretch of a core that a fresh desk has away after steps, of which none goes otherwise.
+/// Whether a desk refuses the stretch of a core that a fresh desk has away after steps, of which none goes otherwise.
 fn refuses(
     desk: &mut Desk,
     alloc: Global,
@@ -84,8 +84,8 @@ fn refuses(
     }
 }
 
-// Core 1 is lent once core 0 is back, and at another desk while core 0 is away: its stretch is the same, but not the clocks. A third desk
-// lends it by the same clocks, and gives a copy of what has come back.
+/// Core 1 is lent once core 0 is back, and at another desk while core 0 is away: its stretch is the same, but not the clocks. A third desk
+/// lends it by the same clocks, and gives a copy of what has come back.
 #[test]
 fn a_stretch_by_other_clocks(rt: HostRuntime) -> Result<(), Fail> {
     let alloc = rt.alloc();

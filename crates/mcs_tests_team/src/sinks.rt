@@ -6,7 +6,7 @@ use mcs_ticks::{CoreId, Row, ThreadId, Tick, What};
 use std::sync::Arc;
 use std::test::Fail;
 
-// Compares so many rows with those that are expected, and refuses the next.
+/// Compares so many rows with those that are expected, and refuses the next.
 #[derive(Drop)]
 pub(super) struct Compared<'a> {
     expected: &'a [Row],
@@ -28,12 +28,12 @@ impl Sink for Compared<'_> {
     }
 }
 
-// Whether the row in this place is that one.
+/// Whether the row in this place is that one.
 fn is_at(expected: &[Row], place: usize, row: &Row) -> bool {
     place < expected.len() && expected[place] == *row
 }
 
-// A sink that expects these rows, and refuses one that follows so many.
+/// A sink that expects these rows, and refuses one that follows so many.
 pub(super) fn comparing(expected: &[Row], most: usize) -> Compared<'_> {
     Compared {
         expected,
@@ -67,7 +67,7 @@ fn sinks_get_the_schedule(rt: HostRuntime) -> Result<(), Fail> {
     Ok(())
 }
 
-// The first row of the core that signals.
+/// The first row of the core that signals.
 fn first(what: What) -> Row {
     Row {
         moment: Tick::ZERO,

@@ -8,7 +8,7 @@ use mcs_window::{Desk, Piece};
 use std::process::Abort;
 use std::test::Fail;
 
-// From when to before when a core is lent.
+/// From when to before when a core is lent.
 #[derive(Clone, Copy, Debug, PartialEq, Eq)]
 struct Stretch {
     core: CoreId,
@@ -24,7 +24,7 @@ fn stretch_of(piece: &Piece) -> Stretch {
     }
 }
 
-// The stretch of the next core that is lent, for no more than so many moments.
+/// The stretch of the next core that is lent, for no more than so many moments.
 fn lent<S: Collector>(desk: &mut Desk<S>, span: u64) -> Option<Stretch>
     requires { 1 ≤ span }
 {
@@ -32,7 +32,7 @@ fn lent<S: Collector>(desk: &mut Desk<S>, span: u64) -> Option<Stretch>
     Some(stretch_of(&piece))
 }
 
-// Lends a core for no more than two moments, tells its rows to its list, and takes it back. Answers its stretch.
+/// Lends a core for no more than two moments, tells its rows to its list, and takes it back. Answers its stretch.
 fn takes_turns(
     desk: &mut Desk<Nothing>,
     told: &mut [Vec<Row>; 2],
@@ -78,7 +78,7 @@ fn rows_come_behind_those_of_before(rt: HostRuntime) -> Result<(), Fail> {
     Ok(())
 }
 
-// Signals are under way for 3.
+/// Signals are under way for 3.
 #[test]
 fn pieces_end_by_the_clocks_or_by_what_was_asked(rt: HostRuntime) -> Result<(), Fail> {
     let alloc = rt.alloc();

@@ -31,7 +31,7 @@ pub fn are_later(
     next_for(system, group, before, compared).is_none()
 }
 
-// The first signal for the group from this place on, and the place behind it.
+/// The first signal for the group from this place on, and the place behind it.
 fn next_for(
     system: &System,
     group: &[bool; Limits::CORES],
@@ -51,14 +51,14 @@ fn next_for(
     None
 }
 
-// Whether a signal is for one of the group's cores.
+/// Whether a signal is for one of the group's cores.
 fn is_for(system: &System, group: &[bool; Limits::CORES], mail: &Mail) -> bool
     ensures { result ≡ is_for_group system.now group.now mail.now }
 {
     group[home_of(system, mail.note).0]
 }
 
-// Whether a signal is the same as before, but later by so many ticks.
+/// Whether a signal is the same as before, but later by so many ticks.
 fn is_later(before: &Mail, by: u64, after: &Mail) -> bool
     ensures { IsTrue result ↔ after.now ≡ later_mail by before.now }
 {
@@ -69,7 +69,7 @@ fn is_later(before: &Mail, by: u64, after: &Mail) -> bool
         && before.badge == after.badge
 }
 
-// Whether a moment is so many ticks later.
+/// Whether a moment is so many ticks later.
 fn is_tick_later(before: Tick, by: u64, after: Tick) -> bool
     ensures { IsTrue result ↔ after ≡ before + by }
 {

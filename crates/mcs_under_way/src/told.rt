@@ -7,7 +7,7 @@ use mcs_mail::Mail;
 use mcs_system::System;
 use mcs_ticks::{CoreId, NoteId, Row, Tick, What};
 
-// The core at which a notification is at home, which has a place in each list of all cores.
+/// The core at which a notification is at home, which has a place in each list of all cores.
 pub(crate) fn home_of(system: &System, note: NoteId) -> CoreId
     ensures home { result ≡ (note_part system.now note).core }
     ensures few { result < 64 }
@@ -17,7 +17,7 @@ pub(crate) fn home_of(system: &System, note: NoteId) -> CoreId
     system.home_of(note)
 }
 
-// The signal that a row tells, where it is for another core and arrives at a moment that can be told.
+/// The signal that a row tells, where it is for another core and arrives at a moment that can be told.
 pub(crate) fn mail_of(system: &System, row: &Row) -> Option<Mail>
     ensures { option_to_list result ≡ filter can_arrive (told_mails system.now (row.now ∷ [])) }
 {
@@ -30,7 +30,7 @@ pub(crate) fn mail_of(system: &System, row: &Row) -> Option<Mail>
     mail_to(system, row.core, row.moment, note, badge)
 }
 
-// The mail that a signal of a core at a moment is, where it arrives at a moment that can be told.
+/// The mail that a signal of a core at a moment is, where it arrives at a moment that can be told.
 fn mail_to(system: &System, maker: CoreId, made: Tick, note: NoteId, badge: u32) -> Option<Mail>
     ensures { option_to_list result ≡ filter can_arrive (mail_to system.now maker made note badge ∷ []) }
 {

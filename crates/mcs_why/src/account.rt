@@ -36,7 +36,7 @@ impl Model for Account {
     ghost view = { λ a. record { core = a.core; from = a.from; to = a.to; passed = a.passed; runner = a.runner; ran = a.ran.items; idle = a.idle } };
 }
 
-// Whether a row says who runs from then on.
+/// Whether a row says who runs from then on.
 fn is_turn(what: &What) -> bool
     ensures { result ≡ is_turn what.now }
 {
@@ -52,7 +52,7 @@ fn runner(what: &What) -> Option<ThreadId>
     }
 }
 
-// Whether a row is one of the core that says so.
+/// Whether a row is one of the core that says so.
 fn is_turn_on(core: CoreId, row: &Row) -> bool
     ensures { result ≡ ((row.now.core == core) && is_turn row.now.what) }
 {
@@ -83,21 +83,21 @@ fn is_thread(thread: ThreadId, runner: Option<ThreadId>) -> bool
     }
 }
 
-// The ticks of a span before a moment.
+/// The ticks of a span before a moment.
 fn passed_at(from: Tick, to: Tick, moment: Tick) -> u64
     ensures { result ≡ passed_at from to moment }
 {
     moment.get().min(to.get()).saturating_sub(from.get())
 }
 
-// So many ticks, where this is so.
+/// So many ticks, where this is so.
 fn ticks_if(is_so: bool, ticks: u64) -> u64
     ensures { result ≡ (if is_so then ticks else 0) }
 {
     if is_so { ticks } else { 0 }
 }
 
-// So many ticks more for who runs, where no sum is above 2^64 - 1.
+/// So many ticks more for who runs, where no sum is above 2^64 - 1.
 fn count(ran: &mut [u64], runner: Option<ThreadId>, ticks: u64)
     ensures { (before : ℕ → ℕ) (threads : ℕ) → ran.old ≡ map before (range_with_len 0 threads) →
         ((thread : ℕ) → before thread + ticks < 2 ^ 64) →
@@ -126,7 +126,7 @@ impl Account {
         })
     }
 
-    // The ticks of the span up to so many, in which the same runs.
+    /// The ticks of the span up to so many, in which the same runs.
     fn pass(&mut self, passed: u64)
         ensures { (threads core from to before : ℕ) (rows : List TheRow) → self.old ≡ account_at threads core from to rows before →
             before ≤ passed → (before < passed → since_of rows ≤ from + before) →
@@ -140,7 +140,7 @@ impl Account {
             .saturating_add(ticks_if(is_nobody(self.runner), ticks));
     }
 
-    // A row of the core that says who runs from then on.
+    /// A row of the core that says who runs from then on.
     fn turn(&mut self, row: &Row)
         ensures { (threads core from to : ℕ) (past : List TheRow) → self.old ≡ account_of threads core from to past →
             ((row.now.core == core) && is_turn row.now.what) ≡ true → UpTo row.now.moment past →
@@ -163,7 +163,7 @@ impl Account {
         shown
     }
 
-    // The ticks of the span that are yet to be counted.
+    /// The ticks of the span that are yet to be counted.
     fn rest(&self) -> u64
         ensures value { result ≡ (self.now.to - self.now.from) - self.now.passed }
         ensures small { self.now.to ≤ 2 ^ 42 }

@@ -13,7 +13,7 @@ use mcs_ticks::{NoMemory, Row, ThreadId, Tick};
 use mcs_verdict::Watch;
 use std::alloc::Global;
 
-// What the watch tells of the row, the search takes.
+/// What the watch tells of the row, the search takes.
 fn see(watch: &mut Watch, search: &mut Search, row: &Row)
     ensures watch { (system : TheSystem) (past : List TheRow) → watch.old ≡ watch_of system past → UpTo row.now.moment past →
         watch.new ≡ watch_of system (row.now ∷ past) }

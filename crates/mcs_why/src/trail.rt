@@ -58,7 +58,7 @@ fn stopped_after(thread: ThreadId, moment: Tick, what: &What, before: Option<Tic
     }
 }
 
-// When the round began that is under way after this row.
+/// When the round began that is under way after this row.
 fn begun_after(
     waits: Option<NoteId>,
     thread: ThreadId,
@@ -84,7 +84,7 @@ fn begun_after(
     }
 }
 
-// Since when the thread waited for the word that began its latest round.
+/// Since when the thread waited for the word that began its latest round.
 fn waited_after(
     waits: Option<NoteId>,
     thread: ThreadId,
@@ -105,7 +105,7 @@ fn waited_after(
     }
 }
 
-// When the word was set that the notification holds.
+/// When the word was set that the notification holds.
 fn set_after(waits: Option<NoteId>, moment: Tick, what: &What, set: Option<Tick>) -> Option<Tick>
     ensures { (r : TheRow) (past : List TheRow) → r.moment ≡ moment → r.what ≡ what.now → set ≡ word_set waits past →
         result ≡ word_set waits (r ∷ past) }
@@ -124,7 +124,7 @@ fn set_after(waits: Option<NoteId>, moment: Tick, what: &What, set: Option<Tick>
     }
 }
 
-// How a thread stands after a row that tells it.
+/// How a thread stands after a row that tells it.
 fn standing_after(what: &What) -> Standing
     ensures { result ≡ standing_after what.now }
 {
@@ -138,7 +138,7 @@ fn standing_after(what: &What) -> Standing
     }
 }
 
-// How the thread stands after any row.
+/// How the thread stands after any row.
 fn standing_now(thread: ThreadId, what: &What, standing: Standing) -> Standing
     ensures { (r : TheRow) (past : List TheRow) → r.what ≡ what.now → standing ≡ standing_of (telling thread past) →
         result ≡ standing_of (telling thread (r ∷ past)) }
@@ -153,7 +153,7 @@ fn standing_now(thread: ThreadId, what: &What, standing: Standing) -> Standing
     }
 }
 
-// From when the rows of a round tell it.
+/// From when the rows of a round tell it.
 pub(crate) fn from_of(activated: Tick, waited: Option<Tick>) -> Tick
     ensures { result ≡ from_of activated waited }
 {
@@ -179,7 +179,7 @@ fn span_of(core: CoreId, waited: Option<Tick>, job: &Job) -> Span
 }
 
 impl Trail {
-    // Before the first row.
+    /// Before the first row.
     pub(crate) fn new(parts: &SystemParts, thread: ThreadId, number: u64) -> Self
         requires { thread < length parts.now.threads }
         ensures { result ≡ trail_of parts.now thread number [] }
@@ -204,7 +204,7 @@ impl Trail {
         }
     }
 
-    // The round's span, where this is it.
+    /// The round's span, where this is it.
     fn span_if(&self, job: Option<Job>) -> Option<Span>
         ensures { result ≡ span_if self.now.thread self.now.number self.now.core self.now.waited job }
     {
@@ -216,7 +216,7 @@ impl Trail {
         }
     }
 
-    // One row more, and the round that it ends, if it ends one.
+    /// One row more, and the round that it ends, if it ends one.
     pub(crate) fn see(&mut self, job: Option<Job>, row: &Row)
         ensures { (system : TheSystem) (thread number : ℕ) (past : List TheRow) → self.old ≡ trail_of system thread number past →
             job ≡ job_of system past row.now.moment row.now.what → self.new ≡ trail_of system thread number (row.now ∷ past) }

@@ -31,8 +31,8 @@ fn waits_since(standing: Standing, stopped: Option<Tick>) -> Option<Tick>
     }
 }
 
-// The moment at which a round under way was activated, where it is told to be activated at the horizon if it is not yet: a word that begins a
-// round activates it.
+/// The moment at which a round under way was activated, where it is told to be activated at the horizon if it is not yet: a word that begins a
+/// round activates it.
 fn told_by(waits: Option<NoteId>, horizon: Tick, moment: Tick) -> Option<Tick>
     ensures { result ≡ told_by waits horizon moment }
 {
@@ -54,7 +54,7 @@ fn open_if(number: u64, before: u64, unended: Option<Span>) -> Sought
 }
 
 impl Trail {
-    // A round that has not ended at the horizon.
+    /// A round that has not ended at the horizon.
     fn open_span(
         &self,
         horizon: Tick,
@@ -76,7 +76,7 @@ impl Trail {
         }
     }
 
-    // The round that is under way since this moment, told by when it was activated.
+    /// The round that is under way since this moment, told by when it was activated.
     fn under_way(&self, horizon: Tick, begun: Tick, activated: Option<Tick>) -> Option<Span>
         ensures { result ≡ open_by self.now.thread self.now.core self.now.ended horizon (Some begun) activated self.now.waited
             (to_begin self.now.standing self.now.set) (waits_since self.now.standing self.now.stopped) }
@@ -94,7 +94,7 @@ impl Trail {
         Some(span)
     }
 
-    // The round that is yet to begin.
+    /// The round that is yet to begin.
     fn to_come(&self, horizon: Tick, activated: Option<Tick>) -> Option<Span>
         ensures { result ≡ open_by self.now.thread self.now.core self.now.ended horizon None activated self.now.waited
             (to_begin self.now.standing self.now.set) (waits_since self.now.standing self.now.stopped) }
@@ -108,7 +108,7 @@ impl Trail {
         }
     }
 
-    // The round that has not ended at the horizon, if there is one, by when the one under way was activated.
+    /// The round that has not ended at the horizon, if there is one, by when the one under way was activated.
     fn open(&self, horizon: Tick, activated: Option<Tick>) -> Option<Span>
         ensures { result ≡ open_by self.now.thread self.now.core self.now.ended horizon self.now.begun activated self.now.waited
             (to_begin self.now.standing self.now.set) (waits_since self.now.standing self.now.stopped) }
@@ -119,7 +119,7 @@ impl Trail {
         }
     }
 
-    // When the round under way was activated, where this is what it would be if it ended at the horizon.
+    /// When the round under way was activated, where this is what it would be if it ended at the horizon.
     fn activated(&self, horizon: Tick, job: Option<Job>) -> Option<Tick>
         ensures { (system : TheSystem) (thread number response : ℕ) (past : List TheRow) → self.now ≡ trail_of system thread number past →
             thread < length system.threads → job ≡ job_of system past horizon (row.Round thread number response) →
@@ -134,7 +134,7 @@ impl Trail {
         }
     }
 
-    // What there is of the round, where this is the one under way as if it ended at the horizon.
+    /// What there is of the round, where this is the one under way as if it ended at the horizon.
     pub(crate) fn sought(&self, horizon: Tick, job: Option<Job>) -> Sought
         ensures { (system : TheSystem) (thread number response : ℕ) (past : List TheRow) → self.now ≡ trail_of system thread number past →
             thread < length system.threads → job ≡ job_of system past horizon (row.Round thread number response) →

@@ -37,7 +37,7 @@ fn reads(
     Ok(0)
 }
 
-// A text is read a byte a call, or whole; the last read finds its end.
+/// A text is read a byte a call, or whole; the last read finds its end.
 #[test]
 fn each_read_fails(rt: HostRuntime) -> Result<(), Fail> {
     for (file, want) in WORKED.as_slice() {
@@ -77,9 +77,9 @@ fn writes(
     Ok(0)
 }
 
-// A text is written a byte a call, or in its pieces. Each of these ends with the row, or with two cores with the moment of a core, that makes it as
-// long as 1, 2, 4 and so on bytes: of the first system's rows 14, 10, 27, 14, 38, 44 and 19 bytes, of the second's moments 24, 17, 17, 51, 35, 35 and
-// 35. The last call is the flush.
+/// A text is written a byte a call, or in its pieces. Each of these ends with the row, or with two cores with the moment of a core, that makes it as
+/// long as 1, 2, 4 and so on bytes: of the first system's rows 14, 10, 27, 14, 38, 44 and 19 bytes, of the second's moments 24, 17, 17, 51, 35, 35 and
+/// 35. The last call is the flush.
 #[test]
 fn each_write_fails(rt: HostRuntime) -> Result<(), Fail> {
     for team in [false, true] {
@@ -94,8 +94,8 @@ fn each_write_fails(rt: HostRuntime) -> Result<(), Fail> {
     Ok(())
 }
 
-// Rows that are counted too are written one by one, in pieces of 14, 10, 27, 14, 38 and 44 bytes. The reports follow the last rows in
-// the last piece.
+/// Rows that are counted too are written one by one, in pieces of 14, 10, 27, 14, 38 and 44 bytes. The reports follow the last rows in
+/// the last piece.
 #[test]
 fn each_write_of_rows_and_reports_fails(rt: HostRuntime) -> Result<(), Fail> {
     let (file, rows) = WORKED[0];
@@ -136,7 +136,7 @@ const FAULTS: [(ErrorKind, usize, bool); 3] = [
     (ErrorKind::Other, 1, true),
 ];
 
-// The text is read in two calls, and in two it is written and flushed.
+/// The text is read in two calls, and in two it is written and flushed.
 #[test]
 fn what_is_interrupted_is_read_again(rt: HostRuntime) -> Result<(), Fail> {
     let (file, want) = WORKED[0];
@@ -172,7 +172,7 @@ fn what_is_interrupted_is_read_again(rt: HostRuntime) -> Result<(), Fail> {
     Ok(())
 }
 
-// The first row is written in the first call; the seventh writes the last one, and the eighth flushes.
+/// The first row is written in the first call; the seventh writes the last one, and the eighth flushes.
 #[test]
 fn what_is_interrupted_is_written_again(rt: HostRuntime) -> Result<(), Fail> {
     let (file, want) = WORKED[0];

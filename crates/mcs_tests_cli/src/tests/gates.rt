@@ -23,7 +23,7 @@ impl Gate for Pieces {
     fn reached(&self, _moment: Tick) {}
 }
 
-// With two workers each of the two cores is lent at least once. With one no piece is lent.
+/// With two workers each of the two cores is lent at least once. With one no piece is lent.
 #[test]
 fn a_gate_is_told_of_the_pieces_of_a_run(rt: HostRuntime) -> Result<(), Fail> {
     let (file, want) = WORKED[1];

@@ -60,7 +60,7 @@ fn written_with(
     told(alloc, target.into_inner().as_slice(), ended)
 }
 
-// No file has the first name, and the second is that of a folder.
+/// No file has the first name, and the second is that of a folder.
 #[test]
 fn files_that_are_not_read(rt: HostRuntime) -> Result<(), Fail> {
     for name in ["no_folder/no_file.toml", "."] {

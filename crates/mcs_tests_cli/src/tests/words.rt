@@ -45,7 +45,7 @@ fn words_are_taken(rt: HostRuntime) -> Result<(), Fail> {
     Ok(())
 }
 
-// Each line is not understood, and its text says what is wrong.
+/// Each line is not understood, and its text says what is wrong.
 static REFUSED: [(&str, &str); 12] = [
     ("--workers 65", "65"),
     ("--workers 0", "0"),

@@ -23,7 +23,7 @@ fn percentiles(histogram: &Histogram) -> [Option<u64>; 5] {
     ]
 }
 
-// Worked by hand: a limit, values, and the percentiles.
+/// Worked by hand: a limit, values, and the percentiles.
 static SPREADS: [(u64, &[u64], [u64; 5]); 7] = [
     (10, &[7], [7, 7, 7, 7, 7]),
     (10, &[12], [10, 10, 10, 10, 10]),
@@ -63,7 +63,7 @@ fn nothing_is_told_of_nothing(rt: HostRuntime) -> Result<(), Fail> {
     Ok(())
 }
 
-// Of 1,000 values the places are 10, 500, 900, 990 and 1,000; from 256 on buckets are 4 wide, and from 512 on 8.
+/// Of 1,000 values the places are 10, 500, 900, 990 and 1,000; from 256 on buckets are 4 wide, and from 512 on 8.
 #[test]
 fn percentiles_of_the_first_thousand(rt: HostRuntime) -> Result<(), Fail> {
     let mut histogram = Histogram::new(rt.alloc(), 1 << 40)?;
@@ -77,7 +77,7 @@ fn percentiles_of_the_first_thousand(rt: HostRuntime) -> Result<(), Fail> {
     Ok(())
 }
 
-// Of the first hundred values each is its own percentile.
+/// Of the first hundred values each is its own percentile.
 #[test]
 fn percentiles_of_the_first_hundred(rt: HostRuntime) -> Result<(), Fail> {
     let mut histogram = Histogram::new(rt.alloc(), 100)?;

@@ -9,7 +9,7 @@ use std::alloc::Global;
 use std::process::Abort;
 use std::test::Fail;
 
-// The second thread waits first, for a word that the first one sets.
+/// The second thread waits first, for a word that the first one sets.
 const WAITS: &str = r#"
 version = 1
 cores = 1
@@ -22,7 +22,7 @@ thread = [
 ]
 "#;
 
-// Both threads compute, and an order names the context of the first one.
+/// Both threads compute, and an order names the context of the first one.
 const COMPUTES: &str = r#"
 version = 1
 cores = 1
@@ -108,7 +108,7 @@ fn stood(pending: u64, running: u64) -> Stood {
     }
 }
 
-// It is activated when the word is set, at 1, begins at 4, from where its row counts, and ends at 16. It runs from 1 on.
+/// It is activated when the word is set, at 1, begins at 4, from where its row counts, and ends at 16. It runs from 1 on.
 fn rounds_of_waits() -> Figures {
     Figures {
         core: CoreId(0),
@@ -163,7 +163,7 @@ fn a_round_that_waits_in_line(rt: HostRuntime) -> Result<(), Fail> {
     waits_are_told(&rt, rt.alloc(), &system)
 }
 
-// Responses of 1, 4 and 2 ticks: the second in rising order is the 50th percentile, and the last the 90th and the 99th.
+/// Responses of 1, 4 and 2 ticks: the second in rising order is the 50th percentile, and the last the 90th and the 99th.
 fn rounds_of_computes() -> Figures {
     Figures {
         core: CoreId(0),
