@@ -64,7 +64,7 @@ fn or_first(earlier: Option<Tick>, active: bool, from: Tick, to: Tick) -> Option
     }
 }
 
-// The same, kept where the earlier tick is.
+/// The same, kept where the earlier tick is.
 #[inline(always)]
 fn note_first(earlier: &mut Option<Tick>, active: bool, from: Tick, to: Tick)
     ensures { earlier.new ≡ or_first earlier.old active from to }
@@ -75,7 +75,7 @@ fn note_first(earlier: &mut Option<Tick>, active: bool, from: Tick, to: Tick)
 }
 
 impl Account {
-    // Before the first row, whatever the number of the thread and of notifications.
+    /// Before the first row, whatever the number of the thread and of notifications.
     pub(crate) fn new(part: &ThreadPart) -> Self
         ensures { result ≡ account_of 0 part.now 0 [] }
     {
@@ -97,7 +97,7 @@ impl Account {
         }
     }
 
-    // How the thread stood since its round began, up to some moment, where no row tells of it since `since`.
+    /// How the thread stood since its round began, up to some moment, where no row tells of it since `since`.
     pub(crate) fn stood_since(&self, begun: Option<Tick>, moment: Tick) -> Stood
         ensures { all_kept self.now + moment < 2 ^ 64 → result ≡ stood_since begun moment self.now.standing self.now }
     {
@@ -112,7 +112,7 @@ impl Account {
         }
     }
 
-    // How the thread stood from moment 0 on, up to some moment, where no row tells of it since `since`.
+    /// How the thread stood from moment 0 on, up to some moment, where no row tells of it since `since`.
     pub(crate) fn total_at(&self, moment: Tick) -> Stood
         ensures { all_kept self.now + moment < 2 ^ 64 → result ≡ total_at moment self.now.standing self.now }
     {
@@ -122,7 +122,7 @@ impl Account {
         stood
     }
 
-    // When it was first ready or running since its round began, up to some moment, where no row tells of it since `since`.
+    /// When it was first ready or running since its round began, up to some moment, where no row tells of it since `since`.
     fn active_since(&self, begun: Option<Tick>, moment: Tick) -> Option<Tick>
         ensures { result ≡ active_since begun moment self.now.standing self.now }
     {
@@ -137,7 +137,7 @@ impl Account {
         }
     }
 
-    // When the round was activated that is under way.
+    /// When the round was activated that is under way.
     pub(crate) fn activated_since(&self, moment: Tick) -> Option<Tick>
         ensures { result ≡ activated_since moment self.now }
     {
@@ -147,7 +147,7 @@ impl Account {
         }
     }
 
-    // The ticks up to some moment, in which the thread stood so, are of the round that is under way.
+    /// The ticks up to some moment, in which the thread stood so, are of the round that is under way.
     #[inline(always)]
     fn pass(&mut self, moment: Tick, standing: Standing)
         ensures { all_kept self.old + moment < 2 ^ 64 → self.new ≡ passed moment standing self.old }
@@ -160,7 +160,7 @@ impl Account {
         }
     }
 
-    // A row that says how the thread stands from now on, which stood so until now.
+    /// A row that says how the thread stands from now on, which stood so until now.
     #[inline(always)]
     fn tell(&mut self, standing: Standing, moment: Tick, what: &What)
         ensures { all_kept self.old + moment < 2 ^ 64 → self.new ≡ told_from standing moment what.now self.old }
@@ -180,7 +180,7 @@ impl Account {
         self.stood = Stood::new();
     }
 
-    // A word that was set at some moment.
+    /// A word that was set at some moment.
     #[inline(always)]
     fn give(&mut self, moment: Tick, set: Tick)
         ensures { self.new ≡ given moment set self.old }
@@ -191,7 +191,7 @@ impl Account {
         }
     }
 
-    // The round that was under way ended.
+    /// The round that was under way ended.
     fn end(&mut self, begun: Option<Tick>)
         ensures { self.new ≡ ends begun self.old }
     {
@@ -199,7 +199,7 @@ impl Account {
         self.preemptions = 0;
     }
 
-    // Another thread took the processor.
+    /// Another thread took the processor.
     #[inline(always)]
     fn preempt(&mut self)
         ensures { self.new ≡ preempted self.old }
@@ -209,7 +209,7 @@ impl Account {
         }
     }
 
-    // What a telling row begins or ends.
+    /// What a telling row begins or ends.
     #[inline(always)]
     fn turn(&mut self, moment: Tick, what: &What)
         ensures { self.new ≡ turned moment what.now self.old }
@@ -225,7 +225,7 @@ impl Account {
         }
     }
 
-    // A row of this thread; a word that it takes was set at some moment.
+    /// A row of this thread; a word that it takes was set at some moment.
     #[inline(always)]
     pub(crate) fn see(&mut self, set: Tick, moment: Tick, what: &What)
         ensures { all_kept self.old + moment < 2 ^ 64 → self.new ≡ seen_own set moment what.now self.old }

@@ -7,14 +7,14 @@ use crate::{Standing, Watch};
 use mcs_ticks::{NoMemory, NoteId, ThreadId, Tick};
 use std::alloc::Global;
 
-// Whether a moment is so many ticks after another.
+/// Whether a moment is so many ticks after another.
 fn is_later(moment: Tick, before: Tick, by: u64) -> bool
     ensures { IsTrue result ↔ (moment ≡ before + by) }
 {
     before.get() <= moment.get() && moment.get() - before.get() == by
 }
 
-// The same of moments that may be missing: there are both or neither.
+/// The same of moments that may be missing: there are both or neither.
 fn is_later_moment(moment: Option<Tick>, before: Option<Tick>, by: u64) -> bool
     ensures { IsTrue result ↔ (moment ≡ later_moment by before) }
 {
@@ -37,7 +37,7 @@ fn are_moments_later(after: &Account, before: &Account, by: u64) -> bool
         && is_later_moment(after.active, before.active, by)
 }
 
-// Whether all else is the same, but for how the thread stood from moment 0 on.
+/// Whether all else is the same, but for how the thread stood from moment 0 on.
 fn stands_so(after: &Account, before: &Account) -> bool
     ensures { IsTrue result ↔ ((after.now.deadline ≡ before.now.deadline)
         × (after.now.waits ≡ before.now.waits)

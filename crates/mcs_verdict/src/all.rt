@@ -9,8 +9,8 @@ use mcs_system::{System, SystemParts};
 use mcs_ticks::{CoreId, NoMemory, Row, ThreadId, Tick};
 use std::alloc::Global;
 
-/// Adds what a row told, if it told something. Where a growth was refused nothing is added.
-pub(crate) fn keep(
+/// Adds what was found at a moment on a core, if something was. `NoMemory` where a growth was refused: then nothing is added.
+pub fn keep_finding(
     found: &mut Vec<Found>,
     moment: Tick,
     core: CoreId,
@@ -36,7 +36,7 @@ fn keep_rows(found: &mut Vec<Found>, watch: &mut Watch, rows: &[Row]) -> Result<
 {
     for row in rows {
         let told = watch.see(row);
-        keep(found, row.moment, row.core, told)?;
+        keep_finding(found, row.moment, row.core, told)?;
     }
     Ok(())
 }
@@ -52,7 +52,7 @@ fn keep_unended(
 {
     for (number, part) in parts.threads.as_slice().iter().enumerate() {
         let told = watch.unended(horizon, ThreadId(number));
-        keep(found, horizon, parts.core_of_thread(part), told)?;
+        keep_finding(found, horizon, parts.core_of_thread(part), told)?;
     }
     Ok(())
 }

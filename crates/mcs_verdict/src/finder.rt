@@ -1,7 +1,7 @@
 ghost use Rattle.std.specs.Prelude.{◌≡◌, [], IfOk};
 ghost use Rattle.mcs_verdict.specs.Watch.{watch_of};
 
-use crate::all::keep;
+use crate::all::keep_finding;
 use crate::{Found, Watch};
 use mcs_system::System;
 use mcs_ticks::{NoMemory, Refused, Row, Sink};
@@ -39,7 +39,7 @@ impl Sink for Finder {
     #[inline(always)]
     fn row(&mut self, row: &Row) -> Result<(), Refused> {
         let told = self.watch.see(row);
-        keep(&mut self.found, row.moment, row.core, told)
+        keep_finding(&mut self.found, row.moment, row.core, told)
             .ok()
             .ok_or(Refused)
     }

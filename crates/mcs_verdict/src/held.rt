@@ -20,7 +20,7 @@ impl Held {
         }
     }
 
-    // A signal leaves this word.
+    /// A signal leaves this word.
     pub(crate) fn hold(&mut self, moment: Tick, word: u32)
         ensures { self.new ≡ held_with moment word self.old }
     {
@@ -30,7 +30,7 @@ impl Held {
         self.word = word;
     }
 
-    // A thread takes the word.
+    /// A thread takes the word.
     pub(crate) fn take(&mut self)
         ensures { self.new ≡ taken self.old }
     {

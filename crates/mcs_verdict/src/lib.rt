@@ -15,7 +15,7 @@ mod standing;
 mod watch;
 
 pub use account::first_wait;
-pub use all::{find_all, find_unended};
+pub use all::{find_all, find_unended, keep_finding};
 pub use finder::Finder;
 pub use finding::{Finding, Found};
 pub use job::Job;

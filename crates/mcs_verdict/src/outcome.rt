@@ -39,7 +39,7 @@ fn was_activated(waits: Option<NoteId>, called: Option<Tick>, held: &Held, stood
     }
 }
 
-// The round, where at least a deadline has passed since it was activated.
+/// The round, where at least a deadline has passed since it was activated.
 fn overdue_at(
     horizon: Tick,
     thread: ThreadId,
@@ -64,7 +64,7 @@ fn overdue_at(
     }
 }
 
-// The job, where its response from its activation is above the deadline.
+/// The job, where its response from its activation is above the deadline.
 fn missed(deadline: u64, job: &Job) -> Option<Finding>
     ensures { result ≡ missed deadline job.now }
 {
@@ -83,9 +83,9 @@ fn missed(deadline: u64, job: &Job) -> Option<Finding>
     }
 }
 
-// What is found of a round that ends, and at the horizon.
+/// What is found of a round that ends, and at the horizon.
 impl Account {
-    // The round that ends.
+    /// The round that ends.
     pub(crate) fn job(&self, moment: Tick, thread: ThreadId, number: u64) -> Job
         ensures { all_kept self.now + moment < 2 ^ 64 → result ≡ job_by moment thread number self.now }
     {
@@ -104,7 +104,7 @@ impl Account {
         }
     }
 
-    // The round that ends, if it missed its deadline.
+    /// The round that ends, if it missed its deadline.
     pub(crate) fn miss(&self, moment: Tick, thread: ThreadId, number: u64) -> Option<Finding>
         ensures { all_kept self.now + moment < 2 ^ 64 → result ≡ miss_by moment thread number self.now }
     {
@@ -117,7 +117,7 @@ impl Account {
         }
     }
 
-    // The round that is under way, or yet to begin by a word that is held, if it is overdue at the horizon.
+    /// The round that is under way, or yet to begin by a word that is held, if it is overdue at the horizon.
     fn overdue(&self, horizon: Tick, thread: ThreadId, held: &Held) -> Option<Finding>
         ensures { all_kept self.now + horizon < 2 ^ 64 → result ≡ overdue_by horizon thread held.now self.now }
     {
@@ -155,7 +155,7 @@ impl Account {
         }
     }
 
-    // What is found of the thread at the horizon, where this is the word for which its script waits first.
+    /// What is found of the thread at the horizon, where this is the word for which its script waits first.
     pub(crate) fn unended(&self, horizon: Tick, thread: ThreadId, held: &Held) -> Option<Finding>
         ensures { all_kept self.now + horizon < 2 ^ 64 → result ≡ unended_by horizon thread held.now self.now }
     {

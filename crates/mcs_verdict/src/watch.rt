@@ -49,7 +49,7 @@ fn subject(what: &What) -> Option<ThreadId>
     }
 }
 
-// When the word was set that this row says is taken.
+/// When the word was set that this row says is taken.
 fn set_for(words: &[Held], what: &What) -> Tick
     ensures { (parts : List TheNote) (past : List TheRow) → words.now ≡ words_of 0 parts past →
         result ≡ set_for (length parts) past what.now }
@@ -60,7 +60,7 @@ fn set_for(words: &[Held], what: &What) -> Tick
     }
 }
 
-// The word of a notification, 0 where there is none.
+/// The word of a notification, 0 where there is none.
 fn word_at(words: &[Held], note: NoteId) -> Held
     ensures { (parts : List TheNote) (past : List TheRow) → words.now ≡ words_of 0 parts past →
         result ≡ held_of (length parts) note past }
@@ -72,7 +72,7 @@ fn word_at(words: &[Held], note: NoteId) -> Held
     }
 }
 
-// The word for which a script waits first.
+/// The word for which a script waits first.
 fn word_for(words: &[Held], waits: Option<NoteId>) -> Held
     ensures { (parts : List TheNote) (past : List TheRow) → words.now ≡ words_of 0 parts past →
         result ≡ word_for (length parts) waits past }
@@ -83,7 +83,7 @@ fn word_for(words: &[Held], waits: Option<NoteId>) -> Held
     }
 }
 
-// `set` is when the word was set that the row says is taken.
+/// `set` is when the word was set that the row says is taken.
 #[inline(always)]
 fn tell_accounts(accounts: &mut [Account], set: Tick, row: &Row)
     ensures { (notes : ℕ) (parts : List TheThread) (past : List TheRow) → accounts.old ≡ accounts_of notes 0 parts past →
@@ -215,7 +215,7 @@ impl Watch {
         }
     }
 
-    // The same of any row. It stands apart, so that rows that only tell how a thread stands, which are most, make no room for a finding.
+    /// The same of any row. It stands apart, so that rows that only tell how a thread stands, which are most, make no room for a finding.
     #[inline(never)]
     fn see_any(&mut self, row: &Row) -> Option<Finding>
         ensures kept { (system : TheSystem) (past : List TheRow) → self.old ≡ watch_of system past → UpTo row.now.moment past →
