@@ -14,9 +14,9 @@ use Rattle.mcs_verdict.specs.Findings.{UpTo, past_of}
 use Rattle.mcs_verdict_laws.specs.laws.Order.{SchedulesAreInOrder}
 use Rattle.mcs_stretch.proofs.Ranges.{flat_map-join}
 use Rattle.mcs_lockstep.specs.Together.{rows_at, rows_before}
+use Rattle.mcs_verdict_laws.proofs.Order.{up_to-later}
 use Rattle.mcs_search.specs.stored.Seen.{IsOfRows, HasSeen}
 use Rattle.mcs_search.specs.declared.seen.Seen.{Seen}
-use Rattle.mcs_search.proofs.Seeing.{up_to-later}
 
 all-join : (P : Row → Type 0) (xs ys : List Row) → AllByRecursion P xs → AllByRecursion P ys → AllByRecursion P (xs ++ ys)
 all-join P [] ys all more = more

@@ -15,10 +15,6 @@ pub past_of-more : (past rows : List Row) (r : Row) → past_of past (rows ++ r 
 past_of-more past [] r = refl
 past_of-more past (x ∷ rows) r = past_of-more (x ∷ past) rows r
 
-pub up_to-later : (m n : ℕ) (past : List Row) → m ≤ n → UpTo m past → UpTo n past
-up_to-later m n [] l up = tt
-up_to-later m n (r ∷ past) l up = (omega (arith, up.0, l), up_to-later m n past l up.1)
-
 pub all-at : {X : Type 0} (P : X → Type 0) (xs : List X) (i : ℕ) (d : X) → i < length xs → AllByRecursion P xs → P (get_or xs i d)
 all-at P [] i d l all = absurd (omega (arith, l))
 all-at P (x ∷ xs) zero d l all = all.0

@@ -8,7 +8,7 @@ use mcs_system::System;
 use mcs_ticks::{CoreId, NoMemory};
 use std::alloc::Global;
 
-// In how many ticks the core does more than count a tick, where nothing arrives. None where it never does.
+/// In how many ticks the core does more than count a tick, where nothing arrives. None where it never does.
 fn gap(no_mail: &Mailbox, system: &System, lockstep: &Lockstep, core: CoreId) -> Option<u64>
     requires known { core < system.now.cores }
     requires same { lockstep.now.system ≡ system.now }
@@ -41,7 +41,7 @@ impl Gaps {
         Ok(Gaps { of_cores })
     }
 
-    // That of a core.
+    /// That of a core.
     fn of(&self, core: usize) -> Option<u64> {
         if core < self.of_cores.len() {
             self.of_cores[core]

@@ -30,7 +30,7 @@ pub fn nothing_told(alloc: Global, groups: usize) -> Result<Vec<Option<Repeats>>
     Ok(told)
 }
 
-// What the present moment tells of a group.
+/// What the present moment tells of a group.
 fn told_now(alloc: Global, compared: &Search, group: &CoreSet) -> Result<Option<Repeats>, NoMemory>
     ensures told { IfOk result (IsToldOf compared.now.system compared.now.horizon group.now) }
     ensures from { IfOk result (λ told. IfSome told (λ repeats. repeats.from ≡ compared.now.kept)) }
@@ -76,7 +76,7 @@ pub fn compare(
     Ok(())
 }
 
-// Whether there is a group of which nothing is told yet.
+/// Whether there is a group of which nothing is told yet.
 fn is_any_left(told: &[Option<Repeats>]) -> bool {
     for repeats in told {
         if !is_told(repeats) {

@@ -24,7 +24,7 @@ pub(crate) fn are_idle(alloc: Global, system: &System, lockstep: &Lockstep) -> b
     true
 }
 
-// Whether the core does more at some moment, where nothing arrives.
+/// Whether the core does more at some moment, where nothing arrives.
 fn is_busy(system: &System, lockstep: &Lockstep, no_mail: &Mailbox, core: CoreId) -> bool
     requires known { core < system.now.cores }
     requires same { lockstep.now.system ≡ system.now }

@@ -60,7 +60,7 @@ impl Sampling {
         Ok(())
     }
 
-    // Before the turns the search keeps the moment, where it is time to do so.
+    /// Before the turns the search keeps the moment, where it is time to do so.
     fn keep_where_due(&mut self, alloc: Global, compared: &mut Search) -> Result<(), NoMemory>
         ensures kept { OnOk result ((compared.new ≡ compared.old) ⊎ (compared.new ≡ with_kept compared.old)) }
         ensures err { OnErr result (compared.new ≡ compared.old) }
@@ -71,7 +71,7 @@ impl Sampling {
         Ok(())
     }
 
-    // After the turns idle time passes, unless the search stays at the moment.
+    /// After the turns idle time passes, unless the search stays at the moment.
     fn go_to_next(&mut self, alloc: Global, compared: &mut Search)
         requires { compared.old.failed ≡ false }
         ensures { StandsOn compared.old compared.new }
@@ -83,7 +83,7 @@ impl Sampling {
         let _moment = compared.skip();
     }
 
-    // Whether the present moment is to be kept.
+    /// Whether the present moment is to be kept.
     fn keeps(&mut self, compared: &Search) -> bool {
         match self.rest {
             Rest::NotYet => compared.orders_are_over() && self.is_due(),
@@ -92,7 +92,7 @@ impl Sampling {
         }
     }
 
-    // Whether as many busy moments have passed as were to pass. Then twice as many are to.
+    /// Whether as many busy moments have passed as were to pass. Then twice as many are to.
     fn is_due(&mut self) -> bool
         ensures { result ≡ (self.old.left == 0) }
     {
@@ -105,7 +105,7 @@ impl Sampling {
         true
     }
 
-    // Whether the search stays at the present moment, although it may be none at which a core does more than count a tick.
+    /// Whether the search stays at the present moment, although it may be none at which a core does more than count a tick.
     fn stays(&mut self, alloc: Global, compared: &Search) -> bool
         requires { compared.now.failed ≡ false }
     {

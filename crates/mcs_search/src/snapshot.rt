@@ -12,7 +12,7 @@ use mcs_ticks::{CoreId, NoMemory};
 use mcs_under_way::UnderWay;
 use std::alloc::Global;
 
-// The image of one core before the moment.
+/// The image of one core before the moment.
 fn image(
     alloc: Global,
     system: &System,
@@ -28,7 +28,7 @@ fn image(
     Ok(image)
 }
 
-// The images of all cores, in order of their numbers.
+/// The images of all cores, in order of their numbers.
 fn images(alloc: Global, system: &System, lockstep: &Lockstep) -> Result<Vec<CoreImage>, NoMemory>
     requires same { lockstep.now.system ≡ system.now }
     requires going { lockstep.now.failed ≡ false }
@@ -43,7 +43,7 @@ fn images(alloc: Global, system: &System, lockstep: &Lockstep) -> Result<Vec<Cor
     Ok(images)
 }
 
-// The same signals once more.
+/// The same signals once more.
 fn copied(alloc: Global, mails: &[Mail]) -> Result<Vec<Mail>, NoMemory>
     ensures { IfOk result (λ copy. copy.items ≡ mails.now) }
 {

@@ -31,10 +31,11 @@ use Rattle.mcs_forever.specs.laws.Home.{IsOfOwn}
 use Rattle.mcs_forever.proofs.Home.{rows-of-own}
 use Rattle.mcs_forever.proofs.Schedules.{each-turn}
 use Rattle.mcs_forever.proofs.Repeats.{forever}
+use Rattle.mcs_verdict_laws.proofs.Standings.{past-append}
 use Rattle.mcs_verdict_forever.specs.Recurs.{past_before, holds_word, HoldsNoSignal, IsNotTold, FindingsRecur}
 use Rattle.mcs_verdict_forever.specs.laws.Repeats.{rows_at}
 use Rattle.mcs_verdict_forever.proofs.Alike.{at, is_about-own}
-use Rattle.mcs_verdict_forever.proofs.Moments.{past_of-append, past-next, up_to}
+use Rattle.mcs_verdict_forever.proofs.Moments.{past-next, up_to}
 
 equal : (a b : ℕ) → (a == b) ≡ true → a ≡ b
 equal a b e = grind (arith, nat_tests)
@@ -152,7 +153,7 @@ module _ (system : System) (x : ℕ) where
   cores-active (suc n) a m past up =
       let first = turn-active a m (turn_of system a m).rows past up in
       let rest = cores-active n (a + 1) m (past_of past (rows_of system a m)) first.1 in
-      rw (past_of-append past (rows_of system a m) (flat_map (λ c. rows_of system c m) (range_with_len (a + 1) n))) (omega (arith, first.0, rest))
+      rw (past-append past (rows_of system a m) (flat_map (λ c. rows_of system c m) (range_with_len (a + 1) n))) (omega (arith, first.0, rest))
 
   module _ (well : IsWellFormed system) where
     -- at a horizon, by all rows up to it
@@ -194,7 +195,7 @@ module _ (system : System) (group : ℕ → Bool) (shifts : Shifts) (from : ℕ)
     carried-cores : (n a t : ℕ) (past : List Row) → from ≤ t → a + n ≤ system.cores → Q past → Q (past_of past (flat_map (λ c. rows_of system c t) (range_with_len a n)))
     carried-cores zero a t past l few q = q
     carried-cores (suc n) a t past l few q =
-        subst Q (sym (past_of-append past (rows_of system a t) (flat_map (λ c. rows_of system c t) (range_with_len (a + 1) n))))
+        subst Q (sym (past-append past (rows_of system a t) (flat_map (λ c. rows_of system c t) (range_with_len (a + 1) n))))
         (carried-cores n (a + 1) t (past_of past (rows_of system a t)) l (omega (arith, few)) (carried-turn a t (whats t a) past (facts t a l (omega (arith, few))) q))
 
     carried-from : (n : ℕ) → Q (past_before system from) → Q (past_before system (from + n))

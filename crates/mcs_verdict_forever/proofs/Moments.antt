@@ -34,16 +34,14 @@ use Rattle.mcs_forever.proofs.Home.{rows-of-own}
 use Rattle.mcs_forever.proofs.Worlds.{rows-again}
 use Rattle.mcs_forever.proofs.Schedules.{each-turn}
 use Rattle.mcs_forever.proofs.Repeats.{forever}
+use Rattle.mcs_verdict_laws.proofs.Order.{up_to-later}
+use Rattle.mcs_verdict_laws.proofs.Standings.{past-append}
 use Rattle.mcs_verdict_forever.specs.Later.{later_found}
 use Rattle.mcs_verdict_forever.specs.Recurs.{takes_word, TakesNoWord, past_before, ThreadIsLater, WordIsSame, WordIsLater, FindingsRecur}
 use Rattle.mcs_verdict_forever.specs.laws.Repeats.{rows_at, later_job_of}
 use Rattle.mcs_verdict_forever.proofs.Alike.{Alike, Counts, alike-turn, found-turn, jobs-turn}
 
 -- some rows and then others
-pub past_of-append : (past xs ys : List Row) → past_of past (xs ++ ys) ≡ past_of (past_of past xs) ys
-past_of-append past [] ys = refl
-past_of-append past (x ∷ xs) ys = past_of-append (x ∷ past) xs ys
-
 pub found_in-append : (system : System) (past xs ys : List Row) → found_in system past (xs ++ ys) ≡ found_in system past xs ++ found_in system (past_of past xs) ys
 found_in-append system past [] ys = refl
 found_in-append system past (x ∷ xs) ys =
@@ -56,18 +54,14 @@ jobs_in-append system past (x ∷ xs) ys =
     ap (λ jobs. option_to_list (job_of system past x.moment x.what) ++ jobs) (jobs_in-append system (x ∷ past) xs ys)
     ∙ sym (append_assoc (option_to_list (job_of system past x.moment x.what)) (jobs_in system (x ∷ past) xs) (jobs_in system (past_of (x ∷ past) xs) ys))
 
-pub up_to-more : (m n : ℕ) (past : List Row) → m ≤ n → UpTo m past → UpTo n past
-up_to-more m n [] h up = tt
-up_to-more m n (r ∷ past) h up = let g = up.0 in (omega (arith, g, h), up_to-more m n past h up.1)
-
 module _ (system : System) (well : IsWellFormed system) where
   -- the rows before a moment
   pub past-next : (t : ℕ) → past_before system (suc t) ≡ past_of (past_before system t) (rows_at system t)
-  past-next t = ap (past_of []) (rows-clock system (takes-time system well) t) ∙ past_of-append [] (clock system t).rows (rows_at system t)
+  past-next t = ap (past_of []) (rows-clock system (takes-time system well) t) ∙ past-append [] (clock system t).rows (rows_at system t)
 
   pub up_to : (t : ℕ) → UpTo t (past_before system t)
   up_to zero = tt
-  up_to (suc t) = up_to-more t (suc t) (past_before system (suc t)) (omega arith) (in_order system well t).1
+  up_to (suc t) = up_to-later t (suc t) (past_before system (suc t)) (omega arith) (in_order system well t).1
 
   -- what is kept of a thread and of a word
   pub account-kept : (t x : ℕ) (d : Account) → x < length system.threads → get_or (accounts_of (length system.notes) 0 system.threads (past_before system t)) x d ≡ account_at system x (past_before system t)
@@ -195,8 +189,8 @@ module _ (system : System) (group : ℕ → Bool) (shifts : Shifts) (from : ℕ)
   alike-cores zero a t rows rows' l few h = h
   alike-cores (suc n) a t rows rows' l few h =
       rw (
-        past_of-append rows (rows_of system a t) (flat_map (λ c. rows_of system c t) (range_with_len (a + 1) n)),
-        past_of-append rows' (rows_of system a (t + d)) (flat_map (λ c. rows_of system c (t + d)) (range_with_len (a + 1) n)),
+        past-append rows (rows_of system a t) (flat_map (λ c. rows_of system c t) (range_with_len (a + 1) n)),
+        past-append rows' (rows_of system a (t + d)) (flat_map (λ c. rows_of system c (t + d)) (range_with_len (a + 1) n)),
       ) (alike-cores n (a + 1) t (past_of rows (rows_of system a t)) (past_of rows' (rows_of system a (t + d))) l (omega (arith, few)) (alike-core a t rows rows' l (omega (arith, few)) h))
 
   -- what is told of rows, by those before them
@@ -249,8 +243,8 @@ module _ (system : System) (group : ℕ → Bool) (shifts : Shifts) (from : ℕ)
         threads = now.threads;
         words = now.words;
         sets = now.sets;
-        before = up_to-more t (suc t) (past_of (past t) (rows_at system t)) (omega arith) now.before;
-        after = up_to-more (t + d) (suc t + d) (past_of (past (t + d)) (rows_at system (t + d))) (omega arith) now.after;
+        before = up_to-later t (suc t) (past_of (past t) (rows_at system t)) (omega arith) now.before;
+        after = up_to-later (t + d) (suc t + d) (past_of (past (t + d)) (rows_at system (t + d))) (omega arith) now.after;
       } in
       let e : suc (t + d) ≡ suc t + d = omega arith in
       let P : ℕ → Type 0 = λ n. Like (suc t) (past (suc t)) (past n) in
