@@ -22,7 +22,7 @@ use Rattle.mcs_stretch.specs.Stretch.{rows_between}
 use Rattle.mcs_stretch.proofs.Ranges.{flat_map-join}
 
 -- all rows have this moment
-abbrev AreAt : ℕ → List Row → Type 0
+abbrev pub AreAt : ℕ → List Row → Type 0
 AreAt t [] = Unit {0}
 AreAt t (row ∷ rows) = (row.moment ≡ t) × AreAt t rows
 
@@ -30,11 +30,11 @@ AreAt-append : (t : ℕ) (rows more : List Row) → AreAt t rows → AreAt t mor
 AreAt-append t [] more h k = k
 AreAt-append t (row ∷ rows) more h k = (h.0, AreAt-append t rows more h.1 k)
 
-AreAt-flat_map : (t : ℕ) (f : ℕ → List Row) → ((c : ℕ) → AreAt t (f c)) → (n a : ℕ) → AreAt t (flat_map f (range_with_len a n))
+pub AreAt-flat_map : (t : ℕ) (f : ℕ → List Row) → ((c : ℕ) → AreAt t (f c)) → (n a : ℕ) → AreAt t (flat_map f (range_with_len a n))
 AreAt-flat_map t f h zero a = tt
 AreAt-flat_map t f h (suc n) a = AreAt-append t (f a) (flat_map f (range_with_len (a + 1) n)) (h a) (AreAt-flat_map t f h n (a + 1))
 
-AreAt-map : (t c : ℕ) (whats : List What) → AreAt t (map (λ what. record { moment = t; core = c; what = what }) whats)
+pub AreAt-map : (t c : ℕ) (whats : List What) → AreAt t (map (λ what. record { moment = t; core = c; what = what }) whats)
 AreAt-map t c [] = tt
 AreAt-map t c (what ∷ whats) = (refl, AreAt-map t c whats)
 
