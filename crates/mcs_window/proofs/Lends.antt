@@ -1,5 +1,5 @@
 -- A desk of which a core is lent.
-use Rattle.std.proofs.Common.{◌≡◌, ℕ, ◌<◌, ◌≤◌, Some, None, List, [], length, map, get_or, set, inl, inr, refl, sym, ap, ◌∙◌, subst, arith}
+use Rattle.std.proofs.Common.{Box, ◌≡◌, ℕ, ◌<◌, ◌≤◌, Some, None, List, [], length, map, get_or, set, inl, inr, refl, sym, ap, ◌∙◌, subst, arith}
 use Rattle.std.specs.Prelude.{slice_index}
 use Rattle.std.specs.Arc.{arc_value}
 use Rattle.std.specs.Vec.{with_item}
@@ -46,12 +46,12 @@ module _ {S : Type 0} {holds : S → List Row → Type 0} (a : Inside S) (kept :
   loan_at k x l = get_or-map slot_loan a.slots.items k x None (omega (arith, kept.slots_of))
 
   -- a core that is here
-  here_of : (k : ℕ) (slot : Slot) (box : List Mail) (spare : Arc System Global) (state : State) → slot ≡ Here spare state → IsPlaced system a.horizon k a.clocks box slot →
-      (arc_value spare ≡ system) × IsHere system k (slice_index a.clocks k) a.clocks state box
+  here_of : (k : ℕ) (slot : Slot) (box : List Mail) (spare : Arc System Global) (state : Box State Global) → slot ≡ Here spare state → IsPlaced system a.horizon k a.clocks box slot →
+      (arc_value spare ≡ system) × IsHere system k (slice_index a.clocks k) a.clocks state.value box
   here_of k slot box spare state e placed = subst (IsPlaced system a.horizon k a.clocks box) e placed
 
-  pub here_at : (k : ℕ) (slot : Slot) (box : Content) (spare : Arc System Global) (state : State) → k < system.cores → slot ≡ Here spare state → slot ≡ get_or a.slots.items k slot →
-      box ≡ get_or a.boxes.items k box → (arc_value spare ≡ system) × IsHere system k (slice_index a.clocks k) a.clocks state box.mails
+  pub here_at : (k : ℕ) (slot : Slot) (box : Content) (spare : Arc System Global) (state : Box State Global) → k < system.cores → slot ≡ Here spare state → slot ≡ get_or a.slots.items k slot →
+      box ≡ get_or a.boxes.items k box → (arc_value spare ≡ system) × IsHere system k (slice_index a.clocks k) a.clocks state.value box.mails
   here_at k slot box spare state l e at b_at =
       here_of k (get_or a.slots.items k slot) box.mails spare state (sym at ∙ e)
       (subst (λ (y : Content). IsPlaced system a.horizon k a.clocks y.mails (get_or a.slots.items k slot)) (sym b_at) (kept.placed k slot box l))
@@ -85,9 +85,9 @@ module _ {S : Type 0} {holds : S → List Row → Type 0} (a : Inside S) (kept :
       }
 
   -- the piece that is lent
-  pub lent_work : (k : ℕ) (slot : Slot) (box : Content) (spare : Arc System Global) (state : State) (first past : ℕ) → MayGoOn (table_of a) k past → slot ≡ Here spare state →
+  pub lent_work : (k : ℕ) (slot : Slot) (box : Content) (spare : Arc System Global) (state : Box State Global) (first past : ℕ) → MayGoOn (table_of a) k past → slot ≡ Here spare state →
       slot ≡ get_or a.slots.items k slot → box ≡ get_or a.boxes.items k box → first ≡ slice_index a.clocks k →
-      IsWork (record { system = arc_value spare; core = k; first = first; past = past; front = a.clocks; state = state; mail = box.mails })
+      IsWork (record { system = arc_value spare; core = k; first = first; past = past; front = a.clocks; state = state.value; mail = box.mails })
   lent_work k slot box spare state first past may e at b_at first_is =
       let here = here_at k slot box spare state may.known e at b_at in
       let ahead = may.ahead in

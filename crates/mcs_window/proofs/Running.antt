@@ -165,7 +165,7 @@ module _ {S : Type 0} {holds : S → List Row → Type 0} (a : Inside S) (kept :
         (here_after after gone.stands))
       where
         here_after : (slot : Slot) → StandsIn system k to slot → IsPlaced system a.horizon k (set a.clocks k to) (put_all (filter (is_home system k) (signals_from system a.clocks (set a.clocks k to))) left.mails) slot
-        here_after (Here spare state) stands = (stands.0, here_own system kept.well_formed a.clocks k to in_clocks state left.mails forward so_far stands.1 gone.box_is)
+        here_after (Here spare state) stands = (stands.0, here_own system kept.well_formed a.clocks k to in_clocks state.value left.mails forward so_far stands.1 gone.box_is)
         here_after (Away loan) stands = absurd stands
 
     other : (b : ℕ) (x : Slot) (y : Content) → b < system.cores → b ≢ k → IsPlaced system a.horizon b (set a.clocks k to) (get_or full b y).mails (get_or (set a.slots.items k after) b x)

@@ -1,5 +1,5 @@
 -- What a settlement moves: the room for it, and the boxes that get it.
-use Rattle.std.proofs.Common.{◌≡◌, ◌≢◌, ℕ, zero, suc, ◌+◌, ◌-◌, ◌<◌, ◌≤◌, Bool, true, false, cond, List, [], ◌∷◌, ◌++◌, length, Vec, get_or, set, take, drop, Some, None, Result, Ok, Err, inl, inr, refl, sym, ap, ◌∙◌, subst, arith}
+use Rattle.std.proofs.Common.{Box, ◌≡◌, ◌≢◌, ℕ, zero, suc, ◌+◌, ◌-◌, ◌<◌, ◌≤◌, Bool, true, false, cond, List, [], ◌∷◌, ◌++◌, length, Vec, get_or, set, take, drop, Some, None, Result, Ok, Err, inl, inr, refl, sym, ap, ◌∙◌, subst, arith}
 use Rattle.std.specs.Prelude.{filter, ◌==◌, slice_index, is_err, OnOk}
 use Rattle.std.specs.Arc.{arc_value}
 use Rattle.std.specs.Vec.{with_item, with_items}
@@ -174,7 +174,7 @@ module _ (system : System) (well : IsWellFormed system) (front : List ℕ) (c to
 
   -- each other core is placed as it was
   pub placed_other : (horizon b : ℕ) (box : List Mail) (slot : Slot) → b ≢ c → IsPlaced system horizon b front box slot → IsPlaced system horizon b later (with_delivered b box) slot
-  placed_other horizon b box (Here spare state) other placed = (placed.0, here_other system well front c to known b state box other forward placed.1)
+  placed_other horizon b box (Here spare state) other placed = (placed.0, here_other system well front c to known b state.value box other forward placed.1)
   placed_other horizon b box (Away loan) other placed = away_later horizon b loan box other placed
 
   -- the core that comes back
@@ -274,11 +274,11 @@ module _ {S : Type 0} {holds : S → List Row → Type 0} (a : Inside S) (kept :
   pub out-none : filter (is_home system k) done.out ≡ []
   out-none = ap (filter (is_home system k)) (rw same at are.out_is) ∙ own-none system k done.first done.past
 
-  module _ (spare : Arc System Global) (mailbox : Content) (joined full : List Content) (old new : S) (copy : arc_value spare ≡ done.system) (mails_are : mailbox.mails ≡ done.mail)
+  module _ (spare : Arc System Global) (state : Box State Global) (boxed : state.value ≡ done.state) (mailbox : Content) (joined full : List Content) (old new : S) (copy : arc_value spare ≡ done.system) (mails_are : mailbox.mails ≡ done.mail)
       (is_joined : IsJoined k mailbox a.boxes.items joined) (delivered : AreDelivered system done.out joined full) (at : old ≡ get_or a.told.items k old)
       (more : (held : List Row) → holds old held → holds new (held ++ done.rows)) where
     abbrev back : Slot
-    back = Here spare done.state
+    back = Here spare state
 
     there : k < length a.clocks
     there = let all = kept.clocks_of in let few = kept.few in let h = inside in omega arith
@@ -313,9 +313,10 @@ module _ {S : Type 0} {holds : S → List Row → Type 0} (a : Inside S) (kept :
     own x y =
         subst (IsPlaced system a.horizon k (set a.clocks k done.past) (get_or full k y).mails) (sym (get_or-set_same a.slots.items k back x in_slots)) (
           copy ∙ same,
-          subst (IsHere system k (slice_index (set a.clocks k done.past) k) (set a.clocks k done.past) done.state) (sym (box_later k y _ inside (is_joined.own y)))
+          subst (λ s. IsHere system k (slice_index (set a.clocks k done.past) k) (set a.clocks k done.past) s (get_or full k y).mails) (sym boxed)
+              (subst (IsHere system k (slice_index (set a.clocks k done.past) k) (set a.clocks k done.past) done.state) (sym (box_later k y _ inside (is_joined.own y)))
               (come_back system kept.well_formed a.clocks k done.past there forward a.horizon the_loan (get_or a.boxes.items k y).mails mailbox.mails _ done.state (away y) refl
-              (rw same at are.state_is) (mails_are ∙ rw same at are.mail_is) refl),
+              (rw same at are.state_is) (mails_are ∙ rw same at are.mail_is) refl)),
         )
 
     other : (b : ℕ) (x : Slot) (y : Content) → b < system.cores → b ≢ k → IsPlaced system a.horizon b (set a.clocks k done.past) (get_or full b y).mails (get_or (set a.slots.items k back) b x)
@@ -363,5 +364,5 @@ module _ {S : Type 0} {holds : S → List Row → Type 0} (a : Inside S) (kept :
         }
 
 -- the desk shows it
-pub settled_view : {S : Type 0} (a : Inside S) (k past : ℕ) (spare : Arc System Global) (state : State) → table_of (record a { clocks = set a.clocks k past; slots = with_item a.slots k (Here spare state) }) ≡ settled_at (table_of a) k past
+pub settled_view : {S : Type 0} (a : Inside S) (k past : ℕ) (spare : Arc System Global) (state : Box State Global) → table_of (record a { clocks = set a.clocks k past; slots = with_item a.slots k (Here spare state) }) ≡ settled_at (table_of a) k past
 settled_view a k past spare state = ap (λ loans. record (settled_at (table_of a) k past) { loans = loans }) (map-set slot_loan a.slots.items k (Here spare state))

@@ -31,14 +31,14 @@ module _ (system : System) (takes : TakesTime system) (clocks : List ℕ) (momen
     stands.1.fits,
     stands.1.whole,
     (let clock = stands.1.clock_is in omega arith),
-    skip-quiet system takes clocks moment clocks_of reached idle c state l stands.1,
+    skip-quiet system takes clocks moment clocks_of reached idle c state.value l stands.1,
   )
   may-skip c (Away loan) l early stands = absurd stands
 
   has-skipped : (c : ℕ) (slot new : Slot) → c < system.cores → slice_index clocks c < moment → StandsIn system c (slice_index clocks c) slot → HasSkipped system moment slot new → StandsIn system c moment new
   has-skipped c (Here spare state) (Here other after) l early stands done = (
     ap (λ (a : _). arc_value a) done.0 ∙ stands.0,
-    skip-stands system takes clocks moment clocks_of reached idle c state after l early stands.1 done.1 done.2,
+    skip-stands system takes clocks moment clocks_of reached idle c state.value after.value l early stands.1 done.1 done.2,
   )
   has-skipped c (Here spare state) (Away loan) l early stands done = absurd done
   has-skipped c (Away loan) new l early stands done = absurd stands

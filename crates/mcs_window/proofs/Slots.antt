@@ -48,7 +48,7 @@ fresh_placed system horizon c clocks box (Here spare state) l zeros none fresh =
   fresh.0,
   record {
     reached = λ b m x _ _ _ _. let e = zeros c in omega arith;
-    state_is = rw (zeros c) (opening_stands system c state l fresh.1 fresh.2);
+    state_is = rw (zeros c) (opening_stands system c state.value l fresh.1 fresh.2);
     box_is = none ∙ sym (inbox-opening system c (slice_index clocks c) clocks (λ b _. zeros b));
   },
 )

@@ -52,7 +52,7 @@ impl Append for Nothing {
     fn append(&mut self, _more: Self) {}
 }
 
-// Moves rows behind those that there are, where there is room for them. Where there are none the list is taken as it is.
+/// Moves rows behind those that there are, where there is room for them. Where there are none the list is taken as it is.
 fn put_rows(rows: &mut Vec<Row>, more: Vec<Row>)
     requires { HasRoomFor rows.old (vec_len more) }
     ensures { rows.new.items ≡ rows.old.items ++ more.items }

@@ -11,7 +11,7 @@ use crate::desk::Desk;
 use mcs_ticks::{Collector, CoreId, Tick};
 
 impl<S: Collector> Desk<S> {
-    // How long a signal of this core is under way to another.
+    /// How long a signal of this core is under way to another.
     fn delay(&self, maker: CoreId, home: CoreId) -> u64
         requires maker { maker < self.now.system.cores }
         requires home { home < self.now.system.cores }
@@ -21,7 +21,7 @@ impl<S: Collector> Desk<S> {
         self.delays[home.0][maker.0]
     }
 
-    // The moment up to which a core may be lent.
+    /// The moment up to which a core may be lent.
     pub(crate) fn past(&self, core: CoreId) -> Tick
         requires { core < self.now.system.cores }
         ensures { result ≡ past_of self.now core }
@@ -36,7 +36,7 @@ impl<S: Collector> Desk<S> {
         Tick::new(past).unwrap()
     }
 
-    // The moment up to which a core may be lent for no more than so many moments.
+    /// The moment up to which a core may be lent for no more than so many moments.
     pub(crate) fn past_within(&self, core: CoreId, span: u64) -> Tick
         requires { core < self.now.system.cores }
         ensures { result ≡ past_within self.now span core }
@@ -45,7 +45,7 @@ impl<S: Collector> Desk<S> {
         Tick::new(most.min(self.past(core).get())).unwrap()
     }
 
-    // After how long a signal of this core may reach another one, from a moment on: after its delay, and never where no script says one.
+    /// After how long a signal of this core may reach another one, from a moment on: after its delay, and never where no script says one.
     fn reach(&self, maker: CoreId, home: CoreId) -> u64
         requires maker { maker < self.now.system.cores }
         requires home { home < self.now.system.cores }
@@ -54,8 +54,8 @@ impl<S: Collector> Desk<S> {
         self.reaches[maker.0][home.0]
     }
 
-    // A moment before which no signal arrives at a core that another one has still to make. It is no earlier than the moment up to which the
-    // core may be lent.
+    /// A moment before which no signal arrives at a core that another one has still to make. It is no earlier than the moment up to which the
+    /// core may be lent.
     pub(crate) fn farthest(&self, core: CoreId) -> Tick
         requires { core < self.now.system.cores }
         ensures reached { NothingArrivesBefore self.now.system core result self.now.clocks }
@@ -73,7 +73,7 @@ impl<S: Collector> Desk<S> {
         Tick::new(past).unwrap()
     }
 
-    // Whether a core may not be lent up to the moment after this one. It looks no further than at the first core that it waits for.
+    /// Whether a core may not be lent up to the moment after this one. It looks no further than at the first core that it waits for.
     pub(crate) fn must_wait(&self, core: CoreId, moment: Tick) -> bool
         requires { core < self.now.system.cores }
         ensures { IsTrue result ↔ (past_of self.now core ≤ moment) }

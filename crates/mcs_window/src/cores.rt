@@ -31,7 +31,7 @@ pub struct Cores {
     states: Vec<CoreState>,
     boxes: Vec<Mailbox>,
     rows: Vec<Vec<Row>>,
-    // For each core the delays of the signals to it.
+    /// For each core the delays of the signals to it.
     delays: Vec<[u64; Limits::CORES]>,
     failed: bool,
     signals: Vec<Mail>,
@@ -100,7 +100,7 @@ impl Cores {
         &self.states[core.0]
     }
 
-    // How long a signal of this core is under way to another.
+    /// How long a signal of this core is under way to another.
     fn delay(&self, maker: CoreId, home: CoreId) -> u64
         requires maker { maker < self.now.system.cores }
         requires home { home < self.now.system.cores }
@@ -110,7 +110,7 @@ impl Cores {
         self.delays[home.0][maker.0]
     }
 
-    // The first other core from which a signal could still reach the core at its clock.
+    /// The first other core from which a signal could still reach the core at its clock.
     fn first_behind(&self, core: CoreId) -> Option<CoreId>
         requires { core < self.now.system.cores }
         ensures some { IfSome result (IsFirstBehind self.now core) }
@@ -167,8 +167,8 @@ impl Cores {
         Ok(moment)
     }
 
-    // The first moment at which some core does more than count a tick, or the moment after the horizon where that comes
-    // first.
+    /// The first moment at which some core does more than count a tick, or the moment after the horizon where that comes
+    /// first.
     fn idle_until(&self) -> Tick
         requires { self.now.failed ≡ false }
         ensures { IsIdleUntil self.now.system self.now.clocks (self.now.horizon + 1) result }
@@ -237,7 +237,7 @@ impl Cores {
     }
 }
 
-// Puts rows behind those that are kept. Where none are kept no row is copied.
+/// Puts rows behind those that are kept. Where none are kept no row is copied.
 fn keep_rows(kept: &mut Vec<Row>, mut rows: Vec<Row>) -> Result<(), NoMemory>
     ensures kept { OnOk result (kept.new.items ≡ kept.old.items ++ rows.items) }
     ensures refused { OnErr result (kept.new.items ≡ kept.old.items) }

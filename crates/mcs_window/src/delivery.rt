@@ -5,7 +5,7 @@ use mcs_mail::{Mail, Mailbox};
 use mcs_system::System;
 use mcs_ticks::{CoreId, NoMemory};
 
-// Puts each signal into the box of its home. Where there is no memory no box has got any.
+/// Puts each signal into the box of its home. Where there is no memory no box has got any.
 pub(crate) fn deliver(
     system: &System,
     boxes: &mut [Mailbox],
@@ -23,7 +23,7 @@ pub(crate) fn deliver(
     Ok(())
 }
 
-// Makes room for the signals in the boxes of their homes.
+/// Makes room for the signals in the boxes of their homes.
 pub(crate) fn make_room(
     system: &System,
     boxes: &mut [Mailbox],
@@ -35,12 +35,23 @@ pub(crate) fn make_room(
 {
     let counts = counts_for(system, signals);
     for core in 0..system.parts().cores {
-        boxes[core].reserve(counts[core])?;
+        make_room_for(&mut boxes[core], counts[core])?;
     }
     Ok(())
 }
 
-// How many of the signals are for each core.
+/// Makes room for so many signals more. Where there are none the box is not looked at.
+fn make_room_for(mailbox: &mut Mailbox, more: usize) -> Result<(), NoMemory>
+    ensures mails { mailbox.new.mails ≡ mailbox.old.mails }
+    ensures spare { OnOk result (more ≤ mailbox.new.spare) }
+{
+    if more == 0 {
+        return Ok(());
+    }
+    mailbox.reserve(more)
+}
+
+/// How many of the signals are for each core.
 fn counts_for(system: &System, signals: &[Mail]) -> [usize; 64]
     ensures { (c : ℕ) → c < 64 → slice_index result c ≡ count_for system.now c signals.now }
 {
@@ -52,7 +63,7 @@ fn counts_for(system: &System, signals: &[Mail]) -> [usize; 64]
     counts
 }
 
-// Puts each signal into the box of its home, which has room for it.
+/// Puts each signal into the box of its home, which has room for it.
 pub(crate) fn deliver_reserved(system: &System, boxes: &mut [Mailbox], signals: &[Mail])
     requires many { length boxes.old ≡ system.now.cores }
     requires room { HaveRoom system.now signals.now boxes.old }

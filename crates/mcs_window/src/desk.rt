@@ -20,19 +20,19 @@ pub struct Desk<S: Collector = Vec<Row>> {
     pub(crate) system: Arc<System>,
     pub(crate) horizon: Tick,
     pub(crate) lost: bool,
-    // The clock of a lent core is where its stretch begins.
+    /// The clock of a lent core is where its stretch begins.
     pub(crate) clocks: Front,
     pub(crate) taken: Front,
     pub(crate) slots: Vec<Slot>,
-    // The box of a lent core has what was made for it since.
+    /// The box of a lent core has what was made for it since.
     pub(crate) boxes: Vec<Mailbox>,
-    // What each core told since that was last taken.
+    /// What each core told since that was last taken.
     pub(crate) told: Vec<S>,
-    // For each core the delays of the signals to it.
+    /// For each core the delays of the signals to it.
     pub(crate) delays: Vec<[u64; Limits::CORES]>,
-    // For each core after how long a signal of it may reach the others.
+    /// For each core after how long a signal of it may reach the others.
     pub(crate) reaches: Vec<Reaches>,
-    // Those of the last turns that were taken here.
+    /// Those of the last turns that were taken here.
     pub(crate) signals: Vec<Mail>,
     pub(crate) alloc: Global,
 }
@@ -116,7 +116,7 @@ impl<S: Collector> Desk<S> {
         self.is_of(system) && self.horizon == horizon
     }
 
-    // Whether the desk is for this system.
+    /// Whether the desk is for this system.
     pub(crate) fn is_of(&self, system: &System) -> bool
         ensures { IsTrue result ↔ (self.now.system ≡ system.now) }
     {
@@ -162,7 +162,7 @@ impl<S: Collector> Desk<S> {
         true
     }
 
-    // Whether a core is not lent.
+    /// Whether a core is not lent.
     pub(crate) fn is_here(&self, core: CoreId) -> bool
         requires { core < self.now.system.cores }
         ensures { IsTrue result ↔ (loan_of self.now core ≡ None) }

@@ -14,7 +14,7 @@ use crate::slot::Slot;
 use mcs_ticks::{Collector, CoreId, Tick};
 
 impl<S: Collector> Desk<S> {
-    // The next busy moment of a core that is not lent.
+    /// The next busy moment of a core that is not lent.
     fn next_busy(&self, core: CoreId) -> Option<Tick>
         requires known { core < self.now.system.cores }
         requires here { loan_of self.now core ≡ None }
@@ -28,8 +28,8 @@ impl<S: Collector> Desk<S> {
         }
     }
 
-    // The first moment at which some core does more than count a tick, or the moment after the horizon where that comes first. It looks at
-    // no further core where one is busy before `enough`: no clock is earlier.
+    /// The first moment at which some core does more than count a tick, or the moment after the horizon where that comes first. It looks at
+    /// no further core where one is busy before `enough`: no clock is earlier.
     fn idle_until(&self, enough: Tick) -> Tick
         requires here { AllAreHere self.now }
         requires enough { (c : ℕ) → c < self.now.system.cores → enough ≤ clock_of self.now c + 1 }
@@ -71,7 +71,7 @@ impl<S: Collector> Desk<S> {
         let _lost = self.lost;
     }
 
-    // Each core whose clock is before the moment goes to it: until then all cores only count ticks.
+    /// Each core whose clock is before the moment goes to it: until then all cores only count ticks.
     pub(crate) fn skip_to(&mut self, moment: Tick)
         requires here { AllAreHere self.old }
         requires in_time { moment ≤ self.old.horizon + 1 }
@@ -85,7 +85,7 @@ impl<S: Collector> Desk<S> {
         skip_slots(&self.system, &mut self.clocks, &mut self.slots, moment);
     }
 
-    // Until when a core only counts ticks, at most to the moment after the horizon.
+    /// Until when a core only counts ticks, at most to the moment after the horizon.
     fn idle_of(&self, core: CoreId) -> Tick
         requires known { core < self.now.system.cores }
         requires here { loan_of self.now core ≡ None }
@@ -98,8 +98,8 @@ impl<S: Collector> Desk<S> {
         if moment < end { moment } else { end }
     }
 
-    // Until when a core only counts ticks, where it is known until when it did at least, unless that is stale: it is looked up where its clock
-    // has come to it.
+    /// Until when a core only counts ticks, where it is known until when it did at least, unless that is stale: it is looked up where its clock
+    /// has come to it.
     fn idle_since(&self, core: CoreId, until: Tick, stale: bool) -> Tick
         requires known { core < self.now.system.cores }
         requires here { loan_of self.now core ≡ None }
@@ -112,7 +112,7 @@ impl<S: Collector> Desk<S> {
         until
     }
 
-    // Until when all cores only count ticks, by the calendar, at most to the moment after the horizon.
+    /// Until when all cores only count ticks, by the calendar, at most to the moment after the horizon.
     pub(crate) fn look_ahead(&self, calendar: &mut Calendar) -> Tick
         requires here { AllAreHere self.now }
         requires holds { HoldsAt self.now calendar.old }

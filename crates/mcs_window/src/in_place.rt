@@ -11,9 +11,9 @@ use crate::turns::{Turns, spend};
 use mcs_ticks::{Collector, CoreId, NoMemory, Tick};
 
 impl<S: Collector> Desk<S> {
-    // Takes turns of a core that may go on, where it lies, until it comes to `past` or its collector has that much: at least one. Answers
-    // whether it made a signal for another core. Where memory is refused the core is lost: it stays lent, and what it told is gone.
-    fn run_here(&mut self, core: CoreId, past: Tick, most: usize) -> Result<bool, NoMemory>
+    /// Takes turns of a core that may go on, where it lies, until it comes to `past` or its collector has its share more: at least one. Answers
+    /// whether it made a signal for another core. Where memory is refused the core is lost: it stays lent, and what it told is gone.
+    fn run_here(&mut self, core: CoreId, past: Tick, share: usize) -> Result<bool, NoMemory>
         requires may { MayGoOn self.old core past }
         ensures ok { OnOk result (self.new ≡ settled_at self.old core (clock_of self.new core)) }
         ensures moved { OnOk result ((clock_of self.old core < clock_of self.new core) × (clock_of self.new core ≤ past)) }
@@ -30,7 +30,7 @@ impl<S: Collector> Desk<S> {
             core,
             front: &self.clocks,
             past,
-            most,
+            most: self.told[index].size().saturating_add(share),
         };
         let slot = &mut self.slots[index];
         let told = &mut self.told[index];
@@ -47,13 +47,13 @@ impl<S: Collector> Desk<S> {
         Ok(!self.signals.is_empty())
     }
 
-    // Takes turns of a core as `run_here` does, by a calendar, in which nothing is known of the core from then on, and of no core where a signal
-    // was made.
+    /// Takes turns of a core as `run_here` does, by a calendar, in which nothing is known of the core from then on, and of no core where a signal
+    /// was made.
     fn run_noted(
         &mut self,
         core: CoreId,
         past: Tick,
-        most: usize,
+        share: usize,
         calendar: &mut Calendar,
     ) -> Result<(), NoMemory>
         requires may { MayGoOn self.old core past }
@@ -66,18 +66,18 @@ impl<S: Collector> Desk<S> {
         ensures err { OnErr result (self.new ≡ taken_at (with_lost (lent_to self.old core past)) core) }
     {
         let _lost = self.lost;
-        let signals = self.run_here(core, past, most)?;
+        let signals = self.run_here(core, past, share)?;
         calendar.until[core.0] = Tick::ZERO;
         calendar.stale = calendar.stale || signals;
         Ok(())
     }
 
-    // Takes turns of a core where it is busy, as the calendar has it, before the moment up to which it may be lent: then it goes on as far as it
-    // may, so that cores which others never signal need not wait for them. Answers whether it took turns.
+    /// Takes turns of a core where it is busy, as the calendar has it, before the moment up to which it may be lent: then it goes on as far as it
+    /// may, so that cores which others never signal need not wait for them. Answers whether it took turns.
     fn run_busy(
         &mut self,
         core: CoreId,
-        most: usize,
+        share: usize,
         calendar: &mut Calendar,
     ) -> Result<bool, NoMemory>
         requires known { core < self.old.system.cores }
@@ -96,14 +96,14 @@ impl<S: Collector> Desk<S> {
         }
         let past = self.farthest(core);
         if self.clock(core) < past {
-            self.run_noted(core, past, most, calendar)?;
+            self.run_noted(core, past, share, calendar)?;
             return Ok(true);
         }
         Ok(false)
     }
 
-    // Takes turns of each core that is busy before it waits for another one. Answers whether some core took any.
-    fn sweep(&mut self, most: usize, calendar: &mut Calendar) -> Result<bool, NoMemory>
+    /// Takes turns of each core that is busy before it waits for another one. Answers whether some core took any.
+    fn sweep(&mut self, share: usize, calendar: &mut Calendar) -> Result<bool, NoMemory>
         requires { AreReady self.old calendar.old }
         ensures later { OnOk result (IsLater self.old self.new) }
         ensures holds { OnOk result (HoldsAt self.new calendar.new) }
@@ -116,14 +116,14 @@ impl<S: Collector> Desk<S> {
     {
         let mut moved = false;
         for core in 0..self.cores() {
-            let ran = self.run_busy(CoreId(core), most, calendar)?;
+            let ran = self.run_busy(CoreId(core), share, calendar)?;
             moved = moved || ran;
         }
         Ok(moved)
     }
 
-    // Takes turns of the core that would be lent. Answers whether there is one.
-    fn run_first(&mut self, most: usize, calendar: &mut Calendar) -> Result<bool, NoMemory>
+    /// Takes turns of the core that would be lent. Answers whether there is one.
+    fn run_first(&mut self, share: usize, calendar: &mut Calendar) -> Result<bool, NoMemory>
         requires { AreReady self.old calendar.old }
         ensures holds { OnOk result (HoldsAt self.new calendar.new) }
         ensures later { OnOk result (IsLater self.old self.new) }
@@ -137,12 +137,12 @@ impl<S: Collector> Desk<S> {
             return Ok(false);
         };
         let past = self.farthest(core);
-        self.run_noted(core, past, most, calendar)?;
+        self.run_noted(core, past, share, calendar)?;
         Ok(true)
     }
 
-    // Skips idle time, and then takes turns of the cores that are busy, as the calendar has it. Answers whether there were turns to take.
-    fn round(&mut self, most: usize, calendar: &mut Calendar) -> Result<bool, NoMemory>
+    /// Skips idle time, and then takes turns of the cores that are busy, as the calendar has it. Answers whether there were turns to take.
+    fn round(&mut self, share: usize, calendar: &mut Calendar) -> Result<bool, NoMemory>
         requires { AreReady self.old calendar.old }
         ensures holds { OnOk result (HoldsAt self.new calendar.new) }
         ensures later { OnOk result (IsLater self.old self.new) }
@@ -152,12 +152,18 @@ impl<S: Collector> Desk<S> {
     {
         let moment = self.look_ahead(calendar);
         self.skip_to(moment);
-        let moved = self.sweep(most, calendar)?;
+        let moved = self.sweep(share, calendar)?;
         if moved {
             return Ok(true);
         }
-        let more = self.run_first(most, calendar)?;
+        let more = self.run_first(share, calendar)?;
         Ok(more)
+    }
+
+    /// How much each core may tell in a round, where at least this much is to lie on the desk: so cores go on side by side, and what they told is
+    /// given while it is in the cache.
+    fn share(&self, enough: usize) -> usize {
+        enough.saturating_sub(self.kept()) / self.cores().max(1)
     }
 
     /// Takes turns in the caller's thread until at least this much lies on the desk, as `kept` counts it, or every core has taken its turn
@@ -173,8 +179,9 @@ impl<S: Collector> Desk<S> {
         ensures spent { OnErr result (IsSpent self.old self.new) }
         ensures run { (self.new.system ≡ self.old.system) × (self.new.horizon ≡ self.old.horizon) }
     {
+        let share = self.share(enough);
         let mut calendar = Calendar::new();
-        'rounds: while self.round(enough, &mut calendar)? {
+        'rounds: while self.round(share, &mut calendar)? {
             if self.kept() >= enough {
                 return Ok(());
             }

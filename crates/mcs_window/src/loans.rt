@@ -78,7 +78,7 @@ impl<S: Collector> Desk<S> {
         self.lend_core_within(core, u64::MAX)
     }
 
-    // Lends this core as `lend_core` does, but for no more than so many moments.
+    /// Lends this core as `lend_core` does, but for no more than so many moments.
     fn lend_core_within(&mut self, core: CoreId, span: u64) -> Option<Piece>
         requires known { core < self.old.system.cores }
         requires some { 1 ≤ span }
@@ -116,7 +116,7 @@ impl<S: Collector> Desk<S> {
         })
     }
 
-    // Of the cores that may be lent, lends the earliest, for no more than so many moments. No idle time is skipped.
+    /// Of the cores that may be lent, lends the earliest, for no more than so many moments. No idle time is skipped.
     fn lend_now(&mut self, span: u64) -> Option<Piece>
         requires { 1 ≤ span }
         ensures some { IfSome result (λ piece. (self.old.lost ≡ false)
@@ -144,7 +144,7 @@ impl<S: Collector> Desk<S> {
         self.lost = true;
     }
 
-    // Why a stretch of the desk's system is not the one that its core is lent for.
+    /// Why a stretch of the desk's system is not the one that its core is lent for.
     fn fault_of(&self, done: &Done<S>) -> Option<SettleFault>
         requires { done.now.system ≡ self.now.system }
         ensures none { IfNone result (IsLoan self.now done.now) }

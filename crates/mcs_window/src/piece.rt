@@ -8,13 +8,14 @@ use mcs_mail::{Mail, Mailbox};
 use mcs_system::System;
 use mcs_ticks::{Collector, CoreId, Nothing, Row, Tick};
 use std::alloc::Global;
+use std::boxed::Box;
 use std::marker::Model;
 use std::sync::Arc;
 
-// For so many rows a piece makes room before it is run: a list that grows from nothing is copied at each doubling.
+/// For so many rows a piece makes room before it is run: a list that grows from nothing is copied at each doubling.
 const ROWS: usize = 512;
 
-// For so many signals it does.
+/// For so many signals it does.
 const SIGNALS: usize = 64;
 
 /// The clocks of all cores at the beginning of a stretch: entry `b` is that of core `b`, 0 past the last core.
@@ -29,10 +30,10 @@ pub struct Piece {
     pub first: Tick,
     pub past: Tick,
     pub front: Front,
-    pub state: CoreState,
+    pub state: Box<CoreState>,
     /// The signals for the core that the cores made before their moments in `front` and that arrive at `first` or later.
     pub mail: Mailbox,
-    // For the rows and signals that the turns make.
+    /// For the rows and signals that the turns make.
     pub(crate) alloc: Global,
 }
 
@@ -48,7 +49,7 @@ impl Model for Piece {
       first = a.first;
       past = a.past;
       front = a.front;
-      state = a.state;
+      state = a.state.value;
       mail = a.mail.mails;
     } };
 
@@ -58,7 +59,7 @@ impl Model for Piece {
       first = a.first;
       past = a.past;
       front = a.front;
-      state = a.state;
+      state = a.state.value;
       mail = a.mail.mails;
     }) };
 }
@@ -71,7 +72,7 @@ pub struct Done<S: Collector = Vec<Row>> {
     pub first: Tick,
     pub past: Tick,
     pub front: Front,
-    pub state: CoreState,
+    pub state: Box<CoreState>,
     /// What the core's turns told.
     pub rows: S,
     /// The signals that the turns made for other cores.
@@ -159,7 +160,7 @@ impl Piece {
 }
 
 impl Done<Nothing> {
-    // The same stretch with a collector that holds its rows.
+    /// The same stretch with a collector that holds its rows.
     fn with<S: Collector>(self, rows: S) -> Done<S>
         requires { S.holds rows (rows_between self.system self.core self.first self.past) }
         ensures { result ≡ self }

@@ -9,14 +9,14 @@ use mcs_mail::{Mail, Mailbox};
 use mcs_ticks::NoMemory;
 use std::mem;
 
-// Whether the clocks are the same.
+/// Whether the clocks are the same.
 pub(crate) fn same_front(one: &Front, other: &Front) -> bool
     ensures { IsTrue result ↔ one.now ≡ other.now }
 {
     one == other
 }
 
-// Makes room in the box of a stretch for the mail that was collected meanwhile, and in what the core told for what it told in the stretch.
+/// Makes room in the box of a stretch for the mail that was collected meanwhile, and in what the core told for what it told in the stretch.
 pub(crate) fn make_own_room<S: Append>(
     mailbox: &mut Mailbox,
     collected: &Mailbox,
@@ -32,7 +32,7 @@ pub(crate) fn make_own_room<S: Append>(
     told.make_room(more)
 }
 
-// Takes the first mail.
+/// Takes the first mail.
 fn take_first(mailbox: &mut Mailbox) -> Option<Mail>
     ensures first { mailbox.old.mails ≡ option_to_list result ++ mailbox.new.mails }
     ensures none { IfNone result (mailbox.old.mails ≡ []) }
@@ -41,7 +41,7 @@ fn take_first(mailbox: &mut Mailbox) -> Option<Mail>
     mailbox.take_due(next)
 }
 
-// Moves all that was collected into a box, which has room for it.
+/// Moves all that was collected into a box, which has room for it.
 fn join(mailbox: &mut Mailbox, collected: &mut Mailbox)
     requires { length collected.old.mails ≤ mailbox.old.spare }
     ensures { mailbox.new.mails ≡ put_all collected.old.mails mailbox.old.mails }
@@ -54,7 +54,7 @@ fn join(mailbox: &mut Mailbox, collected: &mut Mailbox)
     }
 }
 
-// Puts the box of a core that comes back in the place of the one in which its mail was collected, and moves that mail into it.
+/// Puts the box of a core that comes back in the place of the one in which its mail was collected, and moves that mail into it.
 pub(crate) fn put_box(boxes: &mut [Mailbox], core: usize, mailbox: Mailbox)
     requires known { core < length boxes.old }
     requires room { length (slice_index_or boxes.old core mailbox).mails ≤ mailbox.spare }

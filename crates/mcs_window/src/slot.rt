@@ -7,27 +7,28 @@ use mcs_core::CoreState;
 use mcs_system::System;
 use mcs_ticks::{CoreId, NoMemory, Tick};
 use std::alloc::Global;
+use std::boxed::Box;
 use std::sync::Arc;
 
-// What a core is lent for: the moments from its clock to before `past`, by the clocks in `front`.
+/// What a core is lent for: the moments from its clock to before `past`, by the clocks in `front`.
 #[derive(Clone, Copy)]
 pub(crate) struct Loan {
     pub(crate) past: Tick,
     pub(crate) front: Front,
 }
 
-// Where a core is.
+/// Where a core is.
 #[derive(Drop)]
 pub(crate) enum Slot {
     // On the desk, with a copy of the system for its next piece.
     Here {
         spare: Arc<System>,
-        state: CoreState,
+        state: Box<CoreState>,
     },
     Away(Loan),
 }
 
-// The slots at the beginning: each core is here, in its first state.
+/// The slots at the beginning: each core is here, in its first state.
 pub(crate) fn opening_slots(alloc: Global, system: &Arc<System>) -> Result<Vec<Slot>, NoMemory>
     ensures { IfOk result (λ slots. AreFresh (arc_value system.now) (arc_value system.now).cores slots.items) }
 {
@@ -36,7 +37,11 @@ pub(crate) fn opening_slots(alloc: Global, system: &Arc<System>) -> Result<Vec<S
     for core in 0..cores {
         let spare = Arc::try_clone(system)?;
         let state = CoreState::new(alloc, system, CoreId(core))?;
-        slots.push(Slot::Here { spare, state })?;
+        let boxed = Box::new(alloc, state)?;
+        slots.push(Slot::Here {
+            spare,
+            state: boxed,
+        })?;
     }
     Ok(slots)
 }

@@ -13,7 +13,7 @@ use mcs_system::System;
 use mcs_ticks::{Collector, CoreId, NoMemory, Tick};
 use std::alloc::Global;
 
-// Turns that a core is to take, from its clock in `front` up to before `past`, or until its collector has that much.
+/// Turns that a core is to take, from its clock in `front` up to before `past`, or until its collector has that much.
 #[derive(Clone, Copy)]
 pub(crate) struct Turns<'a> {
     pub(crate) system: &'a System,
@@ -24,7 +24,7 @@ pub(crate) struct Turns<'a> {
 }
 
 impl Turns<'_> {
-    // The core, which is here, takes them where it lies. Answers its new clock. The signals take the place of those that there were.
+    /// The core, which is here, takes them where it lies. Answers its new clock. The signals take the place of those that there were.
     fn take<S: Collector>(
         &self,
         slot: &mut Slot,
@@ -48,7 +48,7 @@ impl Turns<'_> {
         Err(NoMemory)
     }
 
-    // Takes the turns, and each signal goes to its home. Where memory is refused the mail of the other cores is as it was.
+    /// Takes the turns, and each signal goes to its home. Where memory is refused the mail of the other cores is as it was.
     pub(crate) fn take_and_deliver<S: Collector>(
         &self,
         slot: &mut Slot,
@@ -70,7 +70,7 @@ impl Turns<'_> {
     }
 }
 
-// A core whose turns were refused memory stays lent. Its mail is gone, and so is what it told.
+/// A core whose turns were refused memory stays lent. Its mail is gone, and so is what it told.
 pub(crate) fn spend<S: Collector>(
     past: Tick,
     front: &Front,

@@ -14,7 +14,7 @@ use mcs_ticks::{Collector, NoMemory};
 use std::alloc::Global;
 use std::collections::VecDeque;
 
-// What has the state of a core.
+/// What has the state of a core.
 pub(crate) trait Stands {
     ghost use Rattle.std.specs.Prelude.{◌≡◌, IfOk};
     ghost use Rattle.mcs_core.specs.State.{State, Fits};
@@ -22,7 +22,7 @@ pub(crate) trait Stands {
 
     ghost state: { Self → State };
 
-    // The views of the core's contexts, in file order.
+    /// The views of the core's contexts, in file order.
     fn views(&self, alloc: Global, system: &System) -> Result<Vec<ContextView>, NoMemory>
         requires { Fits system.now (state self.now) }
         ensures { IfOk result (λ views. views.items ≡ views_of system.now (state self.now).core) };
@@ -36,7 +36,7 @@ impl Stands for CoreState {
     }
 }
 
-// The state of a core that is here. Of one that is lent nothing is shown.
+/// The state of a core that is here. Of one that is lent nothing is shown.
 impl Stands for Slot {
     ghost use Rattle.mcs_window.specs.stored.Views.{state_in};
 
@@ -50,7 +50,7 @@ impl Stands for Slot {
     }
 }
 
-// The views of each core's contexts, in file order.
+/// The views of each core's contexts, in file order.
 fn views_by_core<T: Stands>(
     alloc: Global,
     system: &System,
@@ -68,7 +68,7 @@ fn views_by_core<T: Stands>(
     Ok(queues)
 }
 
-// The views of all contexts, in file order.
+/// The views of all contexts, in file order.
 pub(crate) fn all_views<T: Stands>(
     alloc: Global,
     system: &System,

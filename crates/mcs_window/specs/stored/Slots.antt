@@ -51,7 +51,7 @@ pub record IsAway (system : System) (horizon core : ℕ) (clocks : List ℕ) (lo
 -- a core that is not lent has its state, its inbox and a copy of the system for its next piece
 abbrev pub IsPlaced : System → ℕ → ℕ → List ℕ → List Mail → Slot → Type 0
 IsPlaced system horizon core clocks box (Here spare state) =
-    (arc_value spare ≡ system) × IsHere system core (slice_index clocks core) clocks state box
+    (arc_value spare ≡ system) × IsHere system core (slice_index clocks core) clocks state.value box
 IsPlaced system horizon core clocks box (Away loan) = IsAway system horizon core clocks loan box
 
 -- each core is so
@@ -77,7 +77,7 @@ pub record IsKept {S : Type 0} (holds : S → List Row → Type 0) (a : Inside S
 -- the slot of core c at the beginning
 abbrev pub IsFresh : System → ℕ → Slot → Type 0
 IsFresh system c (Here spare state) =
-    (arc_value spare ≡ system) × (state ≡ opening_state system c) × Fits system state
+    (arc_value spare ≡ system) × (state.value ≡ opening_state system c) × Fits system state.value
 IsFresh system c (Away loan) = ⊥
 
 -- the slots of the cores below this number, at the beginning
@@ -87,7 +87,7 @@ pub record AreFresh (system : System) (many : ℕ) (slots : List Slot) : Type 0 
 
 -- the slot of core c, which is here, at moment t
 abbrev pub StandsIn : System → ℕ → ℕ → Slot → Type 0
-StandsIn system c t (Here spare state) = (arc_value spare ≡ system) × StandsAt system c t state
+StandsIn system c t (Here spare state) = (arc_value spare ≡ system) × StandsAt system c t state.value
 StandsIn system c t (Away loan) = ⊥
 
 -- every core is here, at its clock
@@ -98,18 +98,18 @@ AllStand system clocks slots =
 -- the core of the slot is here and only counts ticks until the moment, and it has gone there
 abbrev pub MaySkip : System → ℕ → Slot → Type 0
 MaySkip system moment (Here spare state) =
-    Fits system state
-    × (state.failed ≡ false)
-    × (state.clock ≤ moment)
-    × AreQuietWith by_priority system state.number state.clock [] state.core (moment - state.clock)
+    Fits system state.value
+    × (state.value.failed ≡ false)
+    × (state.value.clock ≤ moment)
+    × AreQuietWith by_priority system state.value.number state.value.clock [] state.value.core (moment - state.value.clock)
 MaySkip system moment (Away loan) = ⊥
 
 abbrev pub HasSkipped : System → ℕ → Slot → Slot → Type 0
 HasSkipped system moment (Here spare state) (Here other after) =
     (other ≡ spare)
-    × (after
-    ≡ record state { clock = moment; core = counted_times system state.number (moment - state.clock) state.core })
-    × Fits system after
+    × (after.value
+    ≡ record state.value { clock = moment; core = counted_times system state.value.number (moment - state.value.clock) state.value.core })
+    × Fits system after.value
 HasSkipped system moment (Here spare state) (Away loan) = ⊥
 HasSkipped system moment (Away loan) slot = ⊥
 

@@ -25,7 +25,7 @@ no_state =
 
 -- the state of the core in a slot
 abbrev pub state_in : Slot → State
-state_in (Here spare state) = state
+state_in (Here spare state) = state.value
 state_in (Away loan) = no_state
 
 pub record AreQueued (system : System) (states : List State) (dealt : ℕ)

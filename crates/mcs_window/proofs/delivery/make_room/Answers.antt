@@ -10,8 +10,8 @@ loop-core-preserved c =
     let there : k < length c.loop-core.boxes = (let many = c.loop-core.invariant.same.many in let cores = c.requires in let same = c.parts.ensures.same in let here = ap (λ (s : System). s.cores) same in let end = c.loop-core.auto.core-end in let test = c.loop-core-test.true in omega arith) in
     let few : k < 64 = (let few = c.parts.ensures.well_formed.limits.cores.1 in let end = c.loop-core.auto.core-end in let test = c.loop-core-test.true in omega arith) in
     record {
-      same = same_mail-set c.args.boxes.now c.loop-core.boxes k c.index-boxes-core.result c.reserve.new.self c.loop-core.invariant.same there c.index-boxes-core.is
-          (c.reserve.ensures.mails ∙ ap (λ (y : Content). y.mails) (sym c.index-boxes-core.is));
-      room = room-next c.args.system.now c.args.signals.now k c.loop-core.boxes c.reserve.new.self there
-          (subst (λ n. n ≤ c.reserve.new.self.spare) (c.counts_for-counts.ensures k few) c.in_ok-reserve.ensures.spare) c.loop-core.invariant.room;
+      same = same_mail-set c.args.boxes.now c.loop-core.boxes k c.index-boxes-core.result c.make_room_for.new.mailbox c.loop-core.invariant.same there c.index-boxes-core.is
+          (c.make_room_for.ensures.mails ∙ ap (λ (y : Content). y.mails) (sym c.index-boxes-core.is));
+      room = room-next c.args.system.now c.args.signals.now k c.loop-core.boxes c.make_room_for.new.mailbox there
+          (subst (λ n. n ≤ c.make_room_for.new.mailbox.spare) (c.counts_for-counts.ensures k few) c.in_ok-make_room_for.ensures.spare) c.loop-core.invariant.room;
     }

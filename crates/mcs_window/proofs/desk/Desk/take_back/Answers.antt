@@ -20,7 +20,7 @@ back_at k d =
       first = d.first;
       past = d.past;
       front = d.front;
-      state = d.state;
+      state = d.state.value;
       rows = rows_between (arc_value d.system) k d.first d.past;
       out = d.out.items;
       mail = d.mail.mails;
@@ -85,7 +85,7 @@ invariant_of-self-2 g c =
     let second = joined_are (with_items a.boxes boxes) k c.make_own_room.new.mailbox _ c.put_box.new.boxes refl joined in
     let delivered : AreDelivered (arc_value a.system) d.out.items c.put_box.new.boxes c.deliver_reserved.new.boxes =
     rw (c.deref-3.ensures, c.deref-4.ensures.value, c.deref_mut-3.ensures.value, second) at c.deliver_reserved.ensures in
-    settled_kept ready kept (back_at k d) back.0 back.1 back.2 d.system c.make_own_room.new.mailbox c.put_box.new.boxes c.deliver_reserved.new.boxes c.index_mut-2.result.now c.append.new.self
+    settled_kept ready kept (back_at k d) back.0 back.1 back.2 d.system d.state refl c.make_own_room.new.mailbox c.put_box.new.boxes c.deliver_reserved.new.boxes c.index_mut-2.result.now c.append.new.self
     refl c.make_own_room.ensures.mails joined delivered c.index_mut-2.ensures.value
     (λ held h. c.append.ensures held (rows_between (arc_value d.system) k d.first d.past) h (subst (λ n. g.S.Collector.holds d.rows (rows_between (arc_value d.system) n d.first d.past)) core c.done-2.invariant.told))
 

@@ -12,7 +12,7 @@ run_to-requires-clause-expected g c =
     let p = c.self.inside in
     let well = rw c.deref.ensures at c.parts-parts.ensures.well_formed in
     let work = c.self.invariant in
-    rw c.deref-2.ensures (expected (arc_value p.system) well p.core p.first p.front p.state p.mail.mails work.state_is work.mail_is)
+    rw (c.deref-2.ensures, c.deref_mut.ensures.value) (expected (arc_value p.system) well p.core p.first p.front p.state.value p.mail.mails work.state_is work.mail_is)
 
 pub invariant_of-result : goal.invariant_of-result
 invariant_of-result g c =
@@ -21,16 +21,16 @@ invariant_of-result g c =
     let well = rw c.deref.ensures at c.parts-parts.ensures.well_formed in
     let work = c.self.invariant in
     let stretch = work.stretch in
-    let after : IsAfter s p.core p.first p.past p.front (made_by s p.state p.past p.mail.mails) =
-    ran_here s well p.core p.first p.past p.front p.state p.mail.mails work.state_is work.mail_is stretch.known stretch.in_order stretch.reached in
+    let after : IsAfter s p.core p.first p.past p.front (made_by s p.state.value p.past p.mail.mails) =
+    ran_here s well p.core p.first p.past p.front p.state.value p.mail.mails work.state_is work.mail_is stretch.known stretch.in_order stretch.reached in
     record {
       is = record {
         stretch = stretch;
-        state_is = state_here s well p.core p.first p.past p.front p.state c.run_to.new.self (made_by s p.state p.past p.mail.mails) work.state_is stretch.in_order (rw c.deref-2.ensures at c.in-Ok-run_to.ensures.fits)
-            (rw c.deref-2.ensures at c.in-Ok-run_to.ensures.state) after;
+        state_is = state_here s well p.core p.first p.past p.front p.state.value c.run_to.new.self (made_by s p.state.value p.past p.mail.mails) work.state_is stretch.in_order (rw c.deref-2.ensures at c.in-Ok-run_to.ensures.fits)
+            (rw (c.deref-2.ensures, c.deref_mut.ensures.value) at c.in-Ok-run_to.ensures.state) after;
         rows_are = refl;
-        out_is = (rw (c.deref-2.ensures, c.in-Ok.ensures.items) at c.in-Ok-run_to.ensures.signals) ∙ after.out_is;
-        mail_is = (rw c.deref-2.ensures at c.in-Ok-run_to.ensures.mail) ∙ after.mail_is;
+        out_is = (rw (c.deref-2.ensures, c.in-Ok.ensures.items, c.deref_mut.ensures.value) at c.in-Ok-run_to.ensures.signals) ∙ after.out_is;
+        mail_is = (rw (c.deref-2.ensures, c.deref_mut.ensures.value) at c.in-Ok-run_to.ensures.mail) ∙ after.mail_is;
       };
       told = tt;
     }
@@ -42,8 +42,8 @@ returns-clause-told g c held holds =
     let well = rw c.deref.ensures at c.parts-parts.ensures.well_formed in
     let work = c.self.invariant in
     let stretch = work.stretch in
-    let after : IsAfter s p.core p.first p.past p.front (made_by s p.state p.past p.mail.mails) =
-    ran_here s well p.core p.first p.past p.front p.state p.mail.mails work.state_is work.mail_is stretch.known stretch.in_order stretch.reached in
+    let after : IsAfter s p.core p.first p.past p.front (made_by s p.state.value p.past p.mail.mails) =
+    ran_here s well p.core p.first p.past p.front p.state.value p.mail.mails work.state_is work.mail_is stretch.known stretch.in_order stretch.reached in
     subst (λ (w : Work). g.T.Collector.holds c.run_to.new.sink (held ++ rows_between w.system w.core w.first w.past)) c.self.view_is
     (subst (λ rows. g.T.Collector.holds c.run_to.new.sink (held ++ rows)) after.rows_are
-    (held_more g.T.Sink.takes g.T.Collector.holds g.met.T.Collector.holds_more c.args.told.now c.run_to.new.sink held _ holds (rw c.deref-2.ensures at c.in-Ok-run_to.ensures.rows)))
+    (held_more g.T.Sink.takes g.T.Collector.holds g.met.T.Collector.holds_more c.args.told.now c.run_to.new.sink held _ holds (rw (c.deref-2.ensures, c.deref_mut.ensures.value) at c.in-Ok-run_to.ensures.rows)))

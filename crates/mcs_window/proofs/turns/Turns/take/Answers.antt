@@ -14,8 +14,8 @@ run_some_to-requires-clause-expected g c =
     let k = c.args.self.now.core in
     let t = slice_index c.args.self.now.front.now k in
     let may = c.requires.may in
-    let stands : (arc_value c.in-Here.spare ≡ s) × StandsAt s k t c.in-Here.state = subst (StandsIn s k t) c.in-Here.is may.stands in
-    expected s c.requires.well_formed k t c.args.self.now.front.now c.in-Here.state c.args.mail.now.mails stands.1 may.box_is
+    let stands : (arc_value c.in-Here.spare ≡ s) × StandsAt s k t c.in-Here.state.value = subst (StandsIn s k t) c.in-Here.is may.stands in
+    rw c.deref_mut.ensures.value (expected s c.requires.well_formed k t c.args.self.now.front.now c.in-Here.state.value c.args.mail.now.mails stands.1 may.box_is)
 
 pub returns-in-Here : goal.returns-in-Here
 returns-in-Here g c =
@@ -24,10 +24,10 @@ returns-in-Here g c =
     let front = c.args.self.now.front.now in
     let t = slice_index front k in
     let may = c.requires.may in
-    let state = c.in-Here.state in
+    let state = c.in-Here.state.value in
     let to = c.run_some_to.new.self.clock in
     let made = made_by s state to c.args.mail.now.mails in
-    let run = c.in-Ok.ensures in
+    let run = rw c.deref_mut.ensures.value at c.in-Ok.ensures in
     let stands : (arc_value c.in-Here.spare ≡ s) × StandsAt s k t state = subst (StandsIn s k t) c.in-Here.is may.stands in
     let clock = stands.1.clock_is in
     let ahead = may.ahead in
@@ -36,7 +36,7 @@ returns-in-Here g c =
     let in_time : to ≤ c.args.self.now.past = omega arith in
     let reached : NothingArrivesBefore s k to front = λ b m x l k i e. (let reach = may.reached b m x l k i e in omega arith) in
     let after : IsAfter s k t to front made = ran_here s c.requires.well_formed k t to front state c.args.mail.now.mails stands.1 may.box_is may.known (omega arith) reached in
-    rw c.clock.ensures
+    rw (c.clock.ensures, c.deref.ensures)
     (record {
       later = later;
       in_time = in_time;
