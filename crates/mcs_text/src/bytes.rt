@@ -1,6 +1,7 @@
 //! Words, numbers and names that are written into bytes, each behind the one before: each call is told where its text begins, and
 //! answers where it ends.
-ghost use Rattle.std.specs.Prelude.{◌≡◌, ◌+◌, ◌≤◌, ◌<◌, ◌++◌, ◌∷◌, length, take, decimal};
+ghost use Rattle.std.specs.Prelude.{◌≡◌, ◌+◌, ◌≤◌, ◌<◌, ◌++◌, ◌∷◌, [], length, take, decimal};
+ghost use Rattle.mcs_text.specs.Text.{after};
 
 use crate::name::Name;
 use itoa::write_digits;
@@ -9,12 +10,12 @@ use itoa::write_digits;
 /// words, spaces and line feed (138 at most).
 pub(crate) const LINE: usize = 144;
 
-// The most bytes of a space and a number.
+/// The most bytes of a space and a number.
 const NUMBER: usize = 21;
 
-/// Writes a space and a word.
+/// Writes a space and a word at this place in bytes that have room for them, and answers where the word ends.
 #[inline(always)]
-pub(crate) fn write_word(bytes: &mut [u8], at: usize, word: &str) -> usize
+pub fn write_word(bytes: &mut [u8], at: usize, word: &str) -> usize
     requires { at + 1 + length word.now ≤ length bytes.old }
     ensures end { result ≡ at + 1 + length word.now }
     ensures written { take result bytes.new ≡ take at bytes.old ++ 32 ∷ word.now }
@@ -57,9 +58,9 @@ pub(crate) fn write_name(bytes: &mut [u8], at: usize, name: &Name) -> usize
     end
 }
 
-/// Writes a space and a number.
+/// Writes a space and a number in decimal digits at this place in bytes that have room for 20 digits, and answers where they end.
 #[inline(always)]
-pub(crate) fn write_number(bytes: &mut [u8], at: usize, number: u64) -> usize
+pub fn write_number(bytes: &mut [u8], at: usize, number: u64) -> usize
     requires { at + 21 ≤ length bytes.old }
     ensures short { result ≤ at + 21 }
     ensures written { take result bytes.new ≡ take at bytes.old ++ 32 ∷ decimal number }
@@ -112,8 +113,19 @@ fn write_digits_behind(bytes: &mut [u8], at: usize, number: u64) -> usize
     at + (NUMBER - start)
 }
 
-/// Writes a number.
-pub(crate) fn write_decimal(bytes: &mut [u8], at: usize, number: u64) -> usize
+/// Writes a word and a number at this place, each after a space, in bytes that have room for 20 digits, and answers where these end.
+#[inline(always)]
+pub fn write_counted(bytes: &mut [u8], at: usize, word: &str, number: u64) -> usize
+    requires { at + 22 + length word.now ≤ length bytes.old }
+    ensures short { result ≤ at + 22 + length word.now }
+    ensures written { take result bytes.new ≡ take at bytes.old ++ after (word.now ∷ decimal number ∷ []) }
+{
+    let digits = write_word(bytes, at, word);
+    write_number(bytes, digits, number)
+}
+
+/// Writes a number in decimal digits at this place in bytes that have room for 20, and answers where they end.
+pub fn write_decimal(bytes: &mut [u8], at: usize, number: u64) -> usize
     requires { at + 20 ≤ length bytes.old }
     ensures short { result ≤ at + 20 }
     ensures written { take result bytes.new ≡ take at bytes.old ++ decimal number }

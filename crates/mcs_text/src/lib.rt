@@ -17,6 +17,7 @@ mod row;
 mod text;
 mod told;
 
+pub use bytes::{write_counted, write_decimal, write_number, write_word};
 pub use laws::{
     given_rows_are_lines, given_rows_are_text, lines_hold_their_rows, texts_are_of_moments,
 };

@@ -13,7 +13,7 @@ use mcs_ticks::{Measured, Refused, Row, Sink, Tick};
 use std::alloc::Global;
 use std::marker::Model;
 
-// So many bytes more are made room for at once.
+/// So many bytes more are made room for at once.
 const MORE: usize = 4096;
 
 /// The lines of rows, of one core or of rows in any order, with the places at which moments begin among them. It is a sink: each row
@@ -24,7 +24,7 @@ pub struct Lines<'a> {
     bytes: Vec<u8>,
     used: usize,
     marks: Vec<Mark>,
-    // of the last row
+    /// of the last row
     digits: MomentDigits,
 }
 

@@ -4,20 +4,20 @@ use itoa::write_digits;
 use mcs_ticks::Tick;
 use std::marker::Model;
 
-// Where the digits end in their block: a moment has at most 13.
+/// Where the digits end in their block: a moment has at most 13.
 const END: usize = 16;
 
-// No moment is as late.
+/// No moment is as late.
 const NONE: u64 = 1 << 43;
 
 /// The digits of a moment, for all rows that have it. Contracts see the moment.
 #[derive(Debug, Drop)]
 pub(crate) struct MomentDigits {
     moment: Tick,
-    // the moment with its last two digits 0, where it has more than two
+    /// the moment with its last two digits 0, where it has more than two
     hundred: u64,
     block: [u8; 32],
-    // where the digits begin in the block
+    /// where the digits begin in the block
     start: usize,
 }
 

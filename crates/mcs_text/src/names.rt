@@ -128,7 +128,7 @@ impl Naming for Names<'_> {
     }
 }
 
-// Writes a space and the name in this place, or the empty text where there is none.
+/// Writes a space and the name in this place, or the empty text where there is none.
 #[inline(always)]
 fn write_listed(bytes: &mut [u8], at: usize, names: &[Name], place: usize) -> usize
     requires { at + 33 ≤ length bytes.old }

@@ -14,7 +14,7 @@ use std::marker::Model;
 pub struct Page {
     bytes: Vec<u8>,
     used: usize,
-    // of the last row
+    /// of the last row
     moment: MomentDigits,
 }
 
