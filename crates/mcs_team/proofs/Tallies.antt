@@ -1,8 +1,7 @@
 -- The tallies of all cores, each of the rows of its own core.
-use Rattle.std.proofs.Common.{◌≡◌, ℕ, ◌+◌, ◌<◌, Bool, true, false, List, [], ◌∷◌, ◌++◌, length, map, replicate, get_or, refl, sym, ap, ◌∙◌, subst, arith}
-use Rattle.std.specs.Prelude.{nat_lt, slice_index_or}
-use Rattle.std.proofs.lemmas.Bool.Decides.{nat_tests}
-use Rattle.std.proofs.lemmas.List.{get_or_append_left, get_or-map, get_or_push, get_or-replicate}
+use Rattle.std.proofs.Common.{◌≡◌, ℕ, ◌+◌, ◌<◌, List, length, map, replicate, sym, ap, ◌∙◌, arith}
+use Rattle.std.specs.Prelude.{slice_index_or}
+use Rattle.std.proofs.lemmas.List.{get_or-map, get_or-replicate}
 use Rattle.mcs_ticks.specs.declared.row.Row.{Row}
 use Rattle.mcs_core.specs.Clock.{schedule}
 use Rattle.mcs_report.specs.CoreTally.{CoreTally, core_tally_of, joined, HoldsRows}
@@ -13,25 +12,9 @@ use Rattle.mcs_report.specs.laws.CoreTallies.{CoreTalliesGiveReports}
 use Rattle.mcs_system.specs.System.{System}
 use Rattle.mcs_system.specs.WellFormed.{IsWellFormed}
 use Rattle.mcs_window.specs.Desk.{Table, clock_of, taken_of, AreEmpty, IsFinished}
+use Rattle.mcs_window.proofs.Lists.{some-of}
 use Rattle.mcs_stretch.specs.Stretch.{rows_between}
 use Rattle.mcs_team.specs.Counts.{many_of, AreWhole}
-
-some-of : {S : Type 0} (xs : List S) (c : ℕ) → c < length xs → S
-some-of [] c l = absurd (omega arith)
-some-of (x ∷ xs) c l = x
-
--- what is true of each of a list is true of each of the list with one more
-pub each-more : {S : Type 0} (xs more : List S) (many : ℕ) (y : S) (P : ℕ → S → Type 0) → length xs ≡ many →
-    ((c : ℕ) (x : S) → c < many → P c (slice_index_or xs c x)) → P many y → more ≡ xs ++ y ∷ [] → (c : ℕ) (x : S) → c < many + 1 → P c (slice_index_or more c x)
-each-more xs more many y P long each last e c x l = by (nat_lt c many) refl
-  where
-    by : (u : Bool) → nat_lt c many ≡ u → P c (slice_index_or more c x)
-    by true f =
-        let below : c < many = grind (arith, nat_tests) in
-        subst (P c) (sym (ap (λ zs. get_or zs c x) e ∙ get_or_append_left xs (y ∷ []) x c (omega arith))) (each c x below)
-    by false f =
-        let same : many ≡ c = grind (arith, nat_tests) in
-        subst (P c) (sym (ap (λ zs. get_or zs c x) e ∙ get_or_push xs y x c (omega arith))) (subst (λ n. P n y) same last)
 
 -- tallies of no rows, for the cores below this number
 abbrev pub AreFirst : {S : Type 0} → List S → (S → CoreTally) → (S → ℕ) → ℕ → Type 0

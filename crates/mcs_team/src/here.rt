@@ -12,32 +12,42 @@ use crate::run::Run;
 use crate::whole::Kept;
 use crate::{FlowFault, Gate, Open};
 use mcs_merge::Part;
-use mcs_system::System;
+use mcs_system::{System, SystemParts};
 use mcs_ticks::{CoreId, NoMemory, Row, Tick};
 use mcs_window::Desk;
 use std::alloc::Global;
 use std::marker::Brand;
 use std::sync::Arc;
 
-// With so much of the only core on the desk it is taken.
+/// With so much of the only core on the desk it is taken.
 const ENOUGH: usize = 2048;
 
-// Of several cores it is taken with so much of each ..
-const OF_EACH: usize = 32;
+/// Of several cores it is taken with as much of each as ticks lie in the least delay: for so long a core goes on alone. With fewer rows too much time
+/// goes to and fro between cores, and more of them would have left the cache when they are given out, so there are bounds.
+const FEWEST: u64 = 64;
 
-// .. and at least with so much in all. It may all be of one core, and room for it is made in turn with each.
+const MOST: u64 = 256;
+
+/// At least so much is taken in all. It may all be of one core, and room for it is made in turn with each.
 const IN_ALL: usize = 512;
 
-// With so much on a desk of so many cores it is taken.
-fn enough_of(cores: usize) -> usize {
-    cores.saturating_mul(OF_EACH).max(IN_ALL)
+/// With so much on a desk of several cores it is taken.
+pub(crate) fn enough_of(parts: &SystemParts) -> usize {
+    let mut delay = parts.delay;
+    for link in parts.links.as_slice() {
+        delay = delay.min(link.delay);
+    }
+    let of_each = delay.clamp(FEWEST, MOST) as usize;
+    parts.cores.saturating_mul(of_each).max(IN_ALL)
 }
 
-/// Takes the turns that are left in rounds, and gives out what was told in each round before the clocks of all cores.
+/// Takes the turns that are left in rounds, and gives out what was told in each round before the clocks of all cores. A round ends where there is
+/// enough.
 pub(crate) fn flow_rounds<B: Run, W: Relay, G: Gate>(
     relay: &W,
     mut desk: Desk<W::Told>,
     mut flow: Outflow<W>,
+    enough: usize,
     gate: &G,
     out: &mut <W::Part as Part>::Out,
 ) -> Result<(), FlowFault>
@@ -49,7 +59,7 @@ pub(crate) fn flow_rounds<B: Run, W: Relay, G: Gate>(
     ensures fault { IfErr result (FailsFrom W.Part.Out.takes B.system B.horizon flow.reached out.old out.new) }
 {
     'rounds: while !flow.is_over() {
-        let Ok(()) = desk.go(enough_of(flow.pasts.len())) else {
+        let Ok(()) = desk.go(enough) else {
             return Err(FlowFault::NoMemory);
         };
         let Ok(()) = flow.gather::<B>(relay, &mut desk) else {
@@ -63,7 +73,7 @@ pub(crate) fn flow_rounds<B: Run, W: Relay, G: Gate>(
     Ok(())
 }
 
-// Takes the turns in rounds at a desk on which nothing has happened yet.
+/// Takes the turns in rounds at a desk on which nothing has happened yet.
 fn flow_desk<B: Run, W: Relay, G: Gate>(
     alloc: Global,
     relay: &W,
@@ -78,15 +88,15 @@ fn flow_desk<B: Run, W: Relay, G: Gate>(
     ensures given { OnOk result (Given W.Part.Out.takes out.old (schedule B.system B.horizon) out.new) }
     ensures fault { IfErr result (IsFlowFault W.Part.Out.takes B.system B.horizon out.old out.new) }
 {
-    let _parts = system.parts();
+    let enough = enough_of(system.parts());
     let Ok(flow) = Outflow::new(alloc, relay, system, desk.horizon(), Tick::ZERO) else {
         return Err(FlowFault::NoMemory);
     };
-    flow_rounds::<B, W, G>(relay, desk, flow, gate, out)
+    flow_rounds::<B, W, G>(relay, desk, flow, enough, gate, out)
 }
 
-// Takes all turns in rounds at a desk with one core, on which nothing has happened yet, and gives what was told in each round to an output at
-// once.
+/// Takes all turns in rounds at a desk with one core, on which nothing has happened yet, and gives what was told in each round to an output at
+/// once.
 fn flow_one<W: Relay, G: Gate>(
     relay: &W,
     mut desk: Desk<W::Told>,
@@ -135,7 +145,7 @@ pub(crate) fn empty_told<W: Relay>(
     Ok(told)
 }
 
-// All cores at moment 0, each with what it tells its rows to.
+/// All cores at moment 0, each with what it tells its rows to.
 fn desk_for<W: Relay>(
     alloc: Global,
     relay: &W,

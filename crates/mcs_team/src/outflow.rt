@@ -132,11 +132,11 @@ pub(crate) struct Outflow<W: Relay> {
     merger: Merger<W::Part>,
     /// For each core the moment before which all that it told was added.
     pub(crate) pasts: Vec<Tick>,
-    /// All before it was given.
+    /// The moment before which all was given out.
     pub(crate) reached: Tick,
-    // the moment after the last
+    /// The moment after the horizon.
     end: Tick,
-    // those of which all was given out
+    /// Parts of which all was given out, for use again.
     spare: Vec<W::Part>,
     ghost same: { length merger ≡ length pasts.items },
 }
@@ -180,7 +180,7 @@ impl<W: Relay> Outflow<W> {
         self.reached == self.end
     }
 
-    /// All before it was given.
+    /// The moment before which all was given out.
     pub(crate) fn reached(&self) -> Tick
         ensures { result ≡ self.now.reached }
     {
@@ -266,7 +266,7 @@ impl<W: Relay> Outflow<W> {
         Ok(())
     }
 
-    // Takes what a core told from a desk, and adds it.
+    /// Takes what a core told from a desk, and adds it.
     fn take<B: Run>(
         &mut self,
         relay: &W,
@@ -329,7 +329,7 @@ impl<W: Relay> Outflow<W> {
     }
 }
 
-// Keeps a part of which all was given out, where there is room for it.
+/// Keeps a part of which all was given out, where there is room for it.
 fn keep<P: Drop>(spare: &mut Vec<P>, part: Option<P>) {
     if let Some(part) = part {
         if spare.len() < spare.capacity() {
@@ -338,7 +338,7 @@ fn keep<P: Drop>(spare: &mut Vec<P>, part: Option<P>) {
     }
 }
 
-// A part for each core, which holds nothing.
+/// A part for each core, which holds nothing.
 fn empty_parts<W: Relay>(alloc: Global, relay: &W, cores: usize) -> Result<Vec<W::Part>, NoMemory>
     ensures many { IfOk result (λ parts. length parts.items ≡ cores) }
     ensures held { (out : W.Part.Out) → W.fits relay.now out → IfOk result (λ parts. HoldEach W.Part.holds out parts.items (replicate cores [])) }
@@ -350,7 +350,7 @@ fn empty_parts<W: Relay>(alloc: Global, relay: &W, cores: usize) -> Result<Vec<W
     Ok(parts)
 }
 
-// The least of the moments, or `end` where none is less.
+/// The least of the moments, or `end` where none is less.
 fn least(moments: &[Tick], end: Tick) -> Tick
     ensures { result ≡ fold min end moments.now }
 {

@@ -24,10 +24,10 @@ use std::marker::Brand;
 use std::sync::{Arc, Wait};
 use std::thread::Threads;
 
-// After so many rows more the gate is told how far the run is.
+/// After so many rows more the gate is told how far the run is.
 const ENOUGH: usize = 16_384;
 
-// What was counted need not be taken, so there is never too much of it.
+/// What was counted need not be taken, so there is never too much of it.
 const BRIM: Brim = Brim {
     enough: usize::MAX,
     full: usize::MAX,
@@ -63,7 +63,7 @@ pub fn report<R: Threads + Wait + Sync, G: Gate + Sync>(
     }
 }
 
-// The reports, on this thread, where each core counts its own rows.
+/// The reports, on this thread, where each core counts its own rows.
 fn report_here<G: Gate>(
     alloc: Global,
     system: Arc<System>,
@@ -81,7 +81,7 @@ fn report_here<G: Gate>(
     put_together(alloc, tally, &places, found, system, horizon)
 }
 
-// The reports of all rows that the cores have counted, or, where their tallies were not found, of a run on this thread that keeps its rows.
+/// The reports of all rows that the cores have counted, or, where their tallies were not found, of a run on this thread that keeps its rows.
 fn put_together(
     alloc: Global,
     tally: Tally,
@@ -108,7 +108,7 @@ fn put_together(
     }
 }
 
-// The tallies of all cores of a run on this thread. None where they stand in another order, which no run meets.
+/// The tallies of all cores of a run on this thread. None where they stand in another order, which no run meets.
 fn count_here<B: Run, G: Gate>(
     alloc: Global,
     places: &Arc<Places>,
@@ -126,7 +126,7 @@ fn count_here<B: Run, G: Gate>(
     count_to_end(alloc, desk, gate)
 }
 
-// Takes all turns that are left, where each core counts its own rows, and all were told that were made before. Then the tallies alone.
+/// Takes all turns that are left, where each core counts its own rows, and all were told that were made before. Then the tallies alone.
 fn count_to_end<B: Run, G: Gate>(
     alloc: Global,
     mut desk: Desk<OwnTally<B>>,
@@ -138,29 +138,17 @@ fn count_to_end<B: Run, G: Gate>(
     requires first { (c : ℕ) → c < desk.system.cores → taken_of desk c ≡ 0 }
     ensures { IfOk result (λ found. IfSome found (λ tallies. AreWhole B.system B.horizon tallies.items)) }
 {
-    let mut enough = desk.kept().saturating_add(ENOUGH);
     'rounds: loop {
-        let before = desk.kept();
+        let enough = desk.kept().saturating_add(ENOUGH);
         desk.go(enough)?;
         gate.reached(reached(&desk));
         if desk.finished() {
             return tallies_alone(alloc, desk);
         }
-        enough = further(before, desk.kept(), desk.cores());
     }
 }
 
-// How much is enough for the next round, of which so much was counted before and after the last one. A round ends where there is so much in
-// all, but each core stops only where it has counted so much by itself. Where that was far more than was asked for, the next round is to end
-// where each core has gone on.
-fn further(before: usize, counted: usize, cores: usize) -> usize {
-    if counted.saturating_sub(before) > 2 * ENOUGH {
-        return (counted / cores.max(1)).saturating_add(ENOUGH);
-    }
-    counted.saturating_add(ENOUGH)
-}
-
-// The tallies alone, where all turns were taken, or None where they stand in another order.
+/// The tallies alone, where all turns were taken, or None where they stand in another order.
 fn tallies_alone<B: Run>(
     alloc: Global,
     desk: Desk<OwnTally<B>>,
@@ -178,7 +166,7 @@ fn tallies_alone<B: Run>(
     Ok(Some(tallies))
 }
 
-// The reports, by threads of which each counts the rows of the pieces that it runs.
+/// The reports, by threads of which each counts the rows of the pieces that it runs.
 fn report_team<R: Threads + Wait + Sync, G: Gate + Sync>(
     rt: &R,
     alloc: Global,
@@ -198,8 +186,8 @@ fn report_team<R: Threads + Wait + Sync, G: Gate + Sync>(
     put_together(alloc, tally, &places, found, system, horizon)
 }
 
-// The tallies of all cores of a run, whose rows are counted by threads that work at its desk. None where something was not as this run left it,
-// which no run meets.
+/// The tallies of all cores of a run, whose rows are counted by threads that work at its desk. None where something was not as this run left it,
+/// which no run meets.
 fn count_beside<B: Run + Send + Sync, R: Threads + Wait + Sync, G: Gate + Sync>(
     rt: &R,
     alloc: Global,
@@ -222,7 +210,7 @@ fn count_beside<B: Run + Send + Sync, R: Threads + Wait + Sync, G: Gate + Sync>(
     }
 }
 
-// Takes the turns that a team has left, after which the tallies are as `count_to_end` says.
+/// Takes the turns that a team has left, after which the tallies are as `count_to_end` says.
 fn count_rest<B: Run, G: Gate>(
     alloc: Global,
     desk: Desk<Nothing>,

@@ -28,7 +28,7 @@ pub(crate) fn stop_at(untold: Untold, reached: Tick) -> Stop
     }
 }
 
-// The clocks of the desk, where these moments are the clocks of its cores.
+/// The clocks of the desk, where these moments are the clocks of its cores.
 fn clocks_at(desk: &Desk<Nothing>, moments: &[Tick]) -> Option<Front>
     ensures many { IfSome result (λ front. length moments.now ≡ desk.now.system.cores) }
     ensures long { IfSome result (λ front. length front ≡ 64) }
@@ -49,7 +49,7 @@ fn clocks_at(desk: &Desk<Nothing>, moments: &[Tick]) -> Option<Front>
     Some(front)
 }
 
-// The cores of a desk, which tell by this relay from now on, where all that they told before these moments was added.
+/// The cores of a desk, which tell by this relay from now on, where all that they told before these moments was added.
 fn retold<W: Relay>(
     relay: &W,
     desk: Desk<Nothing>,
@@ -68,7 +68,7 @@ fn retold<W: Relay>(
     Ok(desk.retold(front, told))
 }
 
-// Adds what each core has told.
+/// Adds what each core has told.
 fn add_found<B: Run, W: Relay>(
     relay: &W,
     found: Vec<Option<Telling<B, W::Told>>>,
@@ -89,7 +89,7 @@ fn add_found<B: Run, W: Relay>(
     Ok(())
 }
 
-// The desk of a team that has ended, when all that its cores told was added.
+/// The desk of a team that has ended, when all that its cores told was added.
 fn gathered<B: Run, W: Relay>(
     relay: &W,
     team: Team<B, W::Told>,
@@ -108,11 +108,12 @@ fn gathered<B: Run, W: Relay>(
     retold(relay, desk, &flow.pasts)
 }
 
-/// Takes the turns that a team has left, and gives out what is told.
+/// Takes the turns that a team has left, in rounds that end where there is enough, and gives out what is told.
 pub(crate) fn go_on_alone<B: Run, W: Relay, G: Gate>(
     relay: &W,
     team: Team<B, W::Told>,
     mut flow: Outflow<W>,
+    enough: usize,
     gate: &G,
     out: &mut <W::Part as Part>::Out,
 ) -> Result<(), Stop>
@@ -127,13 +128,13 @@ pub(crate) fn go_on_alone<B: Run, W: Relay, G: Gate>(
         Ok(desk) => desk,
         Err(untold) => return Err(stop_at(untold, flow.reached)),
     };
-    match flow_rounds::<B, W, G>(relay, desk, flow, gate, out) {
+    match flow_rounds::<B, W, G>(relay, desk, flow, enough, gate, out) {
         Ok(()) => Ok(()),
         Err(fault) => Err(Stop::Fault(fault)),
     }
 }
 
-// A desk from which nothing was taken, and whose cores have taken all their turns.
+/// A desk from which nothing was taken, and whose cores have taken all their turns.
 fn desk_at_end(plan: &Plan) -> Result<Desk, NoMemory>
     requires { plan.now.horizon ≤ 2 ^ 40 }
     ensures run { IfOk result (λ desk. (desk.system ≡ arc_value plan.now.system) × (desk.horizon ≡ plan.now.horizon)) }
@@ -150,7 +151,7 @@ fn desk_at_end(plan: &Plan) -> Result<Desk, NoMemory>
     Ok(desk)
 }
 
-// Tells the rows from a moment on.
+/// Tells the rows from a moment on.
 fn tell_from<S: Collector>(rows: &[Row], from: Tick, told: &mut S) -> Result<(), Refused>
     requires { S.holds told.old [] }
     ensures { OnOk result (S.holds told.new (rows_from from rows.now)) }
@@ -164,7 +165,7 @@ fn tell_from<S: Collector>(rows: &[Row], from: Tick, told: &mut S) -> Result<(),
     Ok(())
 }
 
-// Takes the rows of a core from a desk, and adds those from a moment on, up to which all was given.
+/// Takes the rows of a core from a desk, and adds those from a moment on, up to which all was given.
 fn add_rest<B: Run, W: Relay>(
     relay: &W,
     desk: &mut Desk,
@@ -192,7 +193,7 @@ fn add_rest<B: Run, W: Relay>(
     flow.add::<B>(relay, core, past, told)
 }
 
-// Adds the rows of all cores from a moment on, up to which all was given.
+/// Adds the rows of all cores from a moment on, up to which all was given.
 fn add_rests<B: Run, W: Relay>(
     relay: &W,
     desk: &mut Desk,
@@ -216,7 +217,7 @@ fn add_rests<B: Run, W: Relay>(
     Ok(())
 }
 
-// Simulates on this thread, and gives out all from a moment on.
+/// Simulates on this thread, and gives out all from a moment on.
 fn rest_from<B: Run, W: Relay>(
     plan: &Plan,
     from: Tick,

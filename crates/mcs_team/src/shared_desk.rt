@@ -11,7 +11,7 @@ use mcs_window::{Desk, Done, Front, Lost, Piece, SettleFault};
 use std::alloc::Global;
 use std::marker::PhantomData;
 
-// So many pieces a thread takes at most under one lock.
+/// So many pieces a thread takes at most under one lock.
 const MOST: usize = 8;
 
 /// How much waits before the caller's thread takes it: where there is enough it is time, and where it is full no piece is lent until it was taken.
@@ -28,19 +28,19 @@ pub(crate) struct SharedDesk<B: Run, S: Collector + Drop> {
     tellings: Tellings<B, S>,
     brim: Brim,
     pace: Pace,
-    // how many threads share it, and how many pieces are away
+    /// How many threads share it, and how many pieces are away
     workers: usize,
     away: usize,
-    // whether a thread has begun to work, and how many wait for a piece
+    /// Whether a thread has begun to work, and how many wait for a piece
     begun: bool,
     idle: usize,
-    // why nothing is lent any more, where something was lost
+    /// Why nothing is lent any more, where something was lost
     lost: Option<Untold>,
     of: PhantomData<B>,
     ghost ours: { (desk.system ≡ B.system) × (desk.horizon ≡ B.horizon) },
 }
 
-// The clocks of all cores, of which a system has at most 64.
+/// The clocks of all cores, of which a system has at most 64.
 fn clocks(desk: &Desk<Nothing>) -> Front
     ensures { (c : ℕ) → c < desk.now.system.cores → c < 64 → slice_index result c ≡ clock_of desk.now c }
 {
@@ -92,7 +92,7 @@ impl<B: Run, S: Collector + Drop> SharedDesk<B, S> {
         }
     }
 
-    // A piece of the desk. Where no core is lent idle time is skipped first, and what the cores tell to passes it.
+    /// A piece of the desk. Where no core is lent idle time is skipped first, and what the cores tell to passes it.
     fn lend_piece(&mut self) -> Option<Piece>
         ensures { IfSome result (λ piece. piece.system ≡ B.system) }
     {
@@ -110,7 +110,7 @@ impl<B: Run, S: Collector + Drop> SharedDesk<B, S> {
         piece
     }
 
-    // What each core tells to goes on from these moments to the core's clock.
+    /// What each core tells to goes on from these moments to the core's clock.
     fn catch_up(&mut self, before: &Front) -> Result<(), Untold>
         requires { (c : ℕ) → c < self.old.desk.system.cores → c < 64
             → (slice_index before.now c ≤ clock_of self.old.desk c)
@@ -141,7 +141,7 @@ impl<B: Run, S: Collector + Drop> SharedDesk<B, S> {
         errands
     }
 
-    // How many pieces a thread takes at once: one until it is known how many rows they have.
+    /// How many pieces a thread takes at once: one until it is known how many rows they have.
     fn share(&self) -> usize {
         if !self.pace.is_known() {
             return 1;
@@ -200,7 +200,7 @@ impl<B: Run, S: Collector + Drop> SharedDesk<B, S> {
         }
     }
 
-    // Takes a stretch back.
+    /// Takes a stretch back.
     fn take_back(&mut self, done: Done<Nothing>)
         requires { done.system ≡ B.system }
         ensures { (self.new.desk ≡ settled_at self.old.desk done.core done.past)
@@ -213,7 +213,7 @@ impl<B: Run, S: Collector + Drop> SharedDesk<B, S> {
         }
     }
 
-    // Lends nothing from now on.
+    /// Lends nothing from now on.
     fn lose(&mut self, why: Untold)
         ensures { self.new.desk ≡ with_lost self.old.desk }
     {
@@ -276,7 +276,7 @@ impl<B: Run, S: Collector + Drop> SharedDesk<B, S> {
         self.parts()
     }
 
-    // The desk and what was told, where nothing is lent and nothing is lost.
+    /// The desk and what was told, where nothing is lent and nothing is lost.
     fn parts(self) -> Result<(Desk<Nothing>, Tellings<B, S>), Untold>
         ensures run { IfOk result (λ parts. (parts.0.system ≡ B.system) × (parts.0.horizon ≡ B.horizon)) }
         ensures whole { IfOk result (λ parts. (parts.0.lost ≡ false) × AllAreHere parts.0) }

@@ -4,6 +4,7 @@ ghost use Rattle.std.specs.Arc.{arc_value};
 ghost use Rattle.mcs_system.specs.WellFormed.{IsWellFormed};
 ghost use Rattle.mcs_team.specs.Flow.{IsGivenBetween, IsStop, Waits};
 
+use crate::here::enough_of;
 use crate::outflow::Outflow;
 use crate::rest::{go_on_alone, stop_at};
 use crate::run::{Plan, Run, Stop};
@@ -17,13 +18,13 @@ use std::alloc::Global;
 use std::sync::{Arc, Wait};
 use std::thread::{Threads, join_mut};
 
-// Where so many rows wait it is time to take them, and no piece is lent until they were taken.
+/// Where so many rows wait it is time to take them, and no piece is lent until they were taken.
 const BRIM: Brim = Brim {
     enough: 4096,
-    full: 32_768,
+    full: 8192,
 };
 
-// What was taken from a team, and room for what its cores tell next.
+/// What was taken from a team, and room for what its cores tell next.
 #[derive(Drop)]
 struct Basket<B: Run, S: Collector + Drop> {
     rooms: Vec<S>,
@@ -31,7 +32,7 @@ struct Basket<B: Run, S: Collector + Drop> {
 }
 
 impl<B: Run, S: Collector + Drop> Basket<B, S> {
-    // For so many cores.
+    /// For so many cores.
     fn new(alloc: Global, cores: usize) -> Result<Basket<B, S>, NoMemory> {
         let rooms = Vec::with_capacity(alloc, cores)?;
         let told = Vec::with_capacity(alloc, cores)?;
@@ -39,7 +40,7 @@ impl<B: Run, S: Collector + Drop> Basket<B, S> {
     }
 }
 
-// Makes room for what each core tells next, as far as there is none.
+/// Makes room for what each core tells next, as far as there is none.
 fn fill<W: Relay>(relay: &W, rooms: &mut Vec<W::Told>, flow: &mut Outflow<W>)
     ensures same { (flow.new.reached ≡ flow.old.reached) × (flow.new.end ≡ flow.old.end) }
     ensures waits { (flow.new.merger ≡ flow.old.merger) × (flow.new.pasts.items ≡ flow.old.pasts.items) }
@@ -51,7 +52,7 @@ fn fill<W: Relay>(relay: &W, rooms: &mut Vec<W::Told>, flow: &mut Outflow<W>)
     }
 }
 
-// Adds what was taken, and gives out what can be.
+/// Adds what was taken, and gives out what can be.
 fn give<B: Run, W: Relay>(
     relay: &W,
     told: &mut Vec<Telling<B, W::Told>>,
@@ -76,7 +77,7 @@ fn give<B: Run, W: Relay>(
     Ok(())
 }
 
-// Gives out what is told, until no piece is to be had any more.
+/// Gives out what is told, until no piece is to be had any more.
 fn give_out<B: Run, R: Wait, G: Gate, W: Relay>(
     rt: &R,
     gate: &G,
@@ -113,7 +114,7 @@ fn give_out<B: Run, R: Wait, G: Gate, W: Relay>(
     Err(Stop::Odd(flow.reached))
 }
 
-// Gives out what the cores tell while threads work at their desk, until no piece is to be had any more and the threads have ended.
+/// Gives out what the cores tell while threads work at their desk, until no piece is to be had any more and the threads have ended.
 fn work_and_give<B: Run + Send + Sync, R: Threads + Wait + Sync, G: Gate + Sync, W: Relay>(
     rt: &R,
     gate: &G,
@@ -156,7 +157,7 @@ where
     ended
 }
 
-// What the cores of a run tell to.
+/// What the cores of a run tell to.
 fn tellings_for<B: Run, W: Relay>(
     alloc: Global,
     relay: &W,
@@ -170,7 +171,7 @@ fn tellings_for<B: Run, W: Relay>(
     Ok(Tellings::<B, W::Told>::new(slots))
 }
 
-// A team for a run, of which no thread works yet.
+/// A team for a run, of which no thread works yet.
 fn team_for<B: Run, W: Relay>(
     plan: &Plan,
     workers: usize,
@@ -204,7 +205,7 @@ where
     ensures given { OnOk result (IsGivenBetween W.Part.Out.takes B.system 0 (B.horizon + 1) out.old out.new) }
     ensures stop { IfErr result (IsStop W.Part.Out.takes B.system B.horizon 0 out.old out.new) }
 {
-    let _parts = plan.system.parts();
+    let enough = enough_of(plan.system.parts());
     let Ok(team) = team_for::<B, W>(plan, workers, relay) else {
         return Err(Stop::Fault(FlowFault::NoMemory));
     };
@@ -215,5 +216,5 @@ where
     if let Err(stop) = work_and_give(rt, gate, &team, relay, &mut flow, out) {
         return Err(stop);
     }
-    go_on_alone(relay, team, flow, gate, out)
+    go_on_alone(relay, team, flow, enough, gate, out)
 }

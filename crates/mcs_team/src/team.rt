@@ -16,7 +16,7 @@ use std::thread;
 use std::thread::{Parker, Threads};
 use std::time::Duration;
 
-// So long, in milliseconds, the caller's thread sleeps at most before it looks for rows.
+/// So long, in milliseconds, the caller's thread sleeps at most before it looks for rows.
 const NAP: u64 = 1;
 
 /// What the threads of a run share.
@@ -25,9 +25,9 @@ pub(crate) struct Team<B: Run, S: Collector + Drop> {
     desk: Mutex<SharedDesk<B, S>>,
     workers: usize,
     alloc: Global,
-    // told where a further piece may be had, and at the end
+    /// Told where a further piece may be had, and at the end.
     free: Condvar,
-    // told where it is time to take rows
+    /// Told where it is time to take rows.
     due: Parker,
 }
 
@@ -118,7 +118,7 @@ pub(crate) fn silent_desk(
     Desk::opened(alloc, system, horizon, told)
 }
 
-// Runs pieces, one after another.
+/// Runs pieces, one after another.
 fn run_all<B: Run, S: Collector + Drop, G: Gate>(
     alloc: Global,
     errands: Vec<Errand<B, S>>,
@@ -134,8 +134,8 @@ fn run_all<B: Run, S: Collector + Drop, G: Gate>(
     ran
 }
 
-// Takes pieces until none is to be had any more. Who takes some wakes another thread only where a further piece is to be had, for which one
-// waits. Where it is to tell so, the gate is told how far the run is.
+/// Takes pieces until none is to be had any more. Who takes some wakes another thread only where a further piece is to be had, for which one
+/// waits. Where it is to tell so, the gate is told how far the run is.
 fn work<B: Run, S: Collector + Drop, R: Wait, G: Gate>(
     rt: &R,
     team: &Team<B, S>,
@@ -192,34 +192,34 @@ pub(crate) fn crew<
     });
 }
 
-// A piece that told more rows than that was too long, and one of as many rows as that is long enough.
+/// A piece that told more rows than that was too long, and one of as many rows as that is long enough.
 const MANY: usize = 1024;
 
 const FEW: usize = 256;
 
-// For so many moments a piece is lent at first, and at most.
+/// For so many moments a piece is lent at first, and at most.
 const FIRST: u64 = 512;
 
 const LONGEST: u64 = 1 << 41;
 
-// After so many pieces it is asked whether they were worth it.
+/// After so many pieces it is asked whether they were worth it.
 const PIECES: usize = 1024;
 
-// With fewer rows from so many pieces, 128 of each, it may cost less to run them than to lend them.
+/// With fewer rows from so many pieces, 128 of each, it may cost less to run them than to lend them.
 const ROWS: usize = 128 * PIECES;
 
 /// For how many moments a piece is lent at most, by how many rows the pieces of before told, and whether pieces are worth it.
 #[derive(Drop)]
 pub(crate) struct Pace {
     span: u64,
-    // of the pieces that came back since the span was last tried: how many there are, and the most rows that one told
+    /// Of the pieces that came back since the span was last tried: how many there are, and the most rows that one told
     tried: usize,
     most: usize,
-    // of those since it was last asked whether they were worth it: how many were lent, how many came back, and how many rows these told
+    /// Of those since it was last asked whether they were worth it: how many were lent, how many came back, and how many rows these told
     lent: usize,
     back: usize,
     rows: usize,
-    // whether they were not worth it
+    /// Whether they were not worth it.
     over: bool,
 }
 
@@ -278,7 +278,7 @@ impl Pace {
         }
     }
 
-    // A piece of so many moments was too long: half as many rows as are too many come of the next one, if its rows are as dense.
+    /// A piece of so many moments was too long: half as many rows as are too many come of the next one, if its rows are as dense.
     fn shorten(&mut self, moments: u64, rows: usize) {
         let times = (rows / (MANY / 2)) as u64;
         self.span = self.span.min((moments / times.max(1)).max(1));
@@ -286,7 +286,7 @@ impl Pace {
         self.most = 0;
     }
 
-    // Of as many pieces as there are cores none was too long: the next ones are longer where all were short.
+    /// Of as many pieces as there are cores none was too long: the next ones are longer where all were short.
     fn lengthen(&mut self) {
         if self.most < FEW {
             self.span = self.span.saturating_mul(4).min(LONGEST);

@@ -150,7 +150,7 @@ impl<B: Run, S: Collector + Drop> Telling<B, S> {
 #[derive(Drop)]
 pub(crate) struct Tellings<B: Run, S: Collector + Drop> {
     slots: Vec<Option<Telling<B, S>>>,
-    // the sizes of those that are here
+    /// The sizes of those that are here.
     waiting: usize,
 }
 
@@ -209,7 +209,7 @@ impl<B: Run, S: Collector + Drop> Tellings<B, S> {
         }
     }
 
-    // Takes what a core has told, if that is any, and leaves an empty collector in its place, if there is one.
+    /// Takes what a core has told, if that is any, and leaves an empty collector in its place, if there is one.
     fn exchange_one(&mut self, core: CoreId, rooms: &mut Vec<S>) -> Option<Telling<B, S>> {
         let telling = self.take(core)?;
         if telling.first() == telling.past() {

@@ -161,7 +161,7 @@ where
     }
 }
 
-// Threads work, and this one gives out what the cores tell.
+/// Threads work, and this one gives out what the cores tell.
 fn flow_team<R: Threads + Wait + Sync, G: Gate + Sync, W: Relay>(
     rt: &R,
     plan: Plan,

@@ -6,8 +6,8 @@ use Rattle.mcs_system.specs.System.{System}
 use Rattle.mcs_stretch.specs.Stretch.{rows_between}
 use Rattle.mcs_stretch.proofs.Openings.{zero_at}
 use Rattle.mcs_window.specs.Desk.{clock_of}
+use Rattle.mcs_window.proofs.Lists.{each-more}
 use Rattle.mcs_team.specs.Counts.{many_of}
-use Rattle.mcs_team.proofs.Tallies.{each-more}
 use Rattle.mcs_team.proofs.own_tally.counted.Goals as goal
 
 pub loop-number-preserved : goal.loop-number-preserved

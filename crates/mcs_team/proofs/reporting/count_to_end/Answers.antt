@@ -1,4 +1,4 @@
-use Rattle.std.proofs.Common.{refl, rules}
+use Rattle.std.proofs.Common.{rules}
 use Rattle.mcs_team.proofs.Endings.{counting-on, goes-on}
 use Rattle.mcs_team.proofs.reporting.count_to_end.Goals as goal
 

@@ -1,6 +1,3 @@
-use Rattle.std.proofs.Common.{◌≡◌, ◌≤◌, [], min, rules}
-use Rattle.std.specs.Prelude.{slice_index_or}
-use Rattle.mcs_stretch.specs.Stretch.{rows_between}
 use Rattle.mcs_team.proofs.Waking.{passed-at}
 use Rattle.mcs_team.proofs.shared_desk.SharedDesk.catch_up.Goals as goal
 
