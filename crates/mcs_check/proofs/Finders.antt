@@ -9,7 +9,6 @@ use Rattle.mcs_cli.specs.Devices.{AppendsPrefix}
 use Rattle.mcs_cli.specs.Flow.{AppendsBefore, TakesLine}
 use Rattle.mcs_check_words.specs.declared.asked.Format.{Format}
 use Rattle.mcs_check_words.specs.declared.asked.Show.{Show}
-use Rattle.mcs_check.specs.declared.counts.Counts.{Counts}
 use Rattle.mcs_check.specs.declared.finder.Finder.{Finder}
 use Rattle.mcs_check.specs.Counts.{no_counts}
 use Rattle.mcs_check.specs.Formats.{head_text}

@@ -19,4 +19,10 @@ mod Worked
 mod Answered
 mod Figured
 mod Pages
-mod OneCore
+mod Homes
+mod FoundInOrder
+mod ByCore
+mod CountsByCore
+mod Cores
+mod AllFound
+mod RoundLines

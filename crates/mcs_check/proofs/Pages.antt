@@ -1,5 +1,5 @@
--- Lines of findings that are put on a page, one after another.
-use Rattle.std.proofs.Common.{◌≡◌, ◌∙◌, ◌++◌, ◌+◌, ◌<◌, ◌∷◌, [], ℕ, Bool, true, false, List, Option, Some, None, append-nil, append_assoc, ap, ap₂, drop, flat_map, get_or, length, refl, subst, sym, take, take-append-drop}
+-- Lines of findings that are put behind others, one after another.
+use Rattle.std.proofs.Common.{◌≡◌, ◌∙◌, ◌++◌, ◌+◌, ◌<◌, ◌∷◌, [], ℕ, Bool, true, false, List, Option, Some, None, append-nil, append_assoc, ap, ap₂, drop, get_or, length, refl, subst, sym, take, take-append-drop}
 use Rattle.std.proofs.lemmas.List.{take_more}
 use Rattle.std.proofs.lemmas.List.Concat.{flat_map-append}
 use Rattle.mcs_ticks.specs.declared.sink.FlowFault.TheVariants as fault
@@ -13,7 +13,7 @@ use Rattle.mcs_cli.specs.Devices.{AppendsPrefix}
 use Rattle.mcs_cli.specs.Flow.{AppendsBefore}
 use Rattle.mcs_check_words.specs.declared.asked.Format.{Format}
 use Rattle.mcs_check_words.specs.declared.asked.Show.TheVariants as show
-use Rattle.mcs_check.specs.declared.page.Page.{Page}
+use Rattle.mcs_check.specs.declared.found_lines.FoundLines.{FoundLines}
 use Rattle.mcs_check.specs.Counts.{told_of}
 use Rattle.mcs_check.specs.Formats.{found_line}
 use Rattle.mcs_check.specs.stored.Found.{told_by, told_in}
@@ -35,7 +35,7 @@ module _ (how : Format) (system : System) (allowed : List Bool) where
 
 -- a target's bytes, and whether it has failed
 module _ {W P : Type 0} (contents : W → Option (List ℕ)) (failed : W → Bool) where
-  pub puts-none : (p : Page W P) → PutsLines contents failed p [] true p
+  pub puts-none : (p : FoundLines W P) → PutsLines contents failed p [] true p
   puts-none p = (
     refl,
     refl,
@@ -48,7 +48,7 @@ module _ {W P : Type 0} (contents : W → Option (List ℕ)) (failed : W → Boo
   )
 
   -- lines, and then others
-  pub puts-then : (a b c : Page W P) (xs ys : List ℕ) (taken : Bool) → PutsLines contents failed a xs true b → PutsLines contents failed b ys taken c
+  pub puts-then : (a b c : FoundLines W P) (xs ys : List ℕ) (taken : Bool) → PutsLines contents failed a xs true b → PutsLines contents failed b ys taken c
       → PutsLines contents failed a (xs ++ ys) taken c
   puts-then a b c xs ys true p q = (
     q.0 ∙ p.0,
@@ -72,7 +72,7 @@ module _ {W P : Type 0} (contents : W → Option (List ℕ)) (failed : W → Boo
   )
 
   -- of more lines no more are put
-  pub puts-longer : (a b : Page W P) (xs ys : List ℕ) → PutsLines contents failed a xs false b → PutsLines contents failed a (xs ++ ys) false b
+  pub puts-longer : (a b : FoundLines W P) (xs ys : List ℕ) → PutsLines contents failed a xs false b → PutsLines contents failed a (xs ++ ys) false b
   puts-longer a b xs ys p = (
     p.0,
     p.1,
@@ -84,7 +84,7 @@ module _ {W P : Type 0} (contents : W → Option (List ℕ)) (failed : W → Boo
   )
 
   -- there is no memory for more of them
-  pub puts-some : (a b : Page W P) (xs ys : List ℕ) → PutsLines contents failed a xs true b → PutsSome contents failed a (xs ++ ys) fault.NoMemory b
+  pub puts-some : (a b : FoundLines W P) (xs ys : List ℕ) → PutsLines contents failed a xs true b → PutsSome contents failed a (xs ++ ys) fault.NoMemory b
   puts-some a b xs ys p = (
     p.0,
     p.4 refl,
@@ -93,7 +93,7 @@ module _ {W P : Type 0} (contents : W → Option (List ℕ)) (failed : W → Boo
   )
 
   -- the line of one more of a list
-  module _ (first p q : Page W P) (found : List Found) (i : ℕ) (one : Found) (l : i < length found) (is : one ≡ get_or found i one)
+  module _ (first p q : FoundLines W P) (found : List Found) (i : ℕ) (one : Found) (l : i < length found) (is : one ≡ get_or found i one)
       (put : PutsLines contents failed first (founds_text first.format first.system.now (take i found)) true p) where
     one-more : founds_text first.format first.system.now (take i found) ++ found_line first.format first.system.now one
         ≡ founds_text first.format first.system.now (take (i + 1) found)

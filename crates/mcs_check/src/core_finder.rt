@@ -1,114 +1,91 @@
-//! What a system's only core finds in its rows, where its turns are taken.
-ghost use Rattle.std.specs.Prelude.{◌≡◌, ◌++◌, [], IfOk, OnOk};
-ghost use Rattle.mcs_verdict.specs.Findings.{found_at};
-ghost use Rattle.mcs_verdict.specs.Watch.{watch_of};
-ghost use Rattle.mcs_check.specs.Counts.{no_counts};
+//! What a core of a round tells its rows to.
+ghost use Rattle.std.specs.Prelude.{◌≡◌, Some};
 
-use crate::Counts;
-use crate::seen::Seen;
-use mcs_system::System;
-use mcs_ticks::{CoreId, Measured, NoMemory, Refused, Row, Sink, Tick};
-use mcs_verdict::{Finding, Found, Watch};
-use std::alloc::Global;
+use crate::core_watch::CoreWatch;
+use crate::sought::Sought;
+use mcs_ticks::{Collector, Measured, Refused, Row, Sink, Tick};
+use std::marker::PhantomData;
 
-/// Looks at each row of the system's only core, and keeps what is to be told.
+/// Looks at each row of its core, and keeps what is found from a moment on. One that is closed takes no row.
 #[derive(Drop)]
-pub(crate) struct CoreFinder<'a> {
-    pub(crate) seen: Seen,
-    /// What was found since it was last told.
-    pub(crate) found: Vec<Found>,
-    /// The rows since then.
-    rows: usize,
+pub(crate) struct CoreFinder<'a, B: Sought> {
+    /// None where it is closed.
+    pub(crate) own: Option<CoreWatch>,
+    from: Tick,
     /// Of each notification whether lost signals are allowed.
-    pub(crate) allowed: &'a [bool],
+    allowed: &'a [bool],
+    of: PhantomData<B>,
+    ghost ours: { (allowed.now ≡ B.allowed) × (from ≡ B.from) },
 }
 
-impl<'a> CoreFinder<'a> {
-    /// Before the first row of a run. `NoMemory` where a growth was refused.
-    pub(crate) fn new(
-        alloc: Global,
-        system: &System,
-        allowed: &'a [bool],
-    ) -> Result<CoreFinder<'a>, NoMemory>
-        ensures { IfOk result (λ own. (own.seen.watch ≡ watch_of system.now []) × (own.seen.counts ≡ no_counts) × (own.found.items ≡ []) × (own.allowed.now ≡ allowed.now)) }
+impl<'a, B: Sought> CoreFinder<'a, B> {
+    /// It goes on where what it is given has stopped.
+    pub(crate) fn new(own: Option<CoreWatch>, allowed: &'a [bool], from: Tick) -> CoreFinder<'a, B>
+        requires { (allowed.now ≡ B.allowed) × (from ≡ B.from) }
+        ensures { result.own ≡ own }
     {
-        let seen = Seen {
-            watch: Watch::new(alloc, system)?,
-            counts: Counts::new(),
-            table: None,
-            text: Vec::new(alloc),
-        };
-        Ok(CoreFinder {
-            seen,
-            found: Vec::new(alloc),
-            rows: 0,
+        CoreFinder {
+            own,
+            from,
             allowed,
-        })
+            of: PhantomData,
+        }
     }
 
-    /// What was found was told.
-    pub(crate) fn go_on(&mut self)
-        ensures seen { self.new.seen ≡ self.old.seen }
-        ensures allowed { self.new.allowed ≡ self.old.allowed }
-        ensures empty { self.new.found.items ≡ [] }
+    /// What it has seen, where it is not closed.
+    pub(crate) fn into_own(self) -> Option<CoreWatch>
+        ensures { result ≡ self.entry.own }
     {
-        self.found.clear();
-        self.rows = 0;
-    }
-
-    /// What was seen of all rows.
-    pub(crate) fn into_seen(self) -> Seen
-        ensures { result ≡ self.entry.seen }
-    {
-        let CoreFinder { seen, .. } = self;
-        seen
+        let CoreFinder { own, .. } = self;
+        own
     }
 }
 
-/// Adds what a row tells, if it tells something.
-#[inline(always)]
-fn keep(
-    found: &mut Vec<Found>,
-    moment: Tick,
-    core: CoreId,
-    finding: Option<Finding>,
-) -> Result<(), Refused>
-    ensures { OnOk result (found.new.items ≡ found.old.items ++ found_at moment core finding) }
-{
-    if let Some(finding) = finding {
-        let one = Found {
-            moment,
-            core,
-            finding,
-        };
-        return found.push(one).ok().ok_or(Refused);
-    }
-    Ok(())
-}
+/// A row is refused where there is no memory for what it tells, and by one that is closed.
+impl<B: Sought> Sink for CoreFinder<'_, B> {
+    ghost use Rattle.mcs_check.specs.stored.OwnRows.{TakesOwn};
 
-/// A row is refused only where there is no memory for what it tells.
-impl Sink for CoreFinder<'_> {
-    ghost use Rattle.std.specs.Prelude.{◌≡◌};
-    ghost use Rattle.mcs_check.specs.stored.Found.{FindsMore};
-
-    ghost takes = { λ before row taken after. (after.allowed ≡ before.allowed)
-        × FindsMore before.allowed.now before.seen.watch before.seen.counts before.found.items row taken
-        after.seen.watch after.seen.counts after.found.items };
+    ghost takes = { λ before row taken after. TakesOwn B.allowed B.from before.own row taken after.own };
 
     #[inline(always)]
     fn row(&mut self, row: &Row) -> Result<(), Refused> {
-        self.rows = self.rows.saturating_add(1);
-        let finding = self.seen.find(self.allowed, row);
-        keep(&mut self.found, row.moment, row.core, finding)
+        let Some(own) = &mut self.own else {
+            return Err(Refused);
+        };
+        own.rows = own.rows.saturating_add(1);
+        own.see(self.allowed, self.from, row)
     }
 }
 
-/// Its size is how many rows it was told since what was found was last told, at most `usize::MAX`.
-impl Measured for CoreFinder<'_> {
-    ghost size = { λ own. own.rows };
+/// Its size is how many rows it was told, at most `usize::MAX`.
+impl<B: Sought> Measured for CoreFinder<'_, B> {
+    ghost use Rattle.mcs_check.specs.stored.OwnRows.{rows_seen};
+
+    ghost size = { λ finder. rows_seen finder.own };
 
     #[inline(always)]
     fn size(&self) -> usize {
-        self.rows
+        match &self.own {
+            Some(own) => own.rows,
+            None => 0,
+        }
     }
+}
+
+/// It holds the rows that it was told. Where it is emptied it is closed.
+impl<B: Sought> Collector for CoreFinder<'_, B> {
+    ghost use Rattle.mcs_team.specs.Counts.{many_of};
+    ghost use Rattle.mcs_check.specs.stored.OwnRows.{are_counted, seen_more, HoldsOwn};
+
+    ghost holds = { λ finder rows. HoldsOwn B.system B.allowed B.from finder.own rows };
+
+    ghost amount = { many_of };
+
+    fn clear(&mut self) {
+        self.own = None;
+    }
+
+    ghost holds_more = { λ before after held row holds takes. seen_more B.system B.allowed B.from before.own after.own held row holds takes };
+
+    ghost is_measured = { λ finder held holds. are_counted B.system B.allowed B.from finder.own held holds };
 }

@@ -1,5 +1,6 @@
 ghost use Rattle.std.specs.Prelude.{◌≡◌};
 ghost use Rattle.mcs_check.specs.Counts.{added, is_allowed, is_clean, no_counts, one_more, taken, told_of, with_hints};
+ghost use Rattle.mcs_check.specs.stored.ByCore.{together};
 
 use mcs_verdict::Finding;
 
@@ -50,6 +51,19 @@ impl Counts {
         ensures { self.new ≡ with_hints many self.old }
     {
         self.hints = self.hints.saturating_add(many as u64);
+    }
+
+    /// What another core counted too.
+    pub(crate) fn add_all(&mut self, more: &Counts)
+        ensures { self.new ≡ together self.old more.now }
+    {
+        self.missed = self.missed.saturating_add(more.missed);
+        self.overdue = self.overdue.saturating_add(more.overdue);
+        self.lost = self.lost.saturating_add(more.lost);
+        self.never = self.never.saturating_add(more.never);
+        self.merged = self.merged.saturating_add(more.merged);
+        self.allowed = self.allowed.saturating_add(more.allowed);
+        self.hints = self.hints.saturating_add(more.hints);
     }
 
     /// A finding more.

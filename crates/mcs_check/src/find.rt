@@ -1,31 +1,34 @@
 //! What is found in the rows of a system's schedule, and the lines of it.
-ghost use Rattle.std.specs.Prelude.{◌≡◌, [], None, false, IfOk, IfErr, OnOk};
+ghost use Rattle.std.specs.Prelude.{◌≡◌, [], List, None, false, IfErr, IfOk, OnOk};
 ghost use Rattle.std.specs.Arc.{arc_value};
-ghost use Rattle.mcs_core.specs.Clock.{schedule};
-ghost use Rattle.mcs_verdict.specs.Findings.{UpTo, past_of};
+ghost use Rattle.mcs_ticks.specs.declared.row.Row.{Row as TheRow};
+ghost use Rattle.mcs_verdict.specs.Findings.{found_at_end, UpTo};
 ghost use Rattle.mcs_verdict.specs.Watch.{watch_of};
-ghost use Rattle.mcs_cli.specs.Flow.{AppendsBefore, IsWriteFault};
+ghost use Rattle.mcs_cli.specs.Flow.{IsWriteFault};
+ghost use Rattle.mcs_check_words.specs.declared.asked.Show.{Show as TheShow};
 ghost use Rattle.mcs_check_words.specs.declared.asked.Show.TheVariants as show;
+ghost use Rattle.mcs_cli.specs.declared.fault.RunFault.TheVariants as fault;
+ghost use Rattle.mcs_team.specs.declared.run.SimFault.TheVariants as sim;
 ghost use Rattle.mcs_check.specs.Counts.{no_counts};
 ghost use Rattle.mcs_check.specs.Formats.{head_text};
-ghost use Rattle.mcs_check.specs.stored.Rows.{counts_in, kept_table, refusal, rows_text};
+ghost use Rattle.mcs_check.specs.stored.AllFound.{kept_of, kept_with, text_of_rows, IsAllFound, IsAllSeen};
+ghost use Rattle.mcs_check.specs.stored.Rows.{kept_table, refusal};
 
-use crate::core_finder::CoreFinder;
+use crate::all_found::{AllFound, Kept};
+use crate::by_core::{FoundByCore, look};
 use crate::finder::{Finder, Lines};
 use crate::format::put_head;
+use crate::found_lines::FoundLines;
 use crate::machine::Machine;
-use crate::one_core::look;
-use crate::page::Page;
 use crate::seen::Seen;
 use crate::{Counts, Progress};
 use mcs_check_words::{Options, Show};
 use mcs_cli::{Open, RunFault, Target};
-use mcs_core::CoreState;
 use mcs_system::System;
 use mcs_table::Table;
 use mcs_team::{FlowFault, SimFault, schedule_to};
-use mcs_ticks::{CoreId, NoMemory, Tick};
-use mcs_verdict::Watch;
+use mcs_ticks::{NoMemory, Tick};
+use mcs_verdict::{Watch, find_unended};
 use mcs_verdict_laws::schedules_are_in_order;
 use std::alloc::Global;
 use std::sync::{Arc, Wait};
@@ -39,80 +42,77 @@ pub(crate) fn find_rows<'s, H: Threads + Wait + Sync, T: Target, P: Progress>(
     allowed: &'s [bool],
     options: &Options,
     progress: &mut P,
-) -> Result<Seen, RunFault>
+) -> Result<AllFound, RunFault>
     requires { T.has_failed target.old ≡ false }
-    ensures ok { IfOk result (λ seen. AppendsBefore (T.contents target.old) (T.contents target.new)
-        (rows_text (arc_value system.now) allowed.now options.now.format options.now.show (schedule (arc_value system.now) options.now.horizon)) seen.text.items) }
-    ensures watch { IfOk result (λ seen. seen.watch
-        ≡ watch_of (arc_value system.now) (past_of [] (schedule (arc_value system.now) options.now.horizon))) }
-    ensures counts { IfOk result (λ seen. seen.counts
-        ≡ counts_in (arc_value system.now) allowed.now [] (schedule (arc_value system.now) options.now.horizon) no_counts) }
-    ensures table { IfOk result (λ seen. seen.table ≡ kept_table options.now.show (arc_value system.now) options.now.horizon
-        (past_of [] (schedule (arc_value system.now) options.now.horizon))) }
-    ensures in_time { UpTo options.now.horizon (past_of [] (schedule (arc_value system.now) options.now.horizon)) }
+    ensures ok { IfOk result (IsAllFound (arc_value system.now) allowed.now options.now (T.contents target.old) (T.contents target.new)) }
     ensures working { OnOk result (T.has_failed target.new ≡ false) }
     ensures fault { IfErr result
-        (IsWriteFault (T.contents target.old) (T.contents target.new) (T.has_failed target.new)
-        (rows_text (arc_value system.now) allowed.now options.now.format options.now.show (schedule (arc_value system.now) options.now.horizon))) }
+        (IsWriteFault (T.contents target.old) (T.contents target.new) (T.has_failed target.new) (text_of_rows (arc_value system.now) allowed.now options.now)) }
 {
-    if options.show == Show::Findings && system.parts().cores == 1 {
-        find_on_core(machine.alloc, target, system, allowed, options, progress)
+    if options.show == Show::Findings {
+        find_by_core(machine.alloc, target, system, allowed, options, progress)
     } else {
-        find_in_rows(machine, target, system, allowed, options, progress)
+        find_merged(machine, target, system, allowed, options, progress)
     }
 }
 
-/// The same of a system with one core, of which findings are shown: the core looks at its rows itself, and none is kept.
-fn find_on_core<'s, T: Target, P: Progress>(
+/// The same where findings are shown: each core looks at its rows itself, and none is kept.
+fn find_by_core<'s, T: Target, P: Progress>(
     alloc: Global,
     target: &mut T,
     system: &'s Arc<System>,
     allowed: &'s [bool],
     options: &Options,
     progress: &mut P,
-) -> Result<Seen, RunFault>
-    requires { (T.has_failed target.old ≡ false) × ((arc_value system.now).cores ≡ 1) × (options.now.show ≡ show.Findings) }
-    ensures ok { IfOk result (λ seen. AppendsBefore (T.contents target.old) (T.contents target.new)
-        (rows_text (arc_value system.now) allowed.now options.now.format options.now.show (schedule (arc_value system.now) options.now.horizon)) seen.text.items) }
-    ensures watch { IfOk result (λ seen. seen.watch
-        ≡ watch_of (arc_value system.now) (past_of [] (schedule (arc_value system.now) options.now.horizon))) }
-    ensures counts { IfOk result (λ seen. seen.counts
-        ≡ counts_in (arc_value system.now) allowed.now [] (schedule (arc_value system.now) options.now.horizon) no_counts) }
-    ensures table { IfOk result (λ seen. seen.table ≡ kept_table options.now.show (arc_value system.now) options.now.horizon
-        (past_of [] (schedule (arc_value system.now) options.now.horizon))) }
-    ensures in_time { UpTo options.now.horizon (past_of [] (schedule (arc_value system.now) options.now.horizon)) }
+) -> Result<AllFound, RunFault>
+    requires { (T.has_failed target.old ≡ false) × (options.now.show ≡ show.Findings) }
+    ensures ok { IfOk result (IsAllFound (arc_value system.now) allowed.now options.now (T.contents target.old) (T.contents target.new)) }
     ensures working { OnOk result (T.has_failed target.new ≡ false) }
     ensures fault { IfErr result
-        (IsWriteFault (T.contents target.old) (T.contents target.new) (T.has_failed target.new)
-        (rows_text (arc_value system.now) allowed.now options.now.format options.now.show (schedule (arc_value system.now) options.now.horizon))) }
+        (IsWriteFault (T.contents target.old) (T.contents target.new) (T.has_failed target.new) (text_of_rows (arc_value system.now) allowed.now options.now)) }
 {
     schedules_are_in_order();
     let _parts = system.parts();
-    let Ok(state) = CoreState::new(alloc, system, CoreId(0)) else {
-        return Err(RunFault::Sim(SimFault::NoMemory));
-    };
-    let Ok(finder) = CoreFinder::new(alloc, system, allowed) else {
-        return Err(RunFault::Sim(SimFault::NoMemory));
-    };
     let Ok(mut text) = head(alloc, options) else {
         return Err(RunFault::Sim(SimFault::NoMemory));
     };
     let lines = Lines::new(alloc, target);
-    let mut page = Page {
+    let mut page = FoundLines {
         lines,
         text: &mut text,
         format: options.format,
         system,
         progress,
     };
-    match look(alloc, state, finder, options.horizon, &mut page) {
-        Ok(seen) => Ok(seen_with(seen, text)),
+    match look(alloc, system, allowed, options.horizon, &mut page) {
+        Ok(found) => Ok(found_with(found, text)),
         Err(FlowFault::NoMemory) => Err(RunFault::Sim(SimFault::NoMemory)),
         Err(FlowFault::Sink) => Err(refusal(page.lines.is_out_of_memory)),
     }
 }
 
-/// The same of any system, whose rows are put in their order and then looked at.
+/// The same whatever is shown: the rows of all cores are put in their order.
+fn find_merged<'s, H: Threads + Wait + Sync, T: Target, P: Progress>(
+    machine: &Machine<'_, H>,
+    target: &mut T,
+    system: &'s Arc<System>,
+    allowed: &'s [bool],
+    options: &Options,
+    progress: &mut P,
+) -> Result<AllFound, RunFault>
+    requires { T.has_failed target.old ≡ false }
+    ensures ok { IfOk result (IsAllFound (arc_value system.now) allowed.now options.now (T.contents target.old) (T.contents target.new)) }
+    ensures working { OnOk result (T.has_failed target.new ≡ false) }
+    ensures fault { IfErr result
+        (IsWriteFault (T.contents target.old) (T.contents target.new) (T.has_failed target.new) (text_of_rows (arc_value system.now) allowed.now options.now)) }
+{
+    schedules_are_in_order();
+    let _parts = system.parts();
+    let seen = find_in_rows(machine, target, system, allowed, options, progress)?;
+    all_found(machine.alloc, system, options.horizon, seen)
+}
+
+/// What is seen of the rows of any system, which are put in their order and then looked at, whatever is shown.
 fn find_in_rows<'s, H: Threads + Wait + Sync, T: Target, P: Progress>(
     machine: &Machine<'_, H>,
     target: &mut T,
@@ -122,19 +122,10 @@ fn find_in_rows<'s, H: Threads + Wait + Sync, T: Target, P: Progress>(
     progress: &mut P,
 ) -> Result<Seen, RunFault>
     requires { T.has_failed target.old ≡ false }
-    ensures ok { IfOk result (λ seen. AppendsBefore (T.contents target.old) (T.contents target.new)
-        (rows_text (arc_value system.now) allowed.now options.now.format options.now.show (schedule (arc_value system.now) options.now.horizon)) seen.text.items) }
-    ensures watch { IfOk result (λ seen. seen.watch
-        ≡ watch_of (arc_value system.now) (past_of [] (schedule (arc_value system.now) options.now.horizon))) }
-    ensures counts { IfOk result (λ seen. seen.counts
-        ≡ counts_in (arc_value system.now) allowed.now [] (schedule (arc_value system.now) options.now.horizon) no_counts) }
-    ensures table { IfOk result (λ seen. seen.table ≡ kept_table options.now.show (arc_value system.now) options.now.horizon
-        (past_of [] (schedule (arc_value system.now) options.now.horizon))) }
-    ensures in_time { UpTo options.now.horizon (past_of [] (schedule (arc_value system.now) options.now.horizon)) }
+    ensures ok { IfOk result (IsAllSeen (arc_value system.now) allowed.now options.now (T.contents target.old) (T.contents target.new)) }
     ensures working { OnOk result (T.has_failed target.new ≡ false) }
     ensures fault { IfErr result
-        (IsWriteFault (T.contents target.old) (T.contents target.new) (T.has_failed target.new)
-        (rows_text (arc_value system.now) allowed.now options.now.format options.now.show (schedule (arc_value system.now) options.now.horizon))) }
+        (IsWriteFault (T.contents target.old) (T.contents target.new) (T.has_failed target.new) (text_of_rows (arc_value system.now) allowed.now options.now)) }
 {
     schedules_are_in_order();
     let _parts = system.parts();
@@ -142,20 +133,8 @@ fn find_in_rows<'s, H: Threads + Wait + Sync, T: Target, P: Progress>(
     let Ok(shared) = Arc::try_clone(system) else {
         return Err(RunFault::Sim(SimFault::NoMemory));
     };
-    let Ok(watch) = Watch::new(alloc, system) else {
+    let Ok(mut seen) = nothing_seen(alloc, system, options) else {
         return Err(RunFault::Sim(SimFault::NoMemory));
-    };
-    let Ok(table) = table_for(alloc, options.show, system, options.horizon) else {
-        return Err(RunFault::Sim(SimFault::NoMemory));
-    };
-    let Ok(text) = head(alloc, options) else {
-        return Err(RunFault::Sim(SimFault::NoMemory));
-    };
-    let mut seen = Seen {
-        watch,
-        counts: Counts::new(),
-        table,
-        text,
     };
     let lines = Lines::new(alloc, target);
     let mut finder = Finder::new(lines, options, system, allowed, &mut seen, progress);
@@ -168,16 +147,72 @@ fn find_in_rows<'s, H: Threads + Wait + Sync, T: Target, P: Progress>(
     }
 }
 
-/// What was seen of all rows, with the lines that are not written yet.
-fn seen_with(seen: Seen, text: Vec<u8>) -> Seen
-    ensures { result ≡ record { watch = seen.watch; counts = seen.counts; table = None; text = text } }
+/// What is kept before the first row.
+fn nothing_seen(alloc: Global, system: &System, options: &Options) -> Result<Seen, NoMemory>
+    ensures { IfOk result (λ seen. (seen.watch ≡ watch_of system.now []) × (seen.counts ≡ no_counts)
+        × (seen.table ≡ kept_table options.now.show system.now options.now.horizon [])
+        × (seen.text.items ≡ head_text options.now.format options.now.show)) }
 {
-    let Seen { watch, counts, .. } = seen;
-    Seen {
+    Ok(Seen {
+        watch: Watch::new(alloc, system)?,
+        counts: Counts::new(),
+        table: table_for(alloc, options.show, system, options.horizon)?,
+        text: head(alloc, options)?,
+    })
+}
+
+/// What was found of all rows by the cores, with the lines that are not written yet.
+fn found_with(found: FoundByCore, text: Vec<u8>) -> AllFound
+    ensures { result ≡ record { counts = found.counts; unended = found.unended; kept = None; text = text } }
+{
+    let FoundByCore { counts, unended } = found;
+    AllFound {
+        counts,
+        unended,
+        kept: None,
+        text,
+    }
+}
+
+/// What was found of all rows, of which this was seen. The only fault is that there is no memory.
+fn all_found(
+    alloc: Global,
+    system: &System,
+    horizon: Tick,
+    seen: Seen,
+) -> Result<AllFound, RunFault>
+    ensures text { IfOk result (λ found. found.text ≡ seen.text) }
+    ensures counts { IfOk result (λ found. found.counts ≡ seen.counts) }
+    ensures unended { (past : List TheRow) → seen.watch ≡ watch_of system.now past → UpTo horizon past →
+        IfOk result (λ found. found.unended.items ≡ found_at_end system.now past horizon 0 system.now.threads) }
+    ensures kept { (asked : TheShow) (past : List TheRow) → seen.watch ≡ watch_of system.now past → seen.table ≡ kept_table asked system.now horizon past →
+        IfOk result (λ found. found.kept ≡ kept_of asked system.now horizon past) }
+    ensures fault { IfErr result (λ why. why ≡ fault.Sim sim.NoMemory) }
+{
+    let Ok(unended) = find_unended(alloc, system, &seen.watch, horizon) else {
+        return Err(RunFault::Sim(SimFault::NoMemory));
+    };
+    let Seen {
         watch,
         counts,
-        table: None,
+        table,
         text,
+    } = seen;
+    Ok(AllFound {
+        counts,
+        unended,
+        kept: kept_with(watch, table),
+        text,
+    })
+}
+
+/// What is kept for figures, where a table is kept.
+fn kept_with(watch: Watch, table: Option<Table>) -> Option<Kept>
+    ensures { result ≡ kept_with watch table }
+{
+    match table {
+        Some(table) => Some(Kept { watch, table }),
+        None => None,
     }
 }
 

@@ -1,9 +1,12 @@
 //! The check of a system: what is found in its schedule, as lines, from the bytes read to the bytes written.
 #![tactic(auto)]
 
+mod all_found;
 mod allowed;
 mod asked;
+mod by_core;
 mod core_finder;
+mod core_watch;
 mod counts;
 mod fault;
 mod fields;
@@ -11,19 +14,20 @@ mod figures;
 mod find;
 mod finder;
 mod format;
+mod found_lines;
 mod line;
 mod machine;
-mod one_core;
-mod page;
 mod pairs;
 mod progress;
 mod ran;
 mod rest;
+mod rounds;
 mod row_fields;
 mod run;
 mod seeker;
 mod seen;
 mod shown;
+mod sought;
 mod teller;
 mod why;
 mod why_fault;

@@ -1,17 +1,24 @@
 //! The lines of what is found, and of counts.
-ghost use Rattle.std.specs.Prelude.{◌≡◌, ◌++◌, ◌∷◌, [], OnOk, OnErr, decimal};
+ghost use Rattle.std.specs.Prelude.{◌≡◌, ◌≤◌, ◌+◌, ◌++◌, ◌∷◌, [], OnOk, OnErr, decimal, length, take};
 ghost use Rattle.std.specs.Io.{StartsWith};
 ghost use Rattle.mcs_system.specs.System.{core_of, thread_part};
-ghost use Rattle.mcs_text.specs.Text.{after};
-ghost use Rattle.mcs_check.specs.Lines.{counts_text, found_text, found_words, hint_text, hint_words, job_text, job_times, job_words, late_words};
+ghost use Rattle.mcs_text.specs.Text.{after, counted};
+ghost use Rattle.mcs_check.specs.Lines.{counts_text, found_text, found_words, hint_text, hint_words, job_text, job_times, job_words, late_words, ways};
 
 use crate::Counts;
 use itoa::Buffer;
 use mcs_hints::Hint;
 use mcs_system::System;
-use mcs_text::{append_counts, append_number, append_word, context_name, note_name, thread_name};
+use mcs_text::{
+    append_counts, append_number, append_word, context_name, note_name, thread_name, write_counted,
+    write_decimal, write_number, write_word,
+};
 use mcs_ticks::{ContextId, CoreId, NoMemory, ThreadId, Tick};
 use mcs_verdict::{Finding, Found, Job, Stood};
+
+/// Bytes with room for the longest line of a finding, which has twelve numbers of 20 digits, a name of 32 bytes, and its words, spaces and line
+/// feed.
+const FOUND: usize = 354;
 
 /// Appends the line of a finding: `<moment> <core>` and what was found, with the names that the system has. After a refusal the text is
 /// as it was.
@@ -19,23 +26,23 @@ pub fn put_found(text: &mut Vec<u8>, system: &System, found: &Found) -> Result<(
     ensures ok { OnOk result (text.new.items ≡ text.old.items ++ found_text system.now found.now) }
     ensures err { OnErr result (text.new.items ≡ text.old.items) }
 {
-    let start = text.len();
-    let result = append_found(text, system, found);
-    if result.is_err() {
-        text.truncate(start);
-    }
-    result
+    let mut line = [0; FOUND];
+    let end = write_found(&mut line, system, found);
+    text.extend_from_slice(&line[..end])?;
+    Ok(())
 }
 
-fn append_found(text: &mut Vec<u8>, system: &System, found: &Found) -> Result<(), NoMemory>
-    ensures ok { OnOk result (text.new.items ≡ text.old.items ++ found_text system.now found.now) }
-    ensures kept { StartsWith text.new.items text.old.items }
+/// Writes the line of a finding, and answers where it ends.
+fn write_found(line: &mut [u8], system: &System, found: &Found) -> usize
+    requires { 354 ≤ length line.old }
+    ensures short { result ≤ 354 }
+    ensures written { take result line.new ≡ found_text system.now found.now }
 {
-    append_digits(text, found.moment.get())?;
-    append_number(text, found.core.0 as u64)?;
-    append_finding(text, system, &found.finding)?;
-    text.push(b'\n')?;
-    Ok(())
+    let core = write_decimal(line, 0, found.moment.get());
+    let what = write_number(line, core, found.core.0 as u64);
+    let end = write_finding(line, what, system, &found.finding);
+    line[end] = b'\n';
+    end + 1
 }
 
 /// Appends a number, with no space before it.
@@ -48,10 +55,11 @@ fn append_digits(text: &mut Vec<u8>, number: u64) -> Result<(), NoMemory>
     Ok(())
 }
 
-/// Appends what was found.
-fn append_finding(text: &mut Vec<u8>, system: &System, finding: &Finding) -> Result<(), NoMemory>
-    ensures ok { OnOk result (text.new.items ≡ text.old.items ++ after (found_words system.now finding.now)) }
-    ensures kept { StartsWith text.new.items text.old.items }
+/// Writes what was found.
+fn write_finding(line: &mut [u8], at: usize, system: &System, finding: &Finding) -> usize
+    requires { at + 312 ≤ length line.old }
+    ensures short { result ≤ at + 312 }
+    ensures written { take result line.new ≡ take at line.old ++ after (found_words system.now finding.now) }
 {
     match *finding {
         Finding::Miss {
@@ -63,10 +71,10 @@ fn append_finding(text: &mut Vec<u8>, system: &System, finding: &Finding) -> Res
             queued,
             stood,
         } => {
-            append_named(text, "miss", thread_name(system, thread))?;
-            append_number(text, number)?;
-            append_number(text, response)?;
-            append_late(text, deadline, activated, queued, &stood)
+            let name = write_named(line, at, "miss", thread_name(system, thread));
+            let round = write_number(line, name, number);
+            let times = write_number(line, round, response);
+            write_late(line, times, deadline, activated, queued, &stood)
         }
         Finding::Overdue {
             thread,
@@ -75,18 +83,62 @@ fn append_finding(text: &mut Vec<u8>, system: &System, finding: &Finding) -> Res
             queued,
             stood,
         } => {
-            append_named(text, "overdue", thread_name(system, thread))?;
-            append_late(text, deadline, activated, queued, &stood)
+            let times = write_named(line, at, "overdue", thread_name(system, thread));
+            write_late(line, times, deadline, activated, queued, &stood)
         }
         Finding::Lost { note, word } => {
-            append_named(text, "lost", note_name(system, note))?;
-            append_number(text, u64::from(word))
+            let bits = write_named(line, at, "lost", note_name(system, note));
+            write_number(line, bits, u64::from(word))
         }
         Finding::Never { thread, deadline } => {
-            append_named(text, "never", thread_name(system, thread))?;
-            append_counts(text, &[("deadline", deadline)])
+            let time = write_named(line, at, "never", thread_name(system, thread));
+            write_counted(line, time, "deadline", deadline)
         }
     }
+}
+
+/// Writes a word and a name, each after a space.
+#[inline(always)]
+fn write_named(line: &mut [u8], at: usize, word: &str, name: &str) -> usize
+    requires { at + 2 + length word.now + length name.now ≤ length line.old }
+    ensures end { result ≡ at + 2 + length word.now + length name.now }
+    ensures written { take result line.new ≡ take at line.old ++ after (word.now ∷ name.now ∷ []) }
+{
+    let end = write_word(line, at, word);
+    write_word(line, end, name)
+}
+
+/// Writes the deadline of a round, when it was activated, and its parts.
+fn write_late(
+    line: &mut [u8],
+    at: usize,
+    deadline: u64,
+    activated: Tick,
+    queued: u64,
+    stood: &Stood,
+) -> usize
+    requires { at + 232 ≤ length line.old }
+    ensures short { result ≤ at + 232 }
+    ensures written { take result line.new ≡ take at line.old ++ after (late_words deadline activated queued stood.now) }
+{
+    let first = write_counted(line, at, "deadline", deadline);
+    let second = write_counted(line, first, "activated", activated.get());
+    let third = write_counted(line, second, "queued", queued);
+    write_ways(line, third, stood)
+}
+
+/// Writes how long a thread stood in each way.
+#[inline(always)]
+fn write_ways(line: &mut [u8], at: usize, stood: &Stood) -> usize
+    requires { at + 143 ≤ length line.old }
+    ensures short { result ≤ at + 143 }
+    ensures written { take result line.new ≡ take at line.old ++ after (counted (ways stood.now)) }
+{
+    let running = write_counted(line, at, "ready", stood.ready);
+    let throttled = write_counted(line, running, "running", stood.running);
+    let blocked = write_counted(line, throttled, "throttled", stood.throttled);
+    let woken = write_counted(line, blocked, "blocked", stood.blocked);
+    write_counted(line, woken, "woken", stood.woken)
 }
 
 /// Appends a word and a name.
@@ -96,31 +148,6 @@ fn append_named(text: &mut Vec<u8>, word: &str, name: &str) -> Result<(), NoMemo
 {
     append_word(text, word)?;
     append_word(text, name)
-}
-
-/// Appends the deadline of a round, when it was activated, and its parts.
-fn append_late(
-    text: &mut Vec<u8>,
-    deadline: u64,
-    activated: Tick,
-    queued: u64,
-    stood: &Stood,
-) -> Result<(), NoMemory>
-    ensures ok { OnOk result
-        (text.new.items ≡ text.old.items ++ after (late_words deadline activated queued stood.now)) }
-    ensures kept { StartsWith text.new.items text.old.items }
-{
-    let numbers = [
-        ("deadline", deadline),
-        ("activated", activated.get()),
-        ("queued", queued),
-        ("ready", stood.ready),
-        ("running", stood.running),
-        ("throttled", stood.throttled),
-        ("blocked", stood.blocked),
-        ("woken", stood.woken),
-    ];
-    append_counts(text, &numbers)
 }
 
 /// Appends the line of a job: `<moment> <core>` and what the round was, with the name that the system has. After a refusal the text is as

@@ -31,3 +31,10 @@ pub(crate) fn pass<P: Progress>(progress: &mut P, rows: &mut u32, row: &Row) {
         progress.passed(row.moment);
     }
 }
+
+/// All before this moment was looked at, in a run up to this horizon. At the end of the run nothing is told.
+pub(crate) fn pass_round<P: Progress>(progress: &mut P, reached: Tick, horizon: Tick) {
+    if reached <= horizon {
+        progress.passed(reached);
+    }
+}

@@ -1,25 +1,24 @@
 //! What is told after the last row.
 ghost use Rattle.std.specs.Prelude.{◌≡◌, ◌++◌, List, length, flat_map, IfSome, OnOk};
 ghost use Rattle.mcs_ticks.specs.declared.row.Row.{Row as TheRow};
-ghost use Rattle.mcs_verdict.specs.Findings.{UpTo, found_at_end};
-ghost use Rattle.mcs_verdict.specs.Watch.{watch_of};
+ghost use Rattle.mcs_verdict.specs.Findings.{UpTo};
 ghost use Rattle.mcs_hints.specs.Hints.{hints_of};
 ghost use Rattle.mcs_check.specs.Counts.{with_hints};
 ghost use Rattle.mcs_check.specs.Formats.{counts_line, hint_line};
 ghost use Rattle.mcs_check.specs.Told.{found_lines};
-ghost use Rattle.mcs_check.specs.stored.Rows.{counts_found, kept_table, rest_lines, tabled_lines};
+ghost use Rattle.mcs_check.specs.stored.AllFound.{kept_of, IsKeptOf};
+ghost use Rattle.mcs_check.specs.stored.Rows.{counts_found, rest_lines, tabled_lines};
 
 use crate::Counts;
+use crate::all_found::{AllFound, Kept};
 use crate::counts::is_allowed;
 use crate::figures::put_table;
 use crate::format::{put_counts_as, put_found_as, put_hint_as};
-use crate::seen::Seen;
 use mcs_check_words::{Format, Options, Show};
 use mcs_hints::{Hint, hints};
 use mcs_system::System;
-use mcs_table::Table;
 use mcs_ticks::NoMemory;
-use mcs_verdict::{Found, Watch, find_unended};
+use mcs_verdict::Found;
 use std::alloc::Global;
 
 /// Puts what is shown after the last row behind the text, and then the counts: where findings are, those at the horizon and hints, and the
@@ -27,34 +26,30 @@ use std::alloc::Global;
 pub(crate) fn put_rest(
     alloc: Global,
     options: &Options,
-    seen: &mut Seen,
+    all: &mut AllFound,
     system: &System,
     allowed: &[bool],
 ) -> Result<(), NoMemory>
-    requires watched { length seen.old.watch.accounts ≡ length system.now.threads }
-    requires kept { IfSome seen.old.table (λ table. length table.accounts ≡ length system.now.threads) }
-    ensures text { (past : List TheRow) → seen.old.watch ≡ watch_of system.now past →
-        seen.old.table ≡ kept_table options.now.show system.now options.now.horizon past → UpTo options.now.horizon past →
-        OnOk result (seen.new.text.items ≡ seen.old.text.items
-        ++ rest_lines options.now.format options.now.show system.now allowed.now (found_at_end system.now past options.now.horizon 0 system.now.threads)
+    requires { IfSome all.old.kept (IsKeptOf system.now) }
+    ensures text { (past : List TheRow) → all.old.kept ≡ kept_of options.now.show system.now options.now.horizon past → UpTo options.now.horizon past →
+        OnOk result (all.new.text.items ≡ all.old.text.items
+        ++ rest_lines options.now.format options.now.show system.now allowed.now all.old.unended.items
         ++ tabled_lines options.now.format options.now.show system.now options.now.horizon past
-        ++ counts_line options.now.format seen.new.counts) }
-    ensures counts { (past : List TheRow) → seen.old.watch ≡ watch_of system.now past → UpTo options.now.horizon past →
-        OnOk result (seen.new.counts ≡ with_hints (length (hints_of system.now))
-        (counts_found allowed.now (found_at_end system.now past options.now.horizon 0 system.now.threads) seen.old.counts)) }
+        ++ counts_line options.now.format all.new.counts) }
+    ensures counts { OnOk result (all.new.counts ≡ with_hints (length (hints_of system.now))
+        (counts_found allowed.now all.old.unended.items all.old.counts)) }
 {
-    let unended = find_unended(alloc, system, &seen.watch, options.horizon)?;
     let hints = hints(alloc, system)?;
+    let (text, unended, kept) = (&mut all.text, &all.unended, &all.kept);
     let ends = Ends {
         found: unended.as_slice(),
         hints: hints.as_slice(),
     };
-    put_ends(alloc, options, &mut seen.text, system, allowed, &ends)?;
-    let (text, watch) = (&mut seen.text, &seen.watch);
-    put_tabled(alloc, options, text, system, watch, &seen.table)?;
-    count_all(&mut seen.counts, allowed, unended.as_slice());
-    seen.counts.hint(hints.len());
-    put_counts_as(alloc, &mut seen.text, options.format, &seen.counts)
+    put_ends(alloc, options, text, system, allowed, &ends)?;
+    put_tabled(alloc, options, text, system, kept)?;
+    count_all(&mut all.counts, allowed, all.unended.as_slice());
+    all.counts.hint(hints.len());
+    put_counts_as(alloc, &mut all.text, options.format, &all.counts)
 }
 
 /// Puts the lines of the figures behind the text, where they are kept.
@@ -63,18 +58,17 @@ fn put_tabled(
     options: &Options,
     text: &mut Vec<u8>,
     system: &System,
-    watch: &Watch,
-    table: &Option<Table>,
+    kept: &Option<Kept>,
 ) -> Result<(), NoMemory>
-    requires watched { length watch.now.accounts ≡ length system.now.threads }
-    requires kept { IfSome table.now (λ table. length table.accounts ≡ length system.now.threads) }
-    ensures { (past : List TheRow) → watch.now ≡ watch_of system.now past →
-        table.now ≡ kept_table options.now.show system.now options.now.horizon past → UpTo options.now.horizon past →
+    requires { IfSome kept.now (IsKeptOf system.now) }
+    ensures { (past : List TheRow) → kept.now ≡ kept_of options.now.show system.now options.now.horizon past → UpTo options.now.horizon past →
         OnOk result (text.new.items ≡ text.old.items
         ++ tabled_lines options.now.format options.now.show system.now options.now.horizon past) }
 {
-    match table {
-        Some(table) => put_table(alloc, text, options.format, system, watch, table),
+    match kept {
+        Some(Kept { watch, table }) => {
+            put_table(alloc, text, options.format, system, watch, table)
+        }
         None => Ok(()),
     }
 }

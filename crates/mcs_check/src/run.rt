@@ -116,10 +116,10 @@ fn write_check<H: Threads + Wait + Sync, T: Target, P: Progress>(
     let machine = Machine { rt, alloc };
     let found = find_rows(&machine, target, &system, allowed, options, progress);
     progress.wipe();
-    let mut seen = found?;
-    if put_rest(alloc, options, &mut seen, &system, allowed).is_err() {
+    let mut all = found?;
+    if put_rest(alloc, options, &mut all, &system, allowed).is_err() {
         return Err(RunFault::Sim(SimFault::NoMemory));
     }
-    write_text(target, seen.text.as_slice())?;
-    Ok(seen.counts)
+    write_text(target, all.text.as_slice())?;
+    Ok(all.counts)
 }

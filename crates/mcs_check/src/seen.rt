@@ -10,6 +10,7 @@ ghost use Rattle.mcs_check.specs.Counts.{told_of};
 ghost use Rattle.mcs_check.specs.stored.Rows.{counted_at, kept_table, shown_at, shown_found};
 
 use crate::Counts;
+use crate::core_watch::find;
 use crate::shown::Shown;
 use mcs_check_words::Show;
 use mcs_table::Table;
@@ -70,11 +71,7 @@ impl Seen {
         ensures told { (system : TheSystem) (past : List TheRow) → self.old.watch ≡ watch_of system past → UpTo row.now.moment past →
             result ≡ told_of allowed.now (finding system past row.now.moment row.now.what) }
     {
-        if self.watch.merges(row) {
-            self.counts.merge();
-        }
-        let found = self.watch.see(row);
-        self.counts.take(allowed, found)
+        find(&mut self.watch, &mut self.counts, allowed, row)
     }
 
     /// The same, and the row is kept for figures.

@@ -1,11 +1,10 @@
--- What a system's only core finds in its rows, each after those before it.
-use Rattle.std.specs.Prelude.{◌≡◌, ℕ, Bool, true, List, [], ◌∷◌, ◌++◌}
+-- What is found in rows, each after those before it.
+use Rattle.std.specs.Prelude.{ℕ, Bool, List, [], ◌∷◌, ◌++◌}
 use Rattle.mcs_ticks.specs.declared.row.Row.{Row}
 use Rattle.mcs_system.specs.System.{System}
 use Rattle.mcs_core.specs.Clock.{clock}
 use Rattle.mcs_verdict.specs.declared.finding.Found.{Found}
-use Rattle.mcs_verdict.specs.Findings.{UpTo, finding, found_at, past_of}
-use Rattle.mcs_verdict.specs.Watch.{Watch, watch_of}
+use Rattle.mcs_verdict.specs.Findings.{finding, found_at, past_of}
 use Rattle.mcs_check.specs.declared.counts.Counts.{Counts}
 use Rattle.mcs_check.specs.Counts.{no_counts, told_of}
 use Rattle.mcs_check.specs.stored.Rows.{counted_at}
@@ -28,11 +27,3 @@ module _ (system : System) (allowed : List Bool) where
   abbrev pub told_in : List Row → List Row → List Found
   told_in past [] = []
   told_in past (r ∷ rows) = told_by past r ++ told_in (r ∷ past) rows
-
--- how it looks at a row more, which is refused only where there is no memory for what is told
-abbrev pub FindsMore : List Bool → Watch → Counts → List Found → Row → Bool → Watch → Counts → List Found → Type 0
-FindsMore allowed watch counts found row taken watch' counts' found' =
-    (system : System) (past : List Row) → watch ≡ watch_of system past → UpTo row.moment past →
-    (watch' ≡ watch_of system (row ∷ past))
-    × (counts' ≡ counted_at system allowed past row counts)
-    × (taken ≡ true → found' ≡ found ++ told_by system allowed past row)

@@ -7,7 +7,7 @@ use Rattle.mcs_verdict.specs.declared.finding.Found.{Found}
 use Rattle.mcs_cli.specs.Devices.{AppendsPrefix}
 use Rattle.mcs_cli.specs.Flow.{TakesLine}
 use Rattle.mcs_check_words.specs.declared.asked.Format.{Format}
-use Rattle.mcs_check.specs.declared.page.Page.{Page}
+use Rattle.mcs_check.specs.declared.found_lines.FoundLines.{FoundLines}
 use Rattle.mcs_check.specs.Formats.{found_line}
 use Rattle.mcs_check.specs.stored.Rows.{failed_after}
 
@@ -17,8 +17,8 @@ founds_text how system found = flat_map (found_line how system) found
 
 -- a target's bytes, and whether it has failed
 module _ {W P : Type 0} (contents : W → Option (List ℕ)) (failed : W → Bool) where
-  -- a page stays one of the same target, text, format and system; where its lines are refused the target has failed or there is no memory
-  abbrev pub PutsLines : Page W P → List ℕ → Bool → Page W P → Type 0
+  -- they stay lines for the same target, text, format and system; where its lines are refused the target has failed or there is no memory
+  abbrev pub PutsLines : FoundLines W P → List ℕ → Bool → FoundLines W P → Type 0
   PutsLines before lines taken after =
       (after.lines.target.ghost_name ≡ before.lines.target.ghost_name)
       × (after.text.ghost_name ≡ before.text.ghost_name)
@@ -28,8 +28,8 @@ module _ {W P : Type 0} (contents : W → Option (List ℕ)) (failed : W → Boo
       × (taken ≡ false → failed after.lines.target.now ≡ failed_after after.lines.is_out_of_memory (failed before.lines.target.now))
       × TakesLine (contents before.lines.target.now) (contents after.lines.target.now) before.text.now.items after.text.now.items lines taken
 
-  -- a page on which not all of these lines are put
-  abbrev pub PutsSome : Page W P → List ℕ → FlowFault → Page W P → Type 0
+  -- not all of these lines are put
+  abbrev pub PutsSome : FoundLines W P → List ℕ → FlowFault → FoundLines W P → Type 0
   PutsSome before lines fault.Sink after = PutsLines before lines false after
   PutsSome before lines fault.NoMemory after =
       (after.lines.target.ghost_name ≡ before.lines.target.ghost_name)

@@ -1,4 +1,4 @@
-use Rattle.std.proofs.Common.{rules, ◌≡◌, ◌∙◌, ap, ap₂, sym, subst, [], Some, None}
+use Rattle.std.proofs.Common.{rules, ◌≡◌, ◌∙◌, ap, ap₂, sym, subst, [], None}
 use Rattle.std.specs.Prelude.{Err}
 use Rattle.std.specs.Arc.{arc_value}
 use Rattle.mcs_system.specs.System.{System}
@@ -11,7 +11,7 @@ use Rattle.mcs_check_words.specs.CommandLine.{question_texts}
 use Rattle.mcs_check.specs.declared.why_fault.WhyFault.TheVariants.{Run}
 use Rattle.mcs_check.specs.Asked.{IsNoThread, round_number, thread_named}
 use Rattle.mcs_check.specs.Explained.{IsTold}
-use Rattle.mcs_check.specs.Why.{round_of, round_text}
+use Rattle.mcs_check.specs.Why.{round_text}
 use Rattle.mcs_check.proofs.Questions.{fault-told, memory-told, round-is, round-told, thread-told}
 use Rattle.mcs_check.proofs.why.answer.Goals as goal
 

@@ -1,8 +1,7 @@
-use Rattle.std.proofs.Common.{rules, ◌≡◌, ◌∙◌, true, false, ap, refl, sym, subst, is_ok}
+use Rattle.std.proofs.Common.{rules, ◌≡◌, ◌∙◌, true, refl, subst, is_ok}
 use Rattle.mcs_cli.specs.Flow.{TakesLine}
-use Rattle.mcs_check.specs.stored.Spans.{line_at}
 use Rattle.mcs_check.proofs.Results.{err-holds, ok-holds}
-use Rattle.mcs_check.proofs.Spans.{line-within, nothing-told, shown-is}
+use Rattle.mcs_check.proofs.Spans.{line-within, shown-is}
 use Rattle.mcs_check.proofs.teller.TellerSink.row.Goals as goal
 
 pub returns : goal.returns

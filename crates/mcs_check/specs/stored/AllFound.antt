@@ -1,0 +1,51 @@
+-- What was found of all rows of a run, and what was written then.
+use Rattle.std.specs.Prelude.{◌≡◌, ℕ, Bool, List, [], Option, length, option_map}
+use Rattle.mcs_ticks.specs.declared.row.Row.{Row}
+use Rattle.mcs_system.specs.System.{System}
+use Rattle.mcs_core.specs.Clock.{schedule}
+use Rattle.mcs_verdict.specs.Findings.{UpTo, found_at_end, past_of}
+use Rattle.mcs_verdict.specs.Watch.{Watch, watch_of}
+use Rattle.mcs_table.specs.Table.{Table}
+use Rattle.mcs_cli.specs.Flow.{AppendsBefore}
+use Rattle.mcs_check_words.specs.declared.asked.Options.{Options}
+use Rattle.mcs_check_words.specs.declared.asked.Show.{Show}
+use Rattle.mcs_check.specs.declared.all_found.AllFound.{AllFound}
+use Rattle.mcs_check.specs.declared.all_found.Kept.{Kept}
+use Rattle.mcs_check.specs.declared.seen.Seen.{Seen}
+use Rattle.mcs_check.specs.Counts.{no_counts}
+use Rattle.mcs_check.specs.stored.Rows.{counts_in, kept_table, rows_text}
+
+-- what is kept for figures, where a table is kept
+abbrev pub kept_with : Watch → Option Table → Option Kept
+kept_with watch table = option_map (λ t. record { watch = watch; table = t }) table
+
+abbrev pub kept_of : Show → System → ℕ → List Row → Option Kept
+kept_of asked system horizon past = kept_with (watch_of system past) (kept_table asked system horizon past)
+
+-- of each thread there is an account in both
+pub record IsKeptOf (system : System) (kept : Kept) : Type 0 where
+  pub watched : length kept.watch.accounts ≡ length system.threads
+  pub tabled : length kept.table.accounts ≡ length system.threads
+
+module _ (system : System) (allowed : List Bool) (options : Options) where
+  abbrev pub rows_of_run : List Row
+  rows_of_run = schedule system options.horizon
+
+  -- the lines of what rows tell
+  abbrev pub text_of_rows : List ℕ
+  text_of_rows = rows_text system allowed options.format options.show rows_of_run
+
+  -- all rows of the run were seen, and of those lines all but the text were given to a target
+  pub record IsAllSeen (old new : Option (List ℕ)) (seen : Seen) : Type 0 where
+    pub text : AppendsBefore old new text_of_rows seen.text.items
+    pub watch : seen.watch ≡ watch_of system (past_of [] rows_of_run)
+    pub counts : seen.counts ≡ counts_in system allowed [] rows_of_run no_counts
+    pub table : seen.table ≡ kept_table options.show system options.horizon (past_of [] rows_of_run)
+
+  -- it is all of the run, and of those lines all but its text were given to a target
+  pub record IsAllFound (old new : Option (List ℕ)) (found : AllFound) : Type 0 where
+    pub text : AppendsBefore old new text_of_rows found.text.items
+    pub counts : found.counts ≡ counts_in system allowed [] rows_of_run no_counts
+    pub unended : found.unended.items ≡ found_at_end system (past_of [] rows_of_run) options.horizon 0 system.threads
+    pub kept : found.kept ≡ kept_of options.show system options.horizon (past_of [] rows_of_run)
+    pub in_time : UpTo options.horizon (past_of [] rows_of_run)

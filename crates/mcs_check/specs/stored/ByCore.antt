@@ -1,0 +1,46 @@
+-- What each core finds in its own rows, and what all cores find together.
+use Rattle.std.specs.Prelude.{ℕ, ◌+◌, Bool, List, [], flat_map, fold}
+use Rattle.std.specs.List.{range_with_len}
+use Rattle.mcs_ticks.specs.declared.row.Row.{Row}
+use Rattle.mcs_ticks.specs.Capped.{capped}
+use Rattle.mcs_system.specs.System.{System}
+use Rattle.mcs_stretch.specs.Stretch.{rows_between}
+use Rattle.mcs_verdict.specs.declared.finding.Found.{Found}
+use Rattle.mcs_verdict.specs.Findings.{past_of}
+use Rattle.mcs_check.specs.declared.counts.Counts.{Counts}
+use Rattle.mcs_check.specs.Counts.{no_counts}
+use Rattle.mcs_check.specs.stored.Found.{counts_so_far, told_in}
+
+-- two counts as one
+abbrev pub together : Counts → Counts → Counts
+together a b =
+    record {
+      missed = capped (a.missed + b.missed);
+      overdue = capped (a.overdue + b.overdue);
+      lost = capped (a.lost + b.lost);
+      never = capped (a.never + b.never);
+      merged = capped (a.merged + b.merged);
+      allowed = capped (a.allowed + b.allowed);
+      hints = capped (a.hints + b.hints);
+    }
+
+-- the rows of core c before a moment, the latest first
+abbrev pub before_on : System → ℕ → ℕ → List Row
+before_on system c t = past_of [] (rows_between system c 0 t)
+
+module _ (system : System) (allowed : List Bool) where
+  -- what core c tells of its rows from one moment to before another
+  abbrev pub told_on : ℕ → ℕ → ℕ → List Found
+  told_on c from to = told_in system allowed (before_on system c from) (rows_between system c from to)
+
+  -- what all cores tell of theirs, one core after another
+  abbrev pub told_on_all : ℕ → ℕ → List Found
+  told_on_all from to = flat_map (λ c. told_on c from to) (range_with_len 0 system.cores)
+
+  -- what core c counts of its rows before a moment
+  abbrev pub counts_on : ℕ → ℕ → Counts
+  counts_on c t = counts_so_far system allowed (before_on system c t)
+
+  -- what all cores count
+  abbrev pub counts_on_all : ℕ → Counts
+  counts_on_all t = fold (λ counts c. together counts (counts_on c t)) no_counts (range_with_len 0 system.cores)

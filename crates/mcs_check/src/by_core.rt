@@ -1,0 +1,127 @@
+//! What is found in the rows of a system, each core of which looks at its own where its turns are taken.
+ghost use Rattle.std.specs.Prelude.{◌≡◌, ◌+◌, ◌++◌, ◌≤◌, ◌^◌, ℕ, Bool, List, [], drop, length, replicate, true, IfErr, IfOk, OnOk};
+ghost use Rattle.std.specs.Arc.{arc_value};
+ghost use Rattle.mcs_system.specs.WellFormed.{IsWellFormed};
+ghost use Rattle.mcs_core.specs.Clock.{schedule};
+ghost use Rattle.mcs_verdict.specs.Findings.{found_at_end, past_of};
+ghost use Rattle.mcs_check_words.specs.declared.asked.Show.TheVariants.{Findings};
+ghost use Rattle.mcs_check.specs.stored.Found.{counts_so_far};
+ghost use Rattle.mcs_check.specs.stored.Pages.{PutsLines, PutsSome};
+ghost use Rattle.mcs_check.specs.stored.Rounds.{are_counted_together, AreWatched};
+ghost use Rattle.mcs_check.specs.stored.Rows.{lines_in};
+
+use crate::core_watch::CoreWatch;
+use crate::found_lines::FoundLines;
+use crate::progress::pass_round;
+use crate::rounds::{opening_cores, take_round};
+use crate::{Counts, Progress};
+use mcs_cli::Target;
+use mcs_system::{System, SystemParts};
+use mcs_team::FlowFault;
+use mcs_ticks::{NoMemory, ThreadId, Tick};
+use mcs_verdict::{Found, cores_are_watched, keep_finding};
+use std::alloc::Global;
+use std::marker::Brand;
+use std::sync::Arc;
+
+/// After so many rows more what was found is told.
+const ENOUGH: usize = 16_384;
+
+/// What was found of all rows of a run: how much, and what is found at the horizon.
+#[derive(Drop)]
+pub(crate) struct FoundByCore {
+    pub(crate) counts: Counts,
+    pub(crate) unended: Vec<Found>,
+}
+
+/// Takes all turns of a system, in rounds, and tells what was found in each. It answers what was found of all rows.
+pub(crate) fn look<T: Target, P: Progress>(
+    alloc: Global,
+    shared: &Arc<System>,
+    allowed: &[bool],
+    horizon: Tick,
+    lines: &mut FoundLines<'_, '_, '_, '_, T, P>,
+) -> Result<FoundByCore, FlowFault>
+    requires in_range { horizon ≤ 2 ^ 40 }
+    requires run { arc_value shared.now ≡ lines.old.system.now }
+    ensures counts { IfOk result (λ found. found.counts ≡ counts_so_far lines.old.system.now allowed.now (past_of [] (schedule lines.old.system.now horizon))) }
+    ensures unended { IfOk result (λ found. found.unended.items
+        ≡ found_at_end lines.old.system.now (past_of [] (schedule lines.old.system.now horizon)) horizon 0 lines.old.system.now.threads) }
+    ensures put { OnOk result (PutsLines T.contents T.has_failed lines.old
+        (lines_in lines.old.system.now allowed.now lines.old.format Findings [] (schedule lines.old.system.now horizon)) true lines.new) }
+    ensures fault { IfErr result (λ why. PutsSome T.contents T.has_failed lines.old
+        (lines_in lines.old.system.now allowed.now lines.old.format Findings [] (schedule lines.old.system.now horizon)) why lines.new) }
+{
+    cores_are_watched();
+    let system = lines.system;
+    let _parts = system.parts();
+    let Ok(mut cores) = opening_cores(alloc, shared, horizon) else {
+        return Err(FlowFault::NoMemory);
+    };
+    'rounds: while cores.reached <= horizon {
+        let enough = cores.rows.saturating_add(ENOUGH);
+        let Ok(next) = take_round::<Brand>(alloc, system, allowed, cores, enough) else {
+            return Err(FlowFault::NoMemory);
+        };
+        let Ok(()) = lines.put(next.found.as_slice()) else {
+            return Err(FlowFault::Sink);
+        };
+        pass_round(lines.progress, next.reached, horizon);
+        cores = next;
+    }
+    let Ok(found) = put_together(alloc, system, horizon, cores.watches.as_slice()) else {
+        return Err(FlowFault::NoMemory);
+    };
+    Ok(found)
+}
+
+/// What the cores have found when all turns were taken.
+fn put_together(
+    alloc: Global,
+    system: &System,
+    horizon: Tick,
+    watches: &[CoreWatch],
+) -> Result<FoundByCore, NoMemory>
+    requires { length watches.now ≡ system.now.cores }
+    ensures counts { IfOk result (λ found. found.counts ≡ are_counted_together watches.now) }
+    ensures unended { (allowed : List Bool) (from : ℕ) → AreWatched system.now allowed from (replicate system.now.cores (horizon + 1)) watches.now
+        → IfOk result (λ found. found.unended.items ≡ found_at_end system.now (past_of [] (schedule system.now horizon)) horizon 0 system.now.threads) }
+{
+    Ok(FoundByCore {
+        counts: counted(watches),
+        unended: unended(alloc, system.parts(), horizon, watches)?,
+    })
+}
+
+/// How much all cores have found.
+fn counted(watches: &[CoreWatch]) -> Counts
+    ensures { result ≡ are_counted_together watches.now }
+{
+    let mut counts = Counts::new();
+    for own in watches {
+        counts.add_all(&own.counts);
+    }
+    counts
+}
+
+/// What is found at the horizon, in the order of the threads, each of which is asked for on its core.
+fn unended(
+    alloc: Global,
+    parts: &SystemParts,
+    horizon: Tick,
+    watches: &[CoreWatch],
+) -> Result<Vec<Found>, NoMemory>
+    requires well_formed { IsWellFormed parts.now }
+    requires many { length watches.now ≡ parts.now.cores }
+    ensures { (allowed : List Bool) (from : ℕ) → AreWatched parts.now allowed from (replicate parts.now.cores (horizon + 1)) watches.now
+        → IfOk result (λ found. found.items ≡ found_at_end parts.now (past_of [] (schedule parts.now horizon)) horizon 0 parts.now.threads) }
+{
+    cores_are_watched();
+    let mut found = Vec::new(alloc);
+    for (number, part) in parts.threads.as_slice().iter().enumerate() {
+        let core = parts.core_of_thread(part);
+        let finding = watches[core.0].watch.unended(horizon, ThreadId(number));
+        keep_finding(&mut found, horizon, core, finding)?;
+    }
+    Ok(found)
+}

@@ -1,0 +1,49 @@
+//! Lines of findings on their way to a target.
+ghost use Rattle.std.specs.Prelude.{◌≡◌, is_ok};
+ghost use Rattle.mcs_check.specs.Formats.{found_line};
+ghost use Rattle.mcs_check.specs.stored.Pages.{founds_text, PutsLines};
+
+use crate::Progress;
+use crate::finder::Lines;
+use crate::shown::Shown;
+use mcs_check_words::Format;
+use mcs_cli::Target;
+use mcs_system::System;
+use mcs_ticks::Refused;
+use mcs_verdict::Found;
+
+/// Lines of what is found in a system, of which the last ones wait.
+#[derive(Drop)]
+pub(crate) struct FoundLines<'t, 'k, 's, 'p, T: Target, P: Progress> {
+    pub(crate) lines: Lines<'t, T>,
+    /// The lines that are not written yet.
+    pub(crate) text: &'k mut Vec<u8>,
+    pub(crate) format: Format,
+    pub(crate) system: &'s System,
+    pub(crate) progress: &'p mut P,
+}
+
+impl<T: Target, P: Progress> FoundLines<'_, '_, '_, '_, T, P> {
+    /// Puts the lines of what was found behind those that wait, one after another.
+    pub(crate) fn put(&mut self, found: &[Found]) -> Result<(), Refused>
+        ensures { PutsLines T.contents T.has_failed self.old (founds_text self.old.format self.old.system.now found.now) (is_ok result) self.new }
+    {
+        for one in found {
+            self.put_one(one)?;
+        }
+        Ok(())
+    }
+
+    /// Puts the line of a finding behind those that wait.
+    fn put_one(&mut self, found: &Found) -> Result<(), Refused>
+        ensures { PutsLines T.contents T.has_failed self.old (found_line self.old.format self.old.system.now found.now) (is_ok result) self.new }
+    {
+        self.lines.put(
+            self.text,
+            self.format,
+            self.system,
+            &Shown::Found(*found),
+            self.progress,
+        )
+    }
+}
