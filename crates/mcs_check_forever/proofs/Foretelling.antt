@@ -1,7 +1,7 @@
 -- What is read and written, by what is told of the system that was read.
 use Rattle.std.proofs.Common.{◌≡◌, ℕ, Bool, true, false, List, Option, Some, None, IfSome, IsSome, refl, sym, subst}
 use Rattle.std.specs.Prelude.{Result, Ok, Err}
-use Rattle.std.specs.Io.KnownBytes.{Appends, Keeps}
+use Rattle.std.specs.Io.KnownBytes.{Keeps}
 use Rattle.mcs_system.specs.System.{System}
 use Rattle.mcs_team.specs.declared.run.SimFault.{SimFault}
 use Rattle.mcs_cli.specs.Devices.{AppendsPrefix}

@@ -1,5 +1,5 @@
 -- What a look at all time reads and writes.
-use Rattle.std.specs.Prelude.{Result, Ok, Err, Option, Some, None, ◌≡◌, ◌≢◌, ◌⊎◌, List, ℕ, Bool, true, false, ◌||◌, is_some, length, nat_lt, not, ◌==◌}
+use Rattle.std.specs.Prelude.{Result, Ok, Err, Option, Some, ◌≡◌, ◌≢◌, ◌⊎◌, List, ℕ, Bool, true, false, ◌||◌, is_some, not}
 use Rattle.std.specs.Io.KnownBytes.{Appends, Keeps}
 use Rattle.mcs_system.specs.System.{System}
 use Rattle.mcs_load.specs.Memory.{no_memory}

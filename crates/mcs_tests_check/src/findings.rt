@@ -58,7 +58,7 @@ fn lost_signals_are_written_or_allowed(rt: HostRuntime) -> Result<(), Fail> {
     Ok(())
 }
 
-// No finding is written, and what is found is counted.
+/// No finding is written, and what is found is counted.
 #[test]
 fn rounds_that_ended_are_written(rt: HostRuntime) -> Result<(), Fail> {
     for (system, horizon, want) in [(LATE, 20, LATE_JOBS), (SIGNALS, 5, SIGNAL_JOBS)] {
@@ -70,7 +70,7 @@ fn rounds_that_ended_are_written(rt: HostRuntime) -> Result<(), Fail> {
     Ok(())
 }
 
-// A name of two lines is told in one.
+/// A name of two lines is told in one.
 #[test]
 fn names_that_are_not_known(rt: HostRuntime) -> Result<(), Fail> {
     for (system, name, want) in [

@@ -78,7 +78,7 @@ fn the_table_is_written(rt: HostRuntime) -> Result<(), Fail> {
     Ok(())
 }
 
-// The miss, and then the figures.
+/// The miss, and then the figures.
 #[test]
 fn findings_and_figures_are_written(rt: HostRuntime) -> Result<(), Fail> {
     let mut options = options(rt.alloc(), 20, 1, &[])?;

@@ -5,7 +5,7 @@ use mcs_load::load;
 use mcs_ticks::NoteId;
 use std::test::Fail;
 
-// On a notification that is waited on and that no script signals.
+/// On a notification that is waited on and that no script signals.
 #[test]
 fn hints_of_a_file(rt: HostRuntime) -> Result<(), Fail> {
     let text = r#"

@@ -49,7 +49,7 @@ fn progress_of(
     Ok(told)
 }
 
-// What was shown gives way before each piece that is written, and at the end: two lines are two pieces.
+/// What was shown gives way before each piece that is written, and at the end: two lines are two pieces.
 #[test]
 fn what_was_shown_gives_way(rt: HostRuntime) -> Result<(), Fail> {
     let none = progress_of(&rt, rt.alloc(), SIGNALS, &options(rt.alloc(), 0, 1, &[])?)?;
@@ -59,17 +59,17 @@ fn what_was_shown_gives_way(rt: HostRuntime) -> Result<(), Fail> {
     Ok(())
 }
 
-// In ten ticks are 5 signals, 5 words that are held, 5 ends of rounds, a stop and a run: 17 rows. So 4,096 rows have gone by for the fourth
-// time between 9,000 and 10,000.
+/// In ten ticks are 5 signals, 5 words that are held, 5 ends of rounds, a stop and a run: 17 rows. It is told after each 16,384 rows: for the
+/// fourth time between 38,500 and 39,500, and not again before the end.
 #[test]
 fn a_long_run_is_told_of(rt: HostRuntime) -> Result<(), Fail> {
     let long = progress_of(
         &rt,
         rt.alloc(),
         SIGNALS,
-        &options(rt.alloc(), 10_000, 1, &["tick"])?,
+        &options(rt.alloc(), 40_000, 1, &["tick"])?,
     )?;
     assert_eq!(rt; (long.passed, long.rises, long.wiped), (4, true, 1));
-    assert!(rt; long.last > 9_000 && long.last <= 10_000);
+    assert!(rt; long.last > 38_500 && long.last <= 39_500);
     Ok(())
 }

@@ -141,7 +141,7 @@ fn a_lock_is_told(rt: HostRuntime) -> Result<(), Fail> {
     Ok(())
 }
 
-// A name of two lines is told in one.
+/// A name of two lines is told in one.
 #[test]
 fn rounds_that_are_not_there(rt: HostRuntime) -> Result<(), Fail> {
     for (thread, round, want) in [
@@ -219,7 +219,7 @@ fn of_input(
     ))
 }
 
-// A file that is not there was not read; where none is named the input is.
+/// A file that is not there was not read; where none is named the input is.
 #[test]
 fn files_and_the_input(rt: HostRuntime) -> Result<(), Fail> {
     let name = String::from_str(rt.alloc(), "no_folder/no_file.toml")?;

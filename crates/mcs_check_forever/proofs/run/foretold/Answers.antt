@@ -1,4 +1,4 @@
-use Rattle.std.proofs.Common.{rules, ◌≡◌, ◌∙◌, List, Bool, ap, map, string_bytes, subst, sym}
+use Rattle.std.proofs.Common.{rules, ◌≡◌, ◌∙◌, List, Bool, ap, map, string_bytes, subst}
 use Rattle.std.specs.Arc.{arc_value}
 use Rattle.mcs_system.specs.System.{System}
 use Rattle.mcs_check.specs.Allowed.{flags_of}

@@ -1,4 +1,4 @@
-use Rattle.std.proofs.Common.{rules, [], ◌≡◌, ◌≢◌, ◌∙◌, ap, sym, subst, false, true, refl}
+use Rattle.std.proofs.Common.{rules, [], ◌≡◌, ◌≢◌, ◌∙◌, sym, subst, false, true}
 use Rattle.mcs_merge.proofs.Helds.{err_same}
 use Rattle.mcs_text.specs.Told.{ToldLines, HoldsTold}
 use Rattle.mcs_cli.specs.Lines.{PutsLines}
