@@ -184,10 +184,7 @@ class Trial:
 
 
 def main() -> None:
-    parser = common.asking_program(__doc__)
-    parser.add_argument('--sets', type=int, default=300, help='how many sets (default 300)')
-    parser.add_argument('--seed', type=int, default=1)
-    words = parser.parse_args()
+    words = common.asking_random(__doc__, 300, 'sets').parse_args()
     program = common.built_program(words.program)
     trial = Trial(program, common.checker_of(program))
     for number in range(words.sets):

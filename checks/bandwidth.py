@@ -64,10 +64,7 @@ def over_budget(program: pathlib.Path, system: System) -> list[str] | None:
 
 
 def main() -> None:
-    parser = common.asking_program(__doc__)
-    parser.add_argument('--systems', type=int, default=1000, help='how many systems (default 1000)')
-    parser.add_argument('--seed', type=int, default=1)
-    words = parser.parse_args()
+    words = common.asking_random(__doc__, 1000).parse_args()
     program = common.built_program(words.program)
     count, over_sporadic = Count(), 0
     for number in range(words.systems):

@@ -2,9 +2,10 @@
 """Measures runs of the built program beside those of another program that takes the same words and writes the same bytes: instructions and seconds.
 
 The other program is named after the script, as one that was written for speed alone. On five systems (cases.py), with the schedule and with the reports,
-one worker each, it first compares the bytes of both, then counts instructions by valgrind, less those of a run with horizon 0, and then takes the time that
-passes, the least of seven runs by turns. Nothing else should run while time is taken; instructions are the same whatever else runs. With --write the table is put
-into docs/PERFORMANCE.md, with --no-time it has no seconds. The count of the last line is of runs whose bytes were the same."""
+one worker each, it first compares the bytes of both, then counts instructions by valgrind, less those of a run with horizon 0, and then takes the
+time that passes, the least of seven runs by turns, and so of ten times the horizon, where the file counts for less. Nothing else should run while
+time is taken; instructions are the same whatever else runs. With --write the table is put into docs/PERFORMANCE.md, with --no-time it has no
+seconds. The count of the last line is of runs whose bytes were the same."""
 from __future__ import annotations
 
 import concurrent.futures
@@ -22,16 +23,17 @@ from typing import NamedTuple
 sys.dont_write_bytecode = True
 import common
 from cases import CASES, Case
-from common import TOP, Count
-from measured import run_measured
+from common import Count
+from measured import put_between, run_measured
 from performance import headed, processor
 
-PAGE = TOP / 'docs' / 'PERFORMANCE.md'
 BEGIN, END = '<!-- table of checks/beside.py -->', '<!-- end of the table beside -->'
 SHOWS = ('schedule', 'reports')
 COUNTING = ('valgrind', '--tool=callgrind', '--callgrind-out-file=/dev/null')
 # of so many runs the quickest is told
 TRIES = 7
+# so many times the horizon have the long runs, and none has more moments
+LONG, LATEST = 10, 2**40
 
 
 class Run(NamedTuple):
@@ -61,16 +63,21 @@ class Run(NamedTuple):
             common.stop(f'valgrind counted nothing of {self.case.name}')
         return int(found[1])
 
-    def seconds(self, programs: Sequence[pathlib.Path]) -> list[float]:
+    def seconds(self, programs: Sequence[pathlib.Path], horizon: int) -> list[float]:
         """The least time that passes of each program, run by turns."""
         least = [float('inf')] * len(programs)
         for _ in range(TRIES):
             for number, program in enumerate(programs):
-                cost = run_measured(self.command(program, self.case.horizon))
+                cost = run_measured(self.command(program, horizon))
                 if cost.status:
                     common.stop(f'a run of {self.case.name} ended with status {cost.status}')
                 least[number] = min(least[number], cost.seconds)
         return least
+
+    def times(self, programs: Sequence[pathlib.Path]) -> list[list[float]]:
+        """Those of the run, and of a long one."""
+        horizons = (self.case.horizon, min(LONG * self.case.horizon, LATEST))
+        return [self.seconds(programs, horizon) for horizon in horizons]
 
 
 def runs(folder: pathlib.Path) -> Iterator[Run]:
@@ -81,11 +88,11 @@ def runs(folder: pathlib.Path) -> Iterator[Run]:
             yield Run(case, file, show)
 
 
-def told(counts: Sequence[int], seconds: Sequence[float]) -> list[str]:
-    """The cells of one show: millions of instructions and how many times the other's, and so of seconds."""
+def told(counts: Sequence[int], times: Sequence[Sequence[float]]) -> list[str]:
+    """The cells of one show: millions of instructions and how many times the other's, and so of the seconds of each horizon."""
     other, own = counts
     cells = [f'{other / 1e6:.1f}', f'{own / 1e6:.1f}', f'{own / other:.2f}']
-    return cells + [f'{seconds[1] / seconds[0]:.2f}'] if seconds else cells
+    return cells + [f'{ours / others:.2f}' for others, ours in times]
 
 
 def table(all_runs: Sequence[Run], programs: Sequence[pathlib.Path], with_time: bool) -> list[str]:
@@ -93,17 +100,10 @@ def table(all_runs: Sequence[Run], programs: Sequence[pathlib.Path], with_time: 
         counts = list(pool.map(lambda run: [run.instructions(program) for program in programs], all_runs))
     rows = []
     for run, counted in zip(all_runs, counts):
-        cells = told(counted, run.seconds(programs) if with_time else [])
+        cells = told(counted, run.times(programs) if with_time else [])
         rows.append(f'| {run.case.name} | {run.show} | ' + ' | '.join(cells) + ' |')
     head = ['System', 'Show', 'Other: million instructions', 'mcsim: million instructions', 'Times the other']
-    return headed(head + ['In time'] if with_time else head, rows)
-
-
-def put_into_page(lines: Sequence[str]) -> None:
-    before, rest = PAGE.read_text().split(BEGIN + '\n', 1)
-    today = datetime.date.today().isoformat()
-    text = '\n'.join([f'Measured on {today} ({processor()}).', '', *lines])
-    PAGE.write_text(f'{before}{BEGIN}\n\n{text}\n\n{END}{rest.split(END, 1)[1]}')
+    return headed(head + ['In time', 'Ten times the horizon'] if with_time else head, rows)
 
 
 def main() -> None:
@@ -123,7 +123,7 @@ def main() -> None:
         lines = table(all_runs, programs, not words.no_time)
     print('\n'.join(lines))
     if words.write:
-        put_into_page(lines)
+        put_between(BEGIN, END, '\n'.join([f'Measured on {datetime.date.today()} ({processor()}).', '', *lines]))
     count.end()
 
 

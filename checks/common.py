@@ -111,6 +111,14 @@ def asking_program(doc: str | None) -> argparse.ArgumentParser:
     return parser
 
 
+def asking_random(doc: str | None, many: int, what: str = 'systems') -> argparse.ArgumentParser:
+    """The same of a script that makes random systems, or others, as many as --systems, or such a word, says."""
+    parser = asking_program(doc)
+    parser.add_argument(f'--{what}', type=int, default=many, help='how many random ones (default: %(default)s)')
+    parser.add_argument('--seed', type=int, default=1, help='of the random ones (default: %(default)s)')
+    return parser
+
+
 def is_program(path: pathlib.Path) -> bool:
     return path.is_file() and os.access(path, os.X_OK)
 

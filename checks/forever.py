@@ -187,16 +187,13 @@ def random_system(name: str) -> tuple[System, list[str], list[str]]:
 
 
 def main() -> None:
-    parser = common.asking_program(__doc__)
-    parser.add_argument('--count', type=int, default=100, help='how many random systems (default 100)')
-    parser.add_argument('--seed', type=int, default=1)
-    words = parser.parse_args()
+    words = common.asking_random(__doc__, 100).parse_args()
     simulator = common.built_program(words.program)
     trial = Trial(simulator, common.beside(simulator, 'mcscheck'))
     trial.known()
     # what the known systems show does not count
     trial.seen.clear()
-    for number in range(words.count):
+    for number in range(words.systems):
         trial.agrees(*random_system(f'{words.seed} {number}'))
     print(', '.join(f'{what} {many}' for what, many in trial.seen.items()))
     for what in SEEN:

@@ -310,13 +310,11 @@ class Trial:
 
 
 def main() -> None:
-    parser = common.asking_program(__doc__)
-    parser.add_argument('--count', type=int, default=100, help='how many random systems (default 100)')
+    parser = common.asking_random(__doc__, 100)
     parser.add_argument('--horizon', type=int, default=2000, help='up to which a repetition is looked for (default 2000)')
-    parser.add_argument('--seed', type=int, default=1)
     words = parser.parse_args()
     trial = Trial(words)
-    for number in range(words.count):
+    for number in range(words.systems):
         text = verdicts.text_of(verdicts.tables_of(random.Random(f'{words.seed} {number}')))
         trial.look(f'random {words.seed} {number}', text)
     print(f'missed {trial.missed}')

@@ -1,9 +1,9 @@
 #!/usr/bin/env python3
 """Tells in two tables how often mcscheck --forever finds that a set of cores repeats, and how late, and what that takes.
 
-The systems are random ones as of verdicts.py, random sets of periodic tasks with a clock each, and the files of this repository. A set is looked at up to
-a horizon. Where no repetition is found, though the rows of the set came ten times at its end, that is counted: there one may have been missed, and
---missed names each. A row of the schedule counts as an event.
+The systems are random ones as of verdicts.py, a third as many random sets of periodic tasks with a clock each, and the files of this repository. A set
+is looked at up to a horizon. Where no repetition is found, though the rows of the set came ten times at its end, that is counted: there one may have
+been missed, and --missed names each. A row of the schedule counts as an event.
 
 What it takes is held against a run of mcsim --show reports to the end of the latest first period, or to the horizon where a set does not repeat, both on
 one worker: of systems for which that run takes some hundredths of a second, CPU seconds, of each the least of three tries; nothing else
@@ -169,10 +169,8 @@ def written(page: str, tables: Sequence[str]) -> str:
 
 
 def asked() -> object:
-    parser = common.asking_program(__doc__)
-    parser.add_argument('--count', type=int, default=300, help='how many random systems, and a third as many sets of tasks (default 300)')
+    parser = common.asking_random(__doc__, 300)
     parser.add_argument('--horizon', type=int, default=100_000, help='up to which a repetition is looked for (default 100000)')
-    parser.add_argument('--seed', type=int, default=1)
     parser.add_argument('--missed', action='store_true', help='names the sets of which a repetition may have been missed')
     parser.add_argument('--instructions', action='store_true', help='counts instructions by valgrind')
     parser.add_argument('--write', action='store_true', help='writes the tables to docs/FOREVER.md')
@@ -183,7 +181,7 @@ def main() -> None:
     words = asked()
     found = Table(words, common.built_program(words.program))
     with tempfile.TemporaryDirectory() as folder:
-        for kind, name, text in texts(words.count, words.seed):
+        for kind, name, text in texts(words.systems, words.seed):
             found.look(kind, name, text, pathlib.Path(folder, 'system.toml'))
     print('\n'.join(found.tables()))
     if words.write:

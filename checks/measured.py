@@ -1,4 +1,5 @@
-"""What a run takes, and the text of systems to measure; for costs.py and performance.py."""
+"""What a run takes, the text of systems to measure, and where tables are put; for costs.py, performance.py, beside.py, gains.py and
+checker_costs.py."""
 from __future__ import annotations
 
 import os
@@ -7,7 +8,9 @@ import time
 from collections.abc import Sequence
 from typing import NamedTuple
 
-from common import Word
+from common import TOP, Word
+
+PAGE = TOP / 'docs' / 'PERFORMANCE.md'
 
 
 class Cost(NamedTuple):
@@ -26,6 +29,12 @@ def run_measured(command: Sequence[Word]) -> Cost:
     _, status, used = os.wait4(running.pid, 0)
     running.returncode = os.waitstatus_to_exitcode(status)
     return Cost(time.monotonic() - began, used.ru_utime + used.ru_stime, used.ru_maxrss / 1024, running.returncode)
+
+
+def put_between(begin: str, end: str, text: str) -> None:
+    """Puts a text into docs/PERFORMANCE.md in place of what stands there between two marks."""
+    before, rest = PAGE.read_text().split(f'{begin}\n', 1)
+    PAGE.write_text(f'{before}{begin}\n\n{text}\n\n{end}{rest.split(end, 1)[1]}')
 
 
 def system_text(

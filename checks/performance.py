@@ -2,8 +2,9 @@
 """Tells how the time and memory of runs of the built program grow with events, threads, cores, workers and delay.
 
 It makes systems, runs the program on each, and prints tables in Markdown: rows of the schedule, seconds that pass, CPU seconds and the
-greatest memory, where the schedule is written (to /dev/null) and where only the reports are, each the quickest of three runs. With --write the tables are put into
-docs/PERFORMANCE.md in place of those that stand there. Nothing else should run meanwhile. The count of the last line is of tables."""
+greatest memory, where the schedule is written (to /dev/null) and where only the reports are, each the quickest of three runs. With --write the
+tables are put into docs/PERFORMANCE.md in place of those that stand there. Nothing else should run meanwhile. The count of the last line is of
+tables."""
 from __future__ import annotations
 
 import argparse
@@ -19,10 +20,9 @@ from collections.abc import Callable, Iterable, Iterator, Sequence
 
 sys.dont_write_bytecode = True
 import common
-from common import TOP, Count
-from measured import Cost, run_measured, system_text
+from common import Count
+from measured import Cost, put_between, run_measured, system_text
 
-PAGE = TOP / 'docs' / 'PERFORMANCE.md'
 BEGIN, END = '<!-- tables of checks/performance.py -->', '<!-- end of tables -->'
 MANY = 100
 # of so many runs the quickest is told: another user of the machine only slows one down
@@ -145,11 +145,6 @@ def processor() -> str:
     return names[0] if names else platform.machine()
 
 
-def put_into_page(text: str) -> None:
-    before, rest = PAGE.read_text().split(BEGIN + '\n', 1)
-    PAGE.write_text(f'{before}{BEGIN}\n\n{text}\n{END}{rest.split(END, 1)[1]}')
-
-
 def asked() -> argparse.Namespace:
     parser = common.asking_program(__doc__)
     parser.add_argument('--quick', action='store_true', help='a tenth of each horizon')
@@ -170,7 +165,7 @@ def main() -> None:
             print(parts[-1], flush=True)
             count.add(passed=1)
     if words.write:
-        put_into_page('\n'.join(parts))
+        put_between(BEGIN, END, '\n'.join(parts).rstrip())
     count.end()
 
 

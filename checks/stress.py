@@ -154,9 +154,7 @@ def kept(text: str, seed: int, number: int) -> pathlib.Path:
 
 
 def main() -> None:
-    parser = common.asking_program(__doc__)
-    parser.add_argument('--systems', type=int, default=2000, help='how many systems (default 2000)')
-    parser.add_argument('--seed', type=int, default=1)
+    parser = common.asking_random(__doc__, 2000)
     parser.add_argument('--limit', type=float, default=common.SECONDS, metavar='SECONDS', help=f'after so long a run has no answer (default {common.SECONDS})')
     words = parser.parse_args()
     program = common.built_program(words.program)

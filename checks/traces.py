@@ -135,10 +135,8 @@ def try_system(program: pathlib.Path, file: pathlib.Path, horizon: int, count: C
 
 
 def main() -> None:
-    parser = common.asking_program(__doc__)
+    parser = common.asking_random(__doc__, SYSTEMS)
     parser.add_argument('--file', type=pathlib.Path, metavar='TRACE', help='tries this trace alone')
-    parser.add_argument('--seed', type=int, default=1, help='of the random systems (default: %(default)s)')
-    parser.add_argument('--systems', type=int, default=SYSTEMS, help='how many random systems (default: %(default)s)')
     words = parser.parse_args()
     count = Count()
     if words.file:

@@ -339,10 +339,7 @@ def differing(ran: Ran, wanted: Ran) -> str:
 
 
 def main() -> None:
-    parser = common.asking_program(__doc__)
-    parser.add_argument('--systems', type=int, default=1000, help='how many random systems (default 1000)')
-    parser.add_argument('--seed', type=int, default=1)
-    words = parser.parse_args()
+    words = common.asking_random(__doc__, 1000).parse_args()
     simulator = common.built_program(words.program)
     trial = Trial(simulator, common.beside(simulator, 'mcscheck'))
     trial.known()

@@ -249,10 +249,7 @@ class Trial:
 
 
 def main() -> None:
-    parser = common.asking_program(__doc__)
-    parser.add_argument('--seed', type=int, default=1, help='of the random systems (default: %(default)s)')
-    parser.add_argument('--systems', type=int, default=SYSTEMS, help='how many random systems (default: %(default)s)')
-    words = parser.parse_args()
+    words = common.asking_random(__doc__, SYSTEMS).parse_args()
     program = common.built_program(words.program)
     if not browser.found():
         count = Count()

@@ -320,7 +320,7 @@ class WrongPrograms(Programs):
             file = pathlib.Path(folder, name)
             file.write_text(f'#!/bin/sh\n{text}\n')
             file.chmod(0o755)
-        command = [sys.executable, str(CHECKS / 'forever.py'), '--program', str(pathlib.Path(folder, 'mcsim')), '--count', '1']
+        command = [sys.executable, str(CHECKS / 'forever.py'), '--program', str(pathlib.Path(folder, 'mcsim')), '--systems', '1']
         return common.tally_of(common.run(command).stdout.decode().splitlines()[-1])
 
     def test_systems_that_show_nothing_are_a_failure(self) -> None:
