@@ -19,8 +19,9 @@ from collections.abc import Sequence
 from typing import NamedTuple
 
 sys.dont_write_bytecode = True
-import common
-from common import LIBRARY, TOP, Tally
+sys.path[0] = str(pathlib.Path(__file__).resolve().parents[1])
+from checks import common
+from checks.common import LIBRARY, TOP, Tally
 
 HERE = pathlib.Path(__file__).resolve().parent
 # a check that takes longer is stopped, and has failed: on a busy machine each takes many times its minutes
@@ -28,44 +29,49 @@ SECONDS = 3600
 
 
 class Check(NamedTuple):
-    """A script of this folder, whether it tries the built program, and further words for it."""
+    """A script of a folder here, whether it tries the built program, and further words for it."""
 
+    folder: str
     name: str
     tries_program: bool = True
     words: tuple[str, ...] = ()
 
+    @property
+    def script(self) -> pathlib.Path:
+        return HERE / self.folder / f'{self.name}.py'
+
     def command(self, program: pathlib.Path | None) -> list[str]:
         given = ['--program', str(program)] if self.tries_program else []
-        return [sys.executable, str(HERE / f'{self.name}.py'), *given, *self.words]
+        return [sys.executable, str(self.script), *given, *self.words]
 
 
 # those that take longest begin first
 CHECKS = (
-    Check('stress', words=('--systems', '2000')),
-    Check('schema'),
-    Check('waves', tries_program=False),
-    Check('verdicts'),
-    Check('forever'),
-    Check('traces'),
-    Check('views'),
-    Check('bandwidth'),
-    Check('analyses'),
-    Check('engines'),
-    Check('refused_runs'),
-    Check('early', tries_program=False),
-    Check('units', tries_program=False),
-    Check('library'),
-    Check('theorems', tries_program=False),
-    Check('believe', tries_program=False),
-    Check('comments', tries_program=False),
-    Check('faults'),
-    Check('checker'),
-    Check('progress'),
-    Check('manual'),
-    Check('mended'),
-    Check('pages'),
-    Check('built'),
-    Check('pictures'),
+    Check('program', 'stress', words=('--systems', '2000')),
+    Check('program', 'schema'),
+    Check('program', 'waves', tries_program=False),
+    Check('program', 'verdicts'),
+    Check('program', 'forever'),
+    Check('program', 'traces'),
+    Check('program', 'views'),
+    Check('program', 'bandwidth'),
+    Check('program', 'analyses'),
+    Check('program', 'engines'),
+    Check('program', 'refused_runs'),
+    Check('proofs', 'early', tries_program=False),
+    Check('program', 'units', tries_program=False),
+    Check('program', 'library'),
+    Check('proofs', 'theorems', tries_program=False),
+    Check('proofs', 'believe', tries_program=False),
+    Check('proofs', 'comments', tries_program=False),
+    Check('program', 'faults'),
+    Check('program', 'checker'),
+    Check('program', 'progress'),
+    Check('pages', 'manual'),
+    Check('pages', 'mended'),
+    Check('pages', 'pages'),
+    Check('program', 'built'),
+    Check('pages', 'pictures'),
 )
 
 
@@ -78,7 +84,7 @@ def asked() -> argparse.Namespace:
     parser.prog = 'test'
     parser.add_argument('--program', type=pathlib.Path, metavar='PATH', help='checks this built program, and proves nothing')
     parser.add_argument('--no-proofs', action='store_true', help='checks the built program that is found, and proves nothing')
-    parser.add_argument('--times', type=pathlib.Path, metavar='FILE', help='writes to FILE what took the time in the gate, as checks/gate.py does')
+    parser.add_argument('--times', type=pathlib.Path, metavar='FILE', help='writes to FILE what took the time in the gate, as checks/proofs/gate.py does')
     parser.add_argument('--anew', action='store_true', help='takes nothing of what earlier gates kept on this machine')
     parser.add_argument('--only', action='append', choices=[check.name for check in CHECKS], help='of the checks after the gate only this one; may be given several times')
     return parser.parse_args()
@@ -98,7 +104,7 @@ def why_no_proofs(words: argparse.Namespace) -> str | None:
 def gate_command(words: argparse.Namespace) -> list[str]:
     anew = ['--anew'] if words.anew else []
     if words.times:
-        return [sys.executable, str(HERE / 'gate.py'), *anew, str(words.times.resolve())]
+        return [sys.executable, str(HERE / 'proofs' / 'gate.py'), *anew, str(words.times.resolve())]
     return ['rt', 'ci', *anew]
 
 
@@ -138,7 +144,7 @@ def build_library(began: float) -> Tally:
         return Tally()
     LIBRARY.unlink(missing_ok=True)
     how = {'stdin': subprocess.DEVNULL, 'stdout': subprocess.PIPE, 'stderr': subprocess.STDOUT, 'text': True, 'errors': 'replace'}
-    ran = subprocess.run([sys.executable, str(HERE / 'archive.py')], **how)
+    ran = subprocess.run([sys.executable, str(HERE / 'proofs' / 'archive.py')], **how)
     built = ran.returncode == 0 and LIBRARY.is_file()
     stamp(LIBRARY, began)
     say(f'built {LIBRARY.relative_to(TOP)}' if built else f'{ran.stdout}failed: archive.py did not build {LIBRARY.relative_to(TOP)}')

@@ -7,10 +7,8 @@ import tempfile
 import unittest
 from unittest import mock
 
-CHECKS = pathlib.Path(__file__).resolve().parent.parent
-sys.path.insert(0, str(CHECKS))
-import believe
-import common
+from checks import common
+from checks.proofs import believe
 
 RULES = """-- Rules.
 use Rattle.std.specs.Prelude.{ℕ, ◌+◌}
@@ -117,7 +115,7 @@ class Believe(unittest.TestCase):
     def test_a_changed_definition_is_seen(self) -> None:
         self.run_it('--write')
         self.put('crates/mcs_low/specs/Rules.antt', RULES.replace('twice n = n + n', 'twice n = n + n + n'))
-        self.assert_fails('the part part of BELIEVE.md is not what checks/believe.py --write writes')
+        self.assert_fails('the part part of BELIEVE.md is not what checks/proofs/believe.py --write writes')
 
     def test_a_definition_without_a_line_is_seen(self) -> None:
         self.put('crates/mcs_low/specs/Rules.antt', RULES.replace('-- twice a number\n', ''))
@@ -137,7 +135,7 @@ class Believe(unittest.TestCase):
     def test_a_word_without_a_line_is_seen(self) -> None:
         self.run_it('--write')
         with mock.patch.object(believe, 'WORDS', {'ℕ': 'a number', '◌≡◌': 'equal'}):
-            self.assert_fails('WORDS of checks/believe_lines.py does not say what ◌+◌ is')
+            self.assert_fails('WORDS of checks/proofs/believe_lines.py does not say what ◌+◌ is')
 
     def test_a_contract_that_cites_something_else_is_seen(self) -> None:
         self.run_it('--write')

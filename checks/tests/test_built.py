@@ -1,4 +1,4 @@
-"""The launcher and checks/built.py, in a folder with made-up sources, a made-up program and, where it is wanted, a made-up rt."""
+"""The launcher and checks/program/built.py, in a folder with made-up sources, a made-up program and, where it is wanted, a made-up rt."""
 import hashlib
 import os
 import pathlib
@@ -41,7 +41,7 @@ esac"""
 
 # in place of the script that builds the library
 ARCHIVE_PY = """import pathlib
-file = pathlib.Path(__file__).parents[1] / 'crates/mcs_c/out/libmcs_c.a'
+file = pathlib.Path(__file__).parents[2] / 'crates/mcs_c/out/libmcs_c.a'
 file.parent.mkdir(exist_ok=True)
 file.write_text('archive\\n')
 """
@@ -63,13 +63,13 @@ class InFolder(unittest.TestCase):
         self.top = pathlib.Path(path.name, 'repository with a space')
         self.tools = pathlib.Path(path.name, 'tools')
         self.home = pathlib.Path(path.name, 'home')
-        for folder in (self.top / 'checks', self.top / 'bin', self.tools, self.home):
+        for folder in (self.top / 'checks' / 'program', self.top / 'bin', self.tools, self.home):
             folder.mkdir(parents=True)
         shutil.copy(TOP / 'mcsim', self.top)
         shutil.copytree(TOP / 'launcher', self.top / 'launcher')
-        for script in ('common.py', 'built.py'):
-            shutil.copy(CHECKS / script, self.top / 'checks')
-        self.write('checks/archive.py', ARCHIVE_PY)
+        for script in ('__init__.py', 'common.py', 'program/__init__.py', 'program/built.py'):
+            shutil.copy(CHECKS / script, self.top / 'checks' / script)
+        self.write('checks/proofs/archive.py', ARCHIVE_PY)
         for tool in TOOLS:
             (self.tools / tool).symlink_to(shutil.which(tool))
         (self.tools / 'python3').symlink_to(sys.executable)
@@ -99,7 +99,7 @@ class InFolder(unittest.TestCase):
 
     def look(self, *words: str) -> tuple[int, list[str]]:
         """The status of built.py, and its lines."""
-        ran = self.run_in(['python3', str(self.top / 'checks' / 'built.py'), *words])
+        ran = self.run_in(['python3', str(self.top / 'checks' / 'program' / 'built.py'), *words])
         return ran.returncode, (ran.stdout + ran.stderr).splitlines()
 
     def built_here(self) -> None:
@@ -395,7 +395,7 @@ class Checked(InFolder):
         self.write('crates/mcs_ticks/src/lib.rt', 'changed\n')
         status, lines = self.look()
         self.assertEqual((status, lines[-1]), (1, '4 passed, 3 failed, 4 skipped'))
-        self.assertEqual(lines[1], 'failed: bin/mcsim was not built of these sources: after a green gate checks/built.py --renew puts the new one there')
+        self.assertEqual(lines[1], 'failed: bin/mcsim was not built of these sources: after a green gate checks/program/built.py --renew puts the new one there')
 
     def test_another_program_of_the_gate_fails(self) -> None:
         self.renewed()
@@ -404,7 +404,7 @@ class Checked(InFolder):
         self.write('crates/mcsim/out/mcsim', SAYS.format(name='another'), 0o755)
         status, lines = self.look()
         self.assertEqual((status, lines[-1]), (1, '8 passed, 1 failed, 2 skipped'))
-        self.assertIn('failed: bin/mcsim is not crates/mcsim/out/mcsim: checks/built.py --renew copies it', lines)
+        self.assertIn('failed: bin/mcsim is not crates/mcsim/out/mcsim: checks/program/built.py --renew copies it', lines)
 
     def test_another_file_in_bin_than_the_page_has_fails(self) -> None:
         self.renewed()
@@ -422,7 +422,7 @@ class Checked(InFolder):
 
     def test_an_empty_bin_is_one_clear_line(self) -> None:
         status, lines = self.look()
-        self.assertEqual((status, lines), (1, ['failed: there is no bin/SOURCES: checks/built.py --renew puts the built programs there', '0 passed, 1 failed']))
+        self.assertEqual((status, lines), (1, ['failed: there is no bin/SOURCES: checks/program/built.py --renew puts the built programs there', '0 passed, 1 failed']))
 
     def test_what_is_older_than_a_source_is_not_taken(self) -> None:
         self.rt()

@@ -1,12 +1,9 @@
 """Tests of comments.py: which comments are to be doc comments."""
 from __future__ import annotations
 
-import pathlib
-import sys
 import unittest
 
-sys.path.insert(0, str(pathlib.Path(__file__).resolve().parent.parent))
-import comments
+from checks.proofs import comments
 
 
 def found(text: str) -> list[str]:

@@ -4,13 +4,11 @@ from __future__ import annotations
 import contextlib
 import io
 import pathlib
-import sys
 import tempfile
 import types
 import unittest
 
-sys.path.insert(0, str(pathlib.Path(__file__).resolve().parent.parent))
-import edits
+from checks.proofs import edits
 
 # the wrong bodies that somebody is most likely to write: whatever else leaves the gate, these stay
 ALWAYS_TRIED = (

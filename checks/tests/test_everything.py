@@ -8,9 +8,7 @@ import tempfile
 import unittest
 
 CHECKS = pathlib.Path(__file__).resolve().parent.parent
-sys.path.insert(0, str(CHECKS))
-import common
-import everything
+from checks import common, everything
 
 TOP = CHECKS.parent
 MANY = len(everything.CHECKS)
@@ -20,7 +18,7 @@ OTHERS = 2 * sum(not check.tries_program for check in everything.CHECKS)
 TOOLS = ('sh', 'bash', 'dirname', 'mkdir', 'chmod', 'sleep')
 # in place of the script that builds the library
 BUILDS_LIBRARY = """import pathlib
-file = pathlib.Path(__file__).parents[1] / 'crates' / 'mcs_c' / 'out' / 'libmcs_c.a'
+file = pathlib.Path(__file__).parents[2] / 'crates' / 'mcs_c' / 'out' / 'libmcs_c.a'
 file.parent.mkdir()
 file.write_text('new\\n')
 """
@@ -38,16 +36,18 @@ class Folder:
             (self.top / part).mkdir()
         shutil.copy(TOP / 'test', self.top)
         shutil.copy(TOP / '.ci' / 'run', self.top / '.ci')
-        for script in ('common.py', 'everything.py'):
+        for script in ('__init__.py', 'common.py', 'everything.py'):
             shutil.copy(CHECKS / script, self.top / 'checks')
         for tool in TOOLS:
             (self.tools / tool).symlink_to(shutil.which(tool))
         (self.tools / 'python3').symlink_to(sys.executable)
         for check in everything.CHECKS:
-            self.check(check.name, 'print("tries", *sys.argv[1:])\nprint("2 passed, 0 failed")')
+            self.check(f'{check.folder}/{check.name}', 'print("tries", *sys.argv[1:])\nprint("2 passed, 0 failed")')
 
     def check(self, name: str, text: str) -> None:
-        (self.top / 'checks' / f'{name}.py').write_text(f'import sys\n{text}\n')
+        file = self.top / 'checks' / f'{name}.py'
+        file.parent.mkdir(exist_ok=True)
+        file.write_text(f'import sys\n{text}\n')
 
     def script(self, path: str, text: str) -> pathlib.Path:
         file = self.top / path
@@ -133,7 +133,7 @@ class WithAGate(InFolder):
     def with_library(self, gate: str, archive: str) -> tuple[int, str]:
         """The status and the last line where the repository has the library for C, and this is the script that builds it."""
         (self.folder.top / 'crates' / 'mcs_c').mkdir(parents=True)
-        (self.folder.top / 'checks' / 'archive.py').write_text(archive)
+        (self.folder.top / 'checks' / 'proofs' / 'archive.py').write_text(archive)
         self.folder.gate(f'{BUILDS}; {gate}')
         status, lines = self.folder.run('./test')
         return status, lines[-1]
@@ -158,7 +158,7 @@ class WithAGate(InFolder):
     def test_times_are_asked_of_the_script_that_times_the_gate(self) -> None:
         self.folder.gate('exit 1')
         self.folder.script('crates/mcsim/out/mcsim', 'exit 0')
-        self.folder.check('gate', 'print("timed", *sys.argv[1:])\nprint("5 passed, 0 failed")')
+        self.folder.check('proofs/gate', 'print("timed", *sys.argv[1:])\nprint("5 passed, 0 failed")')
         status, lines = self.folder.run('./test', '--anew', '--times', 'table')
         self.assertEqual((status, lines[-1]), (0, f'{5 + 2 * MANY} passed, 0 failed'))
         self.assertIn(f'timed --anew {(self.folder.top / "table").resolve()}', lines)
@@ -188,7 +188,7 @@ class OfChecks(InFolder):
         self.folder.script('bin/mcsim', 'exit 0')
 
     def told(self, text: str) -> tuple[int, str]:
-        self.folder.check('pages', text)
+        self.folder.check('pages/pages', text)
         status, lines = self.folder.run('./test', '--only', 'pages', '--only', 'manual')
         return status, lines[-1]
 

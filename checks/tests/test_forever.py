@@ -11,16 +11,12 @@ from collections.abc import Callable
 from unittest import mock
 
 CHECKS = pathlib.Path(__file__).resolve().parent.parent
-sys.path.insert(0, str(CHECKS))
-import common
-import forever
-import forever_model
-import forever_reading
-import forever_rows
-import model
-from common import DATA, TOP, Ran
-from forever_reading import Claim, CoreSet
-from verdicts import System
+from checks import common
+from checks.common import DATA, TOP, Ran
+from checks.measure import forever_rows
+from checks.program import forever, forever_model, forever_reading, model
+from checks.program.forever_reading import Claim, CoreSet
+from checks.program.verdicts import System
 
 # the clock ticks at 0, 10, .., and signals a tick later; the loop is woken at 2, 12, .., has ended its round 2 ticks later, and waits a tick after that
 SYSTEMS = TOP / 'examples' / 'systems'
@@ -181,7 +177,7 @@ class Programs(unittest.TestCase):
             return wrong(Ran(status, form.encode(), b''))
 
         trial = forever.Trial('mcsim', 'mcscheck')
-        with tempfile.TemporaryDirectory() as folder, mock.patch('common.run', ran), mock.patch('tempfile.tempdir', folder):
+        with tempfile.TemporaryDirectory() as folder, mock.patch('checks.common.run', ran), mock.patch('tempfile.tempdir', folder):
             with contextlib.redirect_stdout(io.StringIO()):
                 trial.agrees(System('worked', text, horizon), allowed=allowed)
         self.seen = trial.seen
@@ -320,7 +316,7 @@ class WrongPrograms(Programs):
             file = pathlib.Path(folder, name)
             file.write_text(f'#!/bin/sh\n{text}\n')
             file.chmod(0o755)
-        command = [sys.executable, str(CHECKS / 'forever.py'), '--program', str(pathlib.Path(folder, 'mcsim')), '--systems', '1']
+        command = [sys.executable, str(CHECKS / 'program' / 'forever.py'), '--program', str(pathlib.Path(folder, 'mcsim')), '--systems', '1']
         return common.tally_of(common.run(command).stdout.decode().splitlines()[-1])
 
     def test_systems_that_show_nothing_are_a_failure(self) -> None:
@@ -421,7 +417,7 @@ class Models(unittest.TestCase):
         text = f'{line}\n{forever_reading.CLEAN}\n' if is_clean else f'{line}\n'
         answer = Ran(0, f'{text}cores 1: repeats from 12 with period 10\n'.encode(), b'')
         words = mock.Mock(program=None, horizon=100)
-        with mock.patch('common.run', lambda *_: answer), mock.patch('common.built_program'), mock.patch('common.beside'):
+        with mock.patch('checks.common.run', lambda *_: answer), mock.patch('checks.common.built_program'), mock.patch('checks.common.beside'):
             trial = forever_model.Trial(words)
             with contextlib.redirect_stdout(io.StringIO()):
                 trial.look('loop', LOOP)

@@ -1,10 +1,7 @@
 """What several workers gain, with and without the load."""
-import pathlib
-import sys
 import unittest
 
-sys.path.insert(0, str(pathlib.Path(__file__).resolve().parent.parent))
-from gains import Gain
+from checks.measure.gains import Gain
 
 
 class Gains(unittest.TestCase):

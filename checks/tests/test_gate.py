@@ -8,9 +8,8 @@ import tempfile
 import unittest
 
 CHECKS = pathlib.Path(__file__).resolve().parent.parent
-sys.path.insert(0, str(CHECKS))
-import gate
-from gate import Measured, Task
+from checks.proofs import gate
+from checks.proofs.gate import Measured, Task
 
 
 def task(crate: str, part: str, seconds: float, waits: tuple[int, ...] = (), lines: int = 0, number: int | None = None) -> Task:
@@ -132,7 +131,7 @@ class Timed(unittest.TestCase):
         return subprocess.run([sys.executable, *words], env=self.env, capture_output=True, text=True)
 
     def test_seconds_are_those_of_the_task_whose_commands_took_them(self) -> None:
-        ran = self.ran(str(CHECKS / 'timed_rt.py'), str(self.folder / 'times'), '--anew', 'b')
+        ran = self.ran(str(CHECKS / 'proofs' / 'timed_rt.py'), str(self.folder / 'times'), '--anew', 'b')
         self.assertEqual((ran.returncode, ran.stdout), (1, 'words ci --anew b\n2 passed, 1 failed\n'))
         told = json.loads((self.folder / 'times').read_text())
         first, second = told['tasks']
@@ -142,7 +141,7 @@ class Timed(unittest.TestCase):
         self.assertLessEqual(first['ended'], second['began'])
 
     def test_the_count_of_the_gate_is_the_last_line(self) -> None:
-        ran = self.ran(str(CHECKS / 'gate.py'), '--crate', 'b', str(self.folder / 'table'))
+        ran = self.ran(str(CHECKS / 'proofs' / 'gate.py'), '--crate', 'b', str(self.folder / 'table'))
         self.assertEqual((ran.returncode, ran.stdout.splitlines()[-1]), (1, '2 passed, 1 failed'))
         self.assertEqual(ran.stdout.count('passed, 1 failed\n'), 1)
         self.assertIn('| `a` | 4 | - | - | - | - | 0.1 | 0 |', (self.folder / 'table').read_text())

@@ -11,24 +11,12 @@ import tempfile
 import unittest
 from unittest import mock
 
-CHECKS = pathlib.Path(__file__).resolve().parent.parent
-sys.path.insert(0, str(CHECKS))
-import analyses
-import bandwidth
-import common
-import faults
-import manual
-import mended
-import pages
-import progress
-import random_systems
-import refused_runs
-import stress
-import theorems
-import traces
-import waves
-from analyses import Form, Task
-from refusing import Answer
+from checks import common, everything, random_systems
+from checks.pages import manual, mended, pages
+from checks.program import analyses, bandwidth, faults, progress, refused_runs, stress, traces, waves
+from checks.program.analyses import Form, Task
+from checks.program.refusing import Answer
+from checks.proofs import theorems
 
 
 class WrongPrograms(unittest.TestCase):
@@ -44,7 +32,8 @@ class WrongPrograms(unittest.TestCase):
         for file in (self.program, self.program.with_name('mcscheck')):
             file.write_text(f'#!/bin/sh\n{program}\n')
             file.chmod(0o755)
-        command = [sys.executable, str(CHECKS / f'{script}.py'), '--program', str(self.program), *words]
+        file = next(check.script for check in everything.CHECKS if check.name == script)
+        command = [sys.executable, str(file), '--program', str(self.program), *words]
         ran = subprocess.run(command, capture_output=True, text=True, env={**os.environ, 'TMPDIR': str(self.program.parent)})
         found = common.tally_of(ran.stdout.splitlines()[-1])
         self.assertEqual(ran.returncode, found.status, ran.stderr)
@@ -101,7 +90,7 @@ class WrongPrograms(unittest.TestCase):
 
         self.program.touch(0o755)
         words, out = ['stress.py', '--program', str(self.program), '--systems', '1'], io.StringIO()
-        with mock.patch('common.run', ran), mock.patch('sys.argv', words), mock.patch('tempfile.tempdir', str(self.program.parent)):
+        with mock.patch('checks.common.run', ran), mock.patch('sys.argv', words), mock.patch('tempfile.tempdir', str(self.program.parent)):
             with contextlib.redirect_stdout(out), self.assertRaises(SystemExit) as ended:
                 stress.main()
         self.assertEqual((out.getvalue().splitlines()[-1], ended.exception.code), ('4 passed, 1 failed', 1))
@@ -173,7 +162,7 @@ class Rules(unittest.TestCase):
         frames = 'examples/python/responses.py one.toml'
         self.assertTrue(pages.runs_a_system(frames))
         for has_pandas in (True, False):
-            with mock.patch('pages.has_pandas', lambda: has_pandas):
+            with mock.patch('checks.pages.pages.has_pandas', lambda: has_pandas):
                 self.assertEqual(pages.missing(frames, True), None if has_pandas else 'the package pandas of Python')
                 self.assertEqual([pages.missing(block, False) for block in (frames, './mcscheck one.toml', './mcsim one.toml')], ['mcscheck', 'mcscheck', None])
 
@@ -189,10 +178,10 @@ class Rules(unittest.TestCase):
         answer = common.Ran(0, b'margin 3\nmissed 0 overdue 0 lost 0 never 0 merged 0 allowed 0 hints 0\n', b'')
         for named, failed in (('margin', 0), ('unused', 1)):
             count = common.Count()
-            with tempfile.TemporaryDirectory() as folder, mock.patch('pages.ran', lambda *_: answer), mock.patch('common.checker_of', lambda program: program):
+            with tempfile.TemporaryDirectory() as folder, mock.patch('checks.pages.pages.ran', lambda *_: answer), mock.patch('checks.common.checker_of', lambda program: program):
                 page = pathlib.Path(folder, 'page.md')
                 page.write_text(f'| Question | Command |\n|---|---|\n| what? | `./mcscheck one.toml --show table`: `{named}` |\n')
-                with contextlib.redirect_stdout(io.StringIO()), mock.patch('pages.TOP', page.parent):
+                with contextlib.redirect_stdout(io.StringIO()), mock.patch('checks.pages.pages.TOP', page.parent):
                     pages.try_questions(pathlib.Path('mcsim'), page, count)
             self.assertEqual((count.tally.passed, count.tally.failed), (2 - failed, failed))
 

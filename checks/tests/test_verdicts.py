@@ -10,12 +10,9 @@ import unittest
 from collections.abc import Callable
 from unittest import mock
 
-sys.path.insert(0, str(pathlib.Path(__file__).resolve().parent.parent))
-import answers
-import common
-import reading
-import verdicts
-from common import Ran
+from checks import common
+from checks.common import Ran
+from checks.program import answers, reading, verdicts
 
 # A is woken at 1 and has a tick to wait; its next word is set at 3, left as it is at 5, and added to at 6, and A takes it at 8. C stops in the tick in
 # which it runs, so it is never ready or running.
@@ -153,7 +150,7 @@ class WrongCheckers(unittest.TestCase):
             return wrong(verdicts.answer(wanted.wanted(allowed, show, form), '--strict' in command))
 
         trial = verdicts.Trial('mcsim', 'mcscheck')
-        with tempfile.TemporaryDirectory() as folder, mock.patch('common.run', ran), mock.patch('tempfile.tempdir', folder):
+        with tempfile.TemporaryDirectory() as folder, mock.patch('checks.common.run', ran), mock.patch('tempfile.tempdir', folder):
             with contextlib.redirect_stdout(io.StringIO()), mock.patch.object(trial, 'unknown'):
                 trial.agrees(verdicts.System('worked', TEXT, 9), random.Random(1))
         return trial.count.tally.failed

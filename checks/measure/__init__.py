@@ -1,0 +1,1 @@
+"""What measures the programs, and writes the tables of the pages."""

@@ -1,0 +1,1 @@
+"""What holds the pages to the programs."""

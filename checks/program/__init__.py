@@ -1,0 +1,1 @@
+"""What tries the built programs, the library for C, and the tools."""
