@@ -1,9 +1,9 @@
 #!/usr/bin/env python3
 """Tells whether the files in bin/ are the built programs and library of these sources, and, with --renew, puts them there.
 
-bin/SOURCES has the toolchain's line and, for each file, the digest of what it is built of: crates.txt, and the sources of its crate and of those below
-it. A digest that is not that of the sources is a failure, and so is a program or a library that was built here and has other bytes than the one in
-bin/, a sum in bin/README.md that is not that of the file, and a text in bin/HELP that the program does not give.
+bin/SOURCES has the toolchain's line and, for each file, its SHA-256, and the digest of what it is built of: crates.txt, and the sources of its crate and
+of those below it. A digest that is not that of the sources is a failure, and so is a program or a library that was built here and has other bytes than
+the one in bin/, a sum in bin/SOURCES or bin/README.md that is not that of the file, and a text in bin/HELP that the program does not give.
 
 --renew takes the programs that the gate built (./test, or ./mcsim --prove and ./mcscheck --prove), and the library, which it builds where it is not there (archive.py). It refuses
 those that are older than a source."""
@@ -26,7 +26,7 @@ from checks.common import TOP, Count
 
 BIN = TOP / 'bin'
 NOTED, HELP, PAGE = BIN / 'SOURCES', BIN / 'HELP', BIN / 'README.md'
-HEAD = '# What the files of this folder were built of; checks/program/built.py --renew writes it.'
+HEAD = '# What the files of this folder were built of, and their SHA-256; checks/program/built.py --renew writes it.'
 
 
 class Artefact(NamedTuple):
@@ -47,6 +47,11 @@ class Artefact(NamedTuple):
     @property
     def shipped(self) -> pathlib.Path:
         return BIN / self.file
+
+    @property
+    def name(self) -> str:
+        """What messages and bin/SOURCES call it."""
+        return f'bin/{self.file}'
 
 
 PROGRAM = Artefact('mcsim', 'mcsim')
@@ -143,13 +148,14 @@ class Look:
             self.count.expect(f'bin/SOURCES has the toolchain {self.noted.get("kit")}, and the one here is {line}', self.noted.get('kit') == line)
 
     def file(self, artefact: Artefact) -> None:
-        name = f'bin/{artefact.file}'
+        name = artefact.name
         if not artefact.shipped.is_file():
             self.count.expect(f'there is no {name}: checks/program/built.py --renew puts it there', False)
             return
         data = artefact.shipped.read_bytes()
         same = self.noted.get(artefact.crate) == digest(artefact.crate)
         self.count.expect(f'{name} was not built of these sources: after a green gate checks/program/built.py --renew puts the new one there', same)
+        self.count.expect(f'bin/SOURCES has not the SHA-256 of {name}', self.noted.get(name) == sum_of(data))
         self.count.expect(f"bin/README.md has not the size and the sum of {name}", line_of(artefact, data) in PAGE.read_text().splitlines())
         self.beside(artefact, data)
 
@@ -196,8 +202,9 @@ def look_before_renewing() -> None:
 
 def texts() -> Iterator[tuple[pathlib.Path, str]]:
     """What is written beside the built files."""
-    names = [f'kit {kit()}', *(f'{artefact.crate} {digest(artefact.crate)}' for artefact in ARTEFACTS)]
-    yield NOTED, '\n'.join([HEAD, *names, ''])
+    digests = [f'{artefact.crate} {digest(artefact.crate)}' for artefact in ARTEFACTS]
+    sums = [f'{artefact.name} {sum_of(artefact.here.read_bytes())}' for artefact in ARTEFACTS]
+    yield NOTED, '\n'.join([HEAD, f'kit {kit()}', *digests, *sums, ''])
     yield HELP, common.run([PROGRAM.here, '--help']).stdout.decode()
     page = PAGE.read_text()
     for artefact in ARTEFACTS:

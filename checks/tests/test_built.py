@@ -118,8 +118,9 @@ class InFolder(unittest.TestCase):
         self.write('bin/libmcs_c.a', ARCHIVE)
         self.write('bin/HELP', 'help\n')
         digests = {'mcsim': self.digest(BELOW), 'mcscheck': self.digest(BELOW_CHECKER), 'mcs_c': self.digest(BELOW_LIBRARY)}
-        self.write('bin/SOURCES', '# made up\nkit kit 1\n' + ''.join(f'{name} {digest}\n' for name, digest in digests.items()))
         files = (('mcsim', PROGRAM), ('mcscheck', CHECKER), ('libmcs_c.a', ARCHIVE))
+        sums = {f'bin/{name}': sum_of(text.encode()) for name, text in files}
+        self.write('bin/SOURCES', '# made up\nkit kit 1\n' + ''.join(f'{name} {it}\n' for name, it in (digests | sums).items()))
         rows = [f'| `{name}` | {len(text)} | `{sum_of(text.encode())}` |\n' for name, text in files]
         self.write('bin/README.md', PAGE.partition('| `')[0] + ''.join(rows))
 
@@ -137,8 +138,8 @@ class Launched(InFolder):
     def test_through_links_too(self) -> None:
         self.renewed()
         (self.top.parent / 'link').symlink_to('repository with a space/mcsim')
-        (self.home / 'second').symlink_to('../link')
-        self.assertEqual(self.run_in([str(self.home / 'second')]).stdout, 'gate\n')
+        (self.home / 'mcsim').symlink_to('../link')
+        self.assertEqual(self.run_in([str(self.home / 'mcsim')]).stdout, 'gate\n')
 
     def test_without_rt_and_with_a_changed_source_the_status_is_127_and_one_line_says_why(self) -> None:
         changes = {'crates.txt': CRATES + '\n', 'crates/mcs_cli/src/asked/words.rt': 'other\n', 'crates/mcs_ticks/src/new.rt': ''}
@@ -154,17 +155,6 @@ class Launched(InFolder):
             file.unlink() if before is None else file.write_text(before)
             self.assertEqual(self.launch()[:2], (0, 'gate\n'))
 
-    def test_a_link_with_the_name_of_another_program_runs_that(self) -> None:
-        self.renewed()
-        for name in ('mcs_look', 'another'):
-            (self.top / name).symlink_to('mcsim')
-        self.write('crates/mcs_look/src/main.rt', 'look\n')
-        self.write('crates.txt', CRATES + 'mcs_look: mcs_ticks\n')
-        self.write('crates/mcs_look/out/mcs_look', SAYS.format(name='look'), 0o755)
-        self.assertEqual(self.run_in([str(self.top / 'mcs_look'), '--x']).stdout, 'look --x\n')
-        self.write('crates.txt', CRATES)
-        self.assertEqual(self.run_in([str(self.top / 'another')]).stdout, 'gate\n')
-
     def test_a_change_beside_the_program_does_not_matter(self) -> None:
         self.renewed()
         for path in ('crates/mcs_other/src/lib.rt', 'crates/mcs_c/src/lib.rt', 'crates/mcs_cli/proofs/Lib.antt', 'crates/mcs_cli/src/.words.rt.swp'):
@@ -178,11 +168,12 @@ class Launched(InFolder):
 
     def test_a_program_that_does_not_start_is_told(self) -> None:
         self.renewed()
-        self.write('bin/mcsim', '#!/bin/sh\nexit 1\n', 0o755)
+        stopping = '#!/bin/sh\nexit 1\n'
+        self.write('bin/mcsim', stopping, 0o755)
+        sources = self.top / 'bin' / 'SOURCES'
+        sources.write_text(sources.read_text().replace(sum_of(PROGRAM.encode()), sum_of(stopping.encode())))
         self.assertEqual(self.launch()[0], 127)
         self.assertIn('glibc 2.34', self.launch()[2])
-        self.write('bin/mcsim', PROGRAM, 0o644)
-        self.assertIn('chmod +x bin/mcsim', self.launch()[2])
 
     def test_a_processor_without_a_part_is_named(self) -> None:
         self.renewed()
@@ -373,7 +364,7 @@ class Checked(InFolder):
     def test_bin_of_these_sources_passes(self) -> None:
         self.renewed()
         status, lines = self.look()
-        self.assertEqual((status, lines[-1]), (0, '7 passed, 0 failed, 4 skipped'), lines)
+        self.assertEqual((status, lines[-1]), (0, '10 passed, 0 failed, 4 skipped'), lines)
 
     def test_what_was_built_here_is_put_there(self) -> None:
         self.renewed()
@@ -394,31 +385,31 @@ class Checked(InFolder):
         self.renewed()
         self.write('crates/mcs_ticks/src/lib.rt', 'changed\n')
         status, lines = self.look()
-        self.assertEqual((status, lines[-1]), (1, '4 passed, 3 failed, 4 skipped'))
+        self.assertEqual((status, lines[-1]), (1, '7 passed, 3 failed, 4 skipped'))
         self.assertEqual(lines[1], 'failed: bin/mcsim was not built of these sources: after a green gate checks/program/built.py --renew puts the new one there')
 
     def test_another_program_of_the_gate_fails(self) -> None:
         self.renewed()
         self.built_here()
-        self.assertEqual(self.look()[1][-1], '9 passed, 0 failed, 2 skipped')
+        self.assertEqual(self.look()[1][-1], '12 passed, 0 failed, 2 skipped')
         self.write('crates/mcsim/out/mcsim', SAYS.format(name='another'), 0o755)
         status, lines = self.look()
-        self.assertEqual((status, lines[-1]), (1, '8 passed, 1 failed, 2 skipped'))
+        self.assertEqual((status, lines[-1]), (1, '11 passed, 1 failed, 2 skipped'))
         self.assertIn('failed: bin/mcsim is not crates/mcsim/out/mcsim: checks/program/built.py --renew copies it', lines)
 
     def test_another_file_in_bin_than_the_page_has_fails(self) -> None:
         self.renewed()
         self.write('bin/libmcs_c.a', 'another\n')
         status, lines = self.look()
-        self.assertEqual((status, lines[-1]), (1, '6 passed, 1 failed, 4 skipped'))
+        self.assertEqual((status, lines[-1]), (1, '8 passed, 2 failed, 4 skipped'))
 
     def test_another_toolchain_fails(self) -> None:
         self.renewed()
         self.rt()
-        self.assertEqual(self.look()[1][-1], '8 passed, 0 failed, 3 skipped')
+        self.assertEqual(self.look()[1][-1], '11 passed, 0 failed, 3 skipped')
         noted = self.top / 'bin' / 'SOURCES'
         noted.write_text(noted.read_text().replace('kit kit 1', 'kit kit 0'))
-        self.assertEqual(self.look()[1][-1], '7 passed, 1 failed, 3 skipped')
+        self.assertEqual(self.look()[1][-1], '10 passed, 1 failed, 3 skipped')
 
     def test_an_empty_bin_is_one_clear_line(self) -> None:
         status, lines = self.look()
