@@ -25,7 +25,7 @@ run_unproved() {
         shift
         if is_file "$word"; then
             file=$room/system.toml
-            cat "$word" >"$file"
+            cat <"$word" >"$file"
             set -- "$@" system.toml
         else
             set -- "$@" "$word"

@@ -124,6 +124,16 @@ class InFolder(unittest.TestCase):
         rows = [f'| `{name}` | {len(text)} | `{sum_of(text.encode())}` |\n' for name, text in files]
         self.write('bin/README.md', PAGE.partition('| `')[0] + ''.join(rows))
 
+    def write_listed(self) -> list[list[str]]:
+        """bin/ of these sources, and made-up files for what else is installed; the lines of the list."""
+        self.renewed()
+        lines = [line.split() for line in (self.top / 'launcher' / 'installed').read_text().splitlines()]
+        listed = [line for line in lines if line and line[0] != '#']
+        for source, *_ in listed:
+            if not (self.top / source).exists():
+                self.write(source, source)
+        return listed
+
 
 class Launched(InFolder):
     def test_the_shipped_program_runs_where_the_sources_are_its_own(self) -> None:
@@ -266,13 +276,8 @@ class Launched(InFolder):
 class Installed(InFolder):
     def setUp(self) -> None:
         super().setUp()
-        self.renewed()
-        lines = [line.split() for line in (self.top / 'launcher' / 'installed').read_text().splitlines()]
-        self.listed = [line for line in lines if line and line[0] != '#']
-        for source, *_ in self.listed:
-            if not (self.top / source).exists():
-                self.write(source, source)
-        self.tool, _, self.link = next(line for line in self.listed if line[0].startswith('tools/') and len(line) == 3)
+        listed = self.write_listed()
+        self.tool, _, self.link = next(line for line in listed if line[0].startswith('tools/') and len(line) == 3)
 
     def files(self, folder: pathlib.Path) -> set[str]:
         return {str(path.relative_to(folder)) for path in folder.rglob('*') if not path.is_dir()}
