@@ -16,7 +16,7 @@ import subprocess
 import sys
 import time
 from collections.abc import Sequence
-from typing import NamedTuple
+from typing import Any, NamedTuple
 
 sys.dont_write_bytecode = True
 sys.path[0] = str(pathlib.Path(__file__).resolve().parents[1])
@@ -121,6 +121,7 @@ def gate(command: Sequence[str]) -> Tally:
     """Runs the gate, and shows what it writes; its count is told with a name, so that nobody takes it for the last line."""
     told = None
     with common.started(command) as running:
+        assert running.stdout
         for line in running.stdout:
             count = common.tally_of(line)
             if count is None:
@@ -143,7 +144,7 @@ def build_library(began: float) -> Tally:
     if not LIBRARY.parent.parent.is_dir():
         return Tally()
     LIBRARY.unlink(missing_ok=True)
-    how = {'stdin': subprocess.DEVNULL, 'stdout': subprocess.PIPE, 'stderr': subprocess.STDOUT, 'text': True, 'errors': 'replace'}
+    how: dict[str, Any] = {'stdin': subprocess.DEVNULL, 'stdout': subprocess.PIPE, 'stderr': subprocess.STDOUT, 'text': True, 'errors': 'replace'}
     ran = subprocess.run([sys.executable, str(HERE / 'proofs' / 'archive.py')], **how)
     built = ran.returncode == 0 and LIBRARY.is_file()
     stamp(LIBRARY, began)
@@ -169,13 +170,14 @@ def program_to_try(words: argparse.Namespace) -> pathlib.Path | None:
         places = [words.program] if words.program else [common.BUILT, common.SHIPPED]
     else:
         places = [common.BUILT]
-    return next((place.resolve() for place in places if common.is_program(place)), None)
+    found = common.first_program(places)
+    return found and found.resolve()
 
 
 def tried(check: Check, program: pathlib.Path | None) -> tuple[str, Tally, float]:
     """What a check writes, its count and its seconds."""
     began = time.monotonic()
-    how = {'stdin': subprocess.DEVNULL, 'stdout': subprocess.PIPE, 'stderr': subprocess.STDOUT}
+    how: dict[str, Any] = {'stdin': subprocess.DEVNULL, 'stdout': subprocess.PIPE, 'stderr': subprocess.STDOUT}
     try:
         ran = subprocess.run(check.command(program), cwd=TOP, timeout=SECONDS, text=True, errors='replace', **how)
     except subprocess.TimeoutExpired:

@@ -132,13 +132,13 @@ class Measuring:
 
     def __init__(self, simulator: pathlib.Path, tries: int, scale: int, counts: bool) -> None:
         checker = common.beside(simulator, 'mcscheck')
-        self.commands = [[checker, '--show', 'findings'], [simulator, '--show', 'reports'], [simulator, '--show', 'both']]
+        self.commands: list[list[Word]] = [[checker, '--show', 'findings'], [simulator, '--show', 'reports'], [simulator, '--show', 'both']]
         self.tries, self.scale, self.counts = tries, scale, counts
 
     def costs(self, case: Case, file: pathlib.Path) -> list[Cost]:
         if self.counts:
             return [counted([*command, file, '--workers', str(case.workers)], case) for command in self.commands]
-        words = [file, '--horizon', str(case.horizon // self.scale), '--workers', str(case.workers)]
+        words: list[Word] = [file, '--horizon', str(case.horizon // self.scale), '--workers', str(case.workers)]
         turns = [[run_measured([*command, *words]) for command in self.commands] for _ in range(self.tries)]
         for cost in (cost for turn in turns for cost in turn):
             if cost.status not in FOUND:

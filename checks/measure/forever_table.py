@@ -11,6 +11,7 @@ should run meanwhile. With --instructions valgrind counts them instead, without 
 are written to docs/FOREVER.md, between the lines that mark their place. The count of the last line is of runs of which two agree on the status."""
 from __future__ import annotations
 
+import argparse
 import pathlib
 import random
 import re
@@ -82,7 +83,7 @@ def share(many: int, of: int) -> str:
 class Table:
     """The two programs, and what was found of each kind of system."""
 
-    def __init__(self, words, simulator: pathlib.Path) -> None:
+    def __init__(self, words: argparse.Namespace, simulator: pathlib.Path) -> None:
         self.words, self.simulator, self.checker = words, simulator, common.beside(simulator, 'mcscheck')
         self.sets: dict[str, list[Set]] = {}
         self.costs: dict[str, list[Cost]] = {}
@@ -120,7 +121,7 @@ class Table:
     # ---- what it takes
 
     def cost(self, file: pathlib.Path, far: int, status: int) -> Cost:
-        commands = [self.simulator, file, '--show=reports', f'--horizon={far}'], [self.checker, file, '--forever', f'--horizon={self.words.horizon}']
+        commands: tuple[list[common.Word], ...] = [self.simulator, file, '--show=reports', f'--horizon={far}'], [self.checker, file, '--forever', f'--horizon={self.words.horizon}']
         if self.words.instructions:
             return Cost(*(max(self.instructions(command) - self.instructions([*command[:-1], '--horizon=0']), 1) for command in commands))
         runs = [[run_measured(command) for command in commands] for _ in range(TRIES)]
@@ -136,8 +137,9 @@ class Table:
     def found_rows(self) -> Iterator[list[str]]:
         for kind, sets in self.sets.items():
             repeating = [each for each in sets if each.end is not None]
-            within = ' / '.join(share(sum(each.end <= most for each in repeating), len(sets)) for most in WITHIN)
-            numbers = quartiles([each.end for each in repeating]), quartiles([each.rows for each in repeating])
+            ends = [each.end for each in repeating if each.end is not None]
+            within = ' / '.join(share(sum(end <= most for end in ends), len(sets)) for most in WITHIN)
+            numbers = quartiles(ends), quartiles([each.rows for each in repeating])
             clean, missed = sum(each.is_clean for each in sets), sum(each.may_be_missed for each in sets)
             yield [kind, f'{len(sets):,}', share(len(repeating), len(sets)), within, *numbers, share(clean, len(sets)), f'{missed:,}']
 
@@ -166,7 +168,7 @@ def written(page: str, tables: Sequence[str]) -> str:
     return page
 
 
-def asked() -> object:
+def asked() -> argparse.Namespace:
     parser = common.asking_random(__doc__, 300)
     parser.add_argument('--horizon', type=int, default=100_000, help='up to which a repetition is looked for (default 100000)')
     parser.add_argument('--missed', action='store_true', help='names the sets of which a repetition may have been missed')

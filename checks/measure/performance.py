@@ -9,6 +9,7 @@ from __future__ import annotations
 
 import argparse
 import datetime
+import functools
 import os
 import pathlib
 import platform
@@ -21,7 +22,7 @@ from collections.abc import Callable, Iterable, Iterator, Sequence
 sys.dont_write_bytecode = True
 sys.path[0] = str(pathlib.Path(__file__).resolve().parents[2])
 from checks import common
-from checks.common import Count
+from checks.common import Count, Word
 from checks.measure.measured import Cost, put_between, run_measured, system_text
 
 BEGIN, END = '<!-- tables of checks/measure/performance.py -->', '<!-- end of tables -->'
@@ -69,7 +70,7 @@ class Measuring:
         self.program, self.scale = program, scale
 
     def cost(self, file: str, horizon: int, workers: int, show: str) -> Cost:
-        command = [self.program, file, '--horizon', str(horizon), '--workers', str(workers), '--show', show]
+        command: list[Word] = [self.program, file, '--horizon', str(horizon), '--workers', str(workers), '--show', show]
         costs = [run_measured(command) for _ in range(TRIES)]
         if failed := next((cost for cost in costs if cost.status), None):
             common.stop(f'a run ended with status {failed.status}')
@@ -77,7 +78,8 @@ class Measuring:
 
     def rows(self, file: str, horizon: int) -> int:
         with subprocess.Popen([self.program, file, '--horizon', str(horizon)], stdout=subprocess.PIPE) as running:
-            return sum(part.count(b'\n') for part in iter(lambda: running.stdout.read(1 << 20), b''))
+            assert running.stdout
+            return sum(part.count(b'\n') for part in iter(functools.partial(running.stdout.read, 1 << 20), b''))
 
     def line(self, what: object, text: str, horizon: int, workers: int = 1) -> str:
         """A line of a table: the same run with its schedule and with its reports alone."""

@@ -13,7 +13,7 @@ import shutil
 import sys
 import tempfile
 from collections.abc import Sequence
-from typing import NamedTuple, Optional
+from typing import Any, NamedTuple, Optional
 
 sys.dont_write_bytecode = True
 sys.path[0] = str(pathlib.Path(__file__).resolve().parents[2])
@@ -31,7 +31,7 @@ Option = tuple[Optional[str], Optional[str], Optional[str]]
 
 def option(values: str, default: re.Match[str] | None, text: str) -> Option:
     bounds = re.search(RANGE, text)
-    return values or None, default and default[1], bounds and bounds[1]
+    return values or None, default[1] if default else None, bounds[1] if bounds else None
 
 
 class Page:
@@ -73,7 +73,7 @@ class Page:
     def examples(self) -> tuple[str, list[str], str]:
         """A file, commands with what they write, and a line that runs several files."""
         system, *commands = re.findall(r'^\.Bd -literal -offset indent\n(.*?)^\.Ed', self.section('EXAMPLES'), re.M | re.S)
-        return system, commands, re.search(r'^\.Dl (.*)$', self.section('EXAMPLES'), re.M)[1]
+        return system, commands, re.findall(r'^\.Dl (.*)$', self.section('EXAMPLES'), re.M)[0]
 
 
 class Pages(NamedTuple):
@@ -145,7 +145,7 @@ class Trial:
         (folder / 'system.toml').write_text(text)
         for name, program in self.programs.items():
             (folder / name).symlink_to(program)
-        how = {'cwd': folder, 'env': {'PATH': f'{folder}:/usr/bin:/bin'}}
+        how: dict[str, Any] = {'cwd': folder, 'env': {'PATH': f'{folder}:/usr/bin:/bin'}}
         name = pages.page.name
         found = []
         for command, written in map(written_in, commands):
@@ -156,8 +156,8 @@ class Trial:
         ran = common.run(['sh', '-c', many], **how)
         beside = folder / f'system.toml.{pages.beside}'
         wanted = common.run([self.programs[name], folder / 'system.toml', *pages.words]).stdout
-        found = (beside.read_bytes() if beside.exists() else None, ran.stdout, ran.stderr)
-        self.same(f'{name}: {many}', (wanted, pages.named, b''), found)
+        told = (beside.read_bytes() if beside.exists() else None, ran.stdout, ran.stderr)
+        self.same(f'{name}: {many}', (wanted, pages.named, b''), told)
 
     def lint(self, page: Page) -> None:
         if shutil.which('mandoc'):

@@ -24,8 +24,9 @@ sys.dont_write_bytecode = True
 sys.path[0] = str(pathlib.Path(__file__).resolve().parents[2])
 try:
     import yaml
+    HAS_YAML = True
 except ImportError:
-    yaml = None
+    HAS_YAML = False
 from checks import common
 from checks.common import TOP, Count, Ran
 
@@ -224,8 +225,8 @@ def ran_in_a_job(program: pathlib.Path, checker: pathlib.Path, line: str, system
 
 def try_jobs(program: pathlib.Path, count: Count) -> None:
     checker = common.checker_of(program)
-    if yaml is None or checker is None:
-        count.skip(f'{JOBS.relative_to(TOP)}: jobs: {"mcscheck" if yaml else "the package yaml of Python"} is not there')
+    if not HAS_YAML or checker is None:
+        count.skip(f'{JOBS.relative_to(TOP)}: jobs: {"mcscheck" if HAS_YAML else "the package yaml of Python"} is not there')
         return
     for block in (block for kind, block in blocks_in(JOBS.read_text()) if kind == 'yaml'):
         lines = list(script_lines(yaml.safe_load(block)))

@@ -79,7 +79,8 @@ def main() -> None:
     parser = common.asking_program(__doc__)
     parser.add_argument('--write', action='store_true', help='draws the pictures anew')
     words = parser.parse_args()
-    program, count, commands = common.built_program(words.program), Count(), {}
+    program, count = common.built_program(words.program), Count()
+    commands: dict[pathlib.Path, str] = {}
     for page in PAGES:
         own = commands_of(page)
         count.expect(f'{page.name}: pictures that it shows and those whose commands it names differ', images_of(page) == set(own))

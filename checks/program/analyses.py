@@ -55,8 +55,9 @@ def played(form: Form, core: int, ticks: int) -> dict[str, int]:
     """The greatest responses of jobs that end, where a core runs the greatest priority in each tick, and jobs of a task one after another. A call
     follows a job, and is in no response."""
     call = form.has_clocks
-    order = sorted((task for task in form.tasks if task.core == core), key=lambda task: -task.priority)
-    waiting = {task.name: collections.deque() for task in order}
+    order = sorted((task for task in form.tasks if task.core == core), key=lambda task: -(task.priority or 0))
+    waiting: dict[str, collections.deque[int]] = {task.name: collections.deque() for task in order}
+    work = {task.name: task.work for task in order}
     # of the job under way: what is left of it
     left = dict.fromkeys(waiting, 0)
     worst = dict.fromkeys(waiting, 0)
@@ -64,14 +65,14 @@ def played(form: Form, core: int, ticks: int) -> dict[str, int]:
         for task in order:
             if tick % task.period == 0:
                 waiting[task.name].append(tick)
-        task = next((one for one in order if left[one.name] or waiting[one.name]), None)
-        if task is None:
+        name = next((one.name for one in order if left[one.name] or waiting[one.name]), None)
+        if name is None:
             continue
-        if not left[task.name]:
-            left[task.name] = task.work + call
-        left[task.name] -= 1
-        if left[task.name] == call:
-            worst[task.name] = max(worst[task.name], tick + 1 - waiting[task.name].popleft())
+        if not left[name]:
+            left[name] = work[name] + call
+        left[name] -= 1
+        if left[name] == call:
+            worst[name] = max(worst[name], tick + 1 - waiting[name].popleft())
     return worst
 
 
@@ -87,13 +88,19 @@ def set_of(rng: random.Random) -> list[Task]:
     return tasks.with_priorities(made, rng.choice(['rate', 'deadline']))
 
 
+def bounds_of(form: Form) -> dict[str, int]:
+    """The bound of each task that has one."""
+    bounds = {task.name: form.bound(task) for task in form.tasks}
+    return {name: bound for name, bound in bounds.items() if bound is not None}
+
+
 def is_tried(form: Form) -> bool:
     """Whether there is a bound for each task, and a run that tells it is short; where clocks tick, each job and its call are to end before the tick after
     next, since of the ticks that come meanwhile a notification keeps one."""
-    bounds = [form.bound(task) for task in form.tasks]
-    if None in bounds or form.horizon() > FAR:
+    bounds = bounds_of(form)
+    if len(bounds) < len(form.tasks) or form.horizon() > FAR:
         return False
-    return not form.has_clocks or all(most + tasks.CALL < 2 * task.period for most, task in zip(bounds, form.tasks))
+    return not form.has_clocks or all(bounds[task.name] + tasks.CALL < 2 * task.period for task in form.tasks)
 
 
 def form_of(rng: random.Random, has_clocks: bool) -> Form:
@@ -145,7 +152,7 @@ class Trial:
         rng = random.Random(f'{seed} {number}')
         form = form_of(rng, number % 2 == 1)
         what = f'set {number} of seed {seed}'
-        bounds = {task.name: form.bound(task) for task in form.tasks}
+        bounds = bounds_of(form)
         together = form.horizon()
         found = tasks.seen(form, str(self.program), together)
         self.count.expect(f'{what}: bounds {bounds}, seen {found}', found == bounds)
@@ -164,15 +171,16 @@ class Trial:
 
     def try_table(self, what: str, form: Form, bounds: dict[str, int], horizon: int) -> None:
         """The table, in each way to make contexts."""
+        assert self.checker
         compared = {task.name: task for task in form.tasks if form.has_clocks or bounds[task.name] <= task.period}
         wanted = {name: Told(bounds[name], task.deadline - bounds[name], bounds[name] > task.deadline) for name, task in compared.items()}
         for way, keys in (WITH_CLOCKS if form.has_clocks else AS_CLOCKS).items():
             got = {name: each for name, each in told(self.checker, form, keys, horizon).items() if name in compared}
             self.count.expect(f'{what}: {way}: the analysis has {wanted}, the table {got}', got == wanted)
             self.seen[way] += len(compared)
-        for each in wanted.values():
+        for name, each in wanted.items():
             self.seen['missed' if each.has_missed else 'in time'] += 1
-            self.seen['128 or more'] += each.greatest >= 128
+            self.seen['128 or more'] += bounds[name] >= 128
 
     def end(self) -> None:
         wanted = [*ABOVE.values(), *(COMPARED if self.checker else ())]

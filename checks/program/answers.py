@@ -56,8 +56,8 @@ class Rounds:
         return next((row.moment for row in reversed(own[:begins]) if row.kind == 'stop'), None)
 
     def ended(self, row: Row) -> Span:
-        past, round_ = self.found.past(row), self.found.ended[row.place]
-        begin = min(round_.activated, since) if (since := self.waited(past)) is not None else round_.activated
+        past, round_ = self.found.past(row), self.found.ended_by(row)
+        begin = min(round_.since, since) if (since := self.waited(past)) is not None else round_.since
         return Span(int(row.what[2]), begin, row.moment, round_.activated, round_.begun, True)
 
     def pending(self) -> Optional[Span]:
@@ -70,8 +70,9 @@ class Rounds:
             since, activated = self.waited(found.whole), round_.activated
             begin = round_.begun if activated is None else activated if since is None else min(activated, since)
             return Span(number, begin, horizon, activated, round_.begun, False) if round_.begun <= horizon else None
-        word, since = found.whole.word(found.first_wait(self.thread))
-        if word:
+        note = found.first_wait(self.thread)
+        since = found.whole.word(note)[1] if note else None
+        if since is not None:
             return Span(number, since, horizon, since, None, False)
         stops = [row for row in found.whole.of_thread(self.thread) if row.kind in ('release', 'run', 'stop', 'wake')]
         if stops and stops[-1].kind == 'stop' and stops[-1].what[2] == 'wait':

@@ -59,7 +59,7 @@ class Browser:
             os.dup2(high[1], WRITES)
 
         command = [found() or NAMES[0], *WORDS, f'--user-data-dir={self.folder.name}', f'--window-size={self.wide},{self.high}', 'about:blank']
-        nowhere = {'stdin': subprocess.DEVNULL, 'stdout': subprocess.DEVNULL, 'stderr': subprocess.DEVNULL}
+        nowhere: dict[str, Any] = {'stdin': subprocess.DEVNULL, 'stdout': subprocess.DEVNULL, 'stderr': subprocess.DEVNULL}
         self.child = subprocess.Popen(command, preexec_fn=take_ends, close_fds=False, **nowhere)
         os.close(reads)
         os.close(writes)
@@ -100,7 +100,8 @@ class Browser:
                 raise NoAnswer('the browser has ended')
             self.waiting += got
         one, self.waiting = self.waiting.split(b'\0', 1)
-        return json.loads(one)
+        message: dict[str, Any] = json.loads(one)
+        return message
 
     def call(self, method: str, **words: object) -> dict[str, Any]:
         self.number += 1
@@ -113,7 +114,8 @@ class Browser:
             self.events.append(got)
         if 'error' in got:
             raise NoAnswer(f'{method}: {got["error"]["message"]}')
-        return got['result']
+        result: dict[str, Any] = got['result']
+        return result
 
     def open(self, address: str) -> None:
         self.events.clear()

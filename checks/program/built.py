@@ -234,7 +234,7 @@ def main() -> None:
     if words.renew:
         renew()
         return
-    look = Look(words.program.resolve() if words.program else next(filter(common.is_program, (common.BUILT, common.SHIPPED)), None))
+    look = Look(words.program.resolve() if words.program else common.first_program((common.BUILT, common.SHIPPED)))
     look.all()
     look.count.end()
 

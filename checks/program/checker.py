@@ -19,7 +19,7 @@ from typing import NamedTuple
 sys.dont_write_bytecode = True
 sys.path[0] = str(pathlib.Path(__file__).resolve().parents[2])
 from checks import common
-from checks.common import TOP, Count, Ran
+from checks.common import TOP, Count, Ran, Word
 from checks.measure import performance
 from checks.pages.pages import blocks_in
 from checks.program.faults import DOUBLE_NAME, LONGEST, NOTHING, Case, begins, exactly, ran
@@ -70,7 +70,7 @@ def example() -> Example:
 def answered() -> tuple[list[str], bytes]:
     """Of the example of docs/FORMAT.md the words that ask why a round took so long, and what is written."""
     text = (TOP / 'docs' / 'FORMAT.md').read_text().partition('\n### Its lines of a round\n')[2].partition('\n### ')[0]
-    words = re.search(r'`mcscheck late\.toml (.*?)`', text)[1].split()
+    words = re.findall(r'`mcscheck late\.toml (.*?)`', text)[0].split()
     return words, blocks_in(text)[-1][1].encode()
 
 
@@ -90,7 +90,8 @@ def cases_of_findings() -> Iterator[Case]:
         yield Case(f'two workers with {words}', [*words, '--workers', '2'], system, exactly(written), NOTHING, 5)
     (words, written), _, (_, figures), *_ = runs
     both = written[:written.rindex(b'missed ')] + figures
-    for asked in ([], ['--show', 'both'], ['--workers', '2']):
+    ways: tuple[list[str], ...] = ([], ['--show', 'both'], ['--workers', '2'])
+    for asked in ways:
         yield Case(f'findings and figures with {asked}', ['--horizon', '30', *asked], system, exactly(both), NOTHING, 5)
     allowed = b''.join(line for line in written.splitlines(keepends=True) if b' lost tick ' not in line)
     allowed = allowed.replace(b'lost 2', b'lost 0').replace(b'allowed 0', b'allowed 2')
@@ -141,7 +142,8 @@ def cases_of_words(folder: pathlib.Path) -> Iterator[Case]:
 def cases_of_rounds(folder: pathlib.Path) -> Iterator[Case]:
     """Why a round took so long, and rounds that are not there; each fault comes before those behind it."""
     system, (words, written) = example().system, answered()
-    for more in ([], ['--workers', '2'], ['--format', 'text']):
+    ways: tuple[list[str], ...] = ([], ['--workers', '2'], ['--format', 'text'])
+    for more in ways:
         yield Case(f'a round with {more}', [*words, *more], system, exactly(written), NOTHING, 0)
     yield Case('a round as JSON', [*words, '--format', 'json'], system, begins(b'{"moment":8,', b'{"kind":"idle","ticks":10}\n'), NOTHING, 0)
     mixed = exactly(MIXED_ROUND.encode())
@@ -188,7 +190,7 @@ def try_progress_among_findings(program: pathlib.Path, folder: pathlib.Path, hor
     """One terminal shows findings and how far the run is: each finding stands in a line of its own."""
     file = folder / 'seldom.toml'
     file.write_text(performance.crowd(1, 8) + SELDOM_LATE)
-    command = [program, file, '--horizon', str(2 * horizon)]
+    command: list[Word] = [program, file, '--horizon', str(2 * horizon)]
     with terminal() as (theirs, seen):
         status = subprocess.run(command, stdin=subprocess.DEVNULL, stdout=theirs, stderr=theirs).returncode
     shown = seen.decode()

@@ -19,6 +19,7 @@ import sys
 import tempfile
 import time
 from collections.abc import Callable, Iterator, Sequence
+from typing import Any
 
 sys.dont_write_bytecode = True
 sys.path[0] = str(pathlib.Path(__file__).resolve().parents[2])
@@ -59,7 +60,7 @@ class Trial:
         collected = self.sweep('--collect', str(there))
         good = collected.status == 0 and collected.stdout == self.local
         print(f'{name}: {self.count} combinations, {seconds:.1f} s', flush=True)
-        count.expect(f'{name}: {emitted.stderr + ran.stderr[-500:] + collected.stderr}', good)
+        count.expect(f'{name}: {emitted.stderr + ran.stderr[-500:] + collected.stderr!r}', good)
 
 
 def shell(text: str) -> list[str]:
@@ -91,7 +92,7 @@ def by_dask(address: str) -> Callable[[pathlib.Path], list[str]]:
 # ---- engines of one machine, which end with this script
 
 
-def command(*words: object, **how: object) -> None:
+def command(*words: object, **how: Any) -> None:
     subprocess.run([str(word) for word in words], check=True, stdin=subprocess.DEVNULL, stdout=subprocess.DEVNULL, **how)
 
 

@@ -21,7 +21,7 @@ from checks import common
 from checks.common import TOP, Count, Ran
 from checks.program import forever_reading as forever, reading, verdicts
 from checks.program.forever_reading import Claim, Told
-from checks.program.reading import Tables
+from checks.program.reading import Tables, Values
 from checks.program.verdicts import System, allowing, differing
 
 SYSTEMS = TOP / 'examples' / 'systems'
@@ -135,7 +135,7 @@ class Trial:
             for values in each.values(allowed):
                 self.tell_line(values, so_far)
 
-    def tell_line(self, values: dict, so_far: str) -> None:
+    def tell_line(self, values: Values, so_far: str) -> None:
         kind = values['kind']
         if kind in ('overdue', 'never'):
             self.seen[f'{kind}{so_far}'] += 1

@@ -8,6 +8,7 @@ says later, is counted as missed: nothing says that it has to be found. The last
 from __future__ import annotations
 
 import collections
+import argparse
 import copy
 import pathlib
 import random
@@ -35,12 +36,14 @@ class Account:
 
     def __init__(self, system: System, thread: int) -> None:
         self.waits = system.first_wait(thread)
-        self.standing, self.since, self.called = 'pending', 0, None
+        self.standing, self.since = 'pending', 0
+        self.called: Optional[int] = None
         self.preemptions = 0
         self.begins(None if self.waits is not None else system.start(thread))
 
     def begins(self, moment: Optional[int]) -> None:
-        self.begun, self.active = moment, None
+        self.begun = moment
+        self.active: Optional[int] = None
         self.stood: collections.Counter[str] = collections.Counter()
 
     def given(self, moment: int, called: int) -> None:
@@ -96,7 +99,12 @@ class Watch:
     def clear(self) -> None:
         """Of what the rows did: threads whose context or whose round was compared with now, that ended a round, or are told of at all; words that were
         taken, or in which a signal was held."""
-        self.contexts, self.rounds, self.ended, self.told, self.taken, self.held = (set() for _ in range(6))
+        self.contexts: set[int] = set()
+        self.rounds: set[int] = set()
+        self.ended: set[int] = set()
+        self.told: set[int] = set()
+        self.taken: set[int] = set()
+        self.held: set[int] = set()
 
     def see(self, row: Row) -> None:
         if row.kind == 'hold':
@@ -217,11 +225,12 @@ class Comparing:
         """Whether horizons tell the same of the thread in each period, and the ends of one tell all between."""
         note = self.system.first_wait(thread)
         is_empty = note is None or self.kept.watch.words[note][0] == 0 and note not in self.watch.held
+        word_is_later = note is not None and self.word_is_later(note)
         if note is not None and any(('wait', note) in script for other, script in enumerate(self.system.scripts) if other != thread):
             return False
         account = self.kept.watch.accounts[thread]
         is_idle = thread not in self.watch.told and account.begun is None and (account.standing == 'done' or is_empty)
-        return is_idle or self.is_later(thread) and (is_empty or self.word_is_later(note))
+        return is_idle or self.is_later(thread) and (is_empty or word_is_later)
 
 
 class Search:
@@ -286,7 +295,7 @@ def is_as_seen(claim: Claim, seen: Optional[Repeats]) -> bool:
 
 
 class Trial:
-    def __init__(self, words) -> None:
+    def __init__(self, words: argparse.Namespace) -> None:
         self.checker = common.beside(common.built_program(words.program), 'mcscheck')
         self.horizon, self.count, self.missed = words.horizon, Count(), 0
 
@@ -303,7 +312,7 @@ class Trial:
                 self.missed += 1
                 print(f'missed: {what}: {seen}')
                 continue
-            is_good = is_as_seen(claim, seen) and (not claim.is_clean or seen.ends_recur)
+            is_good = is_as_seen(claim, seen) and (not claim.is_clean or seen is not None and seen.ends_recur)
             self.count.expect(f'{what}: {claim}, and the model sees {seen}', is_good)
 
     def names(self, name: str, groups: Sequence[CoreSet]) -> Iterator[str]:

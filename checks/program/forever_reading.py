@@ -58,13 +58,19 @@ class Claim(NamedTuple):
     is_clean: bool = False
 
     @property
+    def repeats(self) -> tuple[int, int]:
+        """The start and the period of a set that repeats."""
+        assert self.start is not None and self.period is not None
+        return self.start, self.period
+
+    @property
     def end(self) -> Optional[int]:
         """The end of the first period."""
-        return None if self.start is None else self.start + self.period
+        return None if self.start is None else sum(self.repeats)
 
     def far(self, horizon: int) -> int:
         """How far the set is run: some periods, or to the horizon up to which no repetition was found."""
-        return horizon if self.start is None else self.start + PERIODS * self.period
+        return horizon if self.start is None else self.start + PERIODS * self.repeats[1]
 
 
 REPEATS = re.compile(r'cores ([\d ]+): repeats from (\d+) with period (\d+)')
@@ -117,12 +123,13 @@ class Told:
 
     def rows_in(self, number: int) -> list[Row]:
         """The rows of a period, from 0 on."""
-        begin = self.claim.start + number * self.claim.period
-        return [row for row in self.whole.rows if begin <= row.moment < begin + self.claim.period]
+        start, period = self.claim.repeats
+        begin = start + number * period
+        return [row for row in self.whole.rows if begin <= row.moment < begin + period]
 
     def as_first(self, number: int) -> list[tuple[int, int, list[str]]]:
         """The rows of a period with the moments of the first one, and without the numbers of rounds."""
-        ago = number * self.claim.period
+        ago = number * self.claim.repeats[1]
 
         def words(row: Row) -> list[str]:
             if row.kind == 'round':
@@ -150,11 +157,12 @@ class Told:
             if self.claim.is_clean:
                 yield 'no repetition was found, and nothing is ever found'
             return
+        start, period = self.claim.repeats
         # the turns of the horizon are taken too
-        if not 0 < self.claim.period or self.claim.end > self.horizon + 1:
-            yield f'a period of {self.claim.period} from {self.claim.start} on was looked for up to {self.horizon}'
-        if any(self.claim.start <= order['at'] for order in self.tables.get('order', [])):
-            yield f'an order comes from {self.claim.start} on'
+        if not 0 < period or start + period > self.horizon + 1:
+            yield f'a period of {period} from {start} on was looked for up to {self.horizon}'
+        if any(start <= order['at'] for order in self.tables.get('order', [])):
+            yield f'an order comes from {start} on'
         for number in range(1, PERIODS):
             first, later = self.as_first(0), self.as_first(number)
             if first != later:
@@ -185,12 +193,12 @@ class Told:
 
     def many(self, kind: str, number: int) -> dict[str, int]:
         """The same in a period."""
-        begin = self.claim.start + number * self.claim.period
-        return self.many_in(kind, begin, begin + self.claim.period)
+        start, period = self.claim.repeats
+        return self.many_in(kind, start + number * period, start + (number + 1) * period)
 
     def horizons(self) -> list[int]:
         """At these nothing may be found where nothing ever is."""
-        start, period = self.claim.start, self.claim.period
+        start, period = self.claim.repeats
         return [start, start + period, start + 2 * period + period // 3 + 1, start + PERIODS * period]
 
     def found_at(self, horizon: int, allowed: Sequence[str]) -> list[str]:
@@ -228,7 +236,7 @@ class Told:
 
     def of_thread(self, thread: str) -> Values:
         rounds = [row for row in self.whole.rows if row.kind == 'round' and row.what[1] == thread]
-        responses = [row.moment - self.whole.ended[row.place].activated for row in rounds]
+        responses = [row.moment - self.whole.ended_by(row).since for row in rounds]
         greatest = max(responses, default=None)
         if self.claim.start is None:
             return {'kind': 'thread_so_far', 'thread': thread, 'greatest': greatest}

@@ -54,25 +54,25 @@ class System:
         return ('yield',)
 
     def cost(self, item: Item) -> int:
-        return item[1] if item[0] == 'compute' else self.call
+        return int(item[1] if item[0] == 'compute' else self.call)
 
     def home(self, note: int) -> int:
-        return self.notes[note]['core']
+        return int(self.notes[note]['core'])
 
     def priority(self, thread: int) -> int:
-        return self.threads[thread]['priority']
+        return int(self.threads[thread]['priority'])
 
     def rounds(self, thread: int) -> int:
-        return self.threads[thread].get('rounds', 0)
+        return int(self.threads[thread].get('rounds', 0))
 
     def deadline(self, thread: int) -> int:
-        return self.threads[thread].get('deadline', 0)
+        return int(self.threads[thread].get('deadline', 0))
 
     def start(self, thread: int) -> int:
-        return self.threads[thread].get('start', 0)
+        return int(self.threads[thread].get('start', 0))
 
     def is_bandwidth(self, context: int) -> bool:
-        return self.contexts[context].get('mode') == 'bandwidth'
+        return bool(self.contexts[context].get('mode') == 'bandwidth')
 
     def first_wait(self, thread: int) -> Optional[int]:
         word, *rest = self.scripts[thread][0]
@@ -136,7 +136,7 @@ class Context:
 
     def amount(self) -> int:
         """The head's."""
-        return self.left if self.is_slice else head_of(self.dates)
+        return int(self.left) if self.is_slice else head_of(self.dates)
 
     def date(self, moment: int) -> Optional[int]:
         """With which a thread has to wait for it, if it has to."""
@@ -378,10 +378,10 @@ class Turn:
 def text_of(row: Row, system: System) -> str:
     """A row as a line of text."""
     def thread(number: int) -> str:
-        return system.threads[number]['name']
+        return str(system.threads[number]['name'])
 
     def note(number: int) -> str:
-        return system.notes[number]['name']
+        return str(system.notes[number]['name'])
 
     match row.kind, row.what:
         case 'stop', (number, why, ticks, until):

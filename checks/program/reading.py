@@ -138,6 +138,12 @@ class Round(NamedTuple):
     rows: Sequence[Row]
 
     @property
+    def since(self) -> int:
+        """When it was activated, which of a round that has ended is known."""
+        assert self.activated is not None
+        return self.activated
+
+    @property
     def queued(self) -> int:
         return max(self.begun - (self.activated or 0), 0)
 
@@ -178,7 +184,7 @@ class Reading:
         return Past(self.schedule, row.place)
 
     def deadline(self, thread: str) -> int:
-        return self.threads[thread].get('deadline', 0)
+        return int(self.threads[thread].get('deadline', 0))
 
     def first_wait(self, thread: str) -> Optional[str]:
         """The notification on which the thread's script waits first, where it begins with a wait."""
@@ -213,6 +219,12 @@ class Reading:
         ends = ((row, row.what[1]) for row in self.rows if row.kind == 'round')
         return {row.place: self.round_at(self.past(row), thread, row.moment) for row, thread in ends}
 
+    def ended_by(self, row: Row) -> Round:
+        """The round that a row ends."""
+        ended = self.ended[row.place]
+        assert ended is not None
+        return ended
+
     def late(self, thread: str, round_: Round) -> str:
         """The words of a round that is late, from its deadline on."""
         return f'deadline {self.deadline(thread)} activated {round_.activated} queued {round_.queued} {round_.parts}'
@@ -226,8 +238,8 @@ class Reading:
             return ('merged', '') if before else None
         if row.kind == 'round':
             _, thread, number, _ = row.what
-            ended = self.ended[row.place]
-            response = row.moment - ended.activated
+            ended = self.ended_by(row)
+            response = row.moment - ended.since
             if 0 < self.deadline(thread) < response:
                 return 'missed', f'{row.moment} {row.core} miss {thread} {number} {response} {self.late(thread, ended)}'
         return None
@@ -266,12 +278,14 @@ class Reading:
         for row in self.rows:
             if row.kind == 'round':
                 _, thread, number, _ = row.what
-                job = self.ended[row.place]
-                times = f'activated {job.activated} begun {job.begun} response {row.moment - job.activated} queued {job.queued}'
+                job = self.ended_by(row)
+                times = f'activated {job.activated} begun {job.begun} response {row.moment - job.since} queued {job.queued}'
                 yield f'{row.moment} {row.core} job {thread} {number} {times} preemptions {job.preemptions} {job.parts}'
 
-    def signals(self, note: str) -> dict[str, int]:
-        """How many signals of the notification were lost, and how many merged."""
+    def signals(self, note: Optional[str]) -> dict[str, Optional[int]]:
+        """How many signals of the notification, if there is one, were lost, and how many merged."""
+        if note is None:
+            return {'lost': None, 'merged': None}
         kinds = collections.Counter(found[0] for row in self.rows if row.kind == 'hold' and row.what[1] == note and (found := self.found(row)))
         return {'lost': kinds['lost'], 'merged': kinds['merged']}
 
@@ -280,7 +294,7 @@ class Reading:
         part = self.threads[thread]
         context, deadline, waits = self.contexts[part['context']], self.deadline(thread), self.first_wait(thread)
         ends = [row for row in self.rows if row.kind == 'round' and row.what[1] == thread]
-        responses = sorted(row.moment - self.ended[row.place].activated for row in ends)
+        responses = sorted(row.moment - self.ended_by(row).since for row in ends)
         greatest = responses[-1] if responses else None
         stood = collections.Counter(self.whole.standings(thread, 0, self.horizon))
         return {
@@ -290,7 +304,7 @@ class Reading:
             **{f'p{percent}': percentile(responses, percent) for percent in (50, 90, 99)}, 'deadline': deadline or None,
             'margin': deadline - greatest if deadline and greatest is not None else None,
             'missed': sum(0 < deadline < response for response in responses), 'late': sum(0 < deadline < int(row.what[3]) for row in ends),
-            **(self.signals(waits) if waits else {'lost': None, 'merged': None}),
+            **self.signals(waits),
             **{f'ticks_{standing}': stood[standing] for standing in STANDINGS},
         }
 
@@ -345,7 +359,7 @@ def percentile(responses: Sequence[int], percent: int) -> Optional[int]:
     if not responses:
         return None
     value = responses[-(-percent * len(responses) // 100) - 1]
-    width = 1 if value < 128 else 2 ** (value.bit_length() - 7)
+    width = 1 << max(value.bit_length() - 7, 0)
     return min(value - value % width + width - 1, responses[-1])
 
 
@@ -359,13 +373,13 @@ def values_of(line: str) -> dict[str, int | str]:
     moment, core, kind, *words = line.split()
     first = FIRST[kind]
     pairs = [*zip(first, words), *zip(words[len(first)::2], words[len(first) + 1::2])]
-    numbers = {name: int(word) if name not in ('thread', 'note') else word for name, word in pairs}
+    numbers: dict[str, int | str] = {name: int(word) if name not in ('thread', 'note') else word for name, word in pairs}
     return {'moment': int(moment), 'core': int(core), 'kind': kind, **numbers}
 
 
 def values_of_hint(line: str) -> dict[str, int | str]:
     _, what, name, *rest = line.split()
-    values = {'core': int(name), 'grants': int(rest[1])} if what == 'core' else {what: name}
+    values: dict[str, int | str] = {'core': int(name), 'grants': int(rest[1])} if what == 'core' else {what: name}
     return {'kind': 'hint', 'hint': HINTS[what], **values}
 
 

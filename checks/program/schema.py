@@ -14,7 +14,7 @@ import json
 import pathlib
 import sys
 from collections.abc import Callable, Iterator
-from typing import Any
+from typing import Any, cast
 
 sys.dont_write_bytecode = True
 sys.path[0] = str(pathlib.Path(__file__).resolve().parents[2])
@@ -55,7 +55,10 @@ def text_of(value: object) -> str:
 
 
 def definition(part: Part) -> Part:
-    return SCHEMA['definitions'][part['$ref'].rsplit('/', 1)[1]] if '$ref' in part else part
+    if '$ref' not in part:
+        return part
+    found: Part = SCHEMA['definitions'][part['$ref'].rsplit('/', 1)[1]]
+    return found
 
 
 def resolved(part: Part) -> Part:
@@ -82,11 +85,15 @@ def wrong_values(part: Part) -> Iterator[object]:
 Place = tuple[str, Part, Callable[[System], System]]
 
 
+def row_of(table: str, row: int) -> Callable[[System], System]:
+    return lambda whole: cast(System, whole[table][row])
+
+
 def places_of(system: System) -> Iterator[Place]:
     yield 'top', SCHEMA, lambda whole: whole
     for table in TABLES:
         for row in range(len(system.get(table, []))):
-            yield f'{table} {row + 1}', SCHEMA['definitions'][table], lambda whole, table=table, row=row: whole[table][row]
+            yield f'{table} {row + 1}', SCHEMA['definitions'][table], row_of(table, row)
 
 
 def changed(system: System, place: Place, change: Callable[[System], object]) -> System:
@@ -100,11 +107,11 @@ def changes_in(system: System, place: Place) -> Iterator[tuple[str, System]]:
     """The changes in one place, in words, each with the system so changed."""
     where, part, _ = place
     for key in part['required']:
-        yield f'{where}: no {key}', changed(system, place, lambda table, key=key: table.pop(key))
+        yield f'{where}: no {key}', changed(system, place, lambda table: table.pop(key))
     yield f'{where}: another key', changed(system, place, lambda table: table.update(other=1))
     for key, inner in part['properties'].items():
         for value in wrong_values(inner):
-            yield f'{where}: {key} = {text_of(value)}', changed(system, place, lambda table, key=key, value=value: table.update({key: value}))
+            yield f'{where}: {key} = {text_of(value)}', changed(system, place, lambda table: table.update({key: value}))
 
 
 def one_thread(script: list[str]) -> System:

@@ -99,8 +99,9 @@ class Left(NamedTuple):
 
 def left(command: list[Word], seconds: float) -> Left | None:
     """Runs a command and leaves after its first line; None where it does not end."""
-    pipes = {'stdout': subprocess.PIPE, 'stderr': subprocess.PIPE, 'stdin': subprocess.DEVNULL}
+    pipes: dict[str, Any] = {'stdout': subprocess.PIPE, 'stderr': subprocess.PIPE, 'stdin': subprocess.DEVNULL}
     with subprocess.Popen(command, **pipes) as running:
+        assert running.stdout
         line = running.stdout.readline()
         running.stdout.close()
         try:

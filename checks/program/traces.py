@@ -20,7 +20,7 @@ from typing import Any
 sys.dont_write_bytecode = True
 sys.path[0] = str(pathlib.Path(__file__).resolve().parents[2])
 from checks import common, random_systems
-from checks.common import DATA, TOP, Count
+from checks.common import DATA, TOP, Count, Word
 
 NEEDED = {
     'X': {'name', 'cat', 'pid', 'tid', 'ts', 'dur'}, 'M': {'name', 'pid', 'tid', 'args'}, 's': {'name', 'cat', 'id', 'pid', 'tid', 'ts'},
@@ -93,7 +93,7 @@ def ran_in(text: bytes) -> dict[str, float]:
     """For each thread the ticks of its running slices."""
     events = json.loads(text)['traceEvents']
     name_of = {(event['pid'], event['tid']): event['args']['name'] for event in events if event['ph'] == 'M' and event['name'] == 'thread_name'}
-    found: dict[str, float] = collections.Counter()
+    found: dict[str, float] = collections.defaultdict(float)
     for event in events:
         if event['ph'] == 'X' and event['name'] == 'running':
             found[name_of[event['pid'], event['tid']]] += event['dur'] * 1000 / TICK_NS
@@ -119,7 +119,7 @@ def with_orders(rng: random.Random, system: random_systems.System) -> str:
 
 
 def try_system(program: pathlib.Path, file: pathlib.Path, horizon: int, count: Count) -> None:
-    words = [sys.executable, TOP / 'tools' / 'trace', file, '--horizon', str(horizon), '--tick-ns', str(TICK_NS), '--budgets']
+    words: list[Word] = [sys.executable, TOP / 'tools' / 'trace', file, '--horizon', str(horizon), '--tick-ns', str(TICK_NS), '--budgets']
     ran = common.run(words, env={**os.environ, 'MCSIM': str(program), 'PYTHONDONTWRITEBYTECODE': '1'})
     if ran.status:
         if common.run([program, '--horizon', '0'], file.read_bytes()).status == 1:

@@ -29,7 +29,7 @@ from checks.random_systems import system_of
 
 NAMES = ('tick', 'ticks', 'frames', '-n', 'irq', 'fire_irq', 'N', 'pet')
 # systems, with the kinds of what is found in them
-KNOWN = {
+KNOWN: dict[pathlib.Path, set[str]] = {
     DATA / 'worked' / 'starved_thread.toml': {'overdue'},
     DATA / 'worked' / 'waits_for_ever.toml': {'never'},
     TOP / 'examples' / 'systems' / 'car_gateway_as_found.toml': {'missed', 'overdue', 'lost'},
@@ -185,7 +185,7 @@ class Trial:
         rng.shuffle(words)
         wanted = found.wanted(allowed, 'jobs')
         self.tell_parts(wanted)
-        self.seen['jobs that are preempted twice'] += sum(bool(job) and job.preemptions > 1 for job in found.ended.values())
+        self.seen['jobs that are preempted twice'] += sum(job is not None and job.preemptions > 1 for job in found.ended.values())
         self.wants(system, words, answer(wanted, is_strict))
 
     def with_format(self, system: System, found: Reading, rng: random.Random) -> None:
@@ -276,7 +276,7 @@ class Trial:
         for thread in found.threads:
             if (late := found.overdue(thread)) and not late.standings:
                 self.seen['yet to begin'] += 1
-        self.seen['activated late'] += sum(bool(ended) and (ended.activated or 0) > ended.begun for ended in found.ended.values())
+        self.seen['activated late'] += sum(ended is not None and (ended.activated or 0) > ended.begun for ended in found.ended.values())
 
     def tell_parts(self, wanted: Wanted) -> None:
         """Counts the lines that have some of each part, and the kinds of hints."""

@@ -22,7 +22,7 @@ from typing import Any, Optional
 sys.dont_write_bytecode = True
 sys.path[0] = str(pathlib.Path(__file__).resolve().parents[2])
 from checks import common, random_systems
-from checks.common import DATA, TOP, Count
+from checks.common import DATA, TOP, Count, Word
 from checks.program import browser
 from checks.program.browser import Browser
 
@@ -106,7 +106,7 @@ class Expected:
                 first_set = None
             elif kind == 'wake' and rest[0] == name and note and activated is None:
                 activated = int(moment)
-            elif kind == 'round' and rest[0] == name:
+            elif kind == 'round' and rest[0] == name and begun is not None:
                 self.round(name, activated if note else self.first_ready(begun), int(moment))
                 begun, activated = int(moment), None
             elif kind == 'stop' and rest[:2] == [name, 'done']:
@@ -148,8 +148,8 @@ def is_apart(kind: str) -> bool:
 
 def differences(found: dict[str, int], wanted: dict[str, int]) -> list[str]:
     kinds = {*found, *wanted}
-    both = ((kind, found.get(kind, 0), wanted.get(kind, 0)) for kind in sorted(filter(is_apart, kinds)))
-    said = [f'{kind}: {one} in the page, {two} in the rows' for kind, one, two in both if one != two]
+    apart = ((kind, found.get(kind, 0), wanted.get(kind, 0)) for kind in sorted(filter(is_apart, kinds)))
+    said = [f'{kind}: {one} in the page, {two} in the rows' for kind, one, two in apart if one != two]
     for stem in {kind.rpartition(' ')[0] for kind in kinds}:
         both = [[counts.get(f'{stem} {kind}'.strip(), 0) for kind in ('ready', 'throttled', 'woken')] for counts in (found, wanted)]
         # what is woken in the rows is one of both in the page
@@ -171,8 +171,8 @@ def hands(page: Browser, horizon: int) -> list[str]:
     page.wheel(600, 200, -600)
     page.value(DRAWN)
     near = page.value(PLACE)
-    for kind, x, more in (('mousePressed', 600, {'buttons': 1}), ('mouseMoved', 680, {'buttons': 1}), ('mouseReleased', 680, {})):
-        page.mouse(kind, x, 200, button='left', clickCount=1, **more)
+    for kind, x, buttons in (('mousePressed', 600, 1), ('mouseMoved', 680, 1), ('mouseReleased', 680, 0)):
+        page.mouse(kind, x, 200, button='left', clickCount=1, buttons=buttons)
     page.value(DRAWN)
     if horizon > 60 and not all_ != near != page.value(PLACE):
         found.append('the wheel does not zoom, or the hand does not move')
@@ -194,8 +194,9 @@ FOLLOWS = 30
 @contextlib.contextmanager
 def live_page(system: pathlib.Path, program: pathlib.Path) -> Iterator[str]:
     """The address of the live page of a system."""
-    command = [sys.executable, TOP / 'tools' / 'live', system, '--program', program, '--horizon', '12']
+    command: list[Word] = [sys.executable, TOP / 'tools' / 'live', system, '--program', program, '--horizon', '12']
     with subprocess.Popen(command, stdout=subprocess.PIPE, text=True) as running:
+        assert running.stdout
         try:
             yield running.stdout.readline().strip()
         finally:
@@ -228,7 +229,7 @@ class Trial:
         self.program, self.page, self.folder, self.count, self.counted = program, page, folder, Count(), 0
 
     def drawn(self, system: pathlib.Path, horizon: int) -> common.Ran:
-        words = [sys.executable, TOP / 'tools' / 'view', system, '--horizon', str(horizon), '-o', self.folder / 'page.html']
+        words: list[Word] = [sys.executable, TOP / 'tools' / 'view', system, '--horizon', str(horizon), '-o', self.folder / 'page.html']
         return common.run(words, env={**os.environ, 'MCSIM': str(self.program), 'PYTHONDONTWRITEBYTECODE': '1'})
 
     def look(self, system: pathlib.Path, horizon: int) -> None:

@@ -29,6 +29,8 @@ PAGE = TOP / 'docs' / 'BELIEVE.md'
 CRATES = TOP / 'crates'
 # of a line that is written
 WIDTH = 140
+# the crate of the toolchain's library whose words the tables have without its name
+STD = 'std'
 # constructors of the toolchain's library that are written small
 SMALL_CONSTRUCTORS = {'zero', 'suc', 'pos', 'negsuc', 'true', 'false', 'no_members', 'member', 'no_items', 'item'}
 
@@ -96,6 +98,20 @@ class Place(NamedTuple):
         return f'{self.name} of crates/{self.file}'
 
 
+class Word(NamedTuple):
+    """A word of the toolchain's library: its name, and the crate that has it, since two crates may use one name for different things."""
+
+    name: str
+    crate: str
+
+    def __str__(self) -> str:
+        return f'{self.name} of {self.crate}'
+
+    def order(self) -> tuple[str, str]:
+        """Where it stands in a table."""
+        return self.name.lower(), self.crate
+
+
 class Definition(NamedTuple):
     """A definition: its comment, its lines without that, the heads of the modules in which it stands, and what it cites."""
 
@@ -104,14 +120,14 @@ class Definition(NamedTuple):
     lines: tuple[str, ...]
     modules: tuple[str, ...]
     cites: frozenset[Place]
-    words: frozenset[str]
+    words: frozenset[Word]
 
 
 class Names(NamedTuple):
     """What names mean in a file: definitions of this repository, words of others, and prefixes behind which names of a file stand."""
 
     places: dict[str, Place]
-    words: dict[str, str]
+    words: dict[str, Word]
     prefixes: dict[str, str]
 
 
@@ -152,7 +168,7 @@ def file_of(path: Sequence[str]) -> tuple[str, str | None] | None:
 @functools.lru_cache(maxsize=None)
 def constructors_in(file: str) -> dict[str, str]:
     """The constructors that the types of a file of specs/ have, each with its type."""
-    found = {}
+    found: dict[str, str] = {}
     for name, block in re.findall(r'^pub data (\w+).*\n((?:  .*\n)*)', read(file), re.M):
         found.update((line.split()[0], name) for line in block.splitlines())
     return found
@@ -167,13 +183,14 @@ def names_in(text: str) -> Names:
     for path, those, prefix in USE.findall(text):
         module = re.split(r'[./]', path)
         if is_outside(module):
-            names.words.update((here, name) for name, here in listed(those))
+            names.words.update((here, Word(name, module[0])) for name, here in listed(those))
         elif found := file_of(module):
             file, kind = found
+            made: dict[str, str] = {} if kind else constructors_in(file)
             if prefix:
                 names.prefixes[prefix] = kind and f'{file} {kind}' or file
             for name, here in listed(those):
-                names.places[here] = Place(file, kind or constructors_in(file).get(name, name))
+                names.places[here] = Place(file, made.get(name, name) if kind is None else kind)
     return names
 
 
@@ -209,10 +226,10 @@ def has_operator(operator: str, text: str) -> bool:
     return all(re.search(rf'(?:(?<=[\s(])|^){re.escape(part)}(?=[\s)]|$)', text) for part in operator.split('◌') if part)
 
 
-def cited_in(chunk: str, bound: set[str], names: Names) -> tuple[set[Place], set[str]]:
+def cited_in(chunk: str, bound: set[str], names: Names) -> tuple[set[Place], set[Word]]:
     """What a text cites, apart from the names that are bound in it."""
     places: set[Place] = set()
-    words: set[str] = set()
+    words: set[Word] = set()
     text = SILENT.sub(' ', chunk)
     later: dict[str, int] = {}
     binding = set()
@@ -238,7 +255,7 @@ def cited_in(chunk: str, bound: set[str], names: Names) -> tuple[set[Place], set
             else:
                 words.add(names.words[operator])
     if '[]' in names.words and '[]' in text:
-        words.add('[]')
+        words.add(names.words['[]'])
     return places, words
 
 
@@ -414,7 +431,7 @@ def contract_of(clause: Clause) -> tuple[str, list[str]]:
     return head, [part.rstrip() for part in parts if part.startswith(('requires', f'ensures {clause.clause}'.rstrip() + ' '))]
 
 
-def begin_with(clause: Clause, count: Count) -> tuple[set[Place], set[str]]:
+def begin_with(clause: Clause, count: Count) -> tuple[set[Place], set[Word]]:
     """What a contract cites, and the types of which the head of its call speaks."""
     text = read(clause.file)
     head, parts = contract_of(clause)
@@ -531,14 +548,15 @@ def lines_of(definitions: Iterable[Definition]) -> int:
     return sum(len(comment_of(definition)) + len(definition.lines) for definition in definitions)
 
 
-def words_table(words: Iterable[str]) -> str:
-    rows = '\n'.join(f'| `{shown(word)}` | {WORDS.get(word, "")} |' for word in sorted(words, key=str.lower))
+def words_table(words: Iterable[Word]) -> str:
+    rows = '\n'.join(f'| {shown(word)} | {WORDS.get(word.crate, {}).get(word.name, "")} |' for word in sorted(words, key=Word.order))
     return f'| Word | What it is |\n|---|---|\n{rows}\n'
 
 
-def shown(word: str) -> str:
-    """A word of the library as it is written, with its arguments' places left out."""
-    return ' '.join(part for part in word.split('◌') if part).replace('|', '\\|') if '◌' in word else word
+def shown(word: Word) -> str:
+    """A word of the library as it is written, with its arguments' places left out, and its crate where that is not std."""
+    written = ' '.join(part for part in word.name.split('◌') if part).replace('|', '\\|') if '◌' in word.name else word.name
+    return f'`{written}`' if word.crate == STD else f'`{written}` of `{word.crate}`'
 
 
 def head_of(file: str) -> str:
@@ -582,7 +600,7 @@ def contracts_text(root: Root) -> str:
     return '\n\n'.join('\n'.join((f'// {call}', *parts)) for call, parts in said.items())
 
 
-def region_of(root: Root, pieces: Sequence[Sequence[Definition]], words: Iterable[str], known: Iterable[Place]) -> str:
+def region_of(root: Root, pieces: Sequence[Sequence[Definition]], words: Iterable[Word], known: Iterable[Place]) -> str:
     """What the script writes between the marks of a part."""
     definitions = [definition for piece in pieces for definition in piece]
     files = {definition.place.file for definition in definitions}
@@ -642,14 +660,15 @@ def compare(page: str, root: Root, region: str, definitions: Iterable[Definition
     count.expect(f'the part {root.mark} of {PAGE.name} is not what checks/proofs/believe.py --write writes', kept == region)
 
 
-def check_tables(seen: set[Place], words: set[str], count: Count) -> None:
+def check_tables(seen: set[Place], words: set[Word], count: Count) -> None:
     """Whether the lines that are kept for definitions and words are all of use."""
     spare = [Place(file, name) for file, lines in SAYS.items() for name in lines if Place(file, name) not in seen]
     count.expect(f'lines for definitions that nothing cites: {", ".join(map(str, spare))}', not spare)
-    for word in sorted(words - WORDS.keys()):
+    told = {Word(name, crate) for crate, lines in WORDS.items() for name in lines}
+    for word in sorted(words - told):
         count.expect(f'WORDS of checks/proofs/believe_lines.py does not say what {word} is', False)
-    idle = sorted(WORDS.keys() - words)
-    count.expect(f'words that nothing uses: {", ".join(idle)}', not idle)
+    idle = sorted(told - words)
+    count.expect(f'words that nothing uses: {", ".join(map(str, idle))}', not idle)
 
 
 def main() -> None:
@@ -659,14 +678,14 @@ def main() -> None:
     count = Count()
     page = PAGE.read_text()
     seen: set[Place] = set()
-    said: set[str] = set()
+    said: set[Word] = set()
     for root in ROOTS:
         begins = [begin_with(clause, count) for clause in root.clauses]
         begin = {place for places, _ in begins for place in places}
         found = {place: definition for place, definition in all_behind(begin, count).items() if place not in seen}
         pieces = in_order(found)
         count.expect(f'definitions of the part {root.mark} cite each other in a circle', sum(map(len, pieces)) == len(found))
-        words = set().union(*(words for _, words in begins), *(definition.words for definition in found.values())) - said
+        words = {word for group in (*(words for _, words in begins), *(definition.words for definition in found.values())) for word in group} - said
         check_lines(found.values(), count)
         region = region_of(root, pieces, words, {*seen, *found})
         if asked.write:

@@ -18,6 +18,7 @@ import sys
 import tempfile
 import types
 from collections.abc import Callable, Iterator, Sequence
+from typing import Any
 
 sys.dont_write_bytecode = True
 sys.path[0] = str(pathlib.Path(__file__).resolve().parents[2])
@@ -37,7 +38,9 @@ def loaded(path: str) -> types.ModuleType:
     """The command rt as a module that looks at this repository as the gate does."""
     sys.argv = ['rt', 'ci']
     loader = importlib.machinery.SourceFileLoader('rt_main', path)
-    rt = importlib.util.module_from_spec(importlib.util.spec_from_loader('rt_main', loader))
+    spec = importlib.util.spec_from_loader('rt_main', loader)
+    assert spec
+    rt = importlib.util.module_from_spec(spec)
     loader.exec_module(rt)
     rt.rtlib.Crate, rt.rtlib.stop = rt.Crate, refuse
     rt.Crate.cuts_libraries = True
@@ -61,11 +64,11 @@ class Looks:
         self.rt, self.kit = rt, rt.rtlib
         self.crates = self.kit.crates_below(str(TOP))
 
-    def files(self, crate: object) -> Iterator[str]:
+    def files(self, crate: Any) -> Iterator[str]:
         yield from said(lambda: self.kit.stop_on_links(crate.folder))
         yield from said(lambda: self.kit.stop_on_unread(crate.folder, self.crates))
 
-    def texts(self, crate: object) -> Iterator[str]:
+    def texts(self, crate: Any) -> Iterator[str]:
         yield from said(lambda: self.kit.stop_on_text(crate, 'verdict'))
         yield from said(lambda: self.rt.stop_on_words(crate))
         code = self.kit.code_of(crate.folder)
@@ -74,12 +77,12 @@ class Looks:
         if re.search(self.rt.IGNORED, code):
             yield 'it has a test under #[ignore]'
 
-    def layout(self, crate: object) -> Iterator[str]:
+    def layout(self, crate: Any) -> Iterator[str]:
         with tempfile.TemporaryFile('a+', errors='replace') as out:
             if self.kit.fmt(crate.folder, '--check', out):
                 yield 'run rt fmt in its folder'
 
-    def edits(self, crate: object) -> Iterator[str]:
+    def edits(self, crate: Any) -> Iterator[str]:
         good, bad = self.rt.edits_of(crate)
         yield from (f'{os.path.basename(edit)} is no name of an edit' for edit in bad)
         for edit in (*good, *sorted(glob.glob(f'{crate.folder}/{LEFT_OUT}/*.edit'))):
@@ -87,7 +90,7 @@ class Looks:
             if texts is None:
                 yield f'{os.path.basename(edit)}: {why}'
 
-    def modules(self, crate: object) -> Iterator[str]:
+    def modules(self, crate: Any) -> Iterator[str]:
         for file in glob.glob(f'{crate.folder}/**/*.antt', recursive=True):
             # Lib.antt lists what stands beside it, and any other file what stands in the folder of its name
             folder = os.path.dirname(file) if os.path.basename(file) == 'Lib.antt' else file.removesuffix('.antt')
@@ -95,7 +98,7 @@ class Looks:
                 names = re.findall(r'^(?:pub )?mod (\w+)$', text.read(), re.M)
             yield from (f'{os.path.relpath(file, crate.folder)} names {name}, which has no file' for name in names if not os.path.exists(f'{folder}/{name}.antt'))
 
-    def findings(self, crate: object) -> list[str]:
+    def findings(self, crate: Any) -> list[str]:
         return [found for look in (self.files, self.texts, self.layout, self.modules, self.edits) for found in look(crate)]
 
 
@@ -108,13 +111,13 @@ def launched(program: str) -> list[str] | None:
     return subprocess.run(['sh', '-c', script], cwd=TOP, capture_output=True, text=True).stdout.split()
 
 
-def look_at_launcher(crates: Sequence[object], count: Count) -> None:
+def look_at_launcher(crates: Sequence[Any], count: Count) -> None:
     for program in common.PROGRAMS:
-        wanted = next(([below.name for below in crate.below()] for crate in crates if crate.name == program), [])
+        wanted: list[str] = next(([below.name for below in crate.below()] for crate in crates if crate.name == program), [])
         found = launched(program)
         what = 'no function libraries' if found is None else f'{" ".join(found) or "no crate"}, and the program stands on {" ".join(wanted) or "none"}'
         # a crate that crates.txt leaves out stands on none to both
-        count.expect(f'{program}: the launcher has {what}', bool(found) and sorted(found) == sorted(wanted))
+        count.expect(f'{program}: the launcher has {what}', found is not None and bool(found) and sorted(found) == sorted(wanted))
 
 
 def main() -> None:

@@ -81,7 +81,8 @@ def seeded(rt: Any, crate: Any) -> str | None:
     """A new folder with what a check of the crate as it stands proved, in seed/, or None where it is not proved."""
     if keeps(rt):
         kept = f'{crate.folder}/out/incremental'
-        return rt.seeded(crate, ['--jobs', '1'], kept if os.path.isdir(kept) else None)
+        made: str | None = rt.seeded(crate, ['--jobs', '1'], kept if os.path.isdir(kept) else None)
+        return made
     room = tempfile.mkdtemp(prefix='edits-')
     if rt.checked(crate, {}, ['--jobs', '1'], f'{room}/seed').returncode:
         shutil.rmtree(room)
@@ -93,7 +94,8 @@ def tried(rt: Any, crate: Any, edit: str, room: str, over: str) -> tuple[str, st
     """What the kit says of an edit that it tries over a copy of the folder's seed, and of which kind that is."""
     if keeps(rt):
         rt.linked(f'{room}/seed', f'{over}/kept')
-        return rt.must_fail(crate, edit, ['--jobs', '1'], f'{over}/kept')
+        came: tuple[str, str] = rt.must_fail(crate, edit, ['--jobs', '1'], f'{over}/kept')
+        return came
     shutil.copytree(f'{room}/seed', f'{over}/kept')
     is_refused, said = rt.must_fail(crate, edit, ['--jobs', '1'], f'{over}/kept')
     return 'refused' if is_refused else 'missed' if ': NOT REFUSED' in said else 'bad', said
@@ -102,8 +104,8 @@ def tried(rt: Any, crate: Any, edit: str, room: str, over: str) -> tuple[str, st
 def verdict_of(kind: str, said: str, output: str = '') -> tuple[str, str]:
     """What an answer of the kit to a check with this output comes to, and why, without the words that say so."""
     why = said.partition(': ')[2] if said.startswith('must-fail ') else said
-    why = re.sub(r'^(refused, as it must be|NOT REFUSED|BAD EDIT|NOT TRIED)(: )?', '', why).splitlines()
-    first = why[0].strip() if why else ''
+    lines = re.sub(r'^(refused, as it must be|NOT REFUSED|BAD EDIT|NOT TRIED)(: )?', '', why).splitlines()
+    first = lines[0].strip() if lines else ''
     if kind == 'refused':
         if first.startswith('(only because a proof file names'):
             return WEAK, first

@@ -105,7 +105,8 @@ def order_of(tasks: Sequence[Task]) -> list[int]:
 
 def wall(tasks: Sequence[Task], processors: int) -> float:
     """The seconds that the tasks take on so many processors, by the model."""
-    left, ended, now = order_of(tasks), set(), 0.0
+    left, now = order_of(tasks), 0.0
+    ended: set[int] = set()
     running: list[tuple[float, int]] = []
     while left or running:
         ready = [place for place in left if ended.issuperset(tasks[place].waits)]
@@ -190,6 +191,7 @@ def run_gate(words: Sequence[str], times: str) -> tuple[Tally | None, str, int]:
     """Runs the gate and shows what it writes: its count, its last line before that, and its status."""
     count, said = None, ''
     with common.started([sys.executable, str(HERE / 'timed_rt.py'), times, *words]) as running:
+        assert running.stdout
         for line in running.stdout:
             told = common.tally_of(line)
             if told is None:

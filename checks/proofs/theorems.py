@@ -10,6 +10,7 @@ from __future__ import annotations
 import pathlib
 import re
 import sys
+import tomllib
 from collections.abc import Iterable, Sequence
 from typing import Any
 
@@ -18,10 +19,6 @@ sys.path[0] = str(pathlib.Path(__file__).resolve().parents[2])
 from checks import common
 from checks.common import DATA, TOP, Count
 
-try:
-    import tomllib
-except ImportError:
-    tomllib = None
 
 PROOFS = TOP / 'crates' / 'mcs_worked' / 'proofs'
 # each file with the folders from which it comes
@@ -177,6 +174,7 @@ def theorem(path: pathlib.Path) -> str:
     system = tomllib.loads(path.read_text())
     numbers = Numbers(system)
     run = run_of(path)
+    assert run
     horizon = horizon_of(run.with_suffix('.words').read_text().split())
     lines = [line for line in run.with_suffix('.stdout').read_text().splitlines() if line[:1].isdigit()]
     rows = '\n    ∷ '.join([*(row_term(line, numbers) for line in lines), '[]'])
@@ -229,9 +227,6 @@ def main() -> None:
     parser.add_argument('--write', action='store_true', help='writes the files of theorems')
     words = parser.parse_args()
     count = Count()
-    if tomllib is None:
-        count.skip('the worked theorems, since this Python has no tomllib')
-        count.end()
     for name, parts in FILES.items():
         if words.write:
             (PROOFS / name).write_text(text_of(parts, [theorem(path) for path in systems_of(parts)]))

@@ -23,20 +23,22 @@ from concurrent.futures import Future, ThreadPoolExecutor
 from typing import Any
 
 # (crate, part) of a task, and the number of an edit
-Key = tuple
+Key = tuple[Any, ...]
 
 here = threading.local()
 counting = threading.Lock()
 seconds: dict[Key | None, float] = collections.defaultdict(float)
 clocks: dict[Key, tuple[float, float]] = {}
-tasks_seen: dict[Key, tuple] = {}
+tasks_seen: dict[Key, tuple[Any, ...]] = {}
 began = time.monotonic()
 
 
 def loaded(path: str) -> types.ModuleType:
     """The command rt as a module."""
     loader = importlib.machinery.SourceFileLoader('rt_main', path)
-    module = importlib.util.module_from_spec(importlib.util.spec_from_loader('rt_main', loader))
+    spec = importlib.util.spec_from_loader('rt_main', loader)
+    assert spec
+    module = importlib.util.module_from_spec(spec)
     loader.exec_module(module)
     return module
 
@@ -68,20 +70,20 @@ def clocked(key: Key, call: Callable[[Any, int], Any]) -> Callable[[Any, int], A
 class Counted(ThreadPoolExecutor):
     """Threads that count for the task of the thread that hands them work."""
 
-    def submit(self, call: Callable, /, *given: Any, **named: Any) -> Future:
+    def submit(self, call: Callable[..., Any], /, *given: Any, **named: Any) -> Future[Any]:
         return super().submit(self.within, getattr(here, 'task', None), call, *given, **named)
 
     @staticmethod
-    def within(task: Key | None, call: Callable, *given: Any, **named: Any) -> Any:
+    def within(task: Key | None, call: Callable[..., Any], *given: Any, **named: Any) -> Any:
         here.task = task
         return call(*given, **named)
 
 
-def hook(rt: types.ModuleType) -> None:
+def hook(rt: Any) -> None:
     """Replaces the three calls."""
     in_lanes = rt.in_lanes
 
-    def clocked_lanes(tasks: dict[Key, tuple]) -> Any:
+    def clocked_lanes(tasks: dict[Key, tuple[Any, ...]]) -> Any:
         tasks_seen.update(tasks)
         return in_lanes({key: (*task[:3], clocked(key, task[3])) for key, task in tasks.items()})
 
@@ -110,7 +112,7 @@ def main() -> int:
     sys.argv = ['rt', 'ci', *words]
     rt = loaded(path)
     hook(rt)
-    status = rt.main(['ci', *words])
+    status: int = rt.main(['ci', *words])
     pathlib.Path(file).write_text(json.dumps(told()))
     return status
 

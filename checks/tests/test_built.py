@@ -8,6 +8,7 @@ import sys
 import tempfile
 import unittest
 from collections.abc import Sequence
+from typing import Any
 
 CHECKS = pathlib.Path(__file__).resolve().parent.parent
 TOP = CHECKS.parent
@@ -71,7 +72,7 @@ class InFolder(unittest.TestCase):
             shutil.copy(CHECKS / script, self.top / 'checks' / script)
         self.write('checks/proofs/archive.py', ARCHIVE_PY)
         for tool in TOOLS:
-            (self.tools / tool).symlink_to(shutil.which(tool))
+            (self.tools / tool).symlink_to(shutil.which(tool) or self.fail(f'there is no {tool}'))
         (self.tools / 'python3').symlink_to(sys.executable)
         self.write('crates.txt', CRATES)
         self.write('bin/README.md', PAGE)
@@ -89,11 +90,11 @@ class InFolder(unittest.TestCase):
         (self.tools / 'rt').write_text(f'#!/bin/sh\n{RT}\n')
         (self.tools / 'rt').chmod(0o755)
 
-    def run_in(self, command: list[str], **how) -> subprocess.CompletedProcess:
-        env = {'PATH': str(self.tools), 'HOME': str(self.home)}
-        return subprocess.run(command, cwd=self.top.parent, env=env, capture_output=True, text=True, **{'stdin': subprocess.DEVNULL, **how})
+    def run_in(self, command: list[str], **how: Any) -> subprocess.CompletedProcess[str]:
+        how = {'cwd': self.top.parent, 'env': {'PATH': str(self.tools), 'HOME': str(self.home)}, 'stdin': subprocess.DEVNULL, **how}
+        return subprocess.run(command, capture_output=True, text=True, **how)
 
-    def launch(self, *words: str, **how) -> tuple[int, str, str]:
+    def launch(self, *words: str, **how: Any) -> tuple[int, str, str]:
         ran = self.run_in([str(self.top / 'mcsim'), *words], **how)
         return ran.returncode, ran.stdout, ran.stderr
 

@@ -7,6 +7,7 @@ import pathlib
 import tempfile
 import types
 import unittest
+from typing import Any
 
 from checks.proofs import edits
 
@@ -77,7 +78,12 @@ class PlainKit(unittest.TestCase):
                 (folder / name).mkdir()
             (folder / 'seed' / 'proved').write_text('of the crate as it stands')
             given = []
-            kit = types.SimpleNamespace(must_fail=lambda *words: given.append(pathlib.Path(words[3], 'proved').read_text()) or (is_refused, said))
+
+            def must_fail(*words: Any) -> tuple[bool, str]:
+                given.append(pathlib.Path(words[3], 'proved').read_text())
+                return is_refused, said
+
+            kit = types.SimpleNamespace(must_fail=must_fail)
             kind, told = edits.tried(kit, None, 'a.edit', room, f'{room}/over')
         self.assertEqual((told, given), (said, ['of the crate as it stands']))
         return kind

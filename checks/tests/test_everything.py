@@ -6,6 +6,7 @@ import subprocess
 import sys
 import tempfile
 import unittest
+from typing import Any
 
 CHECKS = pathlib.Path(__file__).resolve().parent.parent
 from checks import common, everything
@@ -39,7 +40,7 @@ class Folder:
         for script in ('__init__.py', 'common.py', 'everything.py'):
             shutil.copy(CHECKS / script, self.top / 'checks')
         for tool in TOOLS:
-            (self.tools / tool).symlink_to(shutil.which(tool))
+            (self.tools / tool).symlink_to(shutil.which(tool) or tool)
         (self.tools / 'python3').symlink_to(sys.executable)
         for check in everything.CHECKS:
             self.check(f'{check.folder}/{check.name}', 'print("tries", *sys.argv[1:])\nprint("2 passed, 0 failed")')
@@ -62,8 +63,8 @@ class Folder:
 
     def run(self, *command: str) -> tuple[int, list[str]]:
         """The status of a command, and the lines that it writes."""
-        how = {'stdin': subprocess.DEVNULL, 'stdout': subprocess.PIPE, 'stderr': subprocess.STDOUT, 'text': True}
-        ran = subprocess.run(command, cwd=self.top, env={'PATH': str(self.tools)}, **how)
+        how: dict[str, Any] = {'stdin': subprocess.DEVNULL, 'stdout': subprocess.PIPE, 'stderr': subprocess.STDOUT}
+        ran = subprocess.run(command, cwd=self.top, env={'PATH': str(self.tools)}, text=True, **how)
         return ran.returncode, ran.stdout.splitlines()
 
 

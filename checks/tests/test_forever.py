@@ -151,14 +151,13 @@ def as_json(text: str) -> str:
                 found.append({'kind': kind, 'thread': name, 'moment': int(moment)})
             case ['thread', name, 'greatest', 'response', greatest, *rest]:
                 number = {} if greatest == '-' else {'greatest': int(greatest)}
-                kind = 'thread_so_far' if rest == ['so', 'far'] else 'thread'
+                of = 'thread_so_far' if rest == ['so', 'far'] else 'thread'
                 never = {'throttled': 'never'} if 'throttled' in rest else {}
-                found.append({'kind': kind, 'thread': name, **number, **never, **({'ends_no_round_from': int(rest[-2])} if 'ends' in rest else {})})
+                found.append({'kind': of, 'thread': name, **number, **never, **({'ends_no_round_from': int(rest[-2])} if 'ends' in rest else {})})
             case ['sets', sets, 'repeating', repeating, 'findings', findings]:
                 found.append({'kind': 'sets', 'sets': int(sets), 'repeating': int(repeating), 'findings': int(findings)})
             case ['nothing', *_]:
-                cores = next(each['cores'] for each in reversed(found) if 'cores' in each)
-                found.append({'kind': 'clean', 'cores': cores})
+                found.append({'kind': 'clean', 'cores': next(each['cores'] for each in reversed(found) if 'cores' in each)})
     return ''.join(json.dumps(each, separators=(',', ':')) + '\n' for each in found)
 
 
@@ -169,14 +168,15 @@ class Programs(unittest.TestCase):
     ) -> int:
         """How many tries fail of a program that writes this, wrong in some way."""
 
-        def ran(command: list[common.Word], text: bytes = b'', **_: object) -> Ran:
+        def ran(given: list[common.Word], text: bytes = b'', **_: object) -> Ran:
+            command = [str(word) for word in given]
             far = next(int(word.partition('=')[2]) for word in command if word.startswith('--horizon'))
             if command[0] == 'mcsim':
                 return Ran(0, rows_wrong(rows(first, later, far)).encode(), b'')
             form = (written_as_json or as_json(written)) if '--format=json' in command else written
             return wrong(Ran(status, form.encode(), b''))
 
-        trial = forever.Trial('mcsim', 'mcscheck')
+        trial = forever.Trial(pathlib.Path('mcsim'), pathlib.Path('mcscheck'))
         with tempfile.TemporaryDirectory() as folder, mock.patch('checks.common.run', ran), mock.patch('tempfile.tempdir', folder):
             with contextlib.redirect_stdout(io.StringIO()):
                 trial.agrees(System('worked', text, horizon), allowed=allowed)
@@ -317,7 +317,7 @@ class WrongPrograms(Programs):
             file.write_text(f'#!/bin/sh\n{text}\n')
             file.chmod(0o755)
         command = [sys.executable, str(CHECKS / 'program' / 'forever.py'), '--program', str(pathlib.Path(folder, 'mcsim')), '--systems', '1']
-        return common.tally_of(common.run(command).stdout.decode().splitlines()[-1])
+        return common.last_tally(common.run(command).stdout.decode())
 
     def test_systems_that_show_nothing_are_a_failure(self) -> None:
         with tempfile.TemporaryDirectory() as folder:
@@ -370,7 +370,8 @@ class Models(unittest.TestCase):
         tried = 0
         # those of `files` are refused
         for file in (file for folder in ('examples', 'orders', 'random_one', 'random_several', 'turns', 'worked') for file in DATA.glob(f'{folder}/*/schedule.stdout')):
-            words = dict(zip(*[iter(file.with_suffix('.words').read_text().split())] * 2))
+            asked = file.with_suffix('.words').read_text().split()
+            words = dict(zip(asked[::2], asked[1::2]))
             tables = tomllib.loads(file.parent.with_suffix('.toml').read_text())
             horizon = int(words.get('--horizon', 1000))
             if horizon <= 300 and all(context['budget'] < 10_000 for context in tables.get('context', [])):
@@ -388,7 +389,7 @@ class Models(unittest.TestCase):
     def seen(self, text: str, horizon: int) -> list[tuple[int, int, bool] | None]:
         tables = tomllib.loads(text)
         found = forever_model.Search(model.System(tables), forever_reading.core_sets(tables)).run(horizon)
-        return [repeats and tuple(repeats) for repeats in found]
+        return [None if repeats is None else (repeats.start, repeats.period, repeats.ends_recur) for repeats in found]
 
     def test_what_repeats(self) -> None:
         # moments are kept before 0, 1, 4, 12 and 30; before 12 the dates of the loop are 10, 12, 13, 14, and before 22 they are 15, 22, 23, 24

@@ -8,6 +8,7 @@ import tempfile
 import unittest
 
 CHECKS = pathlib.Path(__file__).resolve().parent.parent
+from checks.common import Tally
 from checks.proofs import gate
 from checks.proofs.gate import Measured, Task
 
@@ -50,7 +51,7 @@ class Tables(unittest.TestCase):
         self.assertEqual(gate.dearest(TASKS), ['  40.0 s  high edit 1', '  20.0 s  high edit 0'])
 
     def test_the_report_names_count_parts_walls_and_chain(self) -> None:
-        text = gate.report(Measured(TASKS, 15, 7), 'rt: ok; all was done in this run', gate.Tally(9, 1))
+        text = gate.report(Measured(TASKS, 15, 7), 'rt: ok; all was done in this run', Tally(9, 1))
         for part in ('9 passed, 1 failed', 'Processor minutes: 5.0: proof 1.5, tests 1.5, second proof 0.8, edits 1.0, runs of tests and programs 0.2',
                      'Longest chain: 3.5 minutes', 'rt: ok; all was done'):
             self.assertIn(part, text)

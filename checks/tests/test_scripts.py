@@ -14,9 +14,11 @@ from unittest import mock
 from checks import common, everything, random_systems
 from checks.pages import manual, mended, pages
 from checks.program import analyses, bandwidth, faults, progress, refused_runs, stress, traces, waves
-from checks.program.analyses import Form, Task
 from checks.program.refusing import Answer
 from checks.proofs import theorems
+
+sys.path.insert(0, str(common.TOP / 'tools'))
+from mcsim_tools.tasks import Form, Task
 
 
 class WrongPrograms(unittest.TestCase):
@@ -35,7 +37,7 @@ class WrongPrograms(unittest.TestCase):
         file = next(check.script for check in everything.CHECKS if check.name == script)
         command = [sys.executable, str(file), '--program', str(self.program), *words]
         ran = subprocess.run(command, capture_output=True, text=True, env={**os.environ, 'TMPDIR': str(self.program.parent)})
-        found = common.tally_of(ran.stdout.splitlines()[-1])
+        found = common.last_tally(ran.stdout)
         self.assertEqual(ran.returncode, found.status, ran.stderr)
         return found
 
@@ -106,10 +108,11 @@ class WrongPrograms(unittest.TestCase):
     def test_a_table_has_the_greatest_responses_of_the_analysis(self) -> None:
         # a takes 1 tick of each 4, and b 2 of each 6 behind one a, with a deadline of 2
         form = Form([Task('a', 1, 4, 4, priority=2), Task('b', 2, 6, 2, priority=1)], False)
-        for rows, failed in (
+        cases: tuple[tuple[list[str], int], ...] = (
             (['a,1,3,0', 'b,3,-1,2'], 0), (['b,3,-1,2', 'c,9,,0', 'a,1,3,0'], 0), (['a,1,3,0', 'b,2,0,0'], 1), (['a,1,3,0', 'b,4,-2,2'], 1),
             (['a,1,3,0', 'b,3,1,2'], 1), (['a,1,3,0', 'b,3,-1,0'], 1), (['a,1,3,1', 'b,3,-1,2'], 1), (['a,1,3,0', 'b,,,0'], 1), (['a,1,3,0'], 1), ([], 1),
-        ):
+        )
+        for rows, failed in cases:
             self.program.write_text('\n'.join(['#!/bin/sh', 'cat <<END', 'thread,greatest,margin,missed', *rows, 'END', '']))
             self.program.chmod(0o755)
             trial = analyses.Trial(self.program, self.program)
@@ -243,7 +246,7 @@ class Rules(unittest.TestCase):
         self.assertEqual(waves_found, {'core0.runs': [(-1, '-'), (3, 'A'), (5, '-')]})
         self.assertEqual([waves.value_at(waves_found['core0.runs'], moment) for moment in (0, 3, 4, 9)], ['-', 'A', 'A', '-'])
 
-    def trace_faults(self, *events: dict) -> int:
+    def trace_faults(self, *events: dict[str, object]) -> int:
         named = {'ph': 'M', 'name': 'thread_name', 'pid': 0, 'tid': 1, 'args': {'name': 'A'}}
         return len(traces.faults(json.dumps({'traceEvents': [named, *events]}).encode()))
 

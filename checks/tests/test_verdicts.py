@@ -102,7 +102,7 @@ class Readings(unittest.TestCase):
 
     def test_preemptions_are_those_of_the_round(self) -> None:
         found = reading.Reading(tomllib.loads(TEXT), PREEMPTS, 9)
-        jobs = [(job.begun, job.activated, job.preemptions) for job in found.ended.values()]
+        jobs = [job and (job.begun, job.activated, job.preemptions) for job in found.ended.values()]
         self.assertEqual(jobs, [(2, 1, 2), (7, 6, 0)])
 
     def test_lost_signals_that_are_allowed_are_counted_and_not_told(self) -> None:
@@ -136,7 +136,8 @@ class WrongCheckers(unittest.TestCase):
         """How many tries fail with a checker that is wrong in this way, which is given the words of a run."""
         wanted = reading.Reading(tomllib.loads(TEXT), rows, 9)
 
-        def ran(command: list[common.Word], text: bytes = b'', **_: object) -> Ran:
+        def ran(given: list[common.Word], text: bytes = b'', **_: object) -> Ran:
+            command = [str(word) for word in given]
             if command[0] == 'mcsim':
                 return Ran(0, (rows + reports).encode(), b'')
             allowed = [word.partition('=')[2] for word in command if word.startswith('--allow-lost')]
@@ -149,7 +150,7 @@ class WrongCheckers(unittest.TestCase):
                 return wrong(Ran(2, b'', reading.MIXED.encode()))
             return wrong(verdicts.answer(wanted.wanted(allowed, show, form), '--strict' in command))
 
-        trial = verdicts.Trial('mcsim', 'mcscheck')
+        trial = verdicts.Trial(pathlib.Path('mcsim'), pathlib.Path('mcscheck'))
         with tempfile.TemporaryDirectory() as folder, mock.patch('checks.common.run', ran), mock.patch('tempfile.tempdir', folder):
             with contextlib.redirect_stdout(io.StringIO()), mock.patch.object(trial, 'unknown'):
                 trial.agrees(verdicts.System('worked', TEXT, 9), random.Random(1))
@@ -184,7 +185,7 @@ class WrongCheckers(unittest.TestCase):
                 file.write_text('#!/bin/sh\nexit 1\n')
                 file.chmod(0o755)
             command = [sys.executable, str(pathlib.Path(verdicts.__file__)), '--program', str(pathlib.Path(folder, 'mcsim')), '--systems', '1']
-            last = common.tally_of(common.run(command).stdout.decode().splitlines()[-1])
+            last = common.last_tally(common.run(command).stdout.decode())
         self.assertGreaterEqual(last.failed, len(verdicts.SEEN) - 1)
 
 
