@@ -60,6 +60,7 @@ CHECKS = (
     Check('program', 'refused_runs'),
     Check('proofs', 'early', tries_program=False),
     Check('program', 'units', tries_program=False),
+    Check('program', 'lint', tries_program=False),
     Check('program', 'library'),
     Check('proofs', 'theorems', tries_program=False),
     Check('proofs', 'believe', tries_program=False),
