@@ -4,20 +4,17 @@ The program finds the fault (docs/FORMAT.md has the order of its tests) and name
 the file, and the fault a few facts, from the file itself and from docs/mcsim.schema.json."""
 from __future__ import annotations
 
+import codecs
 import difflib
 import json
 import pathlib
 import re
-from collections.abc import Callable, Iterable, Iterator
+from collections.abc import Callable, Iterable, Iterator, Sequence
 from dataclasses import dataclass
 from typing import Any, NamedTuple, Optional
 
-from .positions import Node, Position, read
-
-try:
-    import tomllib
-except ImportError:
-    tomllib = None
+from . import tables
+from .positions import Node, Position, Reader, read
 
 TOOLS = pathlib.Path(__file__).resolve().parent.parent
 # in the repository, and as it is installed
@@ -36,6 +33,8 @@ ITEMS = {'compute': 'compute N', 'signal': 'signal NOTE BADGE', 'wait': 'wait NO
 NUMBERS = {'compute': 'N is 1 to 2^40', 'signal': 'BADGE is 1 to 4,294,967,295'}
 KINDS = {'integer': 'an integer', 'string': 'a text', 'array': 'an array'}
 NEAR = 0.5
+# a word that is longer has no nearest one; names and unknown keys that are told; bytes up to which Python's reader of TOML is asked
+LONGEST_WORD, MOST_NAMED, MOST_UNKNOWN, LONGEST_ASKED = 64, 20, 3, 2**21
 
 
 class Fault(NamedTuple):
@@ -55,17 +54,22 @@ class Fault(NamedTuple):
 def fault_of(line: str) -> Optional[Fault]:
     """The fault that a line of the program tells, or None where it tells another thing."""
     found = LINE.fullmatch(line.strip())
-    return found and Fault(found['kind'], found['section'], int(found['row'] or 0), found['key'], int(found['item'] or 0))
+    return None if found is None else Fault(found['kind'], found['section'], int(found['row'] or 0), found['key'], int(found['item'] or 0))
 
 
 def schema_of_files() -> Optional[dict[str, Any]]:
     """The schema of systems' files, where it is to be had."""
     found = next((path for path in SCHEMAS if path.is_file()), None)
-    return found and json.loads(found.read_text())
+    if found is None:
+        return None
+    schema: dict[str, Any] = json.loads(found.read_text(encoding='utf-8'))
+    return schema
 
 
 def nearest(word: str, known: Iterable[str]) -> Optional[str]:
     """The known word that is most like this one, if any is."""
+    if len(word) > LONGEST_WORD:
+        return None
     words = {other.lower(): other for other in known}
     found = difflib.get_close_matches(word.lower(), words, 1, NEAR)
     return words[found[0]] if found else None
@@ -82,7 +86,8 @@ def amount(number: int) -> str:
 
 
 def named(names: Iterable[str]) -> str:
-    return ', '.join(names) or 'none'
+    listed = list(names)
+    return ', '.join(listed[:MOST_NAMED]) + (f' and {len(listed) - MOST_NAMED:,} more' if len(listed) > MOST_NAMED else '') or 'none'
 
 
 def kind_of(node: Node) -> str:
@@ -111,10 +116,14 @@ class Case:
     """A fault beside the file in which it lies."""
 
     fault: Fault
-    root: Node
+    tree: Reader
     schema: dict[str, Any]
 
-    def rows(self, section: str) -> list[Node]:
+    @property
+    def root(self) -> Node:
+        return self.tree.root
+
+    def rows(self, section: str) -> Sequence[Node]:
         array = self.root.get(section)
         return array.items if array else []
 
@@ -153,7 +162,7 @@ class Case:
     def earlier(self, is_same: Callable[[Node], bool]) -> Optional[int]:
         """The line of the first earlier row that has what this one has."""
         found = next(filter(is_same, self.rows(self.fault.section)[: self.fault.row - 1]), None)
-        return found and found.position.line
+        return None if found is None else self.tree.position(found.at).line
 
     def wanted(self, key: str) -> str:
         """What the schema wants at a key: its kind and its range."""
@@ -176,48 +185,48 @@ class Case:
         return f'{kind} of 1 to 32 characters of A-Z a-z 0-9 _ -' if 'pattern' in part else kind
 
     def meaning(self, key: str) -> str:
-        return self.properties().get(key, {}).get('description', '').rstrip('.')
+        return str(self.properties().get(key, {}).get('description', '')).rstrip('.')
 
     def told(self, key: str) -> str:
         """What is wanted at a key, and what the key means."""
         return '. '.join(filter(None, [self.wanted(key), self.meaning(key)]))
 
-    def position(self) -> Optional[Position]:
-        """Where the fault lies; where that can't be told, where its row or its section begins."""
+    def place(self) -> Optional[int]:
+        """Where in the text the fault lies; where that can't be told, where its row or its section begins."""
         section = self.root.keys.get(self.fault.section)
         if not self.row:
-            return section and section.position
+            return section.at if section else None
         if self.fault.key == '?':
-            return next((self.row.keys[key].position for key in self.unknown_keys()), self.row.position)
+            return next((self.row.keys[key].at for key in self.unknown_keys()), self.row.at)
         node = self.row.get(self.fault.key) if self.fault.key else None
         if node and 0 < self.fault.item <= len(node.items):
-            return node.items[self.fault.item - 1].position
-        return node.position if node else self.row.position
+            return node.items[self.fault.item - 1].at
+        return node.at if node else self.row.at
+
+    def position(self) -> Optional[Position]:
+        """The line and the column of the fault."""
+        place = self.place()
+        return None if place is None else self.tree.position(place)
+
+
+def plain_text(text: bytes) -> str:
+    """The characters of a text, without a mark of the byte order at its head."""
+    return text.removeprefix(codecs.BOM_UTF8).decode(errors='replace')
 
 
 def not_toml(text: bytes) -> tuple[Optional[Position], list[str]]:
     """Where a text is no TOML, and what Python's reader says of it."""
     try:
-        plain = text.decode()
+        plain = text.removeprefix(codecs.BOM_UTF8).decode()
     except UnicodeDecodeError as error:
-        before = text[: error.start].decode()
+        before = text.removeprefix(codecs.BOM_UTF8)[: error.start].decode()
         return Position(before.count('\n') + 1, len(before.rpartition('\n')[2]) + 1), ['the file is no UTF-8 from here on']
-    lost = read(plain).lost
-    refused, said = refusal(plain)
+    tree = read(plain)
+    place, said = tables.refusal(plain) if len(plain) <= LONGEST_ASKED else (None, '')
+    lost, refused = tree.lost, None if place is None else tree.position(place)
     facts = ['no TOML from here on: a quote, a bracket or a brace may be open, or a comma lacking'] if lost and (refused is None or lost <= refused) else []
-    return min(filter(None, (lost, refused)), default=None), [*facts, *said]
-
-
-def refusal(text: str) -> tuple[Optional[Position], list[str]]:
-    """Where Python's reader of TOML refuses a text, and what it says."""
-    if tomllib is None:
-        return None, ['Python 3.11 or later has a reader of TOML, which would say more']
-    try:
-        tomllib.loads(text)
-    except tomllib.TOMLDecodeError as error:
-        place = re.search(r'\(at line (\d+), column (\d+)\)$', str(error))
-        return place and Position(int(place[1]), int(place[2])), [f"Python's reader of TOML says: {error}"]
-    return None, []
+    where = f' at {refused.line}:{refused.column}' if refused else ''
+    return min(filter(None, (lost, refused)), default=None), [*facts, *([f"Python's reader of TOML says{where}: {said}"] if said else [])]
 
 
 def line_of(text: bytes, said: str) -> Optional[int]:
@@ -225,13 +234,13 @@ def line_of(text: bytes, said: str) -> Optional[int]:
     fault, schema = fault_of(f'mcsim: {said}'), schema_of_files()
     if fault is None or schema is None:
         return None
-    position = not_toml(text)[0] if fault.kind == 'not TOML' else Case(fault, read(text.decode(errors='replace')).root, schema).position()
+    position = not_toml(text)[0] if fault.kind == 'not TOML' else Case(fault, read(plain_text(text)), schema).position()
     return position.line if position else None
 
 
 def unknown_key(case: Case) -> Iterator[str]:
     listed = case.properties()
-    for key in case.unknown_keys():
+    for key in case.unknown_keys()[:MOST_UNKNOWN]:
         if (case.fault.section, key) in OF_VERSION_2:
             yield f'{key} is a key of version 2 alone, and this file says version = {case.setting("version")}'
             continue
@@ -278,9 +287,11 @@ def out_of_range(case: Case) -> Iterator[str]:
 
 def too_many(case: Case) -> Iterator[str]:
     if case.fault.key == 'script':
-        yield f'a script has at most 1,024 items; this one has {amount(len(case.value("script").items))}'
+        script = case.value('script')
+        yield f'a script has at most 1,024 items; this one has {amount(script.count if script else 0)}'
     else:
-        yield f'there are at most 4,096 rows; here are {amount(len(case.rows(case.fault.section)))}'
+        array = case.root.get(case.fault.section)
+        yield f'there are at most 4,096 rows; here are {amount(array.count if array else 0)}'
 
 
 def bad_name(case: Case) -> Iterator[str]:

@@ -148,7 +148,7 @@ class Account:
     def see_standing(self, moment: int, standing: int) -> None:
         """A round that begins with no wait is activated once its thread is ready or runs, for longer than no time."""
         if standing in (READY, RUNNING):
-            if self.activated is None:
+            if self.activated is None and self.begun is not None:
                 self.begin(self.begun, moment)
         elif self.activated == moment:
             self.activated = None

@@ -1,0 +1,148 @@
+"""Looks at a system's file in a process of its own, which is given up when it takes too long.
+
+A file may be a pipe that nobody writes, a run may take hours, a disk may not answer. The process says when it has read the file and when it has drawn
+it; between these it may be ended, with the program that it runs, and another one takes its place."""
+from __future__ import annotations
+
+import argparse
+import contextlib
+import enum
+import multiprocessing
+import multiprocessing.connection
+import os
+import pathlib
+import signal
+import time
+from dataclasses import dataclass
+from multiprocessing.connection import Connection
+from typing import Optional, Union
+
+from . import source, system, view, workers
+from .faults import Fault
+from .printable import printable
+
+# seconds within which a file is to be read
+READ = 5
+# seconds within which a process is to begin, on a machine that has much to do
+BEGIN = 30
+# how often the file is looked at, in seconds
+LOOK = 0.2
+
+# what tells one save of a file from the next
+Mark = Union[tuple[int, ...], int, None]
+
+
+def mark_of(path: pathlib.Path) -> Mark:
+    """What is another one after each save; an editor may take the file away for a moment."""
+    try:
+        found = path.stat()
+    except OSError as error:
+        return error.errno
+    return found.st_mtime_ns, found.st_size, found.st_ino, found.st_mode
+
+
+@dataclass(frozen=True)
+class Drawn:
+    """What came of a look: the text of a page, or the fault of the file."""
+
+    page: bytes = b''
+    fault: Optional[str] = None
+    # whether the file was not read, and so is to be looked at again
+    is_unread: bool = False
+
+
+class Step(enum.Enum):
+    """What a process says on its way: it waits for work; it has read the file."""
+
+    BEGAN = 'began'
+    READ = 'read'
+
+
+def serve(connection: Connection, words: argparse.Namespace, window: view.Window) -> None:
+    """Draws the file for each number that comes."""
+    workers.begin()
+    signal.signal(signal.SIGINT, signal.SIG_IGN)
+    connection.send(Step.BEGAN)
+    with contextlib.suppress(EOFError, OSError):
+        while True:
+            number: int = connection.recv()
+            connection.send(draw(connection, words, window, number))
+
+
+def draw(connection: Connection, words: argparse.Namespace, window: view.Window, number: int) -> Drawn:
+    try:
+        text = system.read_bytes(words.system)
+        connection.send(Step.READ)
+        with source.run(words.program, words.system, text, source.HORIZON if window.horizon is None else window.horizon) as told:
+            return Drawn(view.draw(told, words, window, True, live=number).encode())
+    except Fault as fault:
+        return Drawn(fault=printable(fault))
+    except Exception as error:
+        return Drawn(fault=printable(f'{words.system}: it cannot be drawn: {type(error).__name__}: {error}'))
+
+
+class Looker:
+    """Looks at a file through a process that can be given up."""
+
+    def __init__(self, words: argparse.Namespace, window: view.Window, limit: int) -> None:
+        self.words, self.window, self.limit = words, window, limit
+        self.connection: Optional[Connection] = None
+        self.process: Optional[multiprocessing.process.BaseProcess] = None
+
+    def begin(self) -> Connection:
+        """Starts a process, if there is none."""
+        if self.connection is None:
+            context = multiprocessing.get_context('spawn')
+            own, other = context.Pipe()
+            self.connection, self.process = own, context.Process(target=serve, args=(other, self.words, self.window), daemon=True)
+            self.process.start()
+            other.close()
+            if not own.poll(BEGIN):
+                raise EOFError
+            own.recv()
+        return self.connection
+
+    def look(self, number: int) -> Optional[Drawn]:
+        """Draws the file as the picture of a number. None if it was saved again meanwhile: then this look is given up."""
+        mark = mark_of(self.words.system)
+        try:
+            connection = self.begin()
+            connection.send(number)
+            if not self.says(connection, READ, mark):
+                return self.given_up(mark, f'it was not read within {READ} s, so this look was given up', is_unread=True)
+            said = connection.recv()
+            if isinstance(said, Drawn):
+                return said
+            if not self.says(connection, self.limit, mark):
+                return self.given_up(mark, f'its run and picture were not ready within {self.limit} s, so this look was given up (--limit N gives more)')
+            drawn: Drawn = connection.recv()
+            return drawn
+        except (EOFError, OSError):
+            return self.given_up(mark, 'what draws it has ended')
+
+    def says(self, connection: Connection, seconds: float, mark: Mark) -> bool:
+        """Whether the process says something in time, and before the file is another one."""
+        until = time.monotonic() + seconds
+        while not connection.poll(LOOK):
+            if time.monotonic() >= until or mark_of(self.words.system) != mark:
+                return False
+        return True
+
+    def given_up(self, mark: Mark, why: str, is_unread: bool = False) -> Optional[Drawn]:
+        """Gives the look up, and says why, unless the file is another one by now."""
+        self.give_up()
+        if mark_of(self.words.system) != mark:
+            return None
+        return Drawn(fault=printable(f'{self.words.system}: {why}'), is_unread=is_unread)
+
+    def give_up(self) -> None:
+        """Ends the process, and the program that it runs."""
+        if self.connection:
+            self.connection.close()
+        if self.process and self.process.pid:
+            with contextlib.suppress(ProcessLookupError, PermissionError):
+                os.killpg(self.process.pid, signal.SIGKILL)
+            self.process.kill()
+            # one that the system does not let go is left to it
+            self.process.join(LOOK)
+        self.connection = self.process = None
