@@ -183,29 +183,27 @@ read_list() {
         case $kind in
             '' | '#'* | lib/mcsim/installed) continue ;;
             file | link | folder | new) ;;
-            */) place=${kind%/} kind=folder value=- ;;
-            *) place=$kind kind=old value=- ;;
+            */) [ -n "$value" ] || place=${kind%/} kind=folder value=- ;;
+            *) [ -n "$value" ] || place=$kind kind=old value=- ;;
         esac
-        if is_below "$place" && { [ "$kind" != new ] || is_suffix "$value"; }; then
+        if is_line "$kind" "$value" "$place"; then
             printf '%s %s %s\n' "$kind" "$value" "$place"
         else
-            say "passed over: $kind $value $place, which is no line of $list"
+            say "passed over in $list: $kind $value $place"
         fi
     done <"$list"
 }
 
-# whether a place lies below PREFIX
-is_below() {
-    case /$1/ in
-        *//* | */./* | */../*) return 1 ;;
-    esac
-}
-
-is_suffix() {
-    case $1 in
-        */*) return 1 ;;
-        mcsim-??????????) ;;
+# whether an installation writes such a line: its place lies below PREFIX
+is_line() {
+    case $1/$2 in
+        file/* | link/* | folder/- | old/-) ;;
+        new/*/*) return 1 ;;
+        new/mcsim-??????????) ;;
         *) return 1 ;;
+    esac
+    case /$3/ in
+        *//* | */./* | */../*) return 1 ;;
     esac
 }
 
@@ -393,7 +391,12 @@ tell() {
 uninstall_below() {
     nothing='nothing was taken away'
     set_prefix "$1"
-    [ -f "$list" ] || stop "nothing is installed below ${prefix:-/}"
+    if [ ! -f "$list" ]; then
+        # an installation that broke off before its list was there
+        rm -f "$list".mcsim-??????????
+        rmdir "$prefix/lib/mcsim" 2>/dev/null
+        stop "nothing is installed below ${prefix:-/}"
+    fi
     [ -r "$list" ] || stop "$nothing: $list cannot be read"
     need_sums
     open_room
