@@ -38,8 +38,8 @@ fi
 exec {command} "$@"
 """
 ODD = (
-    'a|b', 'two\nlines', 'an end\n', "a quote's", 'a "quote"', 'a b', 'a&b', 'back\\slash', 'back\\nslash', '$(touch x)', '`touch x`', '$HOME', '-x', '--help', 'a:b',
-    '*', '?[a]', '#', '%s', 'ü', '~', '!', ';', 'a=b', '<>', '(', 'tab\t', 'c/', './/d//',
+    'a|b', 'two\nlines', 'an end\n', 'a quote\'s "top"', 'a & b; # !', 'back\\nslash\\', '$(touch x) `touch x` $HOME', '-x', '--help', 'a:b', '* ?[a]', '%s', 'ü~<(=',
+    'tab\t', 'c/', './/d//',
 )
 
 
@@ -140,20 +140,20 @@ class BrokenOff(Installation):
         self.assertGreater(started * every, 25)
 
     def test_killed(self) -> None:
-        self.each_step('KILL', 1)
+        self.each_step('KILL', 3)
 
     def test_terminated(self) -> None:
-        self.each_step('TERM', 4)
+        self.each_step('TERM', 7)
 
     def test_interrupted(self) -> None:
-        self.each_step('INT', 7)
+        self.each_step('INT', 11)
 
     def test_killed_over_an_earlier_one(self) -> None:
-        self.each_step('KILL', 4, before=True)
+        self.each_step('KILL', 7, before=True)
 
     def test_taking_away_is_killed(self) -> None:
         self.stopping('KILL')
-        for at in range(1, 40, 3):
+        for at in range(1, 40, 5):
             self.assertEqual(self.broken_off(0, '--install', str(self.prefix))[0], 0)
             ran = self.broken_off(at, '--uninstall', str(self.prefix))
             if ran[0] == 0:
@@ -238,11 +238,10 @@ class OfTheUser(Installation):
         makes = {
             'a file': lambda path: path.write_text('mine\n'),
             'a folder': lambda path: path.mkdir(),
-            'a link': lambda path: path.symlink_to('/dev/null'),
             'a link to nothing': lambda path: path.symlink_to('nowhere'),
             'a pipe': lambda path: os.mkfifo(path),
         }
-        for place in ('bin/mcsim', 'lib/mcsim/bin/mcsim', 'share/man/man1/mcsim.1', 'bin/mcsim-view'):
+        for place in ('bin/mcsim-view', 'share/man/man1/mcsim.1'):
             for what, make in makes.items():
                 with self.subTest(what, place=place):
                     shutil.rmtree(self.prefix, ignore_errors=True)
@@ -293,8 +292,7 @@ class OfTheUser(Installation):
         digest = sum_of(b'mine\n')
         suffix = self.write('../prefix/bin/mcsim.new', 'mine\n')
         forged = (
-            '../x', 'lib/../../x', f'file {digest} ../x', f'file {digest} {own}', f'file {digest} lib/mcsim/../../../x', str(own), 'old - ../x', 'new new -',
-            'new /../../../x -', f'file {digest}', 'folder - ..', './../x', '../',
+            '../x', f'file {digest} lib/../../x', f'file {digest} {own}', str(own), 'old - ../x', 'new new -', 'new mcsim-/../../x -', f'file {digest}', '../',
         )
         for line in forged:
             with self.subTest(line=line):
