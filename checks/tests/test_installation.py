@@ -8,8 +8,11 @@ import shutil
 import signal
 import subprocess
 import unittest
+from collections.abc import Callable
 
 from checks.tests.test_built import InFolder, sum_of
+
+Change = Callable[[pathlib.Path], object]
 
 # few files of each kind, so that an installation can be broken off at each of its steps
 INSTALLED = """mcsim lib/mcsim/mcsim bin/mcsim
@@ -49,6 +52,19 @@ def tree(folder: pathlib.Path) -> dict[str, bytes | str | None]:
         str(path.relative_to(folder)): os.readlink(path) if path.is_symlink() else path.read_bytes() if path.is_file() else None
         for path in folder.rglob('*')
     }
+
+
+def in_place(path: pathlib.Path) -> pathlib.Path:
+    """A place in which nothing stands any more."""
+    path.unlink()
+    return path
+
+
+def folder_in(path: pathlib.Path) -> pathlib.Path:
+    """A folder in the place of something else."""
+    path.unlink()
+    path.mkdir()
+    return path
 
 
 class Installation(InFolder):
@@ -199,8 +215,8 @@ class BrokenOff(Installation):
 
     def test_several_at_once(self) -> None:
         env = {'PATH': str(self.tools), 'HOME': str(self.home)}
-        how = {'env': env, 'stdout': subprocess.DEVNULL, 'stderr': subprocess.DEVNULL}
-        running = [subprocess.Popen([str(self.top / 'mcsim'), '--install', str(self.prefix)], **how) for _ in range(4)]
+        command, gone = [str(self.top / 'mcsim'), '--install', str(self.prefix)], subprocess.DEVNULL
+        running = [subprocess.Popen(command, env=env, stdout=gone, stderr=gone) for _ in range(4)]
         ended = [one.wait() for one in running]
         self.assertIn(0, ended)
         self.assertEqual(set(ended) - {0, 1}, set())
@@ -211,13 +227,13 @@ class BrokenOff(Installation):
 
 class OfTheUser(Installation):
     def test_what_was_changed_is_kept_and_named(self) -> None:
-        changes = {
+        changes: dict[str, tuple[str, Change]] = {
             'a page that was edited': ('share/man/man1/mcsim.1', lambda path: path.write_text('mine\n')),
             'a tool that was edited': ('lib/mcsim/tools/view', lambda path: path.write_text('mine\n')),
-            'a file in the place of a link': ('bin/mcsim', lambda path: (path.unlink(), path.write_text('mine\n'))),
-            'a link to something else': ('bin/mcsim-view', lambda path: (path.unlink(), path.symlink_to('/bin/true'))),
-            'a folder in the place of a link': ('bin/mcsim', lambda path: (path.unlink(), path.mkdir(), (path / 'mine').write_text('mine\n'))),
-            'a link in the place of a file': ('share/man/man1/mcsim.1', lambda path: (path.unlink(), path.symlink_to('/dev/null'))),
+            'a file in the place of a link': ('bin/mcsim', lambda path: in_place(path).write_text('mine\n')),
+            'a link to something else': ('bin/mcsim-view', lambda path: in_place(path).symlink_to('/bin/true')),
+            'a folder in the place of a link': ('bin/mcsim', lambda path: folder_in(path).joinpath('mine').write_text('mine\n')),
+            'a link in the place of a file': ('share/man/man1/mcsim.1', lambda path: in_place(path).symlink_to('/dev/null')),
         }
         for what, (place, change) in changes.items():
             with self.subTest(what):
@@ -235,7 +251,7 @@ class OfTheUser(Installation):
                 self.assertEqual({path: it for path, it in left.items() if it is not None or path in mine}, mine)
 
     def test_what_another_put_there_is_refused(self) -> None:
-        makes = {
+        makes: dict[str, Change] = {
             'a file': lambda path: path.write_text('mine\n'),
             'a folder': lambda path: path.mkdir(),
             'a link to nothing': lambda path: path.symlink_to('nowhere'),
@@ -297,12 +313,12 @@ class OfTheUser(Installation):
         for line in forged:
             with self.subTest(line=line):
                 # with a line feed at the end, and without
-                for last, ends in ((self.install, '\n'), (self.uninstall, '')):
-                    if last == self.install:
+                for last, ends in (('--install', '\n'), ('--uninstall', '')):
+                    if ends:
                         self.assertEqual(self.install()[0], 0)
                     with (self.prefix / 'lib/mcsim/installed').open('a') as file:
                         file.write(line + ends)
-                    status, _, stderr = last()
+                    status, _, stderr = self.launch(last, str(self.prefix))
                     self.assertEqual((status, stderr.count('\n')), (0, 1), stderr)
                     self.assertIn(f'mcsim: passed over in {self.prefix}/lib/mcsim/installed: ', stderr)
                     self.assertEqual((own.read_text(), suffix.read_text()), ('mine\n', 'mine\n'))
@@ -354,10 +370,10 @@ class Prefixes(Installation):
                 # from elsewhere, by what the last lines say
                 said = stdout.rpartition('./mcsim --uninstall ')[2].removesuffix(' takes all this away\n')
                 path = re.search(r'is not on PATH: export PATH=(.*):\$PATH in', stdout, re.S)
-                if ':' in name:
+                if path is None:
+                    self.assertIn(':', name)
                     self.assertIn('cannot be on PATH', stdout)
                 else:
-                    self.assertIsNotNone(path)
                     asked = self.run_in(['sh', '-c', f'PATH={path[1]}:$PATH; mcsim; mcsim-view'], env={'PATH': str(self.tools)})
                     self.assertEqual(asked.stdout, 'gate\nview\n', asked.stderr)
                 ran = self.run_in(['sh', '-c', f'cd / && "$0" --uninstall {said}', str(self.top / 'mcsim')])

@@ -4,7 +4,6 @@ from __future__ import annotations
 import pathlib
 import shutil
 import subprocess
-import tempfile
 import unittest
 from collections.abc import Callable
 from typing import NamedTuple
@@ -32,6 +31,11 @@ def without_sum(text: str) -> str:
 def appended(bin: pathlib.Path) -> None:
     with (bin / 'mcscheck').open('ab') as file:
         file.write(b'\0')
+
+
+def with_a_folder(bin: pathlib.Path) -> None:
+    (bin / 'mcscheck').unlink()
+    (bin / 'mcscheck').mkdir()
 
 
 class Case(NamedTuple):
@@ -69,12 +73,12 @@ CASES = (
 CASES_OF_REPOSITORY = (
     Case('no program', lambda bin: (bin / 'mcscheck').unlink(), 'mcscheck', refused='there is no bin/mcscheck, and to run the sources the command rt'),
     Case('no SOURCES', lambda bin: (bin / 'SOURCES').unlink(), 'mcscheck', refused='there is no bin/SOURCES, which tells what bin/mcscheck was built of, and'),
-    Case('a folder', lambda bin: ((bin / 'mcscheck').unlink(), (bin / 'mcscheck').mkdir()), 'mcscheck', refused='there is no bin/mcscheck, and to run'),
+    Case('a folder', with_a_folder, 'mcscheck', refused='there is no bin/mcscheck, and to run'),
 )
 CASES_OF_INSTALLATION = (
     Case('no program', lambda bin: (bin / 'mcscheck').unlink(), 'mcscheck', refused='/bin/mcscheck is missing (./mcsim --install puts it there again)'),
     Case('no SOURCES', lambda bin: (bin / 'SOURCES').unlink(), 'mcscheck', refused='/bin/SOURCES is missing (./mcsim --install puts it there again)'),
-    Case('a folder', lambda bin: ((bin / 'mcscheck').unlink(), (bin / 'mcscheck').mkdir()), 'mcscheck', refused='/bin/mcscheck is missing'),
+    Case('a folder', with_a_folder, 'mcscheck', refused='/bin/mcscheck is missing'),
 )
 # with rt the sources are run where there is nothing to refuse, and of the program that was asked for
 RT_CASES = (
