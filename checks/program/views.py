@@ -90,8 +90,9 @@ class Expected:
                 self.count[f'{name} {kind}'] += length
 
     def first_ready(self, begun: int) -> Optional[int]:
-        """The first moment from a round's beginning on at which the thread is ready or runs."""
-        return next((max(begin, begun) for begin, end, kind in self.segments if end > begun and kind in ('ready', 'running')), None)
+        """The first tick from a round's beginning on in which the thread is ready or runs; none follows the horizon."""
+        moments = (max(begin, begun) for begin, end, kind in self.segments if end > begun and kind in ('ready', 'running'))
+        return next((moment for moment in moments if moment < self.horizon), None)
 
     def rounds(self, name: str) -> None:
         """Activations, deadlines and ends of a thread's rounds, and of the one that is open at the horizon."""
@@ -111,8 +112,13 @@ class Expected:
                 begun, activated = int(moment), None
             elif kind == 'stop' and rest[:2] == [name, 'done']:
                 is_done = True
-        if begun is not None and not is_done:
-            self.round(name, (first_set if activated is None else activated) if note else self.first_ready(begun), None)
+        if is_done:
+            return
+        if note:
+            # a word that is held activates the round that is yet to begin, though the thread has not run at all
+            self.round(name, first_set if activated is None else activated, None)
+        elif begun is not None:
+            self.round(name, self.first_ready(begun), None)
 
     def round(self, name: str, activated: Optional[int], end: Optional[int]) -> None:
         if activated is None:

@@ -13,12 +13,36 @@ from unittest import mock
 
 from checks import common, everything, random_systems
 from checks.pages import manual, mended, pages
-from checks.program import analyses, bandwidth, faults, progress, refused_runs, stress, traces, waves
+from checks.program import analyses, bandwidth, faults, progress, refused_runs, stress, traces, views, waves
 from checks.program.refusing import Answer
 from checks.proofs import theorems
 
 sys.path.insert(0, str(common.TOP / 'tools'))
 from mcsim_tools.tasks import Form, Task
+
+
+TWO = b'''
+context = [{ name = "a", core = 0 }]
+note = [{ name = "n", core = 0 }]
+thread = [{ name = "A", context = "a", start = 12, script = ["compute 3"] }, { name = "B", context = "b", script = ["wait n", "compute 1"] }]
+'''
+
+
+class Views(unittest.TestCase):
+    def up(self, rows: str, horizon: int) -> int:
+        """How many activations a page is to show."""
+        return views.Expected(TWO, rows, horizon).count['up']
+
+    def test_no_tick_follows_the_horizon(self) -> None:
+        # A is released at 12: a round is activated by the first tick in which its thread is ready or runs
+        self.assertEqual(self.up('12 0 release A\n', 12), 0)
+        self.assertEqual(self.up('12 0 release A\n', 13), 1)
+
+    def test_a_held_word_activates_a_round_of_a_thread_without_rows(self) -> None:
+        self.assertEqual(self.up('8 0 hold n 1\n', 12), 1)
+
+    def test_a_wake_activates_at_the_horizon_too(self) -> None:
+        self.assertEqual(self.up('0 0 run B\n1 0 stop B wait 0\n12 0 wake B n 1\n', 12), 1)
 
 
 class WrongPrograms(unittest.TestCase):

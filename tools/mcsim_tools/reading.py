@@ -333,7 +333,9 @@ class Reading:
         activated, note, was_activated = account.activated, account.activated_by, account.was_activated
         if account.begun is None and note and self.words[note] and account.standing != DONE:
             activated, was_activated = self.first_set[note], True
-        if activated is not None and was_activated:
+        # no tick follows the horizon, in which the thread could be ready or run
+        is_too_late = note is None and activated == self.end
+        if activated is not None and was_activated and not is_too_late:
             begun = self.end if account.begun is None else account.begun
             self.listener.round_open(Round(account.thread, 0, activated, begun, self.end))
         elif account.thread.deadline and not was_activated:

@@ -126,6 +126,12 @@ class Rounds(unittest.TestCase):
         listener, _ = heard(STARVED, STARVED_ROWS, 2)
         self.assertEqual((listener.nevers, [one.thread.name for one in listener.open]), (['Ctl'], ['Hog']))
 
+    def test_a_round_that_begins_at_the_horizon_is_not_activated(self) -> None:
+        # no tick follows in which the thread could be ready or run
+        rows = '0 0 release Hog\n0 0 run Hog\n100 0 round Hog 1 100'
+        for horizon, activated in ((100, []), (101, [100])):
+            self.assertEqual([one.activated for one in heard(STARVED, rows, horizon)[0].open if one.thread.name == 'Hog'], activated)
+
 
 class Signals(unittest.TestCase):
     def test_each_is_joined_to_what_it_came_to(self) -> None:
