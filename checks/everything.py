@@ -2,7 +2,7 @@
 """Tells whether all is well, in one line: the gate proves and tries the repository (rt ci), and then the program that it has built is checked.
 
 The last line is 'N passed, M failed' over all, with ', K skipped' where something is missing that a check needs, and the status is 0 where M
-is 0. The gate leaves its programs in crates/mcsim/out and crates/mcscheck/out, where ./mcsim and ./mcscheck find them, and after it the library for
+is 0. If nothing was proved, the line before it says so, and why. The gate leaves its programs in crates/mcsim/out and crates/mcscheck/out, where ./mcsim and ./mcscheck find them, and after it the library for
 C is built. With --program or --no-proofs, and where the command rt is not on PATH, nothing is proved, and one line says so: then the checks try the
 program that is given, or crates/mcsim/out/mcsim, or else bin/mcsim, and the mcscheck beside it, or that of crates/mcscheck/out or bin."""
 from __future__ import annotations
@@ -220,6 +220,8 @@ def main() -> int:
     else:
         say(f'checking {os.path.relpath(program, TOP) if program.is_relative_to(TOP) else program}')
     total = total.plus(check_all(checks_for(words, program), program))
+    if why := why_no_proofs(words):
+        say(f'nothing was proved: {why}')
     print(total)
     return total.status
 
