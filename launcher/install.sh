@@ -238,7 +238,7 @@ is_ours() {
     esac
 }
 
-# ends if something else stands where a file, a link or a folder is to be
+# ends if something else stands where a file, a link or a folder is to be, or a link would lead nowhere
 check_places() {
     while read -r kind value place; do
         if [ "$kind" = folder ]; then
@@ -248,6 +248,8 @@ check_places() {
                 stop "$nothing: $prefix/$place was changed since it was installed: move it away"
             fi
             stop "$nothing: $prefix/$place is there, and no installation put it there: move it away"
+        elif [ "$kind" = link ] && [ -d "$prefix/${place%/*}" ] && ! [ "$prefix/${place%/*}/${value%%/[!.]*}" -ef "$prefix" ]; then
+            stop "$nothing: $prefix/${place%/*} is a link to another folder, from which links would lead nowhere"
         fi
     done <"$room/lines"
     [ ! -d "$list" ] || stop "$nothing: $list is a folder"

@@ -282,6 +282,24 @@ class OfTheUser(Installation):
         self.prefix.write_text('mine\n')
         self.refused(self.install(), 'nothing was installed: ')
 
+    def test_a_folder_elsewhere_is_refused(self) -> None:
+        elsewhere = self.top.parent / 'elsewhere' / 'deep'
+        elsewhere.mkdir(parents=True)
+        self.prefix.mkdir()
+        (self.prefix / 'bin').symlink_to(elsewhere)
+        self.refused(self.install(), f'nothing was installed: {self.prefix}/bin is a link to another folder, from which links would lead nowhere')
+        self.assertEqual((list(elsewhere.iterdir()), self.files()), ([], {'bin'}))
+        # a prefix that is a link, and a folder beside it
+        link = self.top.parent / 'link'
+        link.symlink_to(self.prefix)
+        (self.prefix / 'bin').unlink()
+        (self.prefix / 'programs').mkdir()
+        (self.prefix / 'bin').symlink_to('programs')
+        self.assertEqual(self.install(str(link))[::2], (0, ''))
+        self.assertEqual(self.run_in([str(link / 'bin/mcsim')]).stdout, 'gate\n')
+        self.assertEqual(self.uninstall(link)[::2], (0, ''))
+        self.assertEqual(self.files(), {'bin'})
+
     def test_files_with_names_like_those_on_the_way_stay(self) -> None:
         own = [f'{place}{end}' for place in (*PLACES, 'lib/mcsim/installed') for end in ('.new', '.mcsim', '.mcsim-own', '~')]
         for path in own:

@@ -209,6 +209,16 @@ class Launcher(InFolder):
             self.renewed()
             (self.tools / command).unlink()
 
+    def test_an_installation_on_another_machine_is_refused(self) -> None:
+        folder = self.installed()
+        (self.tools / 'grep').unlink()
+        for flags, said in (('echo "flags : cx16 lahf_lm pni popcnt sse4_1 ssse3"', 'this one has no sse4_2\n'), ('exit 1', 'bin/mcscheck is for Linux on x86-64\n')):
+            (self.tools / 'grep').write_text(f'#!/bin/sh\n{flags}\n')
+            (self.tools / 'grep').chmod(0o755)
+            ran = self.called(folder / 'mcsim', 'mcscheck')
+            self.assertEqual((ran.returncode, ran.stdout, ran.stderr.count('\n')), (127, '', 1))
+            self.assertIn(said, ran.stderr)
+
     def test_a_file_system_without_programs_is_told(self) -> None:
         mounted = self.top.parent / 'mounted'
         mounted.mkdir()
