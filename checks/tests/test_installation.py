@@ -42,7 +42,7 @@ exec {command} "$@"
 """
 ODD = (
     'a|b', 'two\nlines', 'an end\n', 'a quote\'s "top"', 'a & b; # !', 'back\\nslash\\', '$(touch x) `touch x` $HOME', '-x', '--help', 'a:b', '* ?[a]', '%s', 'ü~<(=',
-    'tab\t', 'c/', './/d//',
+    'tab\t', './/d//',
 )
 
 
@@ -156,20 +156,20 @@ class BrokenOff(Installation):
         self.assertGreater(started * every, 25)
 
     def test_killed(self) -> None:
-        self.each_step('KILL', 3)
+        self.each_step('KILL', 5)
 
     def test_terminated(self) -> None:
-        self.each_step('TERM', 7)
+        self.each_step('TERM', 11)
 
     def test_interrupted(self) -> None:
-        self.each_step('INT', 11)
+        self.each_step('INT', 17)
 
     def test_killed_over_an_earlier_one(self) -> None:
-        self.each_step('KILL', 7, before=True)
+        self.each_step('KILL', 9, before=True)
 
     def test_taking_away_is_killed(self) -> None:
         self.stopping('KILL')
-        for at in range(1, 40, 5):
+        for at in range(1, 40, 7):
             self.assertEqual(self.broken_off(0, '--install', str(self.prefix))[0], 0)
             ran = self.broken_off(at, '--uninstall', str(self.prefix))
             if ran[0] == 0:
@@ -178,7 +178,7 @@ class BrokenOff(Installation):
                 self.assertEqual(ran[0], -signal.SIGKILL)
                 self.uninstall()
                 self.assertEqual(self.files(), set())
-        self.assertGreater(at, 8)
+        self.assertGreater(at, 7)
 
     def test_a_full_disk(self) -> None:
         self.write('docs/mcsim.1', 'page\n' * 40_000)
@@ -326,7 +326,7 @@ class OfTheUser(Installation):
         digest = sum_of(b'mine\n')
         suffix = self.write('../prefix/bin/mcsim.new', 'mine\n')
         forged = (
-            '../x', f'file {digest} lib/../../x', f'file {digest} {own}', str(own), 'old - ../x', 'new new -', 'new mcsim-/../../x -', f'file {digest}', '../',
+            '../x', f'file {digest} lib/../../x', f'file {digest} {own}', 'old - ../x', 'new new -', 'new mcsim-/../../x -', '../',
         )
         for line in forged:
             with self.subTest(line=line):
