@@ -93,8 +93,9 @@ def guarded(main: Main) -> int:
 
 
 def open_standard() -> None:
-    """Gives each standard descriptor that is closed a place that refuses, so that no file opened later gets its number; opens the three streams."""
-    for descriptor, mode in enumerate((os.O_WRONLY, os.O_RDONLY, os.O_RDONLY)):
+    """Opens the three streams. A descriptor that is closed gets a place, so that no file opened later has its number: input and output one that refuses,
+    errors one that takes all."""
+    for descriptor, mode in enumerate((os.O_WRONLY, os.O_RDONLY, os.O_WRONLY)):
         try:
             os.fstat(descriptor)
         except OSError:
@@ -107,11 +108,12 @@ def open_standard() -> None:
 
 
 def drop_output() -> None:
-    """What is still to be written to standard output goes nowhere, without a word at the end of the program."""
-    try:
-        sys.stdout.flush()
-    except OutputLost:
-        os.dup2(os.open(os.devnull, os.O_WRONLY), 1)
+    """What is still to be written goes nowhere, without a word at the end of the program."""
+    for stream, descriptor in ((sys.stdout, 1), (sys.stderr, 2)):
+        try:
+            stream.flush()
+        except (OutputLost, OSError):
+            os.dup2(os.open(os.devnull, os.O_WRONLY), descriptor)
 
 
 def imported(tool: str) -> Optional[int]:

@@ -19,7 +19,8 @@ def found(program: str) -> pathlib.Path:
     place = shutil.which(program)
     if place is None:
         raise Fault(f'{program}: there is no such program')
-    return pathlib.Path(place)
+    # as a path with a folder, which no search by name follows
+    return pathlib.Path(place).absolute()
 
 
 def is_launcher(path: pathlib.Path) -> bool:

@@ -60,7 +60,7 @@ def identity(source: Source) -> Optional[Identity]:
 
 
 def check(targets: Sequence[Target], sources: Sequence[Source]) -> None:
-    """Refuses a target that the tool reads, and two targets that are one file."""
+    """Refuses a target that the tool reads, two targets that are one file, and a file that may not be written."""
     read = {identity(source) for source in sources}
     written: set[Optional[Identity]] = set()
     for target in targets:
@@ -71,6 +71,8 @@ def check(targets: Sequence[Target], sources: Sequence[Source]) -> None:
         if found is not None and found in written:
             raise Fault(f'{said}: two outputs go to this file: give each its own')
         written.add(found)
+        if target is not None and is_replaced(target) and target.exists() and not os.access(target, os.W_OK):
+            raise Fault(f'{target}: it may not be written')
 
 
 @contextlib.contextmanager
@@ -101,8 +103,6 @@ def replaced(path: pathlib.Path) -> Iterator[IO[str]]:
     """A regular file, which the text replaces once it is whole. Mode and owner stay; a new file has those of any new file."""
     place = path.resolve()
     old = place.stat() if place.exists() else None
-    if old and not os.access(place, os.W_OK):
-        raise Fault(f'{path}: it may not be written')
     descriptor, name = tempfile.mkstemp(dir=place.parent, prefix=PART)
     try:
         with open(descriptor, 'w', encoding='utf-8', buffering=1 << 16) as file:

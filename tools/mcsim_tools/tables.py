@@ -44,6 +44,7 @@ def as_of_1_0(text: str, escape: Callable[[re.Match[str]], str] = escaped) -> st
     open_brackets: list[str] = []
     # where a comma stands that no part of an inline table has followed yet
     comma: Optional[int] = None
+    before = ''
     for token in TOKEN.findall(text):
         is_inline = bool(open_brackets) and open_brackets[-1] == '{'
         if is_inline and (token in ('\n', '\r\n') or token[0] == '#'):
@@ -55,10 +56,9 @@ def as_of_1_0(text: str, escape: Callable[[re.Match[str]], str] = escaped) -> st
             open_brackets.append(token)
         elif open_brackets and token == CLOSES[open_brackets[-1]]:
             open_brackets.pop()
-        if token == ',' and is_inline:
-            comma = len(parts)
-        elif not token.isspace():
-            comma = None
+        if not token.isspace():
+            comma = len(parts) if token == ',' and is_inline and before not in ('{', ',') else None
+            before = token
         parts.append(ESCAPE.sub(escape, token) if token[0] == '"' else token)
     return ''.join(parts)
 

@@ -1,11 +1,16 @@
 """tools/explain beside programs that tell a fault of their own: what it says of each, expected by hand."""
+from __future__ import annotations
+
 import os
 import pathlib
 import subprocess
 import sys
 import tempfile
+import time
 import unittest
 
+# a machine with much else to do has so many seconds for what a free one does in three
+SECONDS = 60
 TOOLS = pathlib.Path(__file__).resolve().parent.parent
 HEAD = 'version = 1\ncores = 2\ndelay = 1\n'
 CONTEXTS = 'context = [{ name = "a", core = 0, budget = 2, period = 5 }, { name = "b", core = 1, budget = 2, period = 5 }]\n'
@@ -18,9 +23,9 @@ class Explained(unittest.TestCase):
         self.addCleanup(folder.cleanup)
         self.folder = pathlib.Path(folder.name)
 
-    def ran(self, text: bytes, script: str, *words: str) -> subprocess.CompletedProcess:
+    def ran(self, text: bytes, script: str, *words: str) -> subprocess.CompletedProcess[str]:
         program = self.folder / 'program'
-        program.write_text(f'#!/bin/sh\n{script}\n')
+        program.write_text(f'#!/bin/sh\ncat >/dev/null\n{script}\n')
         program.chmod(0o755)
         (self.folder / 'system.toml').write_bytes(text)
         command = [sys.executable, str(TOOLS / 'explain'), *(words or ['system.toml'])]
@@ -112,7 +117,6 @@ class Explained(unittest.TestCase):
     def test_an_open_quote_has_its_line(self) -> None:
         self.assertEqual(self.told('version = 1\nnote = [{ name = "n }]\n', 'not TOML at file')[0], 'system.toml:2:18: not TOML at file')
 
-    @unittest.skipIf(sys.version_info < (3, 11), 'Python before 3.11 has no reader of TOML')
     def test_a_key_that_stands_twice_has_its_line(self) -> None:
         lines = self.told('version = 1\nversion = 2\n', 'not TOML at file')
         self.assertEqual(lines[0], 'system.toml:2:12: not TOML at file')
@@ -130,6 +134,48 @@ class Explained(unittest.TestCase):
 
     def test_a_place_that_the_file_has_not_is_told_without_a_line(self) -> None:
         self.assertEqual(self.told(HEAD, 'missing key at thread 3 name')[0], 'system.toml: missing key at thread 3 name')
+
+    def test_control_characters_of_the_file_are_not_written(self) -> None:
+        text = HEAD + 'note = [{ name = "a\x1b]0;t\x07b\u202e", core = 0 }]\n'
+        lines = self.told(text, 'bad name at note 1 name')
+        self.assertEqual(lines[:2], ['system.toml:4:18: bad name at note 1 name', '    note = [{ name = "a?]0;t?b?", core = 0 }]'])
+        self.assertTrue(all(line.isprintable() for line in lines))
+
+    def test_a_mark_of_the_byte_order_is_no_part_of_the_file(self) -> None:
+        text = '\ufeff' + HEAD + 'note = [{ name = "n", core = 2 }]\n'
+        self.assertEqual(self.told(text, 'out of range at note 1 core')[0], 'system.toml:4:30: out of range at note 1 core')
+        self.assertEqual(self.told('\ufeffcores = \n', 'not TOML at file')[0], 'system.toml:1:9: not TOML at file')
+
+    def test_a_file_of_toml_1_1_is_lost_where_it_is_at_fault(self) -> None:
+        text = 'note = [{ name = "\\x41",\n  core = 0,\n}]\ncores = 1\ncores = 2\n'
+        lines = self.told(text, 'not TOML at file')
+        self.assertEqual(lines[0], 'system.toml:5:10: not TOML at file')
+        self.assertIn('says at 5:10: Cannot overwrite a value', lines[3])
+
+    def test_a_long_file(self) -> None:
+        text = HEAD + '[[note]]\nname = "n"\ncore = 0\n' * 200_000
+        began = time.monotonic()
+        lines = self.told(text, 'too many at note')
+        self.assertLess(time.monotonic() - began, SECONDS)
+        self.assertEqual(lines[0], 'system.toml:4:3: too many at note')
+        self.assertIn('  there are at most 4,096 rows; here are 200,000', lines)
+
+    def test_a_long_line(self) -> None:
+        for long in ('x' * 10_000_000, '\x1b' * 10_000_000):
+            began = time.monotonic()
+            lines = self.told(HEAD + f'note = [{{ core = 0, name = "{long}" }}]\n', 'bad name at note 1 name')
+            self.assertLess(time.monotonic() - began, SECONDS)
+            self.assertEqual(lines[0], 'system.toml:4:28: bad name at note 1 name')
+            self.assertIn('this one has 10000000 characters', lines[4])
+            self.assertTrue(all(line.isprintable() and len(line) < 1100 for line in lines))
+        lines = self.told(HEAD + f'thread = [{{ {"x" * 10_000_000} = 1 }}]\n', 'unknown key at thread 1 ?')
+        self.assertEqual(lines[0], 'system.toml:4:13: unknown key at thread 1 ?')
+        self.assertLess(sum(map(len, lines)), 3000)
+
+    def test_many_unknown_keys(self) -> None:
+        lines = self.told(HEAD + ''.join(f'key{place} = 1\n' for place in range(100_000)), 'unknown key at top ?')
+        self.assertEqual(lines[0], 'system.toml:4:1: unknown key at top ?')
+        self.assertLess(len(lines), 12)
 
     def test_no_fault(self) -> None:
         ended = self.ran(HEAD.encode(), 'exit 0')

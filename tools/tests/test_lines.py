@@ -1,9 +1,11 @@
 """The line of a place that the program names."""
 from __future__ import annotations
 
+import pathlib
+import sys
 import unittest
 
-import worked  # puts the tools on the path
+sys.path.insert(0, str(pathlib.Path(__file__).resolve().parent.parent))
 from mcsim_tools.explaining import line_of
 
 TABLES = b'''version = 1

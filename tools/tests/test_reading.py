@@ -140,7 +140,8 @@ class Signals(unittest.TestCase):
 
     def test_maker_and_thread(self) -> None:
         first = heard(PAIR, PAIR_ROWS, 12)[0].posts[0]
-        self.assertEqual((first.maker.name, first.core, first.thread.name, first.badge), ('D', 1, 'W', 1))
+        self.assertEqual([thread.name for thread in (first.maker, first.thread) if thread], ['D', 'W'])
+        self.assertEqual((first.core, first.badge), (1, 1))
 
     def test_those_under_way_at_the_horizon(self) -> None:
         self.assertEqual(heard(PAIR, PAIR_ROWS, 4)[0].signals, ['n', 'n'])

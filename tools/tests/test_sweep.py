@@ -11,14 +11,15 @@ import sys
 import tempfile
 import tomllib
 import unittest
-from collections.abc import Iterator
+from collections.abc import Callable, Iterator
 from typing import Any
 from unittest import mock
 
 import worked
-from worked import TOOLS, Ended
+from worked import Ended
 from mcsim_tools import identity, settings, sweep, verdict
 from mcsim_tools.faults import Fault
+from mcsim_tools.settings import Tables
 from mcsim_tools.verdict import Programs
 
 SYSTEM = '''
@@ -40,9 +41,9 @@ OTHER = '20 1 overdue B deadline 5 activated 0 queued 0 ready 20 running 0 throt
 COUNTS = 'missed 0 overdue 0 lost 0 never 0 merged 0 allowed 0 hints 1'
 HINT = 'hint note n is waited on and no script signals it'
 # a hint, also one that has the name of a notification, is no finding
-CLEAN = (0, [HINT, COUNTS], '')
+CLEAN: tuple[int, list[str], str] = (0, [HINT, COUNTS], '')
 # by the budget of a: what mcscheck answers
-ANSWERS = {
+ANSWERS: dict[int, tuple[int, list[str], str]] = {
     1: (5, [MISS, LOST, LOST, COUNTS], ''),
     2: (5, [MISS, OTHER, COUNTS], ''),
     3: (5, [OTHER, COUNTS], ''),
@@ -234,7 +235,7 @@ class Journals(Case):
     def setUp(self) -> None:
         super().setUp()
         self.target, self.part = self.folder / 'out.csv', self.folder / 'out.csv.part'
-        self.words = (self.file, '--set', 'context.a.budget=1:5', '-o', self.target, '--jobs', 1)
+        self.words: tuple[object, ...] = (self.file, '--set', 'context.a.budget=1:5', '-o', self.target, '--jobs', 1)
 
     def begin(self) -> None:
         """Leaves a sweep that failed under 4."""
@@ -373,7 +374,7 @@ class Places(unittest.TestCase):
         return found
 
     def test_places(self) -> None:
-        for text, look, wanted in (
+        cases: tuple[tuple[str, Callable[[Tables], object], list[object]], ...] = (
             ('context.b.period=5:11:3', lambda tables: tables['context'][1]['period'], [5, 8, 11]),
             ('context.a.mode=sporadic,bandwidth', lambda tables: tables['context'][0]['mode'], ['sporadic', 'bandwidth']),
             ('thread.A.script.2=4', lambda tables: tables['thread'][0]['script'], [['wait n', 'compute 4']]),
@@ -381,7 +382,8 @@ class Places(unittest.TestCase):
             ('order.1.at=3', lambda tables: tables['order'][0]['at'], [3]),
             ('link.1-0.delay=1:2', lambda tables: tables['link'][0]['delay'], [1, 2]),
             ('call=2', lambda tables: tables['call'], [2]),
-        ):
+        )
+        for text, look, wanted in cases:
             self.assertEqual([look(tables) for tables in self.edited(text)], wanted)
 
     def test_no_place(self) -> None:

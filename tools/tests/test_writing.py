@@ -1,10 +1,12 @@
 """Tables as text: what is written reads as what it was."""
 from __future__ import annotations
 
+import pathlib
+import sys
 import tomllib
 import unittest
 
-import worked
+sys.path.insert(0, str(pathlib.Path(__file__).resolve().parent.parent))
 from mcsim_tools import writing
 
 
