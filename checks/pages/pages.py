@@ -35,7 +35,7 @@ CHECKER = './mcscheck'
 LEFT_OUT = '..'
 # tools that run a program by themselves: the first mcsim, the second mcscheck
 ANALYSES = ' --analyse'
-LEAST = ' --least '
+SEARCHES = (' --least ', ' --greatest ')
 # scripts of examples that ask the second for data frames, by Debian's Python
 FRAMES = ('examples/python/responses.py ',)
 DEBIAN_PYTHON = '/usr/bin/python3'
@@ -52,6 +52,8 @@ COUNTS = re.compile(r'missed (\d+) overdue (\d+) lost (\d+) never (\d+) .*hints 
 # a block that ends with the status of any of its verdicts
 EXITS = 'exit $status'
 NONE_WILL_DO = re.compile(r'.*: under none of .*')
+# what a search says on standard error after its first run
+LEFT = re.compile(r'(sweep: \d+ values? (is|are) left at most, .*\n)?')
 SOURCES = ('.toml', '.csv', '<<', '--random')
 # a block that writes files is run elsewhere
 WRITES = ' -o '
@@ -90,8 +92,12 @@ def ran(program: pathlib.Path, block: str) -> Ran:
     return common.run(['sh', '-c', block], seconds=SECONDS, cwd=TOP, env=environment)
 
 
+def is_search(block: str) -> bool:
+    return any(word in block for word in SEARCHES)
+
+
 def gives_a_verdict(block: str) -> bool:
-    return CHECKER in block or LEAST in block
+    return CHECKER in block or is_search(block)
 
 
 def status_of(block: str, written: Sequence[str]) -> int:
@@ -148,11 +154,16 @@ def runs_a_system(block: str) -> bool:
     return runs and any(source in block for source in SOURCES) and WRITES not in block
 
 
+def is_silent(block: str, said: str) -> bool:
+    """Whether standard error has nothing, or, of a search, how long it takes."""
+    return LEFT.fullmatch(said) is not None if is_search(block) else not said
+
+
 def try_block(program: pathlib.Path, name: pathlib.Path, block: str, count: Count) -> list[str]:
     """Tries a block of commands, and gives the lines that it wrote."""
     status, stdout, stderr = ran(program, block.strip())
     written = stdout.decode().splitlines()
-    is_good = status == status_of(block, written) and not stderr
+    is_good = status == status_of(block, written) and is_silent(block, stderr.decode())
     count.expect(f'{name}: {block.strip()}: status {status}, {stderr.decode().strip()}', is_good)
     return written
 

@@ -6,7 +6,7 @@ taken out, a key is added, a value becomes one of another kind, or one past an e
 refuses too. What a schema cannot say stays with the program alone: how values fit one another (a core within `cores`, a budget within its period,
 names that are defined once, a wait that is not last), and that 1.0 is no integer.
 
-It needs the Python package jsonschema (Debian's python3-jsonschema), and Python 3.11; without them all of it is skipped."""
+It needs the Python package jsonschema (Debian's python3-jsonschema); without it all of it is skipped."""
 from __future__ import annotations
 
 import copy

@@ -4,7 +4,7 @@
 A theorem is `schedule SYSTEM HORIZON ≡ ROWS`, proved by computing. A system NAME is a file `NAME.toml`. In the folder `NAME` its run `schedule`, or
 else its run `both`, has two files: `RUN.words`, of which only `--horizon N` counts, and `RUN.stdout`, of which lines of reports are passed over. All
 systems with such a run up to moment 10,000 at most are taken, in the order of their names. After --write run `rt fmt` and `rt check` in the crate; how
-the files are laid out makes no difference here. It needs Python 3.11; without it all of it is skipped."""
+the files are laid out makes no difference here."""
 from __future__ import annotations
 
 import pathlib

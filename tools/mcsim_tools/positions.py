@@ -14,12 +14,13 @@ from typing import NamedTuple, Optional
 
 SPACE = re.compile(r'[ \t]*+')
 # spaces, line ends and comments, which may stand between the parts of an array or an inline table
-BETWEEN = re.compile(r'(?:[ \t\r\n]++|#[^\n]*+)*+')
+# (no group is possessive: before Python 3.11.5 such a one with branches matches too little)
+BETWEEN = re.compile(r'(?:[ \t\r\n]++|#[^\n]*+)*')
 BARE_KEY = re.compile(r'[A-Za-z0-9_-]++')
 STRINGS = (
-    re.compile(r'"""(?:\r?\n)?((?:[^"\\]++|\\.|"(?!""))*+"{0,2})"""', re.S),
-    re.compile(r"'''(?:\r?\n)?((?:[^']++|'(?!''))*+'{0,2})'''", re.S),
-    re.compile(r'"((?:[^"\\\n]++|\\.)*+)"'),
+    re.compile(r'"""(?:\r?\n)?((?:[^"\\]++|\\.|"(?!""))*"{0,2})"""', re.S),
+    re.compile(r"'''(?:\r?\n)?((?:[^']++|'(?!''))*'{0,2})'''", re.S),
+    re.compile(r'"((?:[^"\\\n]++|\\.)*)"'),
     re.compile(r"'([^'\n]*+)'"),
 )
 # a number, a boolean, a date, or whatever else stands there
@@ -35,7 +36,7 @@ ROW_LINE = re.compile(r'[ \t]*+\[\[([A-Za-z0-9_-]++)\]\][ \t]*+(?:#[^\n]*+)?(?:\
 INLINE_PAIR = re.compile(rf'([A-Za-z0-9_-]++)[ \t]*+=[ \t]*+{SIMPLE}[ \t]*+([,}}])')
 ITEM = re.compile(rf'{SIMPLE}[ \t]*+,[ \t\r\n]*+')
 # items that stand for themselves, without a comma in them: as many as there are commas
-ITEMS = re.compile(r'''(?:(?:"[^"\\\n,]*+"(?!")|'[^'\n,]*+'(?!')|[A-Za-z0-9_+.:-]++)[ \t]*+,[ \t\r\n]*+)++''')
+ITEMS = re.compile(r'''(?:(?:"[^"\\\n,]*+"(?!")|'[^'\n,]*+'(?!')|[A-Za-z0-9_+.:-]++)[ \t]*+,[ \t\r\n]*+)+''')
 # items of an array and keys of a table that are kept: more than any of a system may have
 KEPT = 5000
 # parts of a dotted key, and characters of a text whose escapes are read

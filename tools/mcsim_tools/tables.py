@@ -13,7 +13,7 @@ Tables = dict[str, Any]
 
 # strings of the four kinds, comments, line ends, commas, brackets and what stands between them
 TOKEN = re.compile(
-    r'"""(?:[^"\\]++|\\.|"(?!""))*+"{3,5}|\'\'\'(?:[^\']++|\'(?!\'\'))*+\'{3,5}|"(?:[^"\\\n]++|\\.)*+"|\'[^\'\n]*+\''
+    r'"""(?:[^"\\]++|\\.|"(?!""))*"{3,5}|\'\'\'(?:[^\']++|\'(?!\'\'))*\'{3,5}|"(?:[^"\\\n]++|\\.)*"|\'[^\'\n]*+\''
     r'|#[^\n]*+|\r?\n|[\[\]{},]|[^"\'#\r\n\[\]{},]++|.', re.S,
 )
 ESCAPE = re.compile(r'\\(?:x([0-9A-Fa-f]{2})|(e)|.)', re.S)

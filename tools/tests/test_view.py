@@ -117,8 +117,8 @@ class SingleThings(unittest.TestCase):
         rows = '0 0 release A\n0 0 run A\n' + '\n'.join(f'{k + 1} 0 round A {k + 1} 1' for k in range(many))
         system = ONE.replace('budget = 2, period = 5', 'budget = 5, period = 5').replace('deadline = 10', 'deadline = 1').replace('rounds = 1, ', '')
         kinds = collections.Counter(sign for sign, _ in signs(drawn(system, rows, '--horizon', f'{many}'), 'A'))
-        # the round that begins at the horizon is activated there
-        self.assertEqual(kinds, {'up-s': many + 1, 'end-s': many})
+        # the round that begins at the horizon is not activated: no tick follows
+        self.assertEqual(kinds, {'up-s': many, 'end-s': many})
 
 
 class ManyThings(unittest.TestCase):
