@@ -4,11 +4,12 @@ from __future__ import annotations
 import contextlib
 import multiprocessing
 import multiprocessing.connection
+import multiprocessing.process
 import os
 import signal
 import threading
 from collections import deque
-from collections.abc import Callable, Iterable, Iterator
+from collections.abc import Callable, Iterable, Iterator, Sequence
 from concurrent.futures import Future, ProcessPoolExecutor
 from typing import TypeVar
 
@@ -18,6 +19,8 @@ Done = TypeVar('Done')
 MOST_JOBS = 1024
 # items per worker that are given out before the first of them is taken back
 AHEAD = 2
+# seconds that a worker has to end by itself
+GRACE = 0.5
 
 
 def processors() -> int:
@@ -55,6 +58,16 @@ def within(executor: ProcessPoolExecutor, work: Callable[[Item], Done], items: I
         yield under_way.popleft().result()
 
 
+def end_all(children: Sequence[multiprocessing.process.BaseProcess]) -> None:
+    """Ends workers. One that has just been forked loses a signal, and nothing would end it: it is killed, which takes no program with it yet."""
+    for child in children:
+        child.terminate()
+    for child in children:
+        child.join(GRACE)
+        if child.is_alive():
+            child.kill()
+
+
 @contextlib.contextmanager
 def in_order(work: Callable[[Item], Done], items: Iterable[Item], jobs: int) -> Iterator[Iterator[Done]]:
     """Does work for items, some at a time, and gives what comes of it in their order. What is under way at the end is given up."""
@@ -66,5 +79,4 @@ def in_order(work: Callable[[Item], Done], items: Iterable[Item], jobs: int) -> 
         yield within(executor, work, iter(items), AHEAD * jobs)
     finally:
         executor.shutdown(wait=False, cancel_futures=True)
-        for child in multiprocessing.active_children():
-            child.terminate()
+        end_all(multiprocessing.active_children())
