@@ -10,6 +10,7 @@ import json
 import pathlib
 import re
 import resource
+import signal
 import subprocess
 import sys
 import tempfile
@@ -186,6 +187,36 @@ def try_without_memory(program: pathlib.Path, count: Count) -> None:
     count.expect(f'little memory: {ended}', ended.status == 4 and NOTHING(ended.stdout) and NO_MEMORY(ended.stderr))
 
 
+def limited() -> None:
+    # a kilobyte; the kernel then sends SIGXFSZ, which Python would ignore
+    signal.signal(signal.SIGXFSZ, signal.SIG_DFL)
+    resource.setrlimit(resource.RLIMIT_FSIZE, (1024, 1024))
+
+
+def try_signals(program: pathlib.Path, folder: pathlib.Path, count: Count) -> None:
+    """What a signal ends has written a first part, and no line of counts; its exit code, which a shell tells as 128 and more, is that of the signal."""
+    file, out = folder / 'late.toml', folder / 'out'
+    file.write_text(performance.crowd(1, 8) + SELDOM_LATE)
+    for form in ('text', 'csv', 'json'):
+        command: list[Word] = [program, file, '--horizon', '100000', '--show', 'jobs', '--format', form]
+        whole = common.run(command).stdout
+        with open(out, 'wb') as target:
+            status = subprocess.run(command, stdin=subprocess.DEVNULL, stdout=target, preexec_fn=limited).returncode
+        written = out.read_bytes()
+        good = status == -signal.SIGXFSZ and whole.startswith(written) and 0 < len(written) < len(whole) and b'missed' not in written
+        count.expect(f'a limit of the size of files, {form}: status {status}, {len(written)} bytes', good)
+        with subprocess.Popen([*command[:3], str(2**40), *command[4:]], stdin=subprocess.DEVNULL, stdout=subprocess.PIPE) as running:
+            assert running.stdout
+            written = running.stdout.read(1 << 16)
+            running.kill()
+            written += running.stdout.read()
+        good = running.returncode == -signal.SIGKILL and written.startswith(whole[:1000]) and b'missed' not in written
+        count.expect(f'a run that is killed, {form}: status {running.returncode}, {len(written)} bytes', good)
+    # the line of counts ends text and JSON, and CSV has none
+    counts = [common.run([program, file, '--show', 'jobs', '--format', form]).stdout.splitlines()[-1].count(b'missed') for form in ('text', 'csv', 'json')]
+    count.expect(f'counts at the end of text, CSV and JSON: {counts}', counts == [1, 0, 1])
+
+
 def try_progress_among_findings(program: pathlib.Path, folder: pathlib.Path, horizon: int, count: Count) -> None:
     """One terminal shows findings and how far the run is: each finding stands in a line of its own."""
     file = folder / 'seldom.toml'
@@ -227,6 +258,7 @@ def main() -> None:
             differs = case.differs(ended)
             count.expect(f'{case.name}: {differs} differ: {ended}', not differs)
         try_without_memory(program, count)
+        try_signals(program, folder, count)
         try_progress(program, folder, count)
     count.end()
 
