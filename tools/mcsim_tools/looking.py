@@ -9,9 +9,7 @@ import contextlib
 import enum
 import multiprocessing
 import multiprocessing.connection
-import os
 import pathlib
-import signal
 import time
 from dataclasses import dataclass
 from multiprocessing.connection import Connection
@@ -61,7 +59,6 @@ class Step(enum.Enum):
 def serve(connection: Connection, words: argparse.Namespace, window: view.Window) -> None:
     """Draws the file for each number that comes."""
     workers.begin()
-    signal.signal(signal.SIGINT, signal.SIG_IGN)
     connection.send(Step.BEGAN)
     with contextlib.suppress(EOFError, OSError):
         while True:
@@ -139,10 +136,6 @@ class Looker:
         """Ends the process, and the program that it runs."""
         if self.connection:
             self.connection.close()
-        if self.process and self.process.pid:
-            with contextlib.suppress(ProcessLookupError, PermissionError):
-                os.killpg(self.process.pid, signal.SIGKILL)
-            self.process.kill()
-            # one that the system does not let go is left to it
-            self.process.join(LOOK)
+        if self.process:
+            workers.kill(self.process)
         self.connection = self.process = None
