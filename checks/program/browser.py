@@ -22,8 +22,8 @@ WORDS = (
     '--headless=new', '--no-sandbox', '--disable-gpu', '--hide-scrollbars', '--remote-debugging-pipe', '--no-first-run', '--disable-background-networking',
     '--disable-component-update',
 )
-# what is answered later has no answer
-SECONDS = 60
+# what is answered later has no answer; on a busy machine a page may take a minute to open
+SECONDS = 600
 # the ends of the pipe are these descriptors of the browser
 READS, WRITES = 3, 4
 

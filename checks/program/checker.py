@@ -24,7 +24,7 @@ from checks.common import TOP, Count, Ran, Word
 from checks.measure import performance
 from checks.pages.pages import blocks_in
 from checks.program.faults import DOUBLE_NAME, LONGEST, NOTHING, Case, begins, exactly, ran
-from checks.program.progress import WIPED, Command, terminal
+from checks.program.progress import PATIENCE, WIPED, Command, terminal
 
 NAME = 'mcscheck'
 CLEAN = 'missed 0 overdue 0 lost 0 never 0 merged 0 allowed 0 hints %d\n'
@@ -226,7 +226,7 @@ def try_progress_among_findings(program: pathlib.Path, folder: pathlib.Path, hor
         status = subprocess.run(command, stdin=subprocess.DEVNULL, stdout=theirs, stderr=theirs).returncode
     shown = seen.decode()
     lines, times = re.subn(rf'(?:\rmcscheck: \d+ of {2 * horizon}\x1b\[K)+{re.escape(WIPED)}', '', shown)
-    wanted = common.run(command)
+    wanted = common.run(command, seconds=PATIENCE)
     good = status == wanted.status == 5 and times > 0 and lines == wanted.stdout.decode().replace('\n', '\r\n')
     count.expect(f'findings among progress, {times} times, up to {2 * horizon}: {shown[:300]!r}', good)
 
@@ -245,7 +245,7 @@ def try_progress(program: pathlib.Path, folder: pathlib.Path, count: Count) -> N
     good = long.status == 3 and command.is_progress(long, 'mcscheck: write failed\r\n')
     count.expect(f'progress up to {long.horizon} of a run that cannot write: {long.shown[-80:]!r}', good)
     try_progress_among_findings(program, folder, long.horizon, count)
-    count.expect('a pipe sees progress', common.run(command.line(2 * long.horizon)) == Ran(0, wanted, b''))
+    count.expect('a pipe sees progress', common.run(command.line(2 * long.horizon), seconds=PATIENCE) == Ran(0, wanted, b''))
 
 
 def main() -> None:

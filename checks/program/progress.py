@@ -27,6 +27,8 @@ from checks.measure import performance
 WIPED = '\r\x1b[K'
 # horizons of runs that show how far they are lie between these on any machine
 SHORT, FAR = 2**21, 2**31
+# seconds for such a run, which takes a few where the machine does nothing else
+PATIENCE = 600
 
 
 @contextlib.contextmanager
@@ -111,7 +113,7 @@ def try_run(command: Command, target: pathlib.Path, count: Count) -> Long:
 def try_reports(command: Command, target: pathlib.Path, count: Count) -> None:
     """The reports are the same, whether it is shown how far the run is or not."""
     long = try_run(command, target, count)
-    ran = common.run(command.line(long.horizon))
+    ran = common.run(command.line(long.horizon), seconds=PATIENCE)
     count.expect(f'{" ".join(command.words)}: what is written up to {long.horizon}', ran == Ran(0, target.read_bytes(), b''))
 
 
