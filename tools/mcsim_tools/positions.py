@@ -13,18 +13,13 @@ from dataclasses import dataclass, field
 from typing import NamedTuple, Optional
 
 SPACE = re.compile(r'[ \t]*+')
-# spaces, line ends and comments, which may stand between the parts of an array or an inline table
+# spaces, line ends and comments, which may stand between the parts of an array or an inline table; as many as a match can go back over in little memory
 # (no group is possessive: before Python 3.11.5 such a one with branches matches too little)
-BETWEEN = re.compile(r'(?:[ \t\r\n]++|#[^\n]*+)*')
+BETWEEN = re.compile(r'(?:[ \t\r\n]++|#[^\n]*+){1,1000}')
 BARE_KEY = re.compile(r'[A-Za-z0-9_-]++')
-STRINGS = (
-    re.compile(r'"""(?:\r?\n)?((?:[^"\\]++|\\.|"(?!""))*"{0,2})"""', re.S),
-    re.compile(r"'''(?:\r?\n)?((?:[^']++|'(?!''))*'{0,2})'''", re.S),
-    re.compile(r'"((?:[^"\\\n]++|\\.)*)"'),
-    re.compile(r"'([^'\n]*+)'"),
-)
 # a number, a boolean, a date, or whatever else stands there
 OTHER = re.compile(r'[^\s,\]}#]++(?: \d\d:\d\d[^\s,\]}#]*+)?')
+LINE_END = re.compile(r'\A\r?\n')
 ESCAPE = re.compile(r'\\(?:u([0-9A-Fa-f]{4})|U([0-9A-Fa-f]{8})|x([0-9A-Fa-f]{2})|(\s+)|(.))', re.S)
 ESCAPES = {'b': '\b', 't': '\t', 'n': '\n', 'f': '\f', 'r': '\r', 'e': '\x1b'}
 
@@ -35,8 +30,8 @@ PAIR_LINE = re.compile(rf'[ \t]*+([A-Za-z0-9_-]++)[ \t]*+=[ \t]*+{SIMPLE}[ \t]*+
 ROW_LINE = re.compile(r'[ \t]*+\[\[([A-Za-z0-9_-]++)\]\][ \t]*+(?:#[^\n]*+)?(?:\r?\n|\Z)')
 INLINE_PAIR = re.compile(rf'([A-Za-z0-9_-]++)[ \t]*+=[ \t]*+{SIMPLE}[ \t]*+([,}}])')
 ITEM = re.compile(rf'{SIMPLE}[ \t]*+,[ \t\r\n]*+')
-# items that stand for themselves, without a comma in them: as many as there are commas
-ITEMS = re.compile(r'''(?:(?:"[^"\\\n,]*+"(?!")|'[^'\n,]*+'(?!')|[A-Za-z0-9_+.:-]++)[ \t]*+,[ \t\r\n]*+)+''')
+# items that stand for themselves, without a comma in them: as many as there are commas, and no more than a match can go back over in little memory
+ITEMS = re.compile(r'''(?:(?:"[^"\\\n,]*+"(?!")|'[^'\n,]*+'(?!')|[A-Za-z0-9_+.:-]++)[ \t]*+,[ \t\r\n]*+){1,1000}''')
 # items of an array and keys of a table that are kept: more than any of a system may have
 KEPT = 5000
 # parts of a dotted key, and characters of a text whose escapes are read
@@ -100,6 +95,23 @@ def plain(at: int, written: str) -> Node:
     return Node(at, 'text' if is_text else 'other', written[1:-1] if is_text else written)
 
 
+class Form(NamedTuple):
+    """A form of strings: how it opens, what stands within, some of it at a time, and how it closes."""
+
+    opens: str
+    within: re.Pattern[str]
+    closes: re.Pattern[str]
+
+
+FORMS = (
+    Form('"""', re.compile(r'(?:[^"\\]++|\\.|"(?!"")){1,1000}', re.S), re.compile(r'"{3,5}')),
+    Form("'''", re.compile(r"(?:[^']++|'(?!'')){1,1000}", re.S), re.compile(r"'{3,5}")),
+    Form('"', re.compile(r'(?:[^"\\\n]++|\\.){1,1000}'), re.compile('"')),
+    Form("'", re.compile(r"[^'\n]++"), re.compile("'")),
+)
+OF_ONE_LINE = FORMS[2:]
+
+
 class Lost(Exception):
     """The reader can't tell what stands here."""
 
@@ -132,8 +144,8 @@ class Reader:
         return self.text[self.text.rfind('\n', 0, at) + 1:len(self.text) if end < 0 else end].rstrip('\r')
 
     def skip(self, what: re.Pattern[str]) -> None:
-        """Passes what matches here, if anything does."""
-        if found := what.match(self.text, self.at):
+        """Passes what matches here, as often as it does."""
+        while (found := what.match(self.text, self.at)) and found.end() > self.at:
             self.at = found.end()
 
     def takes(self, mark: str) -> bool:
@@ -212,18 +224,29 @@ class Reader:
         if found:
             self.at = found.end()
             return found[0]
-        quoted = self.string(STRINGS[2:])
+        quoted = self.string(OF_ONE_LINE)
         if quoted is None:
             raise Lost
         return quoted
 
-    def string(self, forms: tuple[re.Pattern[str], ...]) -> Optional[str]:
+    def string(self, forms: tuple[Form, ...]) -> Optional[str]:
         for form in forms:
-            found = form.match(self.text, self.at)
-            if found:
-                self.at = found.end()
-                return unescaped(found[1]) if found[0][0] == '"' else found[1]
+            if self.text.startswith(form.opens, self.at) and (text := self.within(form)) is not None:
+                return unescaped(text) if form.opens[0] == '"' else text
         return None
+
+    def within(self, form: Form) -> Optional[str]:
+        """What stands in a string of a form, whose end is passed; None if it has no end."""
+        begin = at = self.at + len(form.opens)
+        while found := form.within.match(self.text, at):
+            at = found.end()
+        end = form.closes.match(self.text, at)
+        if end is None:
+            return None
+        self.at = end.end()
+        text = self.text[begin:self.at - len(form.opens)]
+        # a line that ends where the string opens is no part of it
+        return LINE_END.sub('', text, count=1) if len(form.opens) == 3 else text
 
     def value(self, node: Node) -> None:
         if self.takes('['):
@@ -237,7 +260,7 @@ class Reader:
 
     def plain(self, node: Node) -> None:
         is_text = self.text[self.at:self.at + 1] in ('"', "'")
-        text = self.string(STRINGS) if is_text else None
+        text = self.string(FORMS) if is_text else None
         if text is not None:
             node.kind, node.text = 'text', text
             return
@@ -262,7 +285,7 @@ class Reader:
         while array.count < KEPT and (found := match(text, at)):
             array.add(plain(at, found[1]))
             at = found.end()
-        if array.count >= KEPT and (found := ITEMS.match(text, at)):
+        while array.count >= KEPT and (found := ITEMS.match(text, at)):
             array.count += text.count(',', at, found.end())
             at = found.end()
         self.at = at
