@@ -193,6 +193,11 @@ def limited() -> None:
     resource.setrlimit(resource.RLIMIT_FSIZE, (1024, 1024))
 
 
+def last_line(text: bytes) -> bytes:
+    """The last line of a text, or nothing if it has none."""
+    return text.rpartition(b'\n')[0].rpartition(b'\n')[2]
+
+
 def try_signals(program: pathlib.Path, folder: pathlib.Path, count: Count) -> None:
     """What a signal ends has written a first part, and no line of counts; its exit code, which a shell tells as 128 and more, is that of the signal."""
     file, out = folder / 'late.toml', folder / 'out'
@@ -213,7 +218,7 @@ def try_signals(program: pathlib.Path, folder: pathlib.Path, count: Count) -> No
         good = running.returncode == -signal.SIGKILL and written.startswith(whole[:1000]) and b'missed' not in written
         count.expect(f'a run that is killed, {form}: status {running.returncode}, {len(written)} bytes', good)
     # the line of counts ends text and JSON, and CSV has none
-    counts = [common.run([program, file, '--show', 'jobs', '--format', form]).stdout.splitlines()[-1].count(b'missed') for form in ('text', 'csv', 'json')]
+    counts = [last_line(common.run([program, file, '--show', 'jobs', '--format', form]).stdout).count(b'missed') for form in ('text', 'csv', 'json')]
     count.expect(f'counts at the end of text, CSV and JSON: {counts}', counts == [1, 0, 1])
 
 
