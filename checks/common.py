@@ -12,8 +12,8 @@ import re
 import signal
 import subprocess
 import sys
-from collections.abc import Iterable, Iterator, Sequence
-from typing import Any, NamedTuple, NoReturn, Union
+from collections.abc import Iterator, Sequence
+from typing import NamedTuple, NoReturn, Union
 
 TOP = pathlib.Path(__file__).resolve().parent.parent
 DATA = TOP / 'crates' / 'mcs_corpus' / 'data'
@@ -65,13 +65,6 @@ def tally_of(line: str) -> Tally | None:
     """The count that a line tells, or None where it is another line."""
     found = re.fullmatch(r'(\d+) passed, (\d+) failed(?:, (\d+) skipped)?(?: \(.*\))?', line.strip())
     return Tally(*(int(number or 0) for number in found.groups())) if found else None
-
-
-def last_tally(text: str) -> Tally:
-    """The count of the last line, which has to tell one."""
-    found = tally_of(text.splitlines()[-1])
-    assert found, text
-    return found
 
 
 class Count:
@@ -130,16 +123,11 @@ def is_program(path: pathlib.Path) -> bool:
     return path.is_file() and os.access(path, os.X_OK)
 
 
-def first_program(places: Iterable[pathlib.Path]) -> pathlib.Path | None:
-    """The first of these places at which a program stands."""
-    return next((place for place in places if is_program(place)), None)
-
-
 def built_program(given: pathlib.Path | None) -> pathlib.Path:
     """The program that was given, or else the one that is found."""
     if given and not is_program(given):
         stop(f'{given} is no program')
-    found = given or first_program((BUILT, SHIPPED))
+    found = given or next(filter(is_program, (BUILT, SHIPPED)), None)
     if found is None:
         stop('no built program was found: ./mcsim --prove builds one, and --program PATH gives one')
     return found.resolve()
@@ -148,7 +136,7 @@ def built_program(given: pathlib.Path | None) -> pathlib.Path:
 def beside(program: pathlib.Path, name: str) -> pathlib.Path:
     """Another program of this repository: the one beside a program, or else the one that was built here, or that of bin/."""
     places = (program.parent / name, built_of(name), SHIPPED.parent / name)
-    found = first_program(places)
+    found = next(filter(is_program, places), None)
     if found is None:
         stop(f'there is no program {name} beside {program}, and none in crates/{name}/out or in bin')
     return found.resolve()
@@ -156,7 +144,7 @@ def beside(program: pathlib.Path, name: str) -> pathlib.Path:
 
 def checker_of(program: pathlib.Path) -> pathlib.Path | None:
     """mcscheck: that which stands beside the program that is tried, or the one that was built here or comes with the repository."""
-    return first_program((program.with_name('mcscheck'), BUILT_CHECKER, SHIPPED_CHECKER))
+    return next(filter(is_program, (program.with_name('mcscheck'), BUILT_CHECKER, SHIPPED_CHECKER)), None)
 
 
 class Ran(NamedTuple):
@@ -170,7 +158,7 @@ class Ran(NamedTuple):
 NO_ANSWER = Ran(-1, b'', b'no answer in time\n')
 
 
-def run(command: Sequence[Word], stdin: bytes = b'', seconds: float = SECONDS, **how: Any) -> Ran:
+def run(command: Sequence[Word], stdin: bytes = b'', seconds: float = SECONDS, **how) -> Ran:
     """Runs a command to its end, or as long as it may take."""
     try:
         ended = subprocess.run(command, input=stdin, capture_output=True, timeout=seconds, **how)
@@ -183,7 +171,7 @@ def run(command: Sequence[Word], stdin: bytes = b'', seconds: float = SECONDS, *
 def started(command: Sequence[Word]) -> Iterator[subprocess.Popen[str]]:
     """A command at the top of the repository, whose output can be read while it runs; it ends where this script is stopped."""
     signal.signal(signal.SIGTERM, lambda *_: sys.exit(128 + signal.SIGTERM))
-    how: dict[str, Any] = {'stdin': subprocess.DEVNULL, 'stdout': subprocess.PIPE, 'text': True, 'errors': 'replace'}
+    how = {'stdin': subprocess.DEVNULL, 'stdout': subprocess.PIPE, 'text': True, 'errors': 'replace'}
     with subprocess.Popen(command, cwd=TOP, **how) as running:
         try:
             yield running

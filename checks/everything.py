@@ -2,7 +2,7 @@
 """Tells whether all is well, in one line: the gate proves and tries the repository (rt ci), and then the program that it has built is checked.
 
 The last line is 'N passed, M failed' over all, with ', K skipped' where something is missing that a check needs, and the status is 0 where M
-is 0. If nothing was proved, the line before it says so, and why. The gate leaves its programs in crates/mcsim/out and crates/mcscheck/out, where ./mcsim and ./mcscheck find them, and after it the library for
+is 0. The gate leaves its programs in crates/mcsim/out and crates/mcscheck/out, where ./mcsim and ./mcscheck find them, and after it the library for
 C is built. With --program or --no-proofs, and where the command rt is not on PATH, nothing is proved, and one line says so: then the checks try the
 program that is given, or crates/mcsim/out/mcsim, or else bin/mcsim, and the mcscheck beside it, or that of crates/mcscheck/out or bin."""
 from __future__ import annotations
@@ -16,12 +16,11 @@ import subprocess
 import sys
 import time
 from collections.abc import Sequence
-from typing import Any, NamedTuple
+from typing import NamedTuple
 
 sys.dont_write_bytecode = True
-sys.path[0] = str(pathlib.Path(__file__).resolve().parents[1])
-from checks import common
-from checks.common import LIBRARY, TOP, Tally
+import common
+from common import LIBRARY, TOP, Tally
 
 HERE = pathlib.Path(__file__).resolve().parent
 # a check that takes longer is stopped, and has failed: on a busy machine each takes many times its minutes
@@ -29,50 +28,44 @@ SECONDS = 3600
 
 
 class Check(NamedTuple):
-    """A script of a folder here, whether it tries the built program, and further words for it."""
+    """A script of this folder, whether it tries the built program, and further words for it."""
 
-    folder: str
     name: str
     tries_program: bool = True
     words: tuple[str, ...] = ()
 
-    @property
-    def script(self) -> pathlib.Path:
-        return HERE / self.folder / f'{self.name}.py'
-
     def command(self, program: pathlib.Path | None) -> list[str]:
         given = ['--program', str(program)] if self.tries_program else []
-        return [sys.executable, str(self.script), *given, *self.words]
+        return [sys.executable, str(HERE / f'{self.name}.py'), *given, *self.words]
 
 
 # those that take longest begin first
 CHECKS = (
-    Check('program', 'stress', words=('--systems', '2000')),
-    Check('program', 'schema'),
-    Check('program', 'waves', tries_program=False),
-    Check('program', 'verdicts'),
-    Check('program', 'forever'),
-    Check('program', 'traces'),
-    Check('program', 'views'),
-    Check('program', 'bandwidth'),
-    Check('program', 'analyses'),
-    Check('program', 'engines'),
-    Check('program', 'refused_runs'),
-    Check('proofs', 'early', tries_program=False),
-    Check('program', 'units', tries_program=False),
-    Check('program', 'lint', tries_program=False),
-    Check('program', 'library'),
-    Check('proofs', 'theorems', tries_program=False),
-    Check('proofs', 'believe', tries_program=False),
-    Check('proofs', 'comments', tries_program=False),
-    Check('program', 'faults'),
-    Check('program', 'checker'),
-    Check('program', 'progress'),
-    Check('pages', 'manual'),
-    Check('pages', 'mended'),
-    Check('pages', 'pages'),
-    Check('program', 'built'),
-    Check('pages', 'pictures'),
+    Check('stress', words=('--systems', '2000')),
+    Check('schema'),
+    Check('waves', tries_program=False),
+    Check('verdicts'),
+    Check('forever'),
+    Check('traces'),
+    Check('views'),
+    Check('bandwidth'),
+    Check('analyses'),
+    Check('engines'),
+    Check('refused_runs'),
+    Check('early', tries_program=False),
+    Check('units', tries_program=False),
+    Check('library'),
+    Check('theorems', tries_program=False),
+    Check('believe', tries_program=False),
+    Check('comments', tries_program=False),
+    Check('faults'),
+    Check('checker'),
+    Check('progress'),
+    Check('manual'),
+    Check('mended'),
+    Check('pages'),
+    Check('built'),
+    Check('pictures'),
 )
 
 
@@ -85,7 +78,7 @@ def asked() -> argparse.Namespace:
     parser.prog = 'test'
     parser.add_argument('--program', type=pathlib.Path, metavar='PATH', help='checks this built program, and proves nothing')
     parser.add_argument('--no-proofs', action='store_true', help='checks the built program that is found, and proves nothing')
-    parser.add_argument('--times', type=pathlib.Path, metavar='FILE', help='writes to FILE what took the time in the gate, as checks/proofs/gate.py does')
+    parser.add_argument('--times', type=pathlib.Path, metavar='FILE', help='writes to FILE what took the time in the gate, as checks/gate.py does')
     parser.add_argument('--anew', action='store_true', help='takes nothing of what earlier gates kept on this machine')
     parser.add_argument('--only', action='append', choices=[check.name for check in CHECKS], help='of the checks after the gate only this one; may be given several times')
     return parser.parse_args()
@@ -105,7 +98,7 @@ def why_no_proofs(words: argparse.Namespace) -> str | None:
 def gate_command(words: argparse.Namespace) -> list[str]:
     anew = ['--anew'] if words.anew else []
     if words.times:
-        return [sys.executable, str(HERE / 'proofs' / 'gate.py'), *anew, str(words.times.resolve())]
+        return [sys.executable, str(HERE / 'gate.py'), *anew, str(words.times.resolve())]
     return ['rt', 'ci', *anew]
 
 
@@ -122,7 +115,6 @@ def gate(command: Sequence[str]) -> Tally:
     """Runs the gate, and shows what it writes; its count is told with a name, so that nobody takes it for the last line."""
     told = None
     with common.started(command) as running:
-        assert running.stdout
         for line in running.stdout:
             count = common.tally_of(line)
             if count is None:
@@ -145,8 +137,8 @@ def build_library(began: float) -> Tally:
     if not LIBRARY.parent.parent.is_dir():
         return Tally()
     LIBRARY.unlink(missing_ok=True)
-    how: dict[str, Any] = {'stdin': subprocess.DEVNULL, 'stdout': subprocess.PIPE, 'stderr': subprocess.STDOUT, 'text': True, 'errors': 'replace'}
-    ran = subprocess.run([sys.executable, str(HERE / 'proofs' / 'archive.py')], **how)
+    how = {'stdin': subprocess.DEVNULL, 'stdout': subprocess.PIPE, 'stderr': subprocess.STDOUT, 'text': True, 'errors': 'replace'}
+    ran = subprocess.run([sys.executable, str(HERE / 'archive.py')], **how)
     built = ran.returncode == 0 and LIBRARY.is_file()
     stamp(LIBRARY, began)
     say(f'built {LIBRARY.relative_to(TOP)}' if built else f'{ran.stdout}failed: archive.py did not build {LIBRARY.relative_to(TOP)}')
@@ -171,14 +163,13 @@ def program_to_try(words: argparse.Namespace) -> pathlib.Path | None:
         places = [words.program] if words.program else [common.BUILT, common.SHIPPED]
     else:
         places = [common.BUILT]
-    found = common.first_program(places)
-    return found and found.resolve()
+    return next((place.resolve() for place in places if common.is_program(place)), None)
 
 
 def tried(check: Check, program: pathlib.Path | None) -> tuple[str, Tally, float]:
     """What a check writes, its count and its seconds."""
     began = time.monotonic()
-    how: dict[str, Any] = {'stdin': subprocess.DEVNULL, 'stdout': subprocess.PIPE, 'stderr': subprocess.STDOUT}
+    how = {'stdin': subprocess.DEVNULL, 'stdout': subprocess.PIPE, 'stderr': subprocess.STDOUT}
     try:
         ran = subprocess.run(check.command(program), cwd=TOP, timeout=SECONDS, text=True, errors='replace', **how)
     except subprocess.TimeoutExpired:
@@ -220,8 +211,6 @@ def main() -> int:
     else:
         say(f'checking {os.path.relpath(program, TOP) if program.is_relative_to(TOP) else program}')
     total = total.plus(check_all(checks_for(words, program), program))
-    if why := why_no_proofs(words):
-        say(f'nothing was proved: {why}')
     print(total)
     return total.status
 

@@ -38,7 +38,7 @@ class System(NamedTuple):
     threads: str
 
     def text(self) -> str:
-        parts = [*(context.text() for context in self.contexts), *(note.text() for note in self.notes)]
+        parts = [part.text() for part in (*self.contexts, *self.notes)]
         return ''.join([self.head, *parts, self.threads])
 
 

@@ -19,22 +19,20 @@ run_unproved() {
     trap 'rm -rf "$room"' EXIT
     trap 'exit 130' INT TERM HUP
     file=
-    left=0
-    rest=
+    before=
     for word; do
         shift
-        if is_file "$word"; then
+        case $before in
+            --horizon | --workers | --show | --allow-lost) value=yes ;;
+            *) value= ;;
+        esac
+        before=$word
+        if [ -z "$file$value" ] && [ -r "$word" ] && [ ! -d "$word" ]; then
             file=$room/system.toml
-            cat <"$word" >"$file"
+            cat "$word" >"$file"
             set -- "$@" system.toml
         else
             set -- "$@" "$word"
-        fi
-        if [ "$left" -gt 0 ]; then
-            left=$((left - 1))
-        elif [ -z "$rest" ]; then
-            left=$(values_of "$word")
-            [ "$word" != -- ] || rest=yes
         fi
     done
     [ -n "$file" ] || cat >"$room/input"
@@ -46,24 +44,6 @@ run_unproved() {
     cat "$room/said" >&2
     say 'rt did not run the sources'
     exit 70
-}
-
-# how many values follow an option, in the words of either program
-values_of() {
-    case $1 in
-        --horizon | --workers | --show | --format | --allow-lost) echo 1 ;;
-        --why) echo 2 ;;
-        *) echo 0 ;;
-    esac
-}
-
-# whether an argument is FILE: the first that is no option and no value of one, and that can be read
-is_file() {
-    [ -z "$file" ] && [ "$left" -eq 0 ] || return 1
-    case $rest$1 in
-        -*) return 1 ;;
-    esac
-    [ -r "$1" ] && [ ! -d "$1" ]
 }
 
 # Runs the sources once. Where the program ended this does not return: what it wrote was written, and its status is the exit status. The time has no

@@ -1,5 +1,4 @@
 """The script that writes the page of what must be believed, in a folder with two made-up crates: it has to see each way in which page and contracts differ."""
-import ast
 import contextlib
 import io
 import pathlib
@@ -8,8 +7,10 @@ import tempfile
 import unittest
 from unittest import mock
 
-from checks import common
-from checks.proofs import believe, believe_lines
+CHECKS = pathlib.Path(__file__).resolve().parent.parent
+sys.path.insert(0, str(CHECKS))
+import believe
+import common
 
 RULES = """-- Rules.
 use Rattle.std.specs.Prelude.{ℕ, ◌+◌}
@@ -48,17 +49,8 @@ pub fn double(n: u64) -> u64
 }
 """
 PAGE = 'Before.\n<!-- part: begins -->\n<!-- part: ends -->\nAfter.\n'
-WORDS = {'std': {'ℕ': 'a number', '◌+◌': 'sum', '◌≡◌': 'equal'}}
+WORDS = {'ℕ': 'a number', '◌+◌': 'sum', '◌≡◌': 'equal'}
 ROOTS = (believe.Root('part', (believe.Clause('mcs_high/src/lib.rt', 'double', 'value', ('IsAnswer',)),)),)
-
-
-class Lines(unittest.TestCase):
-    def test_no_key_is_given_twice(self) -> None:
-        # a dictionary takes the second of two lines, and says nothing
-        tables = [node for node in ast.walk(ast.parse(pathlib.Path(believe_lines.__file__).read_text())) if isinstance(node, ast.Dict)]
-        keys = [[ast.literal_eval(key) for key in table.keys if key] for table in tables]
-        self.assertGreater(sum(map(len, keys)), 400)
-        self.assertEqual([key for own in keys for key in set(own) if own.count(key) > 1], [])
 
 
 class Believe(unittest.TestCase):
@@ -88,7 +80,7 @@ class Believe(unittest.TestCase):
     def run_it(self, *words: str) -> str:
         """What the script says."""
         for cached in (believe.definitions_of, believe.types_in, believe.constructors_in, believe.floors):
-            getattr(cached, 'cache_clear')()
+            cached.cache_clear()
         said = io.StringIO()
         with mock.patch.object(sys, 'argv', ['believe.py', *words]), contextlib.redirect_stdout(said), contextlib.suppress(SystemExit):
             believe.main()
@@ -97,11 +89,11 @@ class Believe(unittest.TestCase):
     def assert_fails(self, why: str) -> None:
         said = self.run_it()
         self.assertIn(f'failed: {why}', said)
-        self.assertGreater(common.last_tally(said).failed, 0)
+        self.assertGreater(common.tally_of(said.splitlines()[-1]).failed, 0)
 
     def assert_passes(self, *words: str) -> None:
         said = self.run_it(*words)
-        self.assertEqual(common.last_tally(said).failed, 0, said)
+        self.assertEqual(common.tally_of(said.splitlines()[-1]).failed, 0, said)
 
     def test_what_is_written_stands_in_order_and_has_no_more(self) -> None:
         self.assert_passes('--write')
@@ -125,7 +117,7 @@ class Believe(unittest.TestCase):
     def test_a_changed_definition_is_seen(self) -> None:
         self.run_it('--write')
         self.put('crates/mcs_low/specs/Rules.antt', RULES.replace('twice n = n + n', 'twice n = n + n + n'))
-        self.assert_fails('the part part of BELIEVE.md is not what checks/proofs/believe.py --write writes')
+        self.assert_fails('the part part of BELIEVE.md is not what checks/believe.py --write writes')
 
     def test_a_definition_without_a_line_is_seen(self) -> None:
         self.put('crates/mcs_low/specs/Rules.antt', RULES.replace('-- twice a number\n', ''))
@@ -144,16 +136,8 @@ class Believe(unittest.TestCase):
 
     def test_a_word_without_a_line_is_seen(self) -> None:
         self.run_it('--write')
-        with mock.patch.object(believe, 'WORDS', {'std': {'ℕ': 'a number', '◌≡◌': 'equal'}}):
-            self.assert_fails('WORDS of checks/proofs/believe_lines.py does not say what ◌+◌ of std is')
-
-    def test_two_crates_have_words_of_one_name(self) -> None:
-        self.put('crates/mcs_low/specs/Rules.antt', RULES.replace('use Rattle.std', 'use Rattle.toml.specs.Data.{member}\nuse Rattle.std').replace('twice n = n', 'twice n = member n'))
-        self.put('crates/mcs_high/specs/Claim.antt', CLAIM.replace('BODY', 'member (twice n)').replace('use Rattle.std', 'use Rattle.serde_json.specs.Data.{member}\nuse Rattle.std'))
-        with mock.patch.object(believe, 'WORDS', {**WORDS, 'serde_json': {'member': 'of JSON'}, 'toml': {'member': 'of TOML'}}):
-            self.assert_passes('--write')
-        rows = [line for line in self.page.read_text().splitlines() if 'member' in line and line.startswith('|')]
-        self.assertEqual(rows, ['| `member` of `serde_json` | of JSON |', '| `member` of `toml` | of TOML |'])
+        with mock.patch.object(believe, 'WORDS', {'ℕ': 'a number', '◌≡◌': 'equal'}):
+            self.assert_fails('WORDS of checks/believe_lines.py does not say what ◌+◌ is')
 
     def test_a_contract_that_cites_something_else_is_seen(self) -> None:
         self.run_it('--write')

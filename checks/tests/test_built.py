@@ -1,4 +1,4 @@
-"""The launcher and checks/program/built.py, in a folder with made-up sources, a made-up program and, where it is wanted, a made-up rt."""
+"""The launcher and checks/built.py, in a folder with made-up sources, a made-up program and, where it is wanted, a made-up rt."""
 import hashlib
 import os
 import pathlib
@@ -8,7 +8,6 @@ import sys
 import tempfile
 import unittest
 from collections.abc import Sequence
-from typing import Any
 
 CHECKS = pathlib.Path(__file__).resolve().parent.parent
 TOP = CHECKS.parent
@@ -42,7 +41,7 @@ esac"""
 
 # in place of the script that builds the library
 ARCHIVE_PY = """import pathlib
-file = pathlib.Path(__file__).parents[2] / 'crates/mcs_c/out/libmcs_c.a'
+file = pathlib.Path(__file__).parents[1] / 'crates/mcs_c/out/libmcs_c.a'
 file.parent.mkdir(exist_ok=True)
 file.write_text('archive\\n')
 """
@@ -64,15 +63,15 @@ class InFolder(unittest.TestCase):
         self.top = pathlib.Path(path.name, 'repository with a space')
         self.tools = pathlib.Path(path.name, 'tools')
         self.home = pathlib.Path(path.name, 'home')
-        for folder in (self.top / 'checks' / 'program', self.top / 'bin', self.tools, self.home):
+        for folder in (self.top / 'checks', self.top / 'bin', self.tools, self.home):
             folder.mkdir(parents=True)
         shutil.copy(TOP / 'mcsim', self.top)
         shutil.copytree(TOP / 'launcher', self.top / 'launcher')
-        for script in ('__init__.py', 'common.py', 'program/__init__.py', 'program/built.py'):
-            shutil.copy(CHECKS / script, self.top / 'checks' / script)
-        self.write('checks/proofs/archive.py', ARCHIVE_PY)
+        for script in ('common.py', 'built.py'):
+            shutil.copy(CHECKS / script, self.top / 'checks')
+        self.write('checks/archive.py', ARCHIVE_PY)
         for tool in TOOLS:
-            (self.tools / tool).symlink_to(shutil.which(tool) or self.fail(f'there is no {tool}'))
+            (self.tools / tool).symlink_to(shutil.which(tool))
         (self.tools / 'python3').symlink_to(sys.executable)
         self.write('crates.txt', CRATES)
         self.write('bin/README.md', PAGE)
@@ -90,17 +89,17 @@ class InFolder(unittest.TestCase):
         (self.tools / 'rt').write_text(f'#!/bin/sh\n{RT}\n')
         (self.tools / 'rt').chmod(0o755)
 
-    def run_in(self, command: list[str], **how: Any) -> subprocess.CompletedProcess[str]:
-        how = {'cwd': self.top.parent, 'env': {'PATH': str(self.tools), 'HOME': str(self.home)}, 'stdin': subprocess.DEVNULL, **how}
-        return subprocess.run(command, capture_output=True, text=True, **how)
+    def run_in(self, command: list[str], **how) -> subprocess.CompletedProcess:
+        env = {'PATH': str(self.tools), 'HOME': str(self.home)}
+        return subprocess.run(command, cwd=self.top.parent, env=env, capture_output=True, text=True, **{'stdin': subprocess.DEVNULL, **how})
 
-    def launch(self, *words: str, **how: Any) -> tuple[int, str, str]:
+    def launch(self, *words: str, **how) -> tuple[int, str, str]:
         ran = self.run_in([str(self.top / 'mcsim'), *words], **how)
         return ran.returncode, ran.stdout, ran.stderr
 
     def look(self, *words: str) -> tuple[int, list[str]]:
         """The status of built.py, and its lines."""
-        ran = self.run_in(['python3', str(self.top / 'checks' / 'program' / 'built.py'), *words])
+        ran = self.run_in(['python3', str(self.top / 'checks' / 'built.py'), *words])
         return ran.returncode, (ran.stdout + ran.stderr).splitlines()
 
     def built_here(self) -> None:
@@ -119,21 +118,10 @@ class InFolder(unittest.TestCase):
         self.write('bin/libmcs_c.a', ARCHIVE)
         self.write('bin/HELP', 'help\n')
         digests = {'mcsim': self.digest(BELOW), 'mcscheck': self.digest(BELOW_CHECKER), 'mcs_c': self.digest(BELOW_LIBRARY)}
+        self.write('bin/SOURCES', '# made up\nkit kit 1\n' + ''.join(f'{name} {digest}\n' for name, digest in digests.items()))
         files = (('mcsim', PROGRAM), ('mcscheck', CHECKER), ('libmcs_c.a', ARCHIVE))
-        sums = {f'bin/{name}': sum_of(text.encode()) for name, text in files}
-        self.write('bin/SOURCES', '# made up\nkit kit 1\n' + ''.join(f'{name} {it}\n' for name, it in (digests | sums).items()))
         rows = [f'| `{name}` | {len(text)} | `{sum_of(text.encode())}` |\n' for name, text in files]
         self.write('bin/README.md', PAGE.partition('| `')[0] + ''.join(rows))
-
-    def write_listed(self) -> list[list[str]]:
-        """bin/ of these sources, and made-up files for what else is installed; the lines of the list."""
-        self.renewed()
-        lines = [line.split() for line in (self.top / 'launcher' / 'installed').read_text().splitlines()]
-        listed = [line for line in lines if line and line[0] != '#']
-        for source, *_ in listed:
-            if not (self.top / source).exists():
-                self.write(source, source)
-        return listed
 
 
 class Launched(InFolder):
@@ -149,8 +137,8 @@ class Launched(InFolder):
     def test_through_links_too(self) -> None:
         self.renewed()
         (self.top.parent / 'link').symlink_to('repository with a space/mcsim')
-        (self.home / 'mcsim').symlink_to('../link')
-        self.assertEqual(self.run_in([str(self.home / 'mcsim')]).stdout, 'gate\n')
+        (self.home / 'second').symlink_to('../link')
+        self.assertEqual(self.run_in([str(self.home / 'second')]).stdout, 'gate\n')
 
     def test_without_rt_and_with_a_changed_source_the_status_is_127_and_one_line_says_why(self) -> None:
         changes = {'crates.txt': CRATES + '\n', 'crates/mcs_cli/src/asked/words.rt': 'other\n', 'crates/mcs_ticks/src/new.rt': ''}
@@ -166,6 +154,17 @@ class Launched(InFolder):
             file.unlink() if before is None else file.write_text(before)
             self.assertEqual(self.launch()[:2], (0, 'gate\n'))
 
+    def test_a_link_with_the_name_of_another_program_runs_that(self) -> None:
+        self.renewed()
+        for name in ('mcs_look', 'another'):
+            (self.top / name).symlink_to('mcsim')
+        self.write('crates/mcs_look/src/main.rt', 'look\n')
+        self.write('crates.txt', CRATES + 'mcs_look: mcs_ticks\n')
+        self.write('crates/mcs_look/out/mcs_look', SAYS.format(name='look'), 0o755)
+        self.assertEqual(self.run_in([str(self.top / 'mcs_look'), '--x']).stdout, 'look --x\n')
+        self.write('crates.txt', CRATES)
+        self.assertEqual(self.run_in([str(self.top / 'another')]).stdout, 'gate\n')
+
     def test_a_change_beside_the_program_does_not_matter(self) -> None:
         self.renewed()
         for path in ('crates/mcs_other/src/lib.rt', 'crates/mcs_c/src/lib.rt', 'crates/mcs_cli/proofs/Lib.antt', 'crates/mcs_cli/src/.words.rt.swp'):
@@ -179,12 +178,11 @@ class Launched(InFolder):
 
     def test_a_program_that_does_not_start_is_told(self) -> None:
         self.renewed()
-        stopping = '#!/bin/sh\nexit 1\n'
-        self.write('bin/mcsim', stopping, 0o755)
-        sources = self.top / 'bin' / 'SOURCES'
-        sources.write_text(sources.read_text().replace(sum_of(PROGRAM.encode()), sum_of(stopping.encode())))
+        self.write('bin/mcsim', '#!/bin/sh\nexit 1\n', 0o755)
         self.assertEqual(self.launch()[0], 127)
         self.assertIn('glibc 2.34', self.launch()[2])
+        self.write('bin/mcsim', PROGRAM, 0o644)
+        self.assertIn('chmod +x bin/mcsim', self.launch()[2])
 
     def test_a_processor_without_a_part_is_named(self) -> None:
         self.renewed()
@@ -277,8 +275,13 @@ class Launched(InFolder):
 class Installed(InFolder):
     def setUp(self) -> None:
         super().setUp()
-        listed = self.write_listed()
-        self.tool, _, self.link = next(line for line in listed if line[0].startswith('tools/') and len(line) == 3)
+        self.renewed()
+        lines = [line.split() for line in (self.top / 'launcher' / 'installed').read_text().splitlines()]
+        self.listed = [line for line in lines if line and line[0] != '#']
+        for source, *_ in self.listed:
+            if not (self.top / source).exists():
+                self.write(source, source)
+        self.tool, _, self.link = next(line for line in self.listed if line[0].startswith('tools/') and len(line) == 3)
 
     def files(self, folder: pathlib.Path) -> set[str]:
         return {str(path.relative_to(folder)) for path in folder.rglob('*') if not path.is_dir()}
@@ -370,7 +373,7 @@ class Checked(InFolder):
     def test_bin_of_these_sources_passes(self) -> None:
         self.renewed()
         status, lines = self.look()
-        self.assertEqual((status, lines[-1]), (0, '10 passed, 0 failed, 4 skipped'), lines)
+        self.assertEqual((status, lines[-1]), (0, '7 passed, 0 failed, 4 skipped'), lines)
 
     def test_what_was_built_here_is_put_there(self) -> None:
         self.renewed()
@@ -391,35 +394,35 @@ class Checked(InFolder):
         self.renewed()
         self.write('crates/mcs_ticks/src/lib.rt', 'changed\n')
         status, lines = self.look()
-        self.assertEqual((status, lines[-1]), (1, '7 passed, 3 failed, 4 skipped'))
-        self.assertEqual(lines[1], 'failed: bin/mcsim was not built of these sources: after a green gate checks/program/built.py --renew puts the new one there')
+        self.assertEqual((status, lines[-1]), (1, '4 passed, 3 failed, 4 skipped'))
+        self.assertEqual(lines[1], 'failed: bin/mcsim was not built of these sources: after a green gate checks/built.py --renew puts the new one there')
 
     def test_another_program_of_the_gate_fails(self) -> None:
         self.renewed()
         self.built_here()
-        self.assertEqual(self.look()[1][-1], '12 passed, 0 failed, 2 skipped')
+        self.assertEqual(self.look()[1][-1], '9 passed, 0 failed, 2 skipped')
         self.write('crates/mcsim/out/mcsim', SAYS.format(name='another'), 0o755)
         status, lines = self.look()
-        self.assertEqual((status, lines[-1]), (1, '11 passed, 1 failed, 2 skipped'))
-        self.assertIn('failed: bin/mcsim is not crates/mcsim/out/mcsim: checks/program/built.py --renew copies it', lines)
+        self.assertEqual((status, lines[-1]), (1, '8 passed, 1 failed, 2 skipped'))
+        self.assertIn('failed: bin/mcsim is not crates/mcsim/out/mcsim: checks/built.py --renew copies it', lines)
 
     def test_another_file_in_bin_than_the_page_has_fails(self) -> None:
         self.renewed()
         self.write('bin/libmcs_c.a', 'another\n')
         status, lines = self.look()
-        self.assertEqual((status, lines[-1]), (1, '8 passed, 2 failed, 4 skipped'))
+        self.assertEqual((status, lines[-1]), (1, '6 passed, 1 failed, 4 skipped'))
 
     def test_another_toolchain_fails(self) -> None:
         self.renewed()
         self.rt()
-        self.assertEqual(self.look()[1][-1], '11 passed, 0 failed, 3 skipped')
+        self.assertEqual(self.look()[1][-1], '8 passed, 0 failed, 3 skipped')
         noted = self.top / 'bin' / 'SOURCES'
         noted.write_text(noted.read_text().replace('kit kit 1', 'kit kit 0'))
-        self.assertEqual(self.look()[1][-1], '10 passed, 1 failed, 3 skipped')
+        self.assertEqual(self.look()[1][-1], '7 passed, 1 failed, 3 skipped')
 
     def test_an_empty_bin_is_one_clear_line(self) -> None:
         status, lines = self.look()
-        self.assertEqual((status, lines), (1, ['failed: there is no bin/SOURCES: checks/program/built.py --renew puts the built programs there', '0 passed, 1 failed']))
+        self.assertEqual((status, lines), (1, ['failed: there is no bin/SOURCES: checks/built.py --renew puts the built programs there', '0 passed, 1 failed']))
 
     def test_what_is_older_than_a_source_is_not_taken(self) -> None:
         self.rt()

@@ -1,9 +1,12 @@
 """Tests of comments.py: which comments are to be doc comments."""
 from __future__ import annotations
 
+import pathlib
+import sys
 import unittest
 
-from checks.proofs import comments
+sys.path.insert(0, str(pathlib.Path(__file__).resolve().parent.parent))
+import comments
 
 
 def found(text: str) -> list[str]:

@@ -2,11 +2,13 @@
 import contextlib
 import io
 import pathlib
+import sys
 import tempfile
 import unittest
 
-from checks import common
-from checks.common import Count, Tally, tally_of
+sys.path.insert(0, str(pathlib.Path(__file__).resolve().parent.parent))
+import common
+from common import Count, Tally, tally_of
 
 
 class Counts(unittest.TestCase):

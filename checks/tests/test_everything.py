@@ -6,10 +6,11 @@ import subprocess
 import sys
 import tempfile
 import unittest
-from typing import Any
 
 CHECKS = pathlib.Path(__file__).resolve().parent.parent
-from checks import common, everything
+sys.path.insert(0, str(CHECKS))
+import common
+import everything
 
 TOP = CHECKS.parent
 MANY = len(everything.CHECKS)
@@ -19,7 +20,7 @@ OTHERS = 2 * sum(not check.tries_program for check in everything.CHECKS)
 TOOLS = ('sh', 'bash', 'dirname', 'mkdir', 'chmod', 'sleep')
 # in place of the script that builds the library
 BUILDS_LIBRARY = """import pathlib
-file = pathlib.Path(__file__).parents[2] / 'crates' / 'mcs_c' / 'out' / 'libmcs_c.a'
+file = pathlib.Path(__file__).parents[1] / 'crates' / 'mcs_c' / 'out' / 'libmcs_c.a'
 file.parent.mkdir()
 file.write_text('new\\n')
 """
@@ -37,18 +38,16 @@ class Folder:
             (self.top / part).mkdir()
         shutil.copy(TOP / 'test', self.top)
         shutil.copy(TOP / '.ci' / 'run', self.top / '.ci')
-        for script in ('__init__.py', 'common.py', 'everything.py'):
+        for script in ('common.py', 'everything.py'):
             shutil.copy(CHECKS / script, self.top / 'checks')
         for tool in TOOLS:
-            (self.tools / tool).symlink_to(shutil.which(tool) or tool)
+            (self.tools / tool).symlink_to(shutil.which(tool))
         (self.tools / 'python3').symlink_to(sys.executable)
         for check in everything.CHECKS:
-            self.check(f'{check.folder}/{check.name}', 'print("tries", *sys.argv[1:])\nprint("2 passed, 0 failed")')
+            self.check(check.name, 'print("tries", *sys.argv[1:])\nprint("2 passed, 0 failed")')
 
     def check(self, name: str, text: str) -> None:
-        file = self.top / 'checks' / f'{name}.py'
-        file.parent.mkdir(exist_ok=True)
-        file.write_text(f'import sys\n{text}\n')
+        (self.top / 'checks' / f'{name}.py').write_text(f'import sys\n{text}\n')
 
     def script(self, path: str, text: str) -> pathlib.Path:
         file = self.top / path
@@ -63,8 +62,8 @@ class Folder:
 
     def run(self, *command: str) -> tuple[int, list[str]]:
         """The status of a command, and the lines that it writes."""
-        how: dict[str, Any] = {'stdin': subprocess.DEVNULL, 'stdout': subprocess.PIPE, 'stderr': subprocess.STDOUT}
-        ran = subprocess.run(command, cwd=self.top, env={'PATH': str(self.tools)}, text=True, **how)
+        how = {'stdin': subprocess.DEVNULL, 'stdout': subprocess.PIPE, 'stderr': subprocess.STDOUT, 'text': True}
+        ran = subprocess.run(command, cwd=self.top, env={'PATH': str(self.tools)}, **how)
         return ran.returncode, ran.stdout.splitlines()
 
 
@@ -85,8 +84,6 @@ class WithoutProofs(InFolder):
         self.assertEqual((status, lines[-1]), (0, f'{2 * MANY} passed, 0 failed, 1 skipped'))
         self.assertEqual(lines[0], f'processors: {len(os.sched_getaffinity(0))}')
         self.assertEqual(lines[1], 'nothing was proved: the command rt of the Rattle toolchain is not on PATH')
-        # it stands at the end again, where nobody takes the count for that of a gate
-        self.assertEqual(lines[-2], lines[1])
         self.assertIn(f'tries --program {program.resolve()}', lines)
         self.assertEqual(self.counts(lines), lines[-1:])
 
@@ -101,7 +98,7 @@ class WithoutProofs(InFolder):
         program = self.folder.script('other', 'exit 0')
         status, lines = self.folder.run('./test', '--program', 'other')
         self.assertEqual((status, lines[-1]), (0, f'{2 * MANY} passed, 0 failed, 1 skipped'))
-        self.assertEqual((lines[1], lines[-2]), ('nothing was proved: --program gives other',) * 2)
+        self.assertEqual(lines[1], 'nothing was proved: --program gives other')
         self.assertIn(f'tries --program {program.resolve()}', lines)
         self.assertNotIn('the gate ran', lines)
 
@@ -130,14 +127,13 @@ class WithAGate(InFolder):
         status, lines = self.folder.run('bash', '.ci/run')
         self.assertEqual((status, lines[-1]), (0, f'{5 + 2 * MANY} passed, 0 failed'))
         self.assertEqual(lines[1:3], ['rt: said', 'rt ci: 5 passed, 0 failed'])
-        self.assertFalse([line for line in lines if 'nothing was proved' in line])
         self.assertIn(f'tries --program {(self.folder.top / "crates/mcsim/out/mcsim").resolve()}', lines)
         self.assertEqual(self.counts(lines), lines[-1:])
 
     def with_library(self, gate: str, archive: str) -> tuple[int, str]:
         """The status and the last line where the repository has the library for C, and this is the script that builds it."""
         (self.folder.top / 'crates' / 'mcs_c').mkdir(parents=True)
-        (self.folder.top / 'checks' / 'proofs' / 'archive.py').write_text(archive)
+        (self.folder.top / 'checks' / 'archive.py').write_text(archive)
         self.folder.gate(f'{BUILDS}; {gate}')
         status, lines = self.folder.run('./test')
         return status, lines[-1]
@@ -162,7 +158,7 @@ class WithAGate(InFolder):
     def test_times_are_asked_of_the_script_that_times_the_gate(self) -> None:
         self.folder.gate('exit 1')
         self.folder.script('crates/mcsim/out/mcsim', 'exit 0')
-        self.folder.check('proofs/gate', 'print("timed", *sys.argv[1:])\nprint("5 passed, 0 failed")')
+        self.folder.check('gate', 'print("timed", *sys.argv[1:])\nprint("5 passed, 0 failed")')
         status, lines = self.folder.run('./test', '--anew', '--times', 'table')
         self.assertEqual((status, lines[-1]), (0, f'{5 + 2 * MANY} passed, 0 failed'))
         self.assertIn(f'timed --anew {(self.folder.top / "table").resolve()}', lines)
@@ -192,7 +188,7 @@ class OfChecks(InFolder):
         self.folder.script('bin/mcsim', 'exit 0')
 
     def told(self, text: str) -> tuple[int, str]:
-        self.folder.check('pages/pages', text)
+        self.folder.check('pages', text)
         status, lines = self.folder.run('./test', '--only', 'pages', '--only', 'manual')
         return status, lines[-1]
 

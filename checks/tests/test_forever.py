@@ -11,12 +11,16 @@ from collections.abc import Callable
 from unittest import mock
 
 CHECKS = pathlib.Path(__file__).resolve().parent.parent
-from checks import common
-from checks.common import DATA, TOP, Ran
-from checks.measure import forever_rows
-from checks.program import forever, forever_model, forever_reading, model
-from checks.program.forever_reading import Claim, CoreSet
-from checks.program.verdicts import System
+sys.path.insert(0, str(CHECKS))
+import common
+import forever
+import forever_model
+import forever_reading
+import forever_rows
+import model
+from common import DATA, TOP, Ran
+from forever_reading import Claim, CoreSet
+from verdicts import System
 
 # the clock ticks at 0, 10, .., and signals a tick later; the loop is woken at 2, 12, .., has ended its round 2 ticks later, and waits a tick after that
 SYSTEMS = TOP / 'examples' / 'systems'
@@ -151,13 +155,14 @@ def as_json(text: str) -> str:
                 found.append({'kind': kind, 'thread': name, 'moment': int(moment)})
             case ['thread', name, 'greatest', 'response', greatest, *rest]:
                 number = {} if greatest == '-' else {'greatest': int(greatest)}
-                of = 'thread_so_far' if rest == ['so', 'far'] else 'thread'
+                kind = 'thread_so_far' if rest == ['so', 'far'] else 'thread'
                 never = {'throttled': 'never'} if 'throttled' in rest else {}
-                found.append({'kind': of, 'thread': name, **number, **never, **({'ends_no_round_from': int(rest[-2])} if 'ends' in rest else {})})
+                found.append({'kind': kind, 'thread': name, **number, **never, **({'ends_no_round_from': int(rest[-2])} if 'ends' in rest else {})})
             case ['sets', sets, 'repeating', repeating, 'findings', findings]:
                 found.append({'kind': 'sets', 'sets': int(sets), 'repeating': int(repeating), 'findings': int(findings)})
             case ['nothing', *_]:
-                found.append({'kind': 'clean', 'cores': next(each['cores'] for each in reversed(found) if 'cores' in each)})
+                cores = next(each['cores'] for each in reversed(found) if 'cores' in each)
+                found.append({'kind': 'clean', 'cores': cores})
     return ''.join(json.dumps(each, separators=(',', ':')) + '\n' for each in found)
 
 
@@ -168,16 +173,15 @@ class Programs(unittest.TestCase):
     ) -> int:
         """How many tries fail of a program that writes this, wrong in some way."""
 
-        def ran(given: list[common.Word], text: bytes = b'', **_: object) -> Ran:
-            command = [str(word) for word in given]
+        def ran(command: list[common.Word], text: bytes = b'', **_: object) -> Ran:
             far = next(int(word.partition('=')[2]) for word in command if word.startswith('--horizon'))
             if command[0] == 'mcsim':
                 return Ran(0, rows_wrong(rows(first, later, far)).encode(), b'')
             form = (written_as_json or as_json(written)) if '--format=json' in command else written
             return wrong(Ran(status, form.encode(), b''))
 
-        trial = forever.Trial(pathlib.Path('mcsim'), pathlib.Path('mcscheck'))
-        with tempfile.TemporaryDirectory() as folder, mock.patch('checks.common.run', ran), mock.patch('tempfile.tempdir', folder):
+        trial = forever.Trial('mcsim', 'mcscheck')
+        with tempfile.TemporaryDirectory() as folder, mock.patch('common.run', ran), mock.patch('tempfile.tempdir', folder):
             with contextlib.redirect_stdout(io.StringIO()):
                 trial.agrees(System('worked', text, horizon), allowed=allowed)
         self.seen = trial.seen
@@ -316,8 +320,8 @@ class WrongPrograms(Programs):
             file = pathlib.Path(folder, name)
             file.write_text(f'#!/bin/sh\n{text}\n')
             file.chmod(0o755)
-        command = [sys.executable, str(CHECKS / 'program' / 'forever.py'), '--program', str(pathlib.Path(folder, 'mcsim')), '--systems', '1']
-        return common.last_tally(common.run(command).stdout.decode())
+        command = [sys.executable, str(CHECKS / 'forever.py'), '--program', str(pathlib.Path(folder, 'mcsim')), '--systems', '1']
+        return common.tally_of(common.run(command).stdout.decode().splitlines()[-1])
 
     def test_systems_that_show_nothing_are_a_failure(self) -> None:
         with tempfile.TemporaryDirectory() as folder:
@@ -370,8 +374,7 @@ class Models(unittest.TestCase):
         tried = 0
         # those of `files` are refused
         for file in (file for folder in ('examples', 'orders', 'random_one', 'random_several', 'turns', 'worked') for file in DATA.glob(f'{folder}/*/schedule.stdout')):
-            asked = file.with_suffix('.words').read_text().split()
-            words = dict(zip(asked[::2], asked[1::2]))
+            words = dict(zip(*[iter(file.with_suffix('.words').read_text().split())] * 2))
             tables = tomllib.loads(file.parent.with_suffix('.toml').read_text())
             horizon = int(words.get('--horizon', 1000))
             if horizon <= 300 and all(context['budget'] < 10_000 for context in tables.get('context', [])):
@@ -389,7 +392,7 @@ class Models(unittest.TestCase):
     def seen(self, text: str, horizon: int) -> list[tuple[int, int, bool] | None]:
         tables = tomllib.loads(text)
         found = forever_model.Search(model.System(tables), forever_reading.core_sets(tables)).run(horizon)
-        return [None if repeats is None else (repeats.start, repeats.period, repeats.ends_recur) for repeats in found]
+        return [repeats and tuple(repeats) for repeats in found]
 
     def test_what_repeats(self) -> None:
         # moments are kept before 0, 1, 4, 12 and 30; before 12 the dates of the loop are 10, 12, 13, 14, and before 22 they are 15, 22, 23, 24
@@ -418,7 +421,7 @@ class Models(unittest.TestCase):
         text = f'{line}\n{forever_reading.CLEAN}\n' if is_clean else f'{line}\n'
         answer = Ran(0, f'{text}cores 1: repeats from 12 with period 10\n'.encode(), b'')
         words = mock.Mock(program=None, horizon=100)
-        with mock.patch('checks.common.run', lambda *_: answer), mock.patch('checks.common.built_program'), mock.patch('checks.common.beside'):
+        with mock.patch('common.run', lambda *_: answer), mock.patch('common.built_program'), mock.patch('common.beside'):
             trial = forever_model.Trial(words)
             with contextlib.redirect_stdout(io.StringIO()):
                 trial.look('loop', LOOP)

@@ -1,7 +1,10 @@
 """What several workers gain, with and without the load."""
+import pathlib
+import sys
 import unittest
 
-from checks.measure.gains import Gain
+sys.path.insert(0, str(pathlib.Path(__file__).resolve().parent.parent))
+from gains import Gain
 
 
 class Gains(unittest.TestCase):

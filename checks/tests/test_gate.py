@@ -8,9 +8,9 @@ import tempfile
 import unittest
 
 CHECKS = pathlib.Path(__file__).resolve().parent.parent
-from checks.common import Tally
-from checks.proofs import gate
-from checks.proofs.gate import Measured, Task
+sys.path.insert(0, str(CHECKS))
+import gate
+from gate import Measured, Task
 
 
 def task(crate: str, part: str, seconds: float, waits: tuple[int, ...] = (), lines: int = 0, number: int | None = None) -> Task:
@@ -51,7 +51,7 @@ class Tables(unittest.TestCase):
         self.assertEqual(gate.dearest(TASKS), ['  40.0 s  high edit 1', '  20.0 s  high edit 0'])
 
     def test_the_report_names_count_parts_walls_and_chain(self) -> None:
-        text = gate.report(Measured(TASKS, 15, 7), 'rt: ok; all was done in this run', Tally(9, 1))
+        text = gate.report(Measured(TASKS, 15, 7), 'rt: ok; all was done in this run', gate.Tally(9, 1))
         for part in ('9 passed, 1 failed', 'Processor minutes: 5.0: proof 1.5, tests 1.5, second proof 0.8, edits 1.0, runs of tests and programs 0.2',
                      'Longest chain: 3.5 minutes', 'rt: ok; all was done'):
             self.assertIn(part, text)
@@ -132,7 +132,7 @@ class Timed(unittest.TestCase):
         return subprocess.run([sys.executable, *words], env=self.env, capture_output=True, text=True)
 
     def test_seconds_are_those_of_the_task_whose_commands_took_them(self) -> None:
-        ran = self.ran(str(CHECKS / 'proofs' / 'timed_rt.py'), str(self.folder / 'times'), '--anew', 'b')
+        ran = self.ran(str(CHECKS / 'timed_rt.py'), str(self.folder / 'times'), '--anew', 'b')
         self.assertEqual((ran.returncode, ran.stdout), (1, 'words ci --anew b\n2 passed, 1 failed\n'))
         told = json.loads((self.folder / 'times').read_text())
         first, second = told['tasks']
@@ -142,7 +142,7 @@ class Timed(unittest.TestCase):
         self.assertLessEqual(first['ended'], second['began'])
 
     def test_the_count_of_the_gate_is_the_last_line(self) -> None:
-        ran = self.ran(str(CHECKS / 'proofs' / 'gate.py'), '--crate', 'b', str(self.folder / 'table'))
+        ran = self.ran(str(CHECKS / 'gate.py'), '--crate', 'b', str(self.folder / 'table'))
         self.assertEqual((ran.returncode, ran.stdout.splitlines()[-1]), (1, '2 passed, 1 failed'))
         self.assertEqual(ran.stdout.count('passed, 1 failed\n'), 1)
         self.assertIn('| `a` | 4 | - | - | - | - | 0.1 | 0 |', (self.folder / 'table').read_text())

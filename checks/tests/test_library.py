@@ -4,10 +4,13 @@ import io
 import pathlib
 import shutil
 import subprocess
+import sys
 import tempfile
 import unittest
 
-from checks.program import library
+CHECKS = pathlib.Path(__file__).resolve().parent.parent
+sys.path.insert(0, str(CHECKS))
+import library
 
 # answers as the program below does; WRONG is what one of them does wrong
 STUB = r'''

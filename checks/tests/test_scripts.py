@@ -11,38 +11,24 @@ import tempfile
 import unittest
 from unittest import mock
 
-from checks import common, everything, random_systems
-from checks.pages import manual, mended, pages
-from checks.program import analyses, bandwidth, faults, progress, refused_runs, stress, traces, views, waves
-from checks.program.refusing import Answer
-from checks.proofs import theorems
-
-sys.path.insert(0, str(common.TOP / 'tools'))
-from mcsim_tools.tasks import Form, Task
-
-
-TWO = b'''
-context = [{ name = "a", core = 0 }]
-note = [{ name = "n", core = 0 }]
-thread = [{ name = "A", context = "a", start = 12, script = ["compute 3"] }, { name = "B", context = "b", script = ["wait n", "compute 1"] }]
-'''
-
-
-class Views(unittest.TestCase):
-    def up(self, rows: str, horizon: int) -> int:
-        """How many activations a page is to show."""
-        return views.Expected(TWO, rows, horizon).count['up']
-
-    def test_no_tick_follows_the_horizon(self) -> None:
-        # A is released at 12: a round is activated by the first tick in which its thread is ready or runs
-        self.assertEqual(self.up('12 0 release A\n', 12), 0)
-        self.assertEqual(self.up('12 0 release A\n', 13), 1)
-
-    def test_a_held_word_activates_a_round_of_a_thread_without_rows(self) -> None:
-        self.assertEqual(self.up('8 0 hold n 1\n', 12), 1)
-
-    def test_a_wake_activates_at_the_horizon_too(self) -> None:
-        self.assertEqual(self.up('0 0 run B\n1 0 stop B wait 0\n12 0 wake B n 1\n', 12), 1)
+CHECKS = pathlib.Path(__file__).resolve().parent.parent
+sys.path.insert(0, str(CHECKS))
+import analyses
+import bandwidth
+import common
+import faults
+import manual
+import mended
+import pages
+import progress
+import random_systems
+import refused_runs
+import stress
+import theorems
+import traces
+import waves
+from analyses import Form, Task
+from refusing import Answer
 
 
 class WrongPrograms(unittest.TestCase):
@@ -58,10 +44,9 @@ class WrongPrograms(unittest.TestCase):
         for file in (self.program, self.program.with_name('mcscheck')):
             file.write_text(f'#!/bin/sh\n{program}\n')
             file.chmod(0o755)
-        file = next(check.script for check in everything.CHECKS if check.name == script)
-        command = [sys.executable, str(file), '--program', str(self.program), *words]
+        command = [sys.executable, str(CHECKS / f'{script}.py'), '--program', str(self.program), *words]
         ran = subprocess.run(command, capture_output=True, text=True, env={**os.environ, 'TMPDIR': str(self.program.parent)})
-        found = common.last_tally(ran.stdout)
+        found = common.tally_of(ran.stdout.splitlines()[-1])
         self.assertEqual(ran.returncode, found.status, ran.stderr)
         return found
 
@@ -116,7 +101,7 @@ class WrongPrograms(unittest.TestCase):
 
         self.program.touch(0o755)
         words, out = ['stress.py', '--program', str(self.program), '--systems', '1'], io.StringIO()
-        with mock.patch('checks.common.run', ran), mock.patch('sys.argv', words), mock.patch('tempfile.tempdir', str(self.program.parent)):
+        with mock.patch('common.run', ran), mock.patch('sys.argv', words), mock.patch('tempfile.tempdir', str(self.program.parent)):
             with contextlib.redirect_stdout(out), self.assertRaises(SystemExit) as ended:
                 stress.main()
         self.assertEqual((out.getvalue().splitlines()[-1], ended.exception.code), ('4 passed, 1 failed', 1))
@@ -132,11 +117,10 @@ class WrongPrograms(unittest.TestCase):
     def test_a_table_has_the_greatest_responses_of_the_analysis(self) -> None:
         # a takes 1 tick of each 4, and b 2 of each 6 behind one a, with a deadline of 2
         form = Form([Task('a', 1, 4, 4, priority=2), Task('b', 2, 6, 2, priority=1)], False)
-        cases: tuple[tuple[list[str], int], ...] = (
+        for rows, failed in (
             (['a,1,3,0', 'b,3,-1,2'], 0), (['b,3,-1,2', 'c,9,,0', 'a,1,3,0'], 0), (['a,1,3,0', 'b,2,0,0'], 1), (['a,1,3,0', 'b,4,-2,2'], 1),
             (['a,1,3,0', 'b,3,1,2'], 1), (['a,1,3,0', 'b,3,-1,0'], 1), (['a,1,3,1', 'b,3,-1,2'], 1), (['a,1,3,0', 'b,,,0'], 1), (['a,1,3,0'], 1), ([], 1),
-        )
-        for rows, failed in cases:
+        ):
             self.program.write_text('\n'.join(['#!/bin/sh', 'cat <<END', 'thread,greatest,margin,missed', *rows, 'END', '']))
             self.program.chmod(0o755)
             trial = analyses.Trial(self.program, self.program)
@@ -189,7 +173,7 @@ class Rules(unittest.TestCase):
         frames = 'examples/python/responses.py one.toml'
         self.assertTrue(pages.runs_a_system(frames))
         for has_pandas in (True, False):
-            with mock.patch('checks.pages.pages.has_pandas', lambda: has_pandas):
+            with mock.patch('pages.has_pandas', lambda: has_pandas):
                 self.assertEqual(pages.missing(frames, True), None if has_pandas else 'the package pandas of Python')
                 self.assertEqual([pages.missing(block, False) for block in (frames, './mcscheck one.toml', './mcsim one.toml')], ['mcscheck', 'mcscheck', None])
 
@@ -205,10 +189,10 @@ class Rules(unittest.TestCase):
         answer = common.Ran(0, b'margin 3\nmissed 0 overdue 0 lost 0 never 0 merged 0 allowed 0 hints 0\n', b'')
         for named, failed in (('margin', 0), ('unused', 1)):
             count = common.Count()
-            with tempfile.TemporaryDirectory() as folder, mock.patch('checks.pages.pages.ran', lambda *_: answer), mock.patch('checks.common.checker_of', lambda program: program):
+            with tempfile.TemporaryDirectory() as folder, mock.patch('pages.ran', lambda *_: answer), mock.patch('common.checker_of', lambda program: program):
                 page = pathlib.Path(folder, 'page.md')
                 page.write_text(f'| Question | Command |\n|---|---|\n| what? | `./mcscheck one.toml --show table`: `{named}` |\n')
-                with contextlib.redirect_stdout(io.StringIO()), mock.patch('checks.pages.pages.TOP', page.parent):
+                with contextlib.redirect_stdout(io.StringIO()), mock.patch('pages.TOP', page.parent):
                     pages.try_questions(pathlib.Path('mcsim'), page, count)
             self.assertEqual((count.tally.passed, count.tally.failed), (2 - failed, failed))
 
@@ -270,7 +254,7 @@ class Rules(unittest.TestCase):
         self.assertEqual(waves_found, {'core0.runs': [(-1, '-'), (3, 'A'), (5, '-')]})
         self.assertEqual([waves.value_at(waves_found['core0.runs'], moment) for moment in (0, 3, 4, 9)], ['-', 'A', 'A', '-'])
 
-    def trace_faults(self, *events: dict[str, object]) -> int:
+    def trace_faults(self, *events: dict) -> int:
         named = {'ph': 'M', 'name': 'thread_name', 'pid': 0, 'tid': 1, 'args': {'name': 'A'}}
         return len(traces.faults(json.dumps({'traceEvents': [named, *events]}).encode()))
 

@@ -10,9 +10,12 @@ import unittest
 from collections.abc import Callable
 from unittest import mock
 
-from checks import common
-from checks.common import Ran
-from checks.program import answers, reading, verdicts
+sys.path.insert(0, str(pathlib.Path(__file__).resolve().parent.parent))
+import answers
+import common
+import reading
+import verdicts
+from common import Ran
 
 # A is woken at 1 and has a tick to wait; its next word is set at 3, left as it is at 5, and added to at 6, and A takes it at 8. C stops in the tick in
 # which it runs, so it is never ready or running.
@@ -102,7 +105,7 @@ class Readings(unittest.TestCase):
 
     def test_preemptions_are_those_of_the_round(self) -> None:
         found = reading.Reading(tomllib.loads(TEXT), PREEMPTS, 9)
-        jobs = [job and (job.begun, job.activated, job.preemptions) for job in found.ended.values()]
+        jobs = [(job.begun, job.activated, job.preemptions) for job in found.ended.values()]
         self.assertEqual(jobs, [(2, 1, 2), (7, 6, 0)])
 
     def test_lost_signals_that_are_allowed_are_counted_and_not_told(self) -> None:
@@ -136,8 +139,7 @@ class WrongCheckers(unittest.TestCase):
         """How many tries fail with a checker that is wrong in this way, which is given the words of a run."""
         wanted = reading.Reading(tomllib.loads(TEXT), rows, 9)
 
-        def ran(given: list[common.Word], text: bytes = b'', **_: object) -> Ran:
-            command = [str(word) for word in given]
+        def ran(command: list[common.Word], text: bytes = b'', **_: object) -> Ran:
             if command[0] == 'mcsim':
                 return Ran(0, (rows + reports).encode(), b'')
             allowed = [word.partition('=')[2] for word in command if word.startswith('--allow-lost')]
@@ -150,8 +152,8 @@ class WrongCheckers(unittest.TestCase):
                 return wrong(Ran(2, b'', reading.MIXED.encode()))
             return wrong(verdicts.answer(wanted.wanted(allowed, show, form), '--strict' in command))
 
-        trial = verdicts.Trial(pathlib.Path('mcsim'), pathlib.Path('mcscheck'))
-        with tempfile.TemporaryDirectory() as folder, mock.patch('checks.common.run', ran), mock.patch('tempfile.tempdir', folder):
+        trial = verdicts.Trial('mcsim', 'mcscheck')
+        with tempfile.TemporaryDirectory() as folder, mock.patch('common.run', ran), mock.patch('tempfile.tempdir', folder):
             with contextlib.redirect_stdout(io.StringIO()), mock.patch.object(trial, 'unknown'):
                 trial.agrees(verdicts.System('worked', TEXT, 9), random.Random(1))
         return trial.count.tally.failed
@@ -185,7 +187,7 @@ class WrongCheckers(unittest.TestCase):
                 file.write_text('#!/bin/sh\nexit 1\n')
                 file.chmod(0o755)
             command = [sys.executable, str(pathlib.Path(verdicts.__file__)), '--program', str(pathlib.Path(folder, 'mcsim')), '--systems', '1']
-            last = common.last_tally(common.run(command).stdout.decode())
+            last = common.tally_of(common.run(command).stdout.decode().splitlines()[-1])
         self.assertGreaterEqual(last.failed, len(verdicts.SEEN) - 1)
 
 

@@ -6,31 +6,8 @@ of a job: the same, but for a call that comes after the response."""
 from __future__ import annotations
 
 import fractions
-import math
 from collections.abc import Sequence
 from typing import NamedTuple, Optional
-
-# products that an analysis may add up, which takes a few seconds
-MOST_TERMS = 10**7
-# a sum of floats this far from 1 is on the same side of it as the exact one; an exact term costs so many others
-NEAR = 1e-9
-EXACT = 64
-
-
-class TooLong(Exception):
-    """An analysis that would take more than `MOST_TERMS` terms."""
-
-
-class Effort:
-    """How many terms an analysis may still add up."""
-
-    def __init__(self, left: int = MOST_TERMS) -> None:
-        self.left = left
-
-    def take(self, terms: int) -> None:
-        self.left -= terms
-        if self.left < 0:
-            raise TooLong
 
 
 class Demand(NamedTuple):
@@ -41,14 +18,8 @@ class Demand(NamedTuple):
     period: int
 
 
-def is_too_much(demands: Sequence[Demand], effort: Effort) -> bool:
-    """Whether tasks ask for more than the core has."""
-    effort.take(len(demands))
-    near = math.fsum(one.cost / one.period for one in demands)
-    if abs(near - 1) > NEAR:
-        return near > 1
-    effort.take(EXACT * len(demands))
-    return sum((fractions.Fraction(one.cost, one.period) for one in demands), fractions.Fraction()) > 1
+def utilisation(demands: Sequence[Demand]) -> fractions.Fraction:
+    return sum((fractions.Fraction(one.cost, one.period) for one in demands), fractions.Fraction())
 
 
 def jobs_until(moment: int, period: int) -> int:
@@ -56,36 +27,27 @@ def jobs_until(moment: int, period: int) -> int:
     return -(-moment // period)
 
 
-def settled(end: int, own: int, others: Sequence[Demand], effort: Effort) -> int:
-    """The least moment, from one on, until which own work and the jobs of others that have come are done. It must exist."""
-    while True:
-        effort.take(len(others) + 1)
-        longer = own + sum(jobs_until(end, one.period) * one.cost for one in others)
-        if longer <= end:
-            return end
+def ends_at(own: int, others: Sequence[Demand]) -> int:
+    """When work that is there at 0 is done, under others that all come at 0: the least solution, which must exist."""
+    end = own
+    while (longer := own + sum(jobs_until(end, one.period) * one.cost for one in others)) > end:
         end = longer
+    return end
 
 
-def ends_at(own: int, others: Sequence[Demand], effort: Optional[Effort] = None) -> int:
-    """When work that is there at 0 is done, under others that all come at 0."""
-    return settled(own, own, others, effort or Effort())
-
-
-def bound(own: Demand, greater: Sequence[Demand], effort: Optional[Effort] = None) -> Optional[int]:
+def bound(own: Demand, greater: Sequence[Demand]) -> Optional[int]:
     """The greatest response of a task under others of greater or equal priority; None where they ask for more than the core has."""
-    effort = effort or Effort()
-    if is_too_much([own, *greater], effort):
+    if utilisation([own, *greater]) > 1:
         return None
     worst, job = 0, 0
     while True:
         before = job * own.cost
-        worst = max(worst, ends_at(before + own.work, greater, effort) - job * own.period)
+        worst = max(worst, ends_at(before + own.work, greater) - job * own.period)
         job += 1
-        if ends_at(before + own.cost, greater, effort) <= job * own.period:
+        if ends_at(before + own.cost, greater) <= job * own.period:
             return worst
 
 
-def busy_stretch(demands: Sequence[Demand], effort: Optional[Effort] = None) -> Optional[int]:
+def busy_stretch(demands: Sequence[Demand]) -> Optional[int]:
     """How long a core is busy from the moment at which all tasks come; None where that has no end."""
-    effort = effort or Effort()
-    return None if is_too_much(demands, effort) else settled(sum(one.cost for one in demands), 0, demands, effort)
+    return ends_at(1, demands) if utilisation(demands) <= 1 else None

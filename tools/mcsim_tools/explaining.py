@@ -4,37 +4,49 @@ The program finds the fault (docs/FORMAT.md has the order of its tests) and name
 the file, and the fault a few facts, from the file itself and from docs/mcsim.schema.json."""
 from __future__ import annotations
 
-import codecs
 import difflib
 import json
 import pathlib
 import re
-from collections.abc import Callable, Iterable, Iterator, Sequence
+from collections.abc import Callable, Iterable, Iterator
 from dataclasses import dataclass
 from typing import Any, NamedTuple, Optional
 
-from . import tables
-from .positions import Node, Position, Reader, read
+from .positions import Node, Position, read
+
+try:
+    import tomllib
+except ImportError:
+    tomllib = None
 
 TOOLS = pathlib.Path(__file__).resolve().parent.parent
 # in the repository, and as it is installed
 SCHEMAS = (TOOLS.parent / 'docs' / 'mcsim.schema.json', TOOLS.parents[2] / 'share' / 'mcsim' / 'mcsim.schema.json')
 LINE = re.compile(
-    r'mcsim: (?P<kind>.+?) at (?P<section>file|top|context|note|thread|order|link)'
+    r'mcsim: (?P<kind>.+?) at (?P<section>file|top|context|note|thread|order|link|source|server|chain)'
     r'(?: (?P<row>\d+))?(?: (?P<key>[a-z_]+|\?))?(?: item (?P<item>\d+))?'
 )
 # what a row of each section is called
-ROWS = {'top': 'the top', 'context': 'a context', 'note': 'a notification', 'thread': 'a thread', 'order': 'an order', 'link': 'a link'}
-# keys that are listed in version 2 alone
-OF_VERSION_2 = {('top', 'link'), ('context', 'mode')}
+ROWS = {
+    'top': 'the top', 'context': 'a context', 'note': 'a notification', 'server': 'a server', 'thread': 'a thread', 'source': 'a source',
+    'order': 'an order', 'link': 'a link', 'chain': 'a chain',
+}
+# the first version that lists a key, for keys that version 1 does not list
+SINCE = {
+    ('top', 'link'): 2, ('context', 'mode'): 2, ('top', 'server'): 3, ('top', 'source'): 3, ('top', 'chain'): 3, ('note', 'word'): 3,
+}
 # keys whose values number cores
 CORES = ('core', 'maker', 'home')
-ITEMS = {'compute': 'compute N', 'signal': 'signal NOTE BADGE', 'wait': 'wait NOTE', 'yield': 'yield'}
-NUMBERS = {'compute': 'N is 1 to 2^40', 'signal': 'BADGE is 1 to 4,294,967,295'}
+OLD_ITEMS = {'compute': 'compute N', 'signal': 'signal NOTE BADGE', 'wait': 'wait NOTE', 'yield': 'yield'}
+NEW_ITEMS = {'on': 'on BADGES', 'call': 'call SERVER BADGE', 'spin': 'spin'}
+NUMBERS = {
+    'compute': 'N is 1 to 2^40', 'signal': 'BADGE is 1 to 4,294,967,295', 'on': 'BADGES is 1 to 4,294,967,295',
+    'call': 'BADGE is 1 to 4,294,967,295',
+}
+# what is named by a row of each section
+WHAT = {'note': 'notification'}
 KINDS = {'integer': 'an integer', 'string': 'a text', 'array': 'an array'}
 NEAR = 0.5
-# a word that is longer has no nearest one; names and unknown keys that are told; bytes up to which Python's reader of TOML is asked
-LONGEST_WORD, MOST_NAMED, MOST_UNKNOWN, LONGEST_ASKED = 64, 20, 3, 2**21
 
 
 class Fault(NamedTuple):
@@ -54,22 +66,17 @@ class Fault(NamedTuple):
 def fault_of(line: str) -> Optional[Fault]:
     """The fault that a line of the program tells, or None where it tells another thing."""
     found = LINE.fullmatch(line.strip())
-    return None if found is None else Fault(found['kind'], found['section'], int(found['row'] or 0), found['key'], int(found['item'] or 0))
+    return found and Fault(found['kind'], found['section'], int(found['row'] or 0), found['key'], int(found['item'] or 0))
 
 
 def schema_of_files() -> Optional[dict[str, Any]]:
     """The schema of systems' files, where it is to be had."""
     found = next((path for path in SCHEMAS if path.is_file()), None)
-    if found is None:
-        return None
-    schema: dict[str, Any] = json.loads(found.read_text(encoding='utf-8'))
-    return schema
+    return found and json.loads(found.read_text())
 
 
 def nearest(word: str, known: Iterable[str]) -> Optional[str]:
     """The known word that is most like this one, if any is."""
-    if len(word) > LONGEST_WORD:
-        return None
     words = {other.lower(): other for other in known}
     found = difflib.get_close_matches(word.lower(), words, 1, NEAR)
     return words[found[0]] if found else None
@@ -86,8 +93,7 @@ def amount(number: int) -> str:
 
 
 def named(names: Iterable[str]) -> str:
-    listed = list(names)
-    return ', '.join(listed[:MOST_NAMED]) + (f' and {len(listed) - MOST_NAMED:,} more' if len(listed) > MOST_NAMED else '') or 'none'
+    return ', '.join(names) or 'none'
 
 
 def kind_of(node: Node) -> str:
@@ -116,14 +122,10 @@ class Case:
     """A fault beside the file in which it lies."""
 
     fault: Fault
-    tree: Reader
+    root: Node
     schema: dict[str, Any]
 
-    @property
-    def root(self) -> Node:
-        return self.tree.root
-
-    def rows(self, section: str) -> Sequence[Node]:
+    def rows(self, section: str) -> list[Node]:
         array = self.root.get(section)
         return array.items if array else []
 
@@ -153,8 +155,12 @@ class Case:
         """The keys that a section lists, that of the fault where none is given, with what the schema says of them."""
         section = section or self.fault.section
         listed = self.schema['properties'] if section == 'top' else self.schema['definitions'][section]['properties']
-        is_two = self.setting('version') == 2
-        return {key: part for key, part in listed.items() if is_two or (section, key) not in OF_VERSION_2}
+        version = self.setting('version') or 0
+        return {key: part for key, part in listed.items() if SINCE.get((section, key), 1) <= max(version, 1)}
+
+    def items(self) -> dict[str, str]:
+        """The items of the file's version."""
+        return OLD_ITEMS | NEW_ITEMS if self.setting('version') == 3 else OLD_ITEMS
 
     def unknown_keys(self) -> list[str]:
         return [key for key in self.row.keys if key not in self.properties()] if self.row else []
@@ -162,7 +168,7 @@ class Case:
     def earlier(self, is_same: Callable[[Node], bool]) -> Optional[int]:
         """The line of the first earlier row that has what this one has."""
         found = next(filter(is_same, self.rows(self.fault.section)[: self.fault.row - 1]), None)
-        return None if found is None else self.tree.position(found.at).line
+        return found and found.position.line
 
     def wanted(self, key: str) -> str:
         """What the schema wants at a key: its kind and its range."""
@@ -180,53 +186,55 @@ class Case:
             return f'{kind}, {amount(part["minimum"])} to {amount(part["maximum"])}'
         if key == 'script':
             return f'{kind} of texts, 1 to 1,024 of them'
+        if key == 'at' and part.get('type') == 'array':
+            return f'{kind} of integers, 1 to 1,024 of them'
         if part.get('type') == 'array':
             return f'{kind} of tables, at most {amount(part["maxItems"])}'
         return f'{kind} of 1 to 32 characters of A-Z a-z 0-9 _ -' if 'pattern' in part else kind
 
     def meaning(self, key: str) -> str:
-        return str(self.properties().get(key, {}).get('description', '')).rstrip('.')
+        return self.properties().get(key, {}).get('description', '').rstrip('.')
 
     def told(self, key: str) -> str:
         """What is wanted at a key, and what the key means."""
         return '. '.join(filter(None, [self.wanted(key), self.meaning(key)]))
 
-    def place(self) -> Optional[int]:
-        """Where in the text the fault lies; where that can't be told, where its row or its section begins."""
+    def position(self) -> Optional[Position]:
+        """Where the fault lies; where that can't be told, where its row or its section begins."""
         section = self.root.keys.get(self.fault.section)
         if not self.row:
-            return section.at if section else None
+            return section and section.position
         if self.fault.key == '?':
-            return next((self.row.keys[key].at for key in self.unknown_keys()), self.row.at)
+            return next((self.row.keys[key].position for key in self.unknown_keys()), self.row.position)
         node = self.row.get(self.fault.key) if self.fault.key else None
         if node and 0 < self.fault.item <= len(node.items):
-            return node.items[self.fault.item - 1].at
-        return node.at if node else self.row.at
-
-    def position(self) -> Optional[Position]:
-        """The line and the column of the fault."""
-        place = self.place()
-        return None if place is None else self.tree.position(place)
-
-
-def plain_text(text: bytes) -> str:
-    """The characters of a text, without a mark of the byte order at its head."""
-    return text.removeprefix(codecs.BOM_UTF8).decode(errors='replace')
+            return node.items[self.fault.item - 1].position
+        return node.position if node else self.row.position
 
 
 def not_toml(text: bytes) -> tuple[Optional[Position], list[str]]:
     """Where a text is no TOML, and what Python's reader says of it."""
     try:
-        plain = text.removeprefix(codecs.BOM_UTF8).decode()
+        plain = text.decode()
     except UnicodeDecodeError as error:
-        before = text.removeprefix(codecs.BOM_UTF8)[: error.start].decode()
+        before = text[: error.start].decode()
         return Position(before.count('\n') + 1, len(before.rpartition('\n')[2]) + 1), ['the file is no UTF-8 from here on']
-    tree = read(plain)
-    place, said = tables.refusal(plain) if len(plain) <= LONGEST_ASKED else (None, '')
-    lost, refused = tree.lost, None if place is None else tree.position(place)
+    lost = read(plain).lost
+    refused, said = refusal(plain)
     facts = ['no TOML from here on: a quote, a bracket or a brace may be open, or a comma lacking'] if lost and (refused is None or lost <= refused) else []
-    where = f' at {refused.line}:{refused.column}' if refused else ''
-    return min(filter(None, (lost, refused)), default=None), [*facts, *([f"Python's reader of TOML says{where}: {said}"] if said else [])]
+    return min(filter(None, (lost, refused)), default=None), [*facts, *said]
+
+
+def refusal(text: str) -> tuple[Optional[Position], list[str]]:
+    """Where Python's reader of TOML refuses a text, and what it says."""
+    if tomllib is None:
+        return None, ['Python 3.11 or later has a reader of TOML, which would say more']
+    try:
+        tomllib.loads(text)
+    except tomllib.TOMLDecodeError as error:
+        place = re.search(r'\(at line (\d+), column (\d+)\)$', str(error))
+        return place and Position(int(place[1]), int(place[2])), [f"Python's reader of TOML says: {error}"]
+    return None, []
 
 
 def line_of(text: bytes, said: str) -> Optional[int]:
@@ -234,17 +242,20 @@ def line_of(text: bytes, said: str) -> Optional[int]:
     fault, schema = fault_of(f'mcsim: {said}'), schema_of_files()
     if fault is None or schema is None:
         return None
-    position = not_toml(text)[0] if fault.kind == 'not TOML' else Case(fault, read(plain_text(text)), schema).position()
+    position = not_toml(text)[0] if fault.kind == 'not TOML' else Case(fault, read(text.decode(errors='replace')).root, schema).position()
     return position.line if position else None
 
 
 def unknown_key(case: Case) -> Iterator[str]:
     listed = case.properties()
-    for key in case.unknown_keys()[:MOST_UNKNOWN]:
-        if (case.fault.section, key) in OF_VERSION_2:
-            yield f'{key} is a key of version 2 alone, and this file says version = {case.setting("version")}'
+    for key in case.unknown_keys():
+        since = SINCE.get((case.fault.section, key))
+        if since:
+            versions = 'versions 2 and 3' if since == 2 else 'version 3 alone'
+            yield f'{key} is a key of {versions}, and this file says version = {case.setting("version")}'
             continue
-        others = [what for section, what in ROWS.items() if key in case.properties(section)]
+        sections = {'top', *case.properties('top')}
+        others = [what for section, what in ROWS.items() if section in sections and key in case.properties(section)]
         if others:
             yield f'{key} is no key of {ROWS[case.fault.section]}, but of {" and of ".join(others)}'
             continue
@@ -263,7 +274,10 @@ def missing_key(case: Case) -> Iterator[str]:
 def wrong_kind(case: Case) -> Iterator[str]:
     fault = case.fault
     if fault.item:
-        yield f'an item is a text in quotes: {named(ITEMS.values())}'
+        if fault.key == 'at':
+            yield 'each number of at is an integer'
+        else:
+            yield f'an item is a text in quotes: {named(case.items().values())}'
     elif fault.key:
         node = case.value(fault.key)
         yield f'{fault.key} is {case.wanted(fault.key)}' + (f'; here stands {kind_of(node)}' if node else '')
@@ -273,8 +287,25 @@ def wrong_kind(case: Case) -> Iterator[str]:
         yield f'{fault.section} is an array of tables: [[{fault.section}]] with two brackets, or {fault.section} = [{{ .. }}, ..]'
 
 
+def out_of_at(case: Case, at: Node) -> Iterator[str]:
+    number = case.fault.item
+    if not number:
+        yield 'at has one number or more'
+        return
+    here = at.items[number - 1].text if number <= len(at.items) else ''
+    before = number_of(at.items[number - 2]) if 1 < number <= len(at.items) + 1 else None
+    period = number_of(case.value('period'))
+    yield f'each number of at lies below the period{f", {amount(period)}" if period is not None else ""}; here stands {here}'
+    if before is not None:
+        yield f'and each is above the one before, which is {amount(before)}'
+
+
 def out_of_range(case: Case) -> Iterator[str]:
     key = case.fault.key or ''
+    at = case.value('at')
+    if case.fault.section == 'source' and key == 'at' and at:
+        yield from out_of_at(case, at)
+        return
     node = case.value(key)
     yield f'{key} is {case.wanted(key)}' + (f'; here stands {node.text}' if node and node.text else '')
     if key == 'mode':
@@ -286,12 +317,17 @@ def out_of_range(case: Case) -> Iterator[str]:
 
 
 def too_many(case: Case) -> Iterator[str]:
-    if case.fault.key == 'script':
-        script = case.value('script')
-        yield f'a script has at most 1,024 items; this one has {amount(script.count if script else 0)}'
+    fault = case.fault
+    if fault.key == 'script' and fault.item:
+        yield 'a script has at most 1,024 steps: one for each item, and for a call those of the server for its badge and two more'
+    elif fault.key == 'script':
+        yield f'a script has at most 1,024 items; this one has {amount(len(case.value("script").items))}'
+    elif fault.key == 'at':
+        yield 'a source has at most 1,024 numbers in at, and all sources together 4,096; an absent at counts 1'
+    elif fault.section == 'server':
+        yield f'notifications and servers together are at most 4,096; here are {amount(len(case.rows("note")) + len(case.rows("server")))}'
     else:
-        array = case.root.get(case.fault.section)
-        yield f'there are at most 4,096 rows; here are {amount(array.count if array else 0)}'
+        yield f'there are at most 4,096 rows; here are {amount(len(case.rows(case.fault.section)))}'
 
 
 def bad_name(case: Case) -> Iterator[str]:
@@ -303,34 +339,62 @@ def bad_name(case: Case) -> Iterator[str]:
 
 def double_name(case: Case) -> Iterator[str]:
     name = text_of(case.value('name'))
-    yield f'the name {name} stands first in line {case.earlier(lambda row: text_of(row.get("name")) == name)}'
+    line = case.earlier(lambda row: text_of(row.get('name')) == name)
+    if line is None:
+        note = row_named(case, 'note', name)
+        yield f'a notification has the name {name}{f", in line {note.position.line}" if note else ""}: notifications and servers have one name space'
+        return
+    yield f'the name {name} stands first in line {line}'
 
 
 def unknown_name(case: Case) -> Iterator[str]:
-    if case.fault.key == 'context':
-        section, what, name = 'context', 'context', text_of(case.value('context'))
+    key = case.fault.key or ''
+    words = case.item.split()
+    if key != 'script':
+        section, name = key, text_of(case.value(key))
     else:
-        section, what, name = 'note', 'notification', ''.join(case.item.split()[1:2])
-    names = [text_of(row.get('name')) for row in case.rows(section)]
+        section, name = 'server' if words[:1] == ['call'] else 'note', ''.join(words[1:2])
+    what = WHAT.get(section, section)
+    known = case.rows(section)
+    if section == 'server' and case.fault.section == 'server':
+        what, known = 'earlier server', known[: case.fault.row - 1]
+    names = [text_of(row.get('name')) for row in known]
     yield f'no {what} has the name {name}{meant(name, names)}'
     yield f'names of {what}s: {named(names)}'
 
 
 def unknown_word(case: Case) -> Iterator[str]:
     word = ''.join(case.item.split(' ')[:1])
-    yield f'{word or "nothing"} is no word of an item{meant(word, ITEMS)}'
-    yield f'items: {named(ITEMS.values())}'
+    if word in NEW_ITEMS and word not in case.items():
+        yield f'{word} is a word of version 3 alone, and this file says version = {case.setting("version")}'
+    else:
+        yield f'{word or "nothing"} is no word of an item{meant(word, case.items())}'
+    yield f'items: {named(case.items().values())}'
 
 
 def bad_parts(case: Case) -> Iterator[str]:
     word = (case.item.split() or [''])[0]
-    yield f'the item is {ITEMS.get(word, word)}; here stands {case.item.strip()}'
+    yield f'the item is {case.items().get(word, word)}; here stands {case.item.strip()}'
     if word in NUMBERS:
         yield f'{NUMBERS[word]}, in digits without a sign and without a leading zero'
 
 
 def wait_is_last(case: Case) -> Iterator[str]:
     yield 'the last item of a script is no wait: put the wait first, which waits for each round in its turn, or let an item follow it'
+    if case.setting('version') == 3:
+        yield 'nor does a wait stand directly before an on, but where it is the first item'
+
+
+def on_without_wait(case: Case) -> Iterator[str]:
+    yield 'on begins a handler for a badge of the word that the first item waits for: the first item of the script is to be a wait'
+
+
+def no_wait(case: Case) -> Iterator[str]:
+    thread = text_of(case.value('thread'))
+    if case.fault.key == 'badges':
+        yield f'the badges of a chain are those of the word that begins a round: the first item of {thread} is to be a wait, or badges 0'
+    else:
+        yield f'{thread} never waits, so no interrupt can begin one of its rounds'
 
 
 def of_control(case: Case) -> Iterator[str]:
@@ -363,9 +427,17 @@ def other_core(case: Case) -> Iterator[str]:
     if case.fault.section == 'order':
         yield f'the context {text_of(case.value("context"))} is on core {core}, and the order on core {text_of(case.value("core"))}'
         return
-    note = ''.join(case.item.split()[1:2])
+    words = case.item.split()
+    note = ''.join(words[1:2])
+    if case.fault.section == 'server':
+        core = text_of(case.value('core'))
+    runs = f'the {case.fault.section} runs on core {core}'
+    if words[:1] == ['call']:
+        server = row_named(case, 'server', note)
+        yield f'{note} is on core {text_of(server.get("core") if server else None)}, and {runs}: a server is called on its own core alone'
+        return
     home = row_named(case, 'note', note)
-    yield f'{note} is at home on core {text_of(home.get("core") if home else None)}, and the thread runs on core {core}: a thread waits at home alone'
+    yield f'{note} is at home on core {text_of(home.get("core") if home else None)}, and {runs}: a {case.fault.section} waits at home alone'
     yield 'put the notification on the core of the thread that waits; threads of any core may signal it'
 
 
@@ -395,7 +467,7 @@ FACTS: dict[str, Callable[[Case], Iterator[str]]] = {
     'unknown key': unknown_key, 'missing key': missing_key, 'wrong kind': wrong_kind, 'out of range': out_of_range, 'too many': too_many,
     'bad name': bad_name, 'double name': double_name, 'unknown name': unknown_name, 'wait is last': wait_is_last, 'control': of_control,
     'context taken': context_taken, 'other core': other_core, 'kind change': kind_change, 'self link': self_link, 'double link': double_link,
-    'mode of slice': mode_of_slice, 'bad item: unknown word': unknown_word, 'bad item': bad_parts,
+    'mode of slice': mode_of_slice, 'on without wait': on_without_wait, 'no wait': no_wait, 'bad item: unknown word': unknown_word, 'bad item': bad_parts,
 }
 
 

@@ -54,7 +54,7 @@ def items(drawn: Mapping[str, int], column_width: Optional[int]) -> list[Item]:
         (drawn.get('up'), Item('activation of a round', sign('up', 'ink'))),
         (drawn.get('down'), Item('its deadline' + (' (if met, not shown in crowded lanes)' if drawn.get('left out') else ''), sign('down', 'ink'))),
         (drawn.get('resp'), Item('response: from the activation to the end of the round', both(box('resp', 1.4), at_end('end', 'ink')))),
-        (drawn.get('queued'), Item('activated, and not begun', box('queued', 1.4))),
+        (drawn.get('queued'), Item('activated, and the round before not ended', box('queued', 1.4))),
         (drawn.get('late') and is_single, Item('deadline missed, or overdue', both(box('late', 4), at_end('endlate', 'bad')))),
         (drawn.get('late') and not is_single, Item('below a lane: rounds missed; above it: signals lost', box('late', 4))),
         (drawn.get('join'), Item('signal, joined to where it takes effect', both(line, dot))),

@@ -1,12 +1,11 @@
 """live SYSTEM [--horizon N] [--port N]
 
 Shows the picture of a system, its table and its findings on a page, and draws them anew each time the file is saved. A fault of the file is told
-with its line, where that is known, beside the last good picture. A file that is not read within 5 s, and a run with its picture that takes longer than
---limit, are given up, and the page says so; the next save is looked at again.
+with its line, where that is known, beside the last good picture.
 
 The page is at http://127.0.0.1:PORT, a port that is free unless one is asked for, and for this machine alone. What is served is this one page: no
-path and no command is taken from the network, requests that name another host or come from another origin are answered 403, a few are held at a
-time, and none longer than 5 s. Ctrl-C ends it."""
+path and no command is taken from the network, requests that name another host or come from another origin are answered 403, and a few are held at a
+time. Ctrl-C ends it."""
 from __future__ import annotations
 
 import argparse
@@ -15,22 +14,21 @@ import http.server
 import json
 import socket
 import socketserver
+import sys
 import threading
-from collections.abc import Iterator
 from http import HTTPStatus
-from typing import Any, NamedTuple, Optional
+from typing import NamedTuple, Optional
 
-from . import frame, looking, options, view
+from . import source, view
 from .faults import Fault, why
-from .looking import Looker, Mark
 from .page import fault_page
 from .source import Words
 
 HOST = '127.0.0.1'
-# requests that are held at a time, and the seconds that one may take, whatever it does
+# requests that are held at a time, and the seconds that one may take to say what it wants
 HELD, SECONDS = 8, 5
-# seconds that a run and its picture may take, unless --limit says it
-LIMIT = 60
+# how often the file is looked at, in seconds
+LOOK = 0.2
 POLICY = "default-src 'none'; style-src 'unsafe-inline'; script-src 'unsafe-inline'; connect-src 'self'; frame-ancestors 'none'; base-uri 'none'; form-action 'none'"
 
 
@@ -50,34 +48,44 @@ class Watch:
 
     def __init__(self, words: argparse.Namespace) -> None:
         self.words = words
-        self.looker = Looker(words, view.window_of(words, False), words.limit)
+        self.window = view.window_of(words, False)
         self.state = State(0, b'', None)
-        # the file as it was at the last look that read it
-        self.seen: Mark = None
+        self.seen: object = None
         self.ends = threading.Event()
 
+    def mark(self) -> object:
+        """What is another one after each save; an editor may take the file away for a moment."""
+        try:
+            found = self.words.system.stat()
+        except OSError as error:
+            return error.errno
+        return found.st_mtime_ns, found.st_size, found.st_ino
+
     def look(self) -> None:
-        """Draws the file if it is another one than at the last look; where it has a fault the last good picture stays, with the fault beside it."""
-        mark = looking.mark_of(self.words.system)
-        if mark == self.seen:
-            return
-        drawn = self.looker.look(self.state.picture + 1)
-        if drawn is None:
-            return
-        self.seen = None if drawn.is_unread else mark
-        if drawn.fault is None:
-            self.state = State(self.state.picture + 1, drawn.page, None)
+        mark = self.mark()
+        if mark != self.seen:
+            self.seen = mark
+            self.draw()
+
+    def draw(self) -> None:
+        """Draws the file; where it has a fault the last good picture stays, and the fault is told beside it."""
+        number = self.state.picture + 1
+        try:
+            with source.told(self.words, self.window.horizon) as told:
+                text = page_of(told, self.words, self.window, number)
+        except Fault as fault:
+            is_first = self.state.picture == 0
+            self.state = State(self.state.picture, fault_page(str(fault)).encode() if is_first else self.state.page, str(fault))
         else:
-            page = self.state.page if self.state.picture else fault_page(drawn.fault).encode()
-            self.state = State(self.state.picture, page, drawn.fault)
+            self.state = State(number, text.encode(), None)
 
     def follow(self) -> None:
-        while not self.ends.wait(looking.LOOK):
+        while not self.ends.wait(LOOK):
             self.look()
 
-    def end(self) -> None:
-        self.ends.set()
-        self.looker.give_up()
+
+def page_of(told: source.Told, words: argparse.Namespace, window: view.Window, number: int) -> str:
+    return view.draw(told, words, window, True, live=number)
 
 
 class Handler(http.server.BaseHTTPRequestHandler):
@@ -90,8 +98,8 @@ class Handler(http.server.BaseHTTPRequestHandler):
     def is_own(self) -> bool:
         """Whether the request names this host, and comes from the page itself or from no page."""
         own = {f'{name}:{self.server.server_port}' for name in (HOST, 'localhost')}
-        hosts, origins = (self.headers.get_all(name) or [] for name in ('Host', 'Origin'))
-        return hosts in [[name] for name in own] and all(origin in {f'http://{name}' for name in own} for origin in origins)
+        origins = self.headers.get_all('Origin', [])
+        return self.headers.get_all('Host', []) in [[name] for name in own] and all(origin in {f'http://{name}' for name in own} for origin in origins)
 
     def parse_request(self) -> bool:
         """A request of whatever kind that is not the page's own goes no further."""
@@ -127,23 +135,6 @@ class Handler(http.server.BaseHTTPRequestHandler):
         """Says nothing of requests."""
 
 
-@contextlib.contextmanager
-def ended_after(request: socket.socket, seconds: float) -> Iterator[None]:
-    """Ends a connection that is not done in time: what waits for its bytes, or for room for an answer, then gets an error."""
-    timer = threading.Timer(seconds, shut, [request])
-    timer.daemon = True
-    timer.start()
-    try:
-        yield
-    finally:
-        timer.cancel()
-
-
-def shut(request: socket.socket) -> None:
-    with contextlib.suppress(OSError):
-        request.shutdown(socket.SHUT_RDWR)
-
-
 class Server(socketserver.ThreadingMixIn, http.server.HTTPServer):
     """A server of this machine alone, which holds a few requests and closes what is more."""
 
@@ -156,7 +147,7 @@ class Server(socketserver.ThreadingMixIn, http.server.HTTPServer):
         self.free = threading.BoundedSemaphore(HELD)
         super().__init__((HOST, port), Handler)
 
-    def process_request(self, request: Any, address: Any) -> None:
+    def process_request(self, request: socket.socket, address: tuple[str, int]) -> None:
         if not self.free.acquire(blocking=False):
             self.shutdown_request(request)
             return
@@ -166,10 +157,9 @@ class Server(socketserver.ThreadingMixIn, http.server.HTTPServer):
             self.free.release()
             raise
 
-    def process_request_thread(self, request: Any, address: Any) -> None:
+    def process_request_thread(self, request: socket.socket, address: tuple[str, int]) -> None:
         try:
-            with ended_after(request, SECONDS):
-                super().process_request_thread(request, address)
+            super().process_request_thread(request, address)
         finally:
             self.free.release()
 
@@ -177,33 +167,32 @@ class Server(socketserver.ThreadingMixIn, http.server.HTTPServer):
         """A request that breaks off is no matter."""
 
 
+def port(text: str) -> int:
+    if not text.isascii() or not text.isdigit() or int(text) > 65535:
+        raise argparse.ArgumentTypeError(f'{text!r} is no port')
+    return int(text)
+
+
 def main() -> None:
     words = Words(__doc__)
     view.add_looks(words)
-    port, limit = options.number('no port', 0, 65535), options.number('no number of seconds, of 1 to 86400', 1, 86400)
     words.add_argument('--port', type=port, default=0, metavar='N', help='the port of the page (default: one that is free)')
-    words.add_argument('--limit', type=limit, default=LIMIT, metavar='N', help='seconds that a run and its picture may take (default: %(default)s)')
-    asked = words.asked()
+    asked = words.parse_args()
     watch = Watch(asked)
+    watch.look()
+    if watch.state.fault and not asked.system.is_file():
+        raise Fault(watch.state.fault)
     try:
-        watch.look()
-        if watch.state.fault and not asked.system.is_file():
-            raise Fault(watch.state.fault)
-        serve(watch, asked.port)
-    finally:
-        watch.end()
-
-
-def serve(watch: Watch, port: int) -> None:
-    """Serves the page until it is interrupted."""
-    try:
-        server = Server(port, watch)
+        server = Server(asked.port, watch)
     except OSError as error:
-        raise why(f'{HOST}:{port}', error) from None
+        raise why(f'{HOST}:{asked.port}', error) from None
     threading.Thread(target=watch.follow, daemon=True).start()
-    # whoever has read the address may interrupt it at once
-    with server, contextlib.suppress(KeyboardInterrupt):
-        print(f'http://{HOST}:{server.server_port}', flush=True)
-        if watch.state.fault:
-            frame.say(watch.state.fault)
-        server.serve_forever()
+    try:
+        # whoever has read the address may interrupt it at once
+        with server, contextlib.suppress(KeyboardInterrupt):
+            print(f'http://{HOST}:{server.server_port}', flush=True)
+            if watch.state.fault:
+                print(watch.state.fault, file=sys.stderr, flush=True)
+            server.serve_forever()
+    finally:
+        watch.ends.set()

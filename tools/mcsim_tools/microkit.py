@@ -19,16 +19,18 @@ budget or a period of the description that is no whole number of ticks is refuse
 named on standard error: put the work of a called function into the `compute` of its callers."""
 from __future__ import annotations
 
+import argparse
 import pathlib
+import sys
+import tomllib
 import xml.parsers.expat
 from collections.abc import Iterator, Mapping
 from dataclasses import dataclass, field
 from typing import Any, Optional
 
-from . import digits, frame, named, options, output, system, writing
-from .faults import Fault
-from .options import Options
-from .printable import printable
+from . import named, output, system, writing
+from .faults import Fault, first_line
+from .source import BareWords
 
 Tables = Mapping[str, Any]
 
@@ -289,7 +291,7 @@ class Work:
 
     def __init__(self, path: Optional[pathlib.Path], board: Board, tick: int) -> None:
         self.path, self.board, self.tick = path, board, tick
-        tables: Tables = system.tables_of(path, system.read_bytes(path)) if path else {}
+        tables = self.parsed(path) if path else {}
         self.keys(tables, '', ('call', 'delay', 'domain'))
         self.call = self.up(self.number(tables, '', 'call', 0))
         self.delay = self.up(self.number(tables, '', 'delay', 0))
@@ -304,6 +306,14 @@ class Work:
             if not isinstance(told, dict):
                 raise self.fault(f'domain.{name}', 'is no table')
             self.keys(told, f'domain.{name}', ('script', 'deadline', 'irq'))
+
+    def parsed(self, path: pathlib.Path) -> Tables:
+        try:
+            return tomllib.loads(system.read_bytes(path).decode())
+        except UnicodeDecodeError:
+            raise Fault(f'{path}: not UTF-8') from None
+        except tomllib.TOMLDecodeError as error:
+            raise Fault(f'{path}: not TOML: {first_line(error)}') from None
 
     def fault(self, where: str, text: str) -> Fault:
         return Fault(f'{self.path}: {where}{": " if where else ""}{text}')
@@ -340,8 +350,8 @@ class Work:
 
     def item(self, domain: Domain, item: str, where: str) -> str:
         words = item.split()
-        number = digits.number(words[1]) if len(words) == 2 and words[0] in ('compute', 'notify') else None
-        if number is not None:
+        if len(words) == 2 and words[0] in ('compute', 'notify') and words[1].isascii() and words[1].isdigit():
+            number = int(words[1])
             if words[0] == 'notify':
                 return self.signal(domain, number, where)
             if 1 <= number <= LONGEST:
@@ -470,20 +480,24 @@ class Written:
         self.comments.setdefault((section, len(rows)), []).append(text)
 
 
-tick_length = options.number('no length of a tick, of 1 to 1000000 microseconds', 1, 10**6)
+def tick_length(text: str) -> int:
+    if not text.isascii() or not text.isdigit() or not 1 <= int(text) <= 10**6:
+        raise argparse.ArgumentTypeError(f'{text!r} is no length of a tick, of 1 to 1000000 microseconds')
+    return int(text)
 
 
 def main() -> None:
-    words = Options(__doc__)
-    words.reads('board', metavar='BOARD', help='the system description of Microkit')
-    words.reads('--work', metavar='FILE', help='what each domain does')
+    words = BareWords(__doc__)
+    words.add_argument('board', type=pathlib.Path, metavar='BOARD', help='the system description of Microkit')
+    words.add_argument('--work', type=pathlib.Path, metavar='FILE', help='what each domain does')
     words.add_argument('--tick-us', type=tick_length, default=1, metavar='N', help='a tick is N microseconds (default: %(default)s)')
-    words.writes('-o', '--output', metavar='FILE', help='where the system goes (default: standard output)')
-    asked = words.asked()
+    words.add_argument('-o', '--output', type=pathlib.Path, metavar='FILE', help='where the system goes (default: standard output)')
+    asked = words.parse_args()
     board = Board(Description(asked.board), asked.tick_us)
     written = Written(board, Work(asked.work, board, asked.tick_us))
-    head = [f'The Microkit board {printable(asked.board.name)}. 1 tick = {asked.tick_us} us.']
+    head = [f'The Microkit board {asked.board.name}. 1 tick = {asked.tick_us} us.']
     text = writing.system_text(written.tables(), head, written.comments)
-    output.write(asked.output, text)
+    with output.written(asked.output) as file:
+        file.write(text)
     for line in board.description.left_out:
-        frame.say(line)
+        print(f'microkit: {line}', file=sys.stderr)

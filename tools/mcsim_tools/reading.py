@@ -148,7 +148,7 @@ class Account:
     def see_standing(self, moment: int, standing: int) -> None:
         """A round that begins with no wait is activated once its thread is ready or runs, for longer than no time."""
         if standing in (READY, RUNNING):
-            if self.activated is None and self.begun is not None:
+            if self.activated is None:
                 self.begin(self.begun, moment)
         elif self.activated == moment:
             self.activated = None
@@ -333,9 +333,7 @@ class Reading:
         activated, note, was_activated = account.activated, account.activated_by, account.was_activated
         if account.begun is None and note and self.words[note] and account.standing != DONE:
             activated, was_activated = self.first_set[note], True
-        # no tick follows the horizon, in which the thread could be ready or run
-        is_too_late = note is None and activated == self.end
-        if activated is not None and was_activated and not is_too_late:
+        if activated is not None and was_activated:
             begun = self.end if account.begun is None else account.begun
             self.listener.round_open(Round(account.thread, 0, activated, begun, self.end))
         elif account.thread.deadline and not was_activated:

@@ -25,22 +25,23 @@ def plain(number: decimal.Decimal) -> str:
     return text.rstrip('0').rstrip('.') if '.' in text else text
 
 
-def unit(last: decimal.Decimal) -> tuple[decimal.Decimal, str]:
-    """How many microseconds the unit of a picture has that ends so many microseconds after its begin, and its name."""
-    return next((many, name) for least_above, many, name in UNITS if least_above is None or last < least_above)
-
-
 @dataclass(frozen=True)
 class Clock:
     """How moments are written: as numbers of ticks, or in real units where a tick's microseconds are given."""
 
     tick_us: Optional[decimal.Decimal] = None
 
+    def unit(self, last: int) -> tuple[decimal.Decimal, str]:
+        """How many microseconds the unit of a picture has, whose last moment this is, and its name."""
+        for least_above, many, name in UNITS:
+            if least_above is None or last * self.tick_us < least_above:
+                return many, name
+        raise AssertionError
+
     def text(self, moment: int, last: int) -> str:
-        """A moment, in the unit of a picture whose last moment is this."""
         if self.tick_us is None:
             return f'{moment:,}'
-        many, name = unit(last * self.tick_us)
+        many, name = self.unit(last)
         return f'{plain(moment * self.tick_us / many)} {name}'
 
 

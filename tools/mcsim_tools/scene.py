@@ -3,7 +3,7 @@ from __future__ import annotations
 
 import collections
 from collections.abc import Collection, Iterable
-from typing import Any, NamedTuple, Optional, Union
+from typing import NamedTuple, Optional, Union
 
 from .reading import DONE, LOST, PENDING, STANDINGS, Holding, Post, Reading, Round, Stood, UnderWay
 from .system import Context, System, Thread
@@ -54,14 +54,8 @@ class Scene:
         self.sent: list[Sent] = []
         self.orders: list[Ordered] = []
         self.held: list[Held] = []
-        self.lists: dict[type[Thing], list[Any]] = {Stood: self.stood, Round: self.rounds, Post: self.posts, Sent: self.sent, Ordered: self.orders, Held: self.held}
+        self.lists: dict[type, list] = {Stood: self.stood, Round: self.rounds, Post: self.posts, Sent: self.sent, Ordered: self.orders, Held: self.held}
         self.count = 0
-
-    @property
-    def last(self) -> int:
-        """The end, once the schedule has told it."""
-        assert self.end is not None
-        return self.end
 
     def is_within(self, begin: int, end: int) -> bool:
         return end >= self.begin and (self.end is None or begin <= self.end)
@@ -142,7 +136,7 @@ class CloseUps:
         if not scene.is_within(begin, end):
             return
         scene.add(thing)
-        if scene.count == CLOSE and end < scene.last:
+        if scene.count == CLOSE and end < scene.end:
             scene.end = max(end, scene.begin + 1)
 
     def around(self, finding: Finding) -> None:
@@ -156,7 +150,7 @@ class CloseUps:
         self.scenes.append((finding, scene))
         for one, two, thing in self.recent:
             self.add(scene, one, two, thing)
-        self.latest = max(self.latest, scene.last)
+        self.latest = max(self.latest, scene.end)
         if len(self.scenes) == CLOSE_UPS:
             self.is_listening = False
             self.recent.clear()
@@ -164,12 +158,12 @@ class CloseUps:
     def of(self, finding: Finding) -> Optional[int]:
         """The number of the close-up of a finding, or of the narrowest in which it is seen."""
         own = (place for place, (other, _) in enumerate(self.scenes) if other == finding)
-        inside = [(scene.last - scene.begin, place) for place, (_, scene) in enumerate(self.scenes) if scene.begin <= finding.end <= scene.last]
+        inside = [(scene.end - scene.begin, place) for place, (_, scene) in enumerate(self.scenes) if scene.begin <= finding.end <= scene.end]
         return next(own, min(inside)[1] if inside else None)
 
     def close(self, horizon: int) -> None:
         for _, scene in self.scenes:
-            scene.end = min(scene.last, horizon)
+            scene.end = min(scene.end, horizon)
 
 
 class Shown(Tally):

@@ -2,11 +2,10 @@
 from __future__ import annotations
 
 import re
-from collections.abc import Sequence
-from dataclasses import dataclass
+from collections.abc import Callable
 from typing import Any, Union
 
-from . import digits, named
+from . import named
 from .faults import Fault
 
 Tables = dict[str, Any]
@@ -20,101 +19,84 @@ KEYS = {
     'order': ('at', 'core', 'budget', 'period', 'extra_refills'),
     'link': ('delay',),
 }
-SCRIPT = 'script'
-RANGE = re.compile(r'[0-9]+:[0-9]+(?::[0-9]+)?')
+RANGE = re.compile(r'([0-9]+):([0-9]+)(?::([0-9]+))?')
+NUMBER = re.compile(r'[0-9]+')
 
 
-@dataclass(frozen=True)
 class Place:
-    """A place of a system's tables, such as `context.control.budget`: a section, and in it a row by its number, a key of the row and an item of a script."""
+    """A place of a system's tables, such as `context.control.budget`; a Fault where there is none."""
 
-    text: str
-    section: str
-    row: int = 0
-    key: str = ''
-    item: int = 0
+    def __init__(self, text: str, tables: Tables) -> None:
+        self.text = text
+        self.put: Callable[[Tables, Value], None] = self.found(tables)
 
-    def put(self, edited: Tables, value: Value) -> None:
-        """Sets the place in other tables of the same form."""
-        if not self.key:
-            edited[self.section] = value
-            return
-        row = edited[self.section][self.row]
-        if self.key == SCRIPT:
-            words = row[SCRIPT][self.item].split()
-            row[SCRIPT][self.item] = ' '.join([*words[:-1], str(value)])
+    def fault(self, why: str) -> Fault:
+        return Fault(f'{self.text}: {why}')
+
+    def found(self, tables: Tables) -> Callable[[Tables, Value], None]:
+        section, *rest = self.text.split('.')
+        if section in TOP and not rest:
+            return lambda edited, value: edited.__setitem__(section, value)
+        if section not in KEYS:
+            raise self.fault(f'{section!r} is none of {", ".join((*KEYS, *TOP))}')
+        if len(rest) < 2:
+            raise self.fault(f'a place is {section}.NAME.KEY')
+        row, key = self.row(section, rest[0], tables), rest[1]
+        if key not in KEYS[section]:
+            raise self.fault(f'the key {key!r} of a {section} is none of {", ".join(KEYS[section])}')
+        if key == 'script':
+            return self.item(row, rest[2:], tables)
+        if len(rest) > 2:
+            raise self.fault(f'nothing stands behind {section}.{rest[0]}.{key}')
+        return lambda edited, value: edited[section][row].__setitem__(key, value)
+
+    def row(self, section: str, name: str, tables: Tables) -> int:
+        rows = tables.get(section, [])
+        if section == 'order':
+            names = [str(place) for place in range(1, len(rows) + 1)]
+        elif section == 'link':
+            names = [f'{row["maker"]}-{row["home"]}' for row in rows]
         else:
-            row[self.key] = value
+            names = [row['name'] for row in rows]
+        if name not in names:
+            raise self.fault(f'there is no {section} {name!r}: {named.known(name, names)}')
+        return names.index(name)
+
+    def item(self, row: int, rest: list[str], tables: Tables) -> Callable[[Tables, Value], None]:
+        script = tables['thread'][row]['script']
+        if len(rest) != 1 or not NUMBER.fullmatch(rest[0]) or not 1 <= int(rest[0]) <= len(script):
+            raise self.fault(f'behind script stands the number of an item, 1 to {len(script)}')
+        place = int(rest[0]) - 1
+        words = script[place].split()
+        if words[0] not in ('compute', 'signal'):
+            raise self.fault(f'the item {script[place]!r} has no number')
+        return lambda edited, value: edited['thread'][row]['script'].__setitem__(place, ' '.join([*words[:-1], str(value)]))
 
     @property
     def takes_words(self) -> bool:
-        return self.key == 'mode'
+        return self.text.endswith('.mode')
 
 
-def place_of(text: str, tables: Tables) -> Place:
-    """The place that a text names; a Fault where there is none."""
-    section, *rest = text.split('.')
-    if section in TOP and not rest:
-        return Place(text, section)
-    if section not in KEYS:
-        raise Fault(f'{text}: {section!r} is none of {", ".join((*KEYS, *TOP))}')
-    if len(rest) < 2:
-        raise Fault(f'{text}: a place is {section}.NAME.KEY')
-    row, key = row_of(text, section, rest[0], tables), rest[1]
-    if key not in KEYS[section]:
-        raise Fault(f'{text}: the key {key!r} of a {section} is none of {", ".join(KEYS[section])}')
-    if key == SCRIPT:
-        return Place(text, section, row, key, item_of(text, rest[2:], tables['thread'][row][SCRIPT]))
-    if len(rest) > 2:
-        raise Fault(f'{text}: nothing stands behind {section}.{rest[0]}.{key}')
-    return Place(text, section, row, key)
-
-
-def row_of(text: str, section: str, name: str, tables: Tables) -> int:
-    rows = tables.get(section, [])
-    if section == 'order':
-        names = [str(place) for place in range(1, len(rows) + 1)]
-    elif section == 'link':
-        names = [f'{row["maker"]}-{row["home"]}' for row in rows]
-    else:
-        names = [row['name'] for row in rows]
-    if name not in names:
-        raise Fault(f'{text}: there is no {section} {name!r}: {named.known(name, names)}')
-    return names.index(name)
-
-
-def item_of(text: str, rest: list[str], script: list[str]) -> int:
-    """The item of a script whose number is set."""
-    number = digits.number(rest[0], 1, len(script)) if len(rest) == 1 else None
-    if number is None:
-        raise Fault(f'{text}: behind script stands the number of an item, 1 to {len(script)}')
-    if script[number - 1].split()[0] not in ('compute', 'signal'):
-        raise Fault(f'{text}: the item {script[number - 1]!r} has no number')
-    return number - 1
-
-
-def values_of(place: Place, text: str) -> Sequence[Value]:
+def values_of(place: Place, text: str) -> list[Value]:
     """A:B:STEP with B in it, A:B, or a list with commas."""
-    wanted = Fault(f'{place.text}={text}: values are A:B, A:B:STEP with A at most B, or a list with commas, of numbers up to 2^63-1')
-    if RANGE.fullmatch(text):
-        numbers = [digits.number(part) for part in text.split(':')]
-        begin, end, step = numbers if len(numbers) == 3 else (*numbers, 1)
-        if begin is None or end is None or not step or begin > end:
+    wanted = Fault(f'{place.text}={text}: values are A:B, A:B:STEP with A at most B, or a list with commas')
+    if found := RANGE.fullmatch(text):
+        begin, end, step = int(found[1]), int(found[2]), int(found[3] or 1)
+        if begin > end or step == 0:
             raise wanted
-        return range(begin, end + 1, step)
+        return list(range(begin, end + 1, step))
     words = text.split(',')
     if place.takes_words:
-        return words
-    listed = [number for number in map(digits.number, words) if number is not None]
-    if len(listed) < len(words):
+        return list(words)
+    if not all(NUMBER.fullmatch(word) for word in words):
         raise wanted
-    return listed
+    return [int(word) for word in words]
 
 
-def setting(text: str, tables: Tables) -> tuple[Place, Sequence[Value]]:
+def setting(text: str, tables: Tables) -> tuple[Place, list[Value]]:
     """A place with its values, as `PLACE=VALUES`."""
     place, is_there, values = text.partition('=')
     if not is_there or not values:
         raise Fault(f'{text}: a setting is PLACE=VALUES')
-    found = place_of(place, tables)
+    found = Place(place, tables)
     return found, values_of(found, values)

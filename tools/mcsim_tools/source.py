@@ -13,17 +13,15 @@ import sys
 import threading
 from collections.abc import Iterator, Sequence
 from dataclasses import dataclass
-from typing import IO, Optional
+from typing import Optional
 
-from . import explaining, options, system
+from . import explaining, system, version
 from .faults import Fault, first_line, why
-from .options import STANDARD_INPUT, Options
 from .system import System
 
 HORIZON = 1000
 LONGEST_HORIZON = 2**40
-
-moment = options.number('no moment of 0 to 2^40', 0, LONGEST_HORIZON)
+STANDARD_INPUT = '-'
 
 
 def default_program() -> str:
@@ -32,17 +30,35 @@ def default_program() -> str:
     return os.environ.get('MCSIM') or (str(beside) if beside.is_file() else shutil.which('mcsim') or 'mcsim')
 
 
-class Words(Options):
-    """The options of a tool that shows a schedule."""
+def moment(text: str) -> int:
+    """A moment among the words of a tool."""
+    if not text.isascii() or not text.isdigit() or int(text) > LONGEST_HORIZON:
+        raise argparse.ArgumentTypeError(f'{text!r} is no moment of 0 to 2^40')
+    return int(text)
+
+
+class BareWords(argparse.ArgumentParser):
+    """The words of a tool; what is wrong with them is one line."""
+
+    def __init__(self, doc: Optional[str]) -> None:
+        super().__init__(prog=pathlib.Path(sys.argv[0]).stem, description=doc, formatter_class=argparse.RawDescriptionHelpFormatter)
+        version.add_to(self)
+
+    def error(self, message: str) -> None:
+        raise Fault(message)
+
+
+class Words(BareWords):
+    """The words of a tool that shows a schedule."""
 
     def __init__(self, doc: Optional[str]) -> None:
         super().__init__(doc)
-        self.reads('system', metavar='SYSTEM', help='the file of the system')
+        self.add_argument('system', type=pathlib.Path, metavar='SYSTEM', help='the file of the system')
         self.add_argument('--horizon', type=moment, metavar='N', help=f'the last moment of the run (default: {HORIZON}; of rows: that of the last one)')
         self.add_argument('--program', default=default_program(), metavar='PATH', help='the program to run (default: %(default)s)')
 
     def takes_rows(self) -> Words:
-        self.reads('--rows', metavar='FILE', help='reads the schedule of SYSTEM from FILE, - for standard input, and runs nothing')
+        self.add_argument('--rows', metavar='FILE', help='reads the schedule of SYSTEM from FILE, - for standard input, and runs nothing')
         return self
 
 
@@ -55,40 +71,28 @@ class Told:
     horizon: Optional[int]
 
 
-def pipe_of(pipe: Optional[IO[bytes]]) -> IO[bytes]:
-    """A pipe that was asked for."""
-    assert pipe is not None
-    return pipe
-
-
-def text_lines(file: IO[bytes]) -> Iterator[str]:
-    """The lines of a file, of whatever bytes."""
-    with io.TextIOWrapper(file, encoding='utf-8', errors='replace', newline='\n') as text:
-        yield from text
-
-
 class Run:
     """A run of the program over the bytes of a file, so that both read the same."""
 
     def __init__(self, program: str, path: pathlib.Path, text: bytes, words: Sequence[str]) -> None:
         self.path, self.text = path, text
+        how = {'stdin': subprocess.PIPE, 'stdout': subprocess.PIPE, 'stderr': subprocess.PIPE}
         try:
-            self.child = subprocess.Popen([program, *words], stdin=subprocess.PIPE, stdout=subprocess.PIPE, stderr=subprocess.PIPE)
+            self.child = subprocess.Popen([program, *words], **how)
         except OSError as error:
             raise why(program, error) from None
-        self.input, self.output, self.errors = (pipe_of(pipe) for pipe in (self.child.stdin, self.child.stdout, self.child.stderr))
         self.feeder = threading.Thread(target=self.feed, daemon=True)
         self.feeder.start()
 
     def feed(self) -> None:
         with contextlib.suppress(OSError):
-            self.input.write(self.text)
+            self.child.stdin.write(self.text)
         with contextlib.suppress(OSError):
-            self.input.close()
+            self.child.stdin.close()
 
     def lines(self) -> Iterator[str]:
-        yield from text_lines(self.output)
-        said = first_line(self.errors.read().decode(errors='replace'))
+        yield from io.TextIOWrapper(self.child.stdout, encoding='utf-8', errors='replace', newline='\n')
+        said = first_line(self.child.stderr.read().decode(errors='replace'))
         if status := self.child.wait():
             raise self.fault(said, status)
 
@@ -105,13 +109,14 @@ class Run:
             self.child.kill()
         self.child.wait()
         self.feeder.join()
-        self.output.close()
-        self.errors.close()
+        self.child.stdout.close()
+        self.child.stderr.close()
 
 
 @contextlib.contextmanager
-def run(program: str, path: pathlib.Path, text: bytes, horizon: int) -> Iterator[Told]:
-    """A run to a horizon. The program tests the file's text before the tool reads it, since its fault has a place."""
+def run(program: str, path: pathlib.Path, horizon: int) -> Iterator[Told]:
+    """A run to a horizon. The program tests the file before the tool reads it, since its fault has a place."""
+    text = system.read_bytes(path)
     running = Run(program, path, text, ['--horizon', str(horizon)])
     try:
         lines = running.lines()
@@ -121,38 +126,21 @@ def run(program: str, path: pathlib.Path, text: bytes, horizon: int) -> Iterator
         running.end()
 
 
-def check(program: str, path: pathlib.Path, text: bytes) -> None:
-    """Raises the fault that the program finds in a file."""
-    running = Run(program, path, text, ['--horizon', '0', '--show', 'reports'])
-    try:
-        for _ in running.lines():
-            pass
-    finally:
-        running.end()
-
-
-def lines_of(path: pathlib.Path, file: IO[bytes]) -> Iterator[str]:
-    """The lines of a file of rows."""
-    try:
-        yield from text_lines(file)
-    except OSError as error:
-        raise why(path, error) from None
-
-
 @contextlib.contextmanager
-def rows_of_file(path: pathlib.Path, rows: pathlib.Path, horizon: Optional[int]) -> Iterator[Told]:
+def rows_of_file(path: pathlib.Path, name: str, horizon: Optional[int]) -> Iterator[Told]:
     known = system.parse(path, system.read_bytes(path))
     try:
-        file = sys.stdin.buffer if rows == STANDARD_INPUT else rows.open('rb')
+        opened = contextlib.nullcontext(sys.stdin.buffer) if name == STANDARD_INPUT else open(name, 'rb')
+        with opened as file:
+            yield Told(known, iter(io.TextIOWrapper(file, encoding='utf-8', errors='replace', newline='\n')), horizon)
     except OSError as error:
-        raise why(rows, error) from None
-    with file:
-        yield Told(known, lines_of(rows, file), horizon)
+        if isinstance(error, BrokenPipeError):
+            raise
+        raise why(name, error) from None
 
 
 def told(words: argparse.Namespace, horizon: Optional[int]) -> contextlib.AbstractContextManager[Told]:
     """What the words of a tool ask for: rows that are there, or a run."""
     if getattr(words, 'rows', None):
         return rows_of_file(words.system, words.rows, horizon)
-    text = system.read_bytes(words.system)
-    return run(words.program, words.system, text, HORIZON if horizon is None else horizon)
+    return run(words.program, words.system, HORIZON if horizon is None else horizon)

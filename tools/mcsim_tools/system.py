@@ -3,12 +3,12 @@ from __future__ import annotations
 
 import pathlib
 import re
+import tomllib
 from collections.abc import Mapping
 from dataclasses import dataclass, field
 from typing import Any, Optional
 
-from . import tables
-from .faults import Fault, why
+from .faults import Fault, first_line, why
 
 LONGEST = 2**26
 GREATEST = 2**40
@@ -100,10 +100,9 @@ def whole(table: Tables, key: str, default: Optional[int] = None, least: int = 0
 
 
 def name_of(table: Tables) -> str:
-    name: str = table['name']
-    if not NAME.fullmatch(name):
+    if not NAME.fullmatch(table['name']):
         raise ValueError('a name has 1 to 32 characters of A-Z a-z 0-9 _ -')
-    return name
+    return table['name']
 
 
 def context_of(table: Tables, cores: int) -> Context:
@@ -150,22 +149,17 @@ def read_bytes(path: pathlib.Path) -> bytes:
     return text
 
 
-def tables_of(path: pathlib.Path, text: bytes) -> tables.Tables:
-    """The tables of a file's text."""
-    try:
-        return tables.read(text)
-    except tables.NotTOML as error:
-        raise Fault(f'{path}: {error}') from None
-
-
 def parse(path: pathlib.Path, text: bytes) -> System:
     """The system that a file describes."""
-    found = tables_of(path, text)
     try:
-        return system_of(found)
+        return system_of(tomllib.loads(text.decode()))
+    except UnicodeDecodeError:
+        raise Fault(f'{path}: not UTF-8') from None
+    except tomllib.TOMLDecodeError as error:
+        raise Fault(f'{path}: not TOML: {first_line(error)}') from None
     except KeyError as error:
         raise Fault(f'{path}: no system: {error} is missing') from None
     except ValueError as error:
         raise Fault(f'{path}: no system: {error}') from None
-    except (AttributeError, IndexError, TypeError):
+    except (AttributeError, IndexError, TypeError, RecursionError):
         raise Fault(f'{path}: no system') from None

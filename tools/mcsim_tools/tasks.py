@@ -21,15 +21,16 @@ import io
 import math
 import pathlib
 import random
+import re
 from collections.abc import Callable, Iterable, Sequence
 from dataclasses import dataclass, replace
 from typing import Any, Optional
 
-from . import analysis, digits, named, options, output, source, system, writing
-from .analysis import Demand, Effort, TooLong
+from . import analysis, named, output, source, system, writing
+from .analysis import Demand
 from .faults import Fault
-from .options import Options
 from .reading import Listener, Reading, Round
+from .source import BareWords
 
 COLUMNS = ('name', 'work', 'period', 'deadline', 'offset', 'priority', 'core')
 REQUIRED = COLUMNS[:3]
@@ -113,10 +114,9 @@ class List:
             text = cells.get(column, '')
             if not text and column not in REQUIRED:
                 return default
-            found = digits.number(text, least, most)
-            if found is None:
+            if not text.isascii() or not text.isdigit() or not least <= int(text) <= most:
                 raise self.fault(f'{column} {text!r} of {name} is no number of {least} to {most}')
-            return found
+            return int(text)
 
         period = number('period', 1, LONGEST, 0)
         work = number('work', 1, LONGEST, 0)
@@ -179,12 +179,6 @@ def list_text(tasks: Sequence[Task]) -> str:
 # ---- systems of tasks
 
 
-def priority_of(task: Task) -> int:
-    """The priority of a task that has one by now."""
-    assert task.priority is not None
-    return task.priority
-
-
 @dataclass(frozen=True)
 class Form:
     """How tasks become threads: with a clock each, or with their contexts as clocks."""
@@ -214,16 +208,10 @@ class Form:
         return Demand(task.work, task.work + CALL if self.has_clocks else task.work, task.period)
 
     def above(self, task: Task) -> list[Demand]:
-        own = priority_of(task)
-        return [self.demand(other) for other in self.tasks if other is not task and other.core == task.core and priority_of(other) >= own]
+        return [self.demand(other) for other in self.tasks if other is not task and other.core == task.core and other.priority >= task.priority]
 
-    def bound(self, task: Task, effort: Optional[Effort] = None) -> Optional[int]:
-        return analysis.bound(self.demand(task), self.above(task), effort)
-
-    def bounds(self) -> list[Optional[int]]:
-        """The bound of each task."""
-        effort = Effort()
-        return [self.bound(task, effort) for task in self.tasks]
+    def bound(self, task: Task) -> Optional[int]:
+        return analysis.bound(self.demand(task), self.above(task))
 
     def tables(self) -> dict[str, Any]:
         contexts = [{'name': task.name, 'core': task.core, 'budget': self.demand(task).cost, 'period': task.period} for task in self.tasks]
@@ -253,21 +241,19 @@ class Form:
     def horizon(self) -> int:
         """How long a run tells the greatest responses."""
         longest = max(self.first + task.offset for task in self.tasks)
-        effort = Effort()
-        needed = longest + max(self.of_core(core, effort) for core in sorted({task.core for task in self.tasks}))
+        needed = longest + max(self.of_core(core) for core in sorted({task.core for task in self.tasks}))
         if needed > FAR:
-            many = f'{needed} ticks' if needed <= LONGEST else 'more than 2^40 ticks'
-            raise Fault(f'the answer needs {many}: --horizon N says how long the run is to be')
+            raise Fault(f'the answer needs {needed} ticks: --horizon N says how long the run is to be')
         return needed
 
-    def of_core(self, core: int, effort: Effort) -> int:
+    def of_core(self, core: int) -> int:
         own = [task for task in self.tasks if task.core == core]
-        stretch = analysis.busy_stretch([self.demand(task) for task in own], effort)
+        stretch = analysis.busy_stretch([self.demand(task) for task in own])
         longest = max(task.period for task in own)
         if stretch is None:
             return 10 * longest
         if len({task.offset for task in own}) == 1:
-            return stretch + 1 + CALL
+            return stretch + CALL
         return longest + 2 * math.lcm(*(task.period for task in own))
 
 
@@ -316,23 +302,14 @@ def seen(form: Form, program: str, horizon: int) -> dict[str, int]:
     return listener.greatest
 
 
-def analysed(form: Form, bounds: Sequence[Optional[int]], found: dict[str, int]) -> list[list[object]]:
+def analysed(form: Form, found: dict[str, int]) -> list[list[object]]:
     """For each task the bound, what was seen, and their ratio."""
     rows: list[list[object]] = []
-    for task, most in zip(form.tasks, bounds):
-        greatest = found[task.name]
+    for task in form.tasks:
+        most, greatest = form.bound(task), found[task.name]
         ratio = 'none' if most is None else f'{greatest / most:.3f}'
         rows.append([task.name, task.core, task.priority, task.work, task.period, task.deadline, 'none' if most is None else most, greatest, ratio])
     return rows
-
-
-def analysis_of(form: Form, program: str, horizon: Optional[int]) -> list[list[object]]:
-    """The rows of the analysis, with what is seen up to a horizon, or as far as the answer needs."""
-    try:
-        bounds = form.bounds()
-        return analysed(form, bounds, seen(form, program, form.horizon() if horizon is None else horizon))
-    except TooLong:
-        raise Fault(f'the analysis of these tasks adds up more than {analysis.MOST_TERMS:,} terms: shorter busy stretches have fewer') from None
 
 
 # ---- words
@@ -348,16 +325,17 @@ def share(text: str) -> float:
     return number
 
 
-count = options.number(f'no number of tasks, of 1 to {MOST_PRIORITY}', 1, MOST_PRIORITY)
+def count(text: str) -> int:
+    if not text.isascii() or not text.isdigit() or not 1 <= int(text) <= MOST_PRIORITY:
+        raise argparse.ArgumentTypeError(f'{text!r} is no number of tasks, of 1 to {MOST_PRIORITY}')
+    return int(text)
 
 
 def periods(text: str) -> tuple[int, int]:
-    first, _, last = text.partition(':')
-    most = digits.number(last, 1, LONGEST)
-    least = None if most is None else digits.number(first, 1, most)
-    if least is None or most is None:
+    found = re.fullmatch(r'([0-9]+):([0-9]+)', text)
+    if not found or not 1 <= int(found[1]) <= int(found[2]) <= LONGEST:
         raise argparse.ArgumentTypeError(f'{text!r} is no range A:B of periods')
-    return least, most
+    return int(found[1]), int(found[2])
 
 
 def tasks_of(asked: argparse.Namespace) -> list[Task]:
@@ -369,8 +347,8 @@ def tasks_of(asked: argparse.Namespace) -> list[Task]:
 
 
 def main() -> None:
-    words = Options(__doc__)
-    words.reads('tasks', nargs='?', metavar='TASKS.csv', help='the list of tasks')
+    words = BareWords(__doc__)
+    words.add_argument('tasks', nargs='?', type=pathlib.Path, metavar='TASKS.csv', help='the list of tasks')
     words.add_argument('--priorities', choices=('given', 'rate', 'deadline'), help='whose: of the list, or by the shortest period or deadline')
     words.add_argument('--clocks', action='store_true', help='gives each task a clock for which it waits')
     words.add_argument('--random', type=count, metavar='N', help='makes a list of N tasks')
@@ -381,18 +359,23 @@ def main() -> None:
     words.add_argument('--analyse', action='store_true', help='writes the analysis beside what is seen; the system goes to -o FILE alone')
     words.add_argument('--horizon', type=source.moment, metavar='N', help='the last moment of the run of --analyse')
     words.add_argument('--program', default=source.default_program(), metavar='PATH', help='the program to run (default: %(default)s)')
-    words.writes('-o', '--output', metavar='FILE', help='where the system goes (default: standard output)')
-    asked = words.asked()
-    if asked.analyse and (asked.list or asked.output == output.STANDARD):
-        raise Fault('--list and --analyse write to the same place' if asked.list else '-o - and --analyse write to the same place')
+    words.add_argument('-o', '--output', type=pathlib.Path, metavar='FILE', help='where the system goes (default: standard output)')
+    asked = words.parse_args()
     tasks = tasks_of(asked)
     if asked.list:
-        return output.write(asked.output, list_text(tasks))
-    form = Form(tasks, asked.clocks)
-    rows = analysis_of(form, asked.program, asked.horizon) if asked.analyse else []
-    comments = {('thread', place): [f'response at most {row[6]}, seen {row[7]}'] for place, row in enumerate(rows)}
+        if asked.analyse:
+            raise Fault('--list and --analyse write to the same place')
+        with output.written(asked.output) as file:
+            file.write(list_text(tasks))
+        return
+    form, comments = Form(tasks, asked.clocks), {}
+    rows: list[list[object]] = []
+    if asked.analyse:
+        rows = analysed(form, seen(form, asked.program, form.horizon() if asked.horizon is None else asked.horizon))
+        comments = {('thread', place): [f'response at most {row[6]}, seen {row[7]}'] for place, row in enumerate(rows)}
     if asked.output or not asked.analyse:
-        output.write(asked.output, writing.system_text(form.tables(), [f'{len(tasks)} periodic tasks.'], comments))
+        with output.written(asked.output) as file:
+            file.write(writing.system_text(form.tables(), [f'{len(tasks)} periodic tasks.'], comments))
     if asked.analyse:
         with output.written(None) as out:
             csv.writer(out, lineterminator='\n').writerows([ANALYSED, *rows])

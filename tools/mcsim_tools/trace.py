@@ -9,10 +9,12 @@ and orders are instants; --budgets adds a counter of what each context may use. 
 after its arrival, so that viewers find it in the slice of the thread that ran, and in the one that the arrival begins."""
 from __future__ import annotations
 
+import argparse
 import json
+import pathlib
 from typing import IO, Optional
 
-from . import options, output, source
+from . import output, source
 from .reading import BLOCKED, DONE, LOST, PENDING, READY, RUNNING, STANDINGS, THROTTLED, Holding, Listener, Post, Reading, Round, Stood
 from .source import Told, Words
 from .system import Context, System, Thread
@@ -24,8 +26,12 @@ BAD = 'terrible'
 # the track of a process that is no thread's
 WHOLE_CORE = 0
 
-# a quarter of a tick is a whole number of nanoseconds, and the longest run has an exact place
-nanoseconds = options.number('no length of a tick, of 4 to 1000000 nanoseconds', 4, 10**6)
+
+def nanoseconds(text: str) -> int:
+    # a quarter of a tick is a whole number of nanoseconds, and the longest run has an exact place
+    if not text.isascii() or not text.isdigit() or not 4 <= int(text) <= 10**6:
+        raise argparse.ArgumentTypeError(f'{text!r} is no length of a tick, of 4 to 1000000 nanoseconds')
+    return int(text)
 
 
 def track(thread: Thread) -> int:
@@ -124,20 +130,18 @@ class Trace(Listener):
     def flush(self, now: int) -> None:
         """Writes the flows of the newest moment, once a later one has come: at the horizon itself there is no slice."""
         for post in self.newest:
-            if post.maker and post.thread and post.arrived < now and not self.is_done(post.thread, post.arrived):
-                self.flow(post, post.maker, post.thread)
+            account = self.reading.accounts[post.thread.name]
+            is_done = account.standing == DONE and account.since <= post.arrived
+            if post.arrived < now and not is_done:
+                self.flow(post)
         self.newest = []
 
-    def is_done(self, thread: Thread, moment: int) -> bool:
-        account = self.reading.accounts[thread.name]
-        return account.standing == DONE and account.since <= moment
-
-    def flow(self, post: Post, maker: Thread, thread: Thread) -> None:
+    def flow(self, post: Post) -> None:
         self.flows += 1
         same = f'"name":"{post.note}","cat":"signal","id":{self.flows}'
         begin, end = self.at(post.made * self.tick - self.quarter), self.at(post.arrived * self.tick + self.quarter)
-        self.put(f'{{"ph":"s",{same},"pid":{post.core},"tid":{track(maker)},"ts":{begin},"args":{{"badge":{post.badge}}}}}')
-        self.put(f'{{"ph":"f","bp":"e",{same},"pid":{thread.core},"tid":{track(thread)},"ts":{end},"args":{{"outcome":"{post.outcome}"}}}}')
+        self.put(f'{{"ph":"s",{same},"pid":{post.core},"tid":{track(post.maker)},"ts":{begin},"args":{{"badge":{post.badge}}}}}')
+        self.put(f'{{"ph":"f","bp":"e",{same},"pid":{post.thread.core},"tid":{track(post.thread)},"ts":{end},"args":{{"outcome":"{post.outcome}"}}}}')
 
     def ordered(self, context: Context, moment: int) -> None:
         self.instant(f'order {context.name}', 'order', context.core, None, moment)
@@ -154,7 +158,7 @@ def main() -> None:
     words = Words(__doc__).takes_rows()
     words.add_argument('--tick-ns', type=nanoseconds, default=TICK_NS, metavar='N', help='a tick is N nanoseconds (default: %(default)s)')
     words.add_argument('--budgets', action='store_true', help='adds a counter of what each context may use')
-    words.writes('-o', '--output', metavar='FILE', help='where the trace goes (default: standard output)')
-    asked = words.asked()
+    words.add_argument('-o', '--output', type=pathlib.Path, metavar='FILE', help='where the trace goes (default: standard output)')
+    asked = words.parse_args()
     with source.told(asked, asked.horizon) as told, output.written(asked.output) as out:
         Trace(told.system, out, asked.tick_ns, asked.budgets).write(told)

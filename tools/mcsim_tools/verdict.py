@@ -5,29 +5,25 @@ import collections
 import os
 import pathlib
 import shutil
-import signal
 import subprocess
+import tomllib
 from collections.abc import Collection, Mapping, Sequence
 from dataclasses import dataclass, field
 from typing import Any, Optional
 
-from . import identity, named, source, tables
+from . import named, source
 from . import system as systems
-from .faults import STATUS, Fault, first_line, why
-from .printable import printable
+from .faults import Fault, first_line, why
 from .reading import Listener, Reading, Round
 from .system import System
 
 KINDS = ('missed', 'lost', 'overdue', 'never')
 # the word of a finding, and what it counts as
 COUNTED = {'miss': 'missed', 'lost': 'lost', 'overdue': 'overdue', 'never': 'never'}
-# exit codes of mcscheck that are answers: nothing found, the system is refused, something found
-NOTHING, REFUSED, FOUND = 0, 1, 5
-# exit codes of mcscheck that are none: its options, reading or writing, memory
-FAILED = (2, 3, 4)
+# the statuses of mcscheck: nothing found, or something; those between are faults of a system or a run
+NOTHING, FOUND = 0, 5
 # the line of counts
 LAST = 'missed '
-LONGEST_FAULT = 300
 
 
 def default_checker(program: str) -> Optional[str]:
@@ -43,8 +39,7 @@ def default_checker(program: str) -> Optional[str]:
 
 @dataclass(frozen=True)
 class Result:
-    """What a run came to: the verdict or a refusal, the fault of a system that is refused, what was found, and for each thread with a response the
-    greatest."""
+    """What a run came to: the status of mcscheck, the fault where it is another one than those of verdicts, and what was found."""
 
     status: int
     fault: str = ''
@@ -55,44 +50,19 @@ class Result:
     def is_clean(self) -> bool:
         return self.status == NOTHING
 
-    @property
-    def is_refused(self) -> bool:
-        return self.status == REFUSED
-
     def told(self) -> dict[str, Any]:
         return {'status': self.status, 'fault': self.fault, 'counts': dict(self.counts), 'greatest': dict(self.greatest)}
 
-    @classmethod
-    def of(cls, told: object) -> Result:
-        """Returns the result that was kept in this form, or raises a ValueError."""
-        if not isinstance(told, dict) or told.get('status') not in (NOTHING, REFUSED, FOUND) or not isinstance(told.get('fault'), str):
-            raise ValueError
-        parts = (told.get('counts'), told.get('greatest'))
-        if not all(isinstance(part, dict) and all(type(number) is int for number in part.values()) for part in parts):
-            raise ValueError
-        return cls(told['status'], told['fault'], told['counts'], told['greatest'])
-
 
 class Greatest(Listener):
-    """The greatest response of each thread with a deadline and a response, from the activation on."""
+    """The greatest response of each thread with a deadline, from the activation on."""
 
-    def __init__(self) -> None:
-        self.of: dict[str, int] = {}
+    def __init__(self, system: System) -> None:
+        self.of = {name: 0 for name, thread in system.threads.items() if thread.deadline}
 
     def round_ended(self, ended: Round) -> None:
-        if ended.thread.deadline:
-            name = ended.thread.name
-            self.of[name] = max(self.of.get(name, 0), ended.response)
-
-
-def failure(checker: str, status: int, said: str) -> Fault:
-    """What a run of mcscheck that is no answer comes to. Its own exit codes stay."""
-    told = printable(first_line(said), LONGEST_FAULT)
-    if status < 0:
-        how = f'ended by {signal.Signals(-status).name}' if -status in set(signal.Signals) else f'ended by signal {-status}'
-    else:
-        how = f'ended with {status}'
-    return Fault(f'{checker} {how}' + (f': {told}' if told else ''), status if status in FAILED else STATUS)
+        if ended.thread.name in self.of:
+            self.of[ended.thread.name] = max(self.of[ended.thread.name], ended.response)
 
 
 @dataclass(frozen=True)
@@ -109,30 +79,23 @@ class Programs:
             raise Fault('mcscheck, which gives the verdicts, was not found: --checker PATH or the variable MCSCHECK names it')
         return cls(program, checker)
 
-    def digests(self) -> dict[str, str]:
-        """What the two programs are."""
-        return {'mcsim': identity.digest(self.program), 'mcscheck': identity.digest(self.checker)}
-
     def check(self, text: bytes, horizon: int) -> tuple[int, list[str], str]:
-        """The exit code of mcscheck, which is an answer, its lines, and what it says on standard error."""
+        """The status of mcscheck, its lines, and what it says on standard error."""
         try:
             asked = [self.checker, '--horizon', str(horizon), '--show', 'findings']
             ended = subprocess.run(asked, input=text, capture_output=True, check=False)
         except OSError as error:
             raise why(self.checker, error) from None
         said = ended.stderr.decode(errors='replace')
-        if ended.returncode not in (NOTHING, REFUSED, FOUND):
-            raise failure(self.checker, ended.returncode, said)
+        if not NOTHING <= ended.returncode <= FOUND:
+            raise Fault(f'{self.checker} ended with status {ended.returncode}: {first_line(said)}')
         lines = ended.stdout.decode(errors='replace').splitlines()
-        if ended.returncode == REFUSED:
-            if not said.startswith('mcscheck: '):
-                raise Fault(f'{self.checker} refused the system and did not say why')
-        elif not (lines and lines[-1].startswith(LAST)):
+        if ended.returncode in (NOTHING, FOUND) and not (lines and lines[-1].startswith(LAST)):
             raise Fault(f'{self.checker} gave no verdict')
         return ended.returncode, lines, said
 
     def greatest(self, text: bytes, system: System, horizon: int) -> dict[str, int]:
-        listener = Greatest()
+        listener = Greatest(system)
         running = source.Run(self.program, pathlib.Path('system'), text, ['--horizon', str(horizon)])
         try:
             Reading(system, listener).read(running.lines(), horizon)
@@ -143,9 +106,9 @@ class Programs:
     def result(self, text: bytes, horizon: int, of: Sequence[str], wants_responses: bool = True) -> Result:
         """What is found, of all or of some threads."""
         status, lines, said = self.check(text, horizon)
-        if status == REFUSED:
-            return Result(status, printable(first_line(said).removeprefix('mcscheck: '), LONGEST_FAULT))
-        system = systems.system_of(tables.read(text))
+        if status not in (NOTHING, FOUND):
+            return Result(status, first_line(said).removeprefix('mcscheck: '))
+        system = systems.system_of(tomllib.loads(text.decode()))
         counts = counted(lines, system, of)
         greatest = self.greatest(text, system, horizon) if wants_responses else {}
         return Result(FOUND if any(counts.values()) else NOTHING, '', counts, greatest)

@@ -11,14 +11,14 @@ from __future__ import annotations
 
 import argparse
 import decimal
+import pathlib
 from dataclasses import dataclass
 from typing import Optional
 
-from . import lanes, options, output, source
+from . import lanes, output, source
 from .drawing import Frame, Picture
 from .faults import Fault
 from .page import page
-from .printable import printable
 from .reading import read
 from .scale import Clock
 from .scene import Shown
@@ -37,12 +37,15 @@ def microseconds(text: str) -> decimal.Decimal:
         value = decimal.Decimal(text)
     except decimal.InvalidOperation:
         value = decimal.Decimal(0)
-    if not value.is_finite() or not 0 < value <= 10**9 or value != round(value, 9):
+    if not value.is_finite() or not 0 < value <= 10**9 or value.as_tuple().exponent < -9:
         raise argparse.ArgumentTypeError(f'{text!r} is no length of a tick in microseconds')
     return value
 
 
-count = options.number('no number of 1 to 1000000', 1, 10**6)
+def count(text: str) -> int:
+    if not text.isascii() or not text.isdigit() or not 0 < int(text) <= 10**6:
+        raise argparse.ArgumentTypeError(f'{text!r} is no number of 1 to 1000000')
+    return int(text)
 
 
 def add_looks(words: Words) -> None:
@@ -89,9 +92,9 @@ def draw(told: Told, words: argparse.Namespace, window: Window, is_page: bool, l
     shown = Shown(system, choice.threads, window.begin, window.end, words.most, plotted)
     reading = read(told, shown)
     shown.close(reading, window.end)
-    name, theme = printable(words.system.stem), Theme(words.theme)
+    name, theme = words.system.stem, Theme(words.theme)
     frame = Frame(words.width, theme, Clock(words.tick_us), is_page)
-    begin, end = shown.scene.begin, shown.scene.last
+    begin, end = shown.scene.begin, shown.scene.end
     is_whole = (begin, end) == (0, reading.end)
     under = f'{reading.end:,} ticks, {reading.count:,} rows: {shown.summary()}'
     under = under if is_whole else f'moments {begin:,} to {end:,} of a run of {under}'
@@ -113,8 +116,8 @@ def close_up(shown: Shown, place: int, frame: Frame, name: str) -> str:
     finding, scene = shown.close_ups.scenes[place]
     threads = scene.threads if len(scene.threads) <= CLOSE_LANES else [name for name in scene.threads if shown.system.threads[name].core == finding.core]
     own = lanes.lanes_of(shown.system, threads, ())
-    under = f'moments {scene.begin:,} to {scene.last:,}, around: {finding.kind} {finding.name}, {finding.said}'
-    picture = Picture(shown.system, own, scene.begin, scene.last, frame, name, under)
+    under = f'moments {scene.begin:,} to {scene.end:,}, around: {finding.kind} {finding.name}, {finding.said}'
+    picture = Picture(shown.system, own, scene.begin, scene.end, frame, name, under)
     picture.draw_scene(scene, shown.findings)
     return picture.svg()
 
@@ -122,8 +125,8 @@ def close_up(shown: Shown, place: int, frame: Frame, name: str) -> str:
 def main() -> None:
     words = Words(__doc__).takes_rows()
     add_looks(words)
-    words.writes('-o', '--output', required=True, metavar='FILE', help='a .svg or a .html')
-    asked = words.asked()
+    words.add_argument('-o', '--output', type=pathlib.Path, required=True, metavar='FILE', help='a .svg or a .html')
+    asked = words.parse_args()
     if asked.output.suffix not in ('.svg', '.html'):
         raise Fault(f'{asked.output} is no .svg and no .html')
     window = window_of(asked, asked.rows is not None)

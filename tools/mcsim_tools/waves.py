@@ -15,11 +15,13 @@ writes while it reads. For each core there is a scope, in which stand
 A wave has one value at a moment: that after all rows of the moment. It ends at the horizon, or with the rows."""
 from __future__ import annotations
 
+import argparse
 import math
+import pathlib
 from collections.abc import Iterator
 from typing import IO, NamedTuple, Optional
 
-from . import options, output, source
+from . import output, source
 from .reading import LOST, RUNNING, STANDINGS, Listener, Post, Reading, Round
 from .source import Told, Words
 from .system import System, Thread
@@ -192,15 +194,18 @@ def saved_view(system: System, end: int) -> str:
     return '\n'.join([*head, *lines, ''])
 
 
-nanoseconds = options.number('no length of a tick, of 1 to 1000000 nanoseconds', 1, 10**6)
+def nanoseconds(word: str) -> int:
+    if not word.isascii() or not word.isdigit() or not 1 <= int(word) <= 10**6:
+        raise argparse.ArgumentTypeError(f'{word!r} is no length of a tick, of 1 to 1000000 nanoseconds')
+    return int(word)
 
 
 def main() -> None:
     words = Words(__doc__).takes_rows()
     words.add_argument('--tick-ns', type=nanoseconds, default=1, metavar='N', help='a tick is N nanoseconds (default: %(default)s)')
-    words.writes('-o', '--output', metavar='FILE', help='where the waves go (default: standard output)')
-    words.writes('--save', metavar='FILE', help='writes to FILE a view of GTKWave of all waves')
-    asked = words.asked()
+    words.add_argument('--save', type=pathlib.Path, metavar='FILE', help='writes to FILE a view of GTKWave of all waves')
+    words.add_argument('-o', '--output', type=pathlib.Path, metavar='FILE', help='where the waves go (default: standard output)')
+    asked = words.parse_args()
     with source.told(asked, asked.horizon) as told, output.written(asked.output) as out:
         reading = Dump(told.system, out, asked.tick_ns).write(told)
         if asked.save:

@@ -1,18 +1,14 @@
 """tools/explain beside programs that tell a fault of their own: what it says of each, expected by hand."""
-from __future__ import annotations
-
 import os
 import pathlib
 import subprocess
 import sys
 import tempfile
-import time
 import unittest
 
-# a machine with much else to do has so many seconds for what a free one does in a few
-SECONDS = 600
 TOOLS = pathlib.Path(__file__).resolve().parent.parent
 HEAD = 'version = 1\ncores = 2\ndelay = 1\n'
+NEW = 'version = 3\ncores = 2\ndelay = 1\n'
 CONTEXTS = 'context = [{ name = "a", core = 0, budget = 2, period = 5 }, { name = "b", core = 1, budget = 2, period = 5 }]\n'
 NOTE = 'note = [{ name = "tick", core = 0 }]\n'
 
@@ -23,9 +19,9 @@ class Explained(unittest.TestCase):
         self.addCleanup(folder.cleanup)
         self.folder = pathlib.Path(folder.name)
 
-    def ran(self, text: bytes, script: str, *words: str) -> subprocess.CompletedProcess[str]:
+    def ran(self, text: bytes, script: str, *words: str) -> subprocess.CompletedProcess:
         program = self.folder / 'program'
-        program.write_text(f'#!/bin/sh\ncat >/dev/null\n{script}\n')
+        program.write_text(f'#!/bin/sh\n{script}\n')
         program.chmod(0o755)
         (self.folder / 'system.toml').write_bytes(text)
         command = [sys.executable, str(TOOLS / 'explain'), *(words or ['system.toml'])]
@@ -51,7 +47,52 @@ class Explained(unittest.TestCase):
     def test_a_key_of_version_2_is_told_as_such(self) -> None:
         lines = self.told(HEAD + '[[context]]\nmode = "bandwidth"\n', 'unknown key at context 1 ?')
         self.assertEqual(lines[0], 'system.toml:5:1: unknown key at context 1 ?')
-        self.assertEqual(lines[3], '  mode is a key of version 2 alone, and this file says version = 1')
+        self.assertEqual(lines[3], '  mode is a key of versions 2 and 3, and this file says version = 1')
+
+    def test_a_key_of_version_3_is_told_as_such(self) -> None:
+        lines = self.told('version = 2\ncores = 1\ndelay = 1\n[[source]]\nname = "s"\n', 'unknown key at top ?')
+        self.assertEqual(lines[3], '  source is a key of version 3 alone, and this file says version = 2')
+
+    def test_a_word_of_version_3_is_told_as_such(self) -> None:
+        text = 'version = 2\ncores = 1\ndelay = 1\n[[thread]]\nscript = ["wait n", "on 1"]\n'
+        lines = self.told(text, 'bad item: unknown word at thread 1 script item 2')
+        self.assertEqual(lines[0], 'system.toml:5:21: bad item: unknown word at thread 1 script item 2')
+        self.assertEqual(lines[3:], [
+            '  on is a word of version 3 alone, and this file says version = 2', '  items: compute N, signal NOTE BADGE, wait NOTE, yield',
+        ])
+
+    def test_a_call_of_a_later_server_names_the_earlier_ones(self) -> None:
+        text = NEW + '[[server]]\nname = "clock"\n[[server]]\nname = "timer"\nscript = ["call later 1"]\n[[server]]\nname = "later"\n'
+        self.assertEqual(self.told(text, 'unknown name at server 2 script item 1')[3:], [
+            '  no earlier server has the name later', '  names of earlier servers: clock',
+        ])
+
+    def test_a_call_of_another_core_names_both(self) -> None:
+        text = NEW + CONTEXTS + '[[server]]\nname = "v"\ncore = 1\n[[thread]]\ncontext = "a"\nscript = ["call v 1"]\n'
+        lines = self.told(text, 'other core at thread 1 script item 1')
+        self.assertEqual(lines[3:], ['  v is on core 1, and the thread runs on core 0: a server is called on its own core alone'])
+
+    def test_a_number_of_at_is_told_with_the_one_before(self) -> None:
+        text = NEW + '[[source]]\nperiod = 10\nat = [0, 7, 7]\n'
+        lines = self.told(text, 'out of range at source 1 at item 3')
+        self.assertEqual(lines[0], 'system.toml:6:13: out of range at source 1 at item 3')
+        self.assertEqual(lines[3:], [
+            '  each number of at lies below the period, 10; here stands 7', '  and each is above the one before, which is 7',
+        ])
+
+    def test_a_server_that_has_a_notification_s_name(self) -> None:
+        lines = self.told(NEW + NOTE + '[[server]]\nname = "tick"\n', 'double name at server 1 name')
+        self.assertEqual(lines[3], '  a notification has the name tick, in line 4: notifications and servers have one name space')
+
+    def test_handlers_and_chains_want_a_wait(self) -> None:
+        text = NEW + '[[thread]]\nname = "A"\nscript = ["yield", "on 1"]\n[[chain]]\nthread = "A"\nbadges = 1\n'
+        self.assertEqual(self.told(text, 'on without wait at thread 1 script item 2')[3:], [
+            '  on begins a handler for a badge of the word that the first item waits for: the first item of the script is to be a wait',
+        ])
+        self.assertEqual(self.told(text, 'no wait at chain 1 thread')[3:], ['  A never waits, so no interrupt can begin one of its rounds'])
+        self.assertEqual(self.told(text, 'no wait at chain 1 badges')[3:], [
+            '  the badges of a chain are those of the word that begins a round: the first item of A is to be a wait, or badges 0',
+        ])
 
     def test_a_key_of_another_table_is_told_as_such(self) -> None:
         lines = self.told(HEAD + '[[thread]]\ncore = 1\n', 'unknown key at thread 1 ?')
@@ -69,7 +110,7 @@ class Explained(unittest.TestCase):
 
     def test_a_value_of_another_kind(self) -> None:
         lines = self.told('version = 1.0\n', 'wrong kind at top version')
-        self.assertEqual(lines[3], '  version is an integer: 1 or 2; here stands no integer, 1.0')
+        self.assertEqual(lines[3], '  version is an integer: 1 or 2 or 3; here stands no integer, 1.0')
 
     def test_a_table_in_place_of_an_array(self) -> None:
         lines = self.told(HEAD + '[context]\nname = "a"\n', 'wrong kind at context')
@@ -117,6 +158,7 @@ class Explained(unittest.TestCase):
     def test_an_open_quote_has_its_line(self) -> None:
         self.assertEqual(self.told('version = 1\nnote = [{ name = "n }]\n', 'not TOML at file')[0], 'system.toml:2:18: not TOML at file')
 
+    @unittest.skipIf(sys.version_info < (3, 11), 'Python before 3.11 has no reader of TOML')
     def test_a_key_that_stands_twice_has_its_line(self) -> None:
         lines = self.told('version = 1\nversion = 2\n', 'not TOML at file')
         self.assertEqual(lines[0], 'system.toml:2:12: not TOML at file')
@@ -134,48 +176,6 @@ class Explained(unittest.TestCase):
 
     def test_a_place_that_the_file_has_not_is_told_without_a_line(self) -> None:
         self.assertEqual(self.told(HEAD, 'missing key at thread 3 name')[0], 'system.toml: missing key at thread 3 name')
-
-    def test_control_characters_of_the_file_are_not_written(self) -> None:
-        text = HEAD + 'note = [{ name = "a\x1b]0;t\x07b\u202e", core = 0 }]\n'
-        lines = self.told(text, 'bad name at note 1 name')
-        self.assertEqual(lines[:2], ['system.toml:4:18: bad name at note 1 name', '    note = [{ name = "a?]0;t?b?", core = 0 }]'])
-        self.assertTrue(all(line.isprintable() for line in lines))
-
-    def test_a_mark_of_the_byte_order_is_no_part_of_the_file(self) -> None:
-        text = '\ufeff' + HEAD + 'note = [{ name = "n", core = 2 }]\n'
-        self.assertEqual(self.told(text, 'out of range at note 1 core')[0], 'system.toml:4:30: out of range at note 1 core')
-        self.assertEqual(self.told('\ufeffcores = \n', 'not TOML at file')[0], 'system.toml:1:9: not TOML at file')
-
-    def test_a_file_of_toml_1_1_is_lost_where_it_is_at_fault(self) -> None:
-        text = 'note = [{ name = "\\x41",\n  core = 0,\n}]\ncores = 1\ncores = 2\n'
-        lines = self.told(text, 'not TOML at file')
-        self.assertEqual(lines[0], 'system.toml:5:10: not TOML at file')
-        self.assertIn('says at 5:10: Cannot overwrite a value', lines[3])
-
-    def test_a_long_file(self) -> None:
-        text = HEAD + '[[note]]\nname = "n"\ncore = 0\n' * 200_000
-        began = time.monotonic()
-        lines = self.told(text, 'too many at note')
-        self.assertLess(time.monotonic() - began, SECONDS)
-        self.assertEqual(lines[0], 'system.toml:4:3: too many at note')
-        self.assertIn('  there are at most 4,096 rows; here are 200,000', lines)
-
-    def test_a_long_line(self) -> None:
-        for long in ('x' * 10_000_000, '\x1b' * 10_000_000):
-            began = time.monotonic()
-            lines = self.told(HEAD + f'note = [{{ core = 0, name = "{long}" }}]\n', 'bad name at note 1 name')
-            self.assertLess(time.monotonic() - began, SECONDS)
-            self.assertEqual(lines[0], 'system.toml:4:28: bad name at note 1 name')
-            self.assertIn('this one has 10000000 characters', lines[4])
-            self.assertTrue(all(line.isprintable() and len(line) < 1100 for line in lines))
-        lines = self.told(HEAD + f'thread = [{{ {"x" * 10_000_000} = 1 }}]\n', 'unknown key at thread 1 ?')
-        self.assertEqual(lines[0], 'system.toml:4:13: unknown key at thread 1 ?')
-        self.assertLess(sum(map(len, lines)), 3000)
-
-    def test_many_unknown_keys(self) -> None:
-        lines = self.told(HEAD + ''.join(f'key{place} = 1\n' for place in range(100_000)), 'unknown key at top ?')
-        self.assertEqual(lines[0], 'system.toml:4:1: unknown key at top ?')
-        self.assertLess(len(lines), 12)
 
     def test_no_fault(self) -> None:
         ended = self.ran(HEAD.encode(), 'exit 0')

@@ -1,11 +1,9 @@
 """The line of a place that the program names."""
 from __future__ import annotations
 
-import pathlib
-import sys
 import unittest
 
-sys.path.insert(0, str(pathlib.Path(__file__).resolve().parent.parent))
+import worked  # puts the tools on the path
 from mcsim_tools.explaining import line_of
 
 TABLES = b'''version = 1

@@ -126,12 +126,6 @@ class Rounds(unittest.TestCase):
         listener, _ = heard(STARVED, STARVED_ROWS, 2)
         self.assertEqual((listener.nevers, [one.thread.name for one in listener.open]), (['Ctl'], ['Hog']))
 
-    def test_a_round_that_begins_at_the_horizon_is_not_activated(self) -> None:
-        # no tick follows in which the thread could be ready or run
-        rows = '0 0 release Hog\n0 0 run Hog\n100 0 round Hog 1 100'
-        for horizon, activated in ((100, []), (101, [100])):
-            self.assertEqual([one.activated for one in heard(STARVED, rows, horizon)[0].open if one.thread.name == 'Hog'], activated)
-
 
 class Signals(unittest.TestCase):
     def test_each_is_joined_to_what_it_came_to(self) -> None:
@@ -140,8 +134,7 @@ class Signals(unittest.TestCase):
 
     def test_maker_and_thread(self) -> None:
         first = heard(PAIR, PAIR_ROWS, 12)[0].posts[0]
-        self.assertEqual([thread.name for thread in (first.maker, first.thread) if thread], ['D', 'W'])
-        self.assertEqual((first.core, first.badge), (1, 1))
+        self.assertEqual((first.maker.name, first.core, first.thread.name, first.badge), ('D', 1, 'W', 1))
 
     def test_those_under_way_at_the_horizon(self) -> None:
         self.assertEqual(heard(PAIR, PAIR_ROWS, 4)[0].signals, ['n', 'n'])

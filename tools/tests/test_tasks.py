@@ -54,21 +54,7 @@ class Bounds(unittest.TestCase):
     def test_busy_stretch(self) -> None:
         # 1 + 2 + 3 = 6, then 2 + 2 + 3 = 7, 2 + 4 + 3 = 9, 3 + 4 + 3 = 10
         self.assertEqual(analysis.ends_at(3, [demand(1, 4), demand(2, 6)]), 10)
-        self.assertEqual(analysis.busy_stretch([demand(1, 4), demand(2, 6), demand(3, 12)]), 10)
         self.assertIsNone(analysis.busy_stretch([demand(3, 4), demand(2, 6)]))
-
-    def test_a_core_that_is_asked_for_all_it_has(self) -> None:
-        # 2 + 3 = 5, then 4 + 3 = 7, 4 + 6 = 10, 6 + 6 = 12, and at 12 both begin anew
-        self.assertEqual(analysis.busy_stretch([demand(2, 4), demand(3, 6)]), 12)
-        self.assertEqual(analysis.busy_stretch([demand(2**40, 2**40)]), 2**40)
-
-    def test_an_analysis_that_is_too_long_is_given_up(self) -> None:
-        # the greater one keeps the core for 2^38 ticks, in which 2^37 jobs come, and each of them and of those behind them is looked at
-        with self.assertRaises(analysis.TooLong):
-            analysis.bound(demand(1, 2), [demand(2**38 - 1, 2**39)], analysis.Effort(10**5))
-        # a tick in 2^20 is left of the first one, of which the others want all but nothing: 2^20 jobs of it, seventeen terms for each
-        with self.assertRaises(analysis.TooLong):
-            analysis.busy_stretch([demand(2**20 - 1, 2**20), *[demand(2**16, 2**40)] * 15], analysis.Effort(10**5))
 
 
 class Systems(unittest.TestCase):
@@ -168,14 +154,6 @@ class Refused(unittest.TestCase):
             ('name,work,period,priority\na,1,4,9\nb,1,4,\n', 'b has no priority: give one to each task, or --priorities rate or deadline'),
         ):
             self.assertEqual(ran(text), (2, '', f'tasks: {wanted}\n'))
-
-    def test_long_numbers(self) -> None:
-        self.assertEqual(ran(f'name,work,period\na,1,{"9" * 5000}\n').status, 2)
-        far = 'tasks: the answer needs more than 2^40 ticks: --horizon N says how long the run is to be\n'
-        self.assertEqual(ran(f'name,work,period\na,{2**40},{2**40}\n', '--analyse'), (2, '', far))
-        self.assertEqual(ran('name,work,period,offset\n' + ''.join(f'a{place},1,{2**40 - place},{place}\n' for place in range(99)), '--analyse'), (2, '', far))
-        told = ran(f'name,work,period,priority\na,{2**38 - 1},{2**39},2\nb,1,2,1\n', '--analyse', '--horizon', '9')
-        self.assertEqual(told, (2, '', 'tasks: the analysis of these tasks adds up more than 10,000,000 terms: shorter busy stretches have fewer\n'))
 
     def test_words(self) -> None:
         self.assertEqual(ran(THREE, '--random', 3), (2, '', 'tasks: one of TASKS.csv and --random N is wanted\n'))

@@ -42,23 +42,12 @@ def paged(text: str, rows: str, *given: str) -> str:
 def bars(svg: ElementTree.Element, thread: str) -> list[tuple[str, float, float]]:
     """The bars of a thread's lane: what each shows, where it begins, how wide it is."""
     lane = next(group for group in svg.iter(f'{SVG}g') if group.get('class') == 'T' and group.get('data-name') == thread)
-    return [(rect.attrib['class'].split()[0], float(rect.attrib['x']), float(rect.attrib['width'])) for rect in lane.iter(f'{SVG}rect')]
+    return [(rect.get('class').split()[0], float(rect.get('x')), float(rect.get('width'))) for rect in lane.iter(f'{SVG}rect')]
 
 
 def signs(svg: ElementTree.Element, thread: str) -> list[tuple[str, float]]:
     lane = next(group for group in svg.iter(f'{SVG}g') if group.get('class') == 'M' and group.get('data-name') == thread)
-    return [(use.attrib['href'][1:], float(use.attrib['x'])) for use in lane]
-
-
-def text_of(svg: ElementTree.Element, path: str) -> str:
-    """All text of an element."""
-    found = svg.find(path)
-    return '' if found is None else ''.join(found.itertext())
-
-
-def part_of(page: str, pattern: str) -> str:
-    """The part of a page that a pattern has in parentheses."""
-    return str(re.findall(pattern, page, re.S)[0])
+    return [(use.get('href')[1:], float(use.get('x'))) for use in lane]
 
 
 def at(moment: int) -> float:
@@ -102,11 +91,11 @@ class SingleThings(unittest.TestCase):
         self.assertEqual(names, ['D'])
 
     def test_the_heading_counts(self) -> None:
-        said = text_of(drawn(PAIR, PAIR_ROWS, '--horizon', '12'), f'{SVG}title')
+        said = drawn(PAIR, PAIR_ROWS, '--horizon', '12').find(f'{SVG}title').text
         self.assertEqual(said, 'system: 12 ticks, 27 rows: 1 missed, 1 overdue, 1 lost')
 
     def test_the_legend_has_what_is_drawn(self) -> None:
-        one, two = (text_of(drawn(*system, '--horizon', '12'), f"./{SVG}g[@id='legend']") for system in ((ONE, ONE_ROWS), (PAIR, PAIR_ROWS)))
+        one, two = (''.join(drawn(*system, '--horizon', '12').find(f"./{SVG}g[@id='legend']").itertext()) for system in ((ONE, ONE_ROWS), (PAIR, PAIR_ROWS)))
         self.assertIn('throttled', one)
         self.assertNotIn('lost', one)
         self.assertIn('lost', two)
@@ -117,8 +106,8 @@ class SingleThings(unittest.TestCase):
         rows = '0 0 release A\n0 0 run A\n' + '\n'.join(f'{k + 1} 0 round A {k + 1} 1' for k in range(many))
         system = ONE.replace('budget = 2, period = 5', 'budget = 5, period = 5').replace('deadline = 10', 'deadline = 1').replace('rounds = 1, ', '')
         kinds = collections.Counter(sign for sign, _ in signs(drawn(system, rows, '--horizon', f'{many}'), 'A'))
-        # the round that begins at the horizon is not activated: no tick follows
-        self.assertEqual(kinds, {'up-s': many, 'end-s': many})
+        # the round that begins at the horizon is activated there
+        self.assertEqual(kinds, {'up-s': many + 1, 'end-s': many})
 
 
 class ManyThings(unittest.TestCase):
@@ -131,21 +120,21 @@ class ManyThings(unittest.TestCase):
         svg = drawn(ONE, ONE_ROWS, '--horizon', '12', '--most', '1')
         path = next(path for path in svg.iter(f'{SVG}path') if path.get('class') == 'running c0')
         # columns of a tick: whole for 0 and 1, 5 and 6, and 10
-        self.assertEqual(re.findall(r'M([\d.]+)', path.attrib['d']), ['176', f'{at(5)}', f'{at(10)}'])
+        self.assertEqual(re.findall(r'M([\d.]+)', path.get('d')), ['176', f'{at(5)}', f'{at(10)}'])
 
     def test_a_page_has_close_ups_of_its_findings(self) -> None:
         page = paged(PAIR, PAIR_ROWS, '--horizon', '12', '--most', '3')
         self.assertEqual(len(re.findall('<template id="close', page)), 3)
         self.assertIn('around: lost n, badge 2 was there already, for W', page)
         self.assertIn('data-name="W" data-close="0"><b>lost</b> 6 n: badge 2 was there already, for W</li>', page)
-        close = ElementTree.fromstring(part_of(page, '<template id="close0">(.*?)</template>'))
+        close = ElementTree.fromstring(re.search('<template id="close0">(.*?)</template>', page, re.S)[1])
         self.assertIn('lost', [sign for sign, _ in signs(close, 'W')])
 
 
 class Pages(unittest.TestCase):
     def test_the_table(self) -> None:
         page = paged(PAIR, PAIR_ROWS, '--horizon', '12')
-        row = part_of(page, '<tr data-name="W">(.*?)</tr>')
+        row = re.search('<tr data-name="W">(.*?)</tr>', page)[1]
         # 2 rounds, greatest response 6, deadline 4, margin -2, 1 missed, overdue, 1 lost, 1 merged; it ran 10 ticks of 12
         cells = re.findall(r'<t[hd][^>]*>([^<]*)</t[hd]>', row)
         self.assertEqual(cells, ['W', '0', '5', '20/20', '100.0%', '83.3%', '2', '6', '4', '-2', '1', 'overdue', '1', '1'])
@@ -192,8 +181,7 @@ class Tool(unittest.TestCase):
 
     def test_rows_of_standard_input(self) -> None:
         self.assertEqual(self.run_tool('one.toml', '--rows', '-', '-o', 'one.svg'), (0, ''))
-        svg = ElementTree.parse(self.folder / 'one.svg').getroot()
-        self.assertEqual(text_of(svg, f'{SVG}title'), 'one: 11 ticks, 10 rows: 1 missed, 0 overdue, 0 lost')
+        self.assertEqual(ElementTree.parse(self.folder / 'one.svg').getroot().find(f'{SVG}title').text, 'one: 11 ticks, 10 rows: 1 missed, 0 overdue, 0 lost')
 
     def test_bad_input_is_one_line_and_nothing_is_written(self) -> None:
         rest = ('--rows', '-', '-o', 'x.svg')

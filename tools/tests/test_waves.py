@@ -7,7 +7,6 @@ import subprocess
 import sys
 import tempfile
 import unittest
-from typing import Optional
 
 from worked import ONE, ONE_ROWS, PAIR, PAIR_ROWS, TOOLS, told
 from mcsim_tools.waves import Dump, code_of, saved_view
@@ -21,10 +20,7 @@ def dump(text: str, rows: str, horizon: int, tick: int = 1) -> list[str]:
 
 def changes(lines: list[str]) -> dict[str, list[str]]:
     """For each moment what changes, by the names of waves with their scopes."""
-    names: dict[str, str] = {}
-    scope: list[str] = []
-    found: dict[str, list[str]] = {}
-    now: Optional[list[str]] = None
+    names, scope, found, now = {}, [], {}, None
     for line in lines:
         words = line.split()
         if words[0] == '$scope':

@@ -1,12 +1,10 @@
 """Tables as text: what is written reads as what it was."""
 from __future__ import annotations
 
-import pathlib
-import sys
 import tomllib
 import unittest
 
-sys.path.insert(0, str(pathlib.Path(__file__).resolve().parent.parent))
+import worked
 from mcsim_tools import writing
 
 

@@ -12,7 +12,7 @@ from unittest import mock
 
 TOOLS = pathlib.Path(__file__).resolve().parent.parent
 sys.path.insert(0, str(TOOLS))
-from mcsim_tools import frame
+from mcsim_tools import faults
 from mcsim_tools import system as systems
 from mcsim_tools.reading import Holding, Listener, Post, Reading, Round, Stood, read
 from mcsim_tools.source import Told
@@ -159,9 +159,9 @@ class Ended(NamedTuple):
     stderr: str
 
 
-def ran(name: str, main: Callable[[], Optional[int]], *words: object) -> Ended:
+def ran(name: str, main: Callable[[], None], *words: object) -> Ended:
     """Runs a tool with these words, within this process."""
     out, said = io.StringIO(), io.StringIO()
     with mock.patch.object(sys, 'argv', [name, *map(str, words)]), contextlib.redirect_stdout(out), contextlib.redirect_stderr(said):
-        status = frame.guarded(main)
+        status = faults.guarded(main)
     return Ended(status, out.getvalue(), said.getvalue())

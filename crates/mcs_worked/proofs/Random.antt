@@ -1,4 +1,4 @@
--- Written by checks/proofs/theorems.py from crates/mcs_corpus/data/random_one and crates/mcs_corpus/data/random_several: schedules of systems, each by computing.
+-- Written by checks/theorems.py from crates/mcs_corpus/data/random_one and crates/mcs_corpus/data/random_several: schedules of systems, each by computing.
 use Rattle.std.specs.Prelude.{◌≡◌, List, [], ◌∷◌, Some, None, refl, codes}
 use Rattle.mcs_ticks.specs.declared.row.Row.{Row}
 use Rattle.mcs_ticks.specs.declared.row.What.TheVariants as row

@@ -1,0 +1,233 @@
+#!/usr/bin/env python3
+"""Tells whether mcscheck answers well: each of its statuses with its one line on standard error, and how far it is, on a terminal alone.
+
+The cases are those of docs/FORMAT.md, whose example is run as it stands there. What is refused leaves nothing on standard output. A run of more than
+a second whose standard error is a terminal shows a line of how far it is, and wipes it before findings are written, and before it ends, well or
+not; a pipe sees nothing of that."""
+from __future__ import annotations
+
+import json
+import os
+import pathlib
+import re
+import resource
+import subprocess
+import sys
+import tempfile
+from collections.abc import Iterator
+from typing import NamedTuple
+
+sys.dont_write_bytecode = True
+import common
+import performance
+from common import TOP, Count, Ran
+from faults import DOUBLE_NAME, LONGEST, NOTHING, Case, begins, exactly, ran
+from pages import blocks_in
+from progress import WIPED, Command, terminal
+
+NAME = 'mcscheck'
+CLEAN = 'missed 0 overdue 0 lost 0 never 0 merged 0 allowed 0 hints %d\n'
+READ_FAILED, WRITE_FAILED = (exactly(f'{NAME}: {what} failed\n'.encode()) for what in ('read', 'write'))
+NO_MEMORY = exactly(f'{NAME}: no memory\n'.encode())
+MIXED_ROUND = f'{NAME}: --why: not with --show, --strict, --allow-lost or --format csv\n'
+UNKNOWN = f'{NAME}: --allow-lost: no notification is called "%s": %s\n'
+# a system without a thread, and one of two notifications of like names
+EMPTY = b'version = 1\ncores = 1\ndelay = 1\ncontext = [{ name = "a", core = 0, budget = 2, period = 5 }]\n'
+NOTES = EMPTY + b'note = [{ name = "tick", core = 0 }, { name = "tock", core = 0 }]\n'
+# so little that a text of this many bytes has no room
+SPACE, LARGE = 48 * 2**20, 40 * 2**20
+# a thread that misses its deadline once in some 10^6 ticks
+SELDOM_LATE = '''
+[[context]]
+name = "seldom"
+core = 0
+budget = 1
+period = 1048576
+
+[[thread]]
+name = "Seldom"
+context = "seldom"
+priority = 255
+deadline = 10
+script = ["compute 2"]
+'''
+
+
+class Example(NamedTuple):
+    """The system of docs/FORMAT.md, and of each run the words and what it writes: its findings, its jobs, and its figures."""
+
+    system: bytes
+    runs: list[tuple[list[str], bytes]]
+
+
+def example() -> Example:
+    text = (TOP / 'docs' / 'FORMAT.md').read_text().partition('\n### An example\n')[2].partition('\n### ')[0]
+    (_, system), *blocks = blocks_in(text)
+    words = [words.split() for words in re.findall(r'`mcscheck late\.toml (.*?)`', text)]
+    return Example(system.encode(), [(asked, written.encode()) for asked, (_, written) in zip(words, blocks, strict=True)])
+
+
+def answered() -> tuple[list[str], bytes]:
+    """Of the example of docs/FORMAT.md the words that ask why a round took so long, and what is written."""
+    text = (TOP / 'docs' / 'FORMAT.md').read_text().partition('\n### Its lines of a round\n')[2].partition('\n### ')[0]
+    words = re.search(r'`mcscheck late\.toml (.*?)`', text)[1].split()
+    return words, blocks_in(text)[-1][1].encode()
+
+
+def unknown(name: str, said: str) -> bytes:
+    return (UNKNOWN % (name, said)).encode()
+
+
+def hinted(many: int) -> bytes:
+    return b'hint context a has no thread\n' * many + (CLEAN % many).encode()
+
+
+def cases_of_findings() -> Iterator[Case]:
+    """Systems with findings, with hints alone, and with none."""
+    system, runs = example()
+    for words, written in runs:
+        yield Case(f'the example with {words}', words, system, exactly(written), NOTHING, 5)
+        yield Case(f'two workers with {words}', [*words, '--workers', '2'], system, exactly(written), NOTHING, 5)
+    (words, written), _, (_, figures), *_ = runs
+    both = written[:written.rindex(b'missed ')] + figures
+    for asked in ([], ['--show', 'both'], ['--workers', '2']):
+        yield Case(f'findings and figures with {asked}', ['--horizon', '30', *asked], system, exactly(both), NOTHING, 5)
+    allowed = b''.join(line for line in written.splitlines(keepends=True) if b' lost tick ' not in line)
+    allowed = allowed.replace(b'lost 2', b'lost 0').replace(b'allowed 0', b'allowed 2')
+    yield Case('allowed', [*words, '--allow-lost', 'tick', '--allow-lost', 'fire'], system, exactly(allowed), NOTHING, 5)
+    findings = '--show=findings'
+    yield Case('hints', [findings], EMPTY, exactly(hinted(1)), NOTHING, 0)
+    yield Case('hints that count', [findings, '--strict'], EMPTY, exactly(hinted(1)), NOTHING, 5)
+    yield Case('hints and figures', ['--horizon=5'], EMPTY, exactly(hinted(1).replace(b'\n', b'\ncontext a unused 2\n', 1)), NOTHING, 0)
+    yield Case('jobs of no thread', ['--show=jobs', '--strict'], EMPTY, exactly((CLEAN % 1).encode()), NOTHING, 5)
+    yield Case('no row of CSV', ['--show=jobs', '--format=csv'], EMPTY, begins(b'moment,core,kind,thread,number,'), NOTHING, 0)
+    hint = b'{"kind":"hint","hint":"unbound","context":"a"}\n{"kind":"counts",'
+    yield Case('hints as JSON', [findings, '--format=json'], EMPTY, begins(hint, b'"hints":1}\n'), NOTHING, 0)
+    yield Case('nothing', ['--strict'], EMPTY.partition(b'context')[0], exactly(hinted(0)), NOTHING, 0)
+
+
+def cases_of_files(folder: pathlib.Path) -> Iterator[Case]:
+    """Files that are refused, or cannot be read."""
+    cut = folder / 'cut.toml'
+    cut.write_bytes(b'version = 1\n')
+    asked = ['--allow-lost', 'none']
+    yield Case('a file', [cut], b'', NOTHING, exactly(b'mcscheck: missing key at top cores\n'), 1)
+    yield Case('a fault of a row', asked, DOUBLE_NAME, NOTHING, exactly(b'mcscheck: double name at context 2 name\n'), 1)
+    yield Case('a fault of the text before a name', [*asked, cut], b'', NOTHING, exactly(b'mcscheck: missing key at top cores\n'), 1)
+    yield Case('no such file before a name', [*asked, folder / 'none.toml'], b'', NOTHING, READ_FAILED, 3)
+    yield Case('a folder', [folder], b'', NOTHING, READ_FAILED, 3)
+    yield Case('a text that is too long', [], b'\n' * (LONGEST + 1), NOTHING, READ_FAILED, 3)
+
+
+def cases_of_words(folder: pathlib.Path) -> Iterator[Case]:
+    """Words that are refused, names that are not known, and the help."""
+    not_text = b'error: invalid UTF-8 was detected in one or more arguments\n'
+    for words in (['--workers', '65'], ['--horizon', '1099511627777'], ['--show', 'all'], ['--show'], ['--format', 'yaml'], ['--show', 'jobs', '--show', 'jobs'], ['--strict', '--strict'], ['--allow-lost'], ['a', 'b']):
+        yield Case(f'{words}, and no such file', [folder / 'none.toml', *words], b'', NOTHING, begins(b'error: ', words[0].encode()), 2)
+    mixed = b'mcscheck: --format csv: rows are of one kind: --show findings, jobs or table\n'
+    for words in (['--show', 'both', '--format', 'csv'], ['--format', 'csv']):
+        yield Case(f'rows of two kinds by {words}', words, NOTES, NOTHING, exactly(mixed), 2)
+    yield Case('a word that is not UTF-8', [b'\xff'], b'', NOTHING, exactly(not_text), 2)
+    for name, near in (('tack', 'tick'), ('tocks', 'tock'), ('', 'tick'), ('TOCK', 'tick'), ('-n', 'tick')):
+        yield Case(f'an unknown name {name!r}', [f'--allow-lost={name}'], NOTES, NOTHING, exactly(unknown(name, f'the nearest is {near}')), 2)
+    yield Case('a name of two lines', ['--allow-lost=a\nb'], NOTES, NOTHING, exactly(unknown('a\\nb', 'the nearest is tick')), 2)
+    first = ['--allow-lost', 'tock', '--allow-lost', 'one', '--allow-lost', 'two']
+    yield Case('the first unknown name', first, NOTES, NOTHING, exactly(unknown('one', 'the nearest is tock')), 2)
+    yield Case('a name where there is none', ['--allow-lost', 'tick'], EMPTY, NOTHING, exactly(unknown('tick', 'there is none')), 2)
+    for word in ('--help', '-h'):
+        yield Case(word, [word], b'', begins(b'', b'Usage: mcscheck [OPTIONS] [FILE]'), NOTHING, 0)
+
+
+def cases_of_rounds(folder: pathlib.Path) -> Iterator[Case]:
+    """Why a round took so long, and rounds that are not there; each fault comes before those behind it."""
+    system, (words, written) = example().system, answered()
+    for more in ([], ['--workers', '2'], ['--format', 'text']):
+        yield Case(f'a round with {more}', [*words, *more], system, exactly(written), NOTHING, 0)
+    yield Case('a round as JSON', [*words, '--format', 'json'], system, begins(b'{"moment":8,', b'{"kind":"idle","ticks":10}\n'), NOTHING, 0)
+    mixed = exactly(MIXED_ROUND.encode())
+    for more in (['--strict'], ['--show=findings'], ['--show', 'jobs'], ['--format', 'csv'], ['--allow-lost', 'tick']):
+        yield Case(f'a round and {more}', [*words, *more], system, NOTHING, mixed, 2)
+    yield Case('no such file before a thread', ['--why', 'None', '1', folder / 'none.toml'], b'', NOTHING, READ_FAILED, 3)
+    yield Case('a fault of the text before a thread', ['--why', 'None', '1'], DOUBLE_NAME, NOTHING, exactly(b'mcscheck: double name at context 2 name\n'), 1)
+    for name, said in (('Lop', 'the nearest is Loop'), ('a\nb', 'the nearest is Loop'), ('clock', 'the nearest is Clock')):
+        yield Case(f'a thread {name!r}', ['--why', name, 'none'], system, NOTHING, exactly(no_thread(name, said)), 2)
+    yield Case('a thread where there is none', ['--why', 'A', '1'], EMPTY, NOTHING, exactly(no_thread('A', 'there is none')), 2)
+    for number in ('0', '4', 'last', '18446744073709551617', ''):
+        for horizon, said in ((30, 'there are rounds 1 to 3'), (3, 'there is round 1'), (1, 'there is none')):
+            line = f'{NAME}: --why: no round "{number}" of Loop: {said}\n'.encode()
+            asked = ['--horizon', str(horizon), '--why', 'Loop', number]
+            yield Case(f'round {number!r} up to {horizon}', asked, system, NOTHING, exactly(line), 2)
+    for wrong in (['--why', 'Loop'], ['--why=Loop'], ['--why', 'Loop', '1', '--why', 'Loop', '2']):
+        yield Case(f'{wrong}', wrong, system, NOTHING, begins(b'error: ', b'--why'), 2)
+    yield Case('a round on a full device', words, system, NOTHING, WRITE_FAILED, 3, '/dev/full')
+
+
+def no_thread(name: str, said: str) -> bytes:
+    return f'{NAME}: --why: no thread is called {json.dumps(name)}: {said}\n'.encode()
+
+
+def cases_of_targets() -> Iterator[Case]:
+    """A device that takes nothing."""
+    system, runs = example()
+    for words, _ in runs:
+        yield Case(f'{words} on a full device', words, system, NOTHING, WRITE_FAILED, 3, '/dev/full')
+    yield Case('help on a full device', ['--help'], b'', NOTHING, WRITE_FAILED, 3, '/dev/full')
+    yield Case('a fault of the file and a full device', [], b'', NOTHING, exactly(b'mcscheck: missing key at top version\n'), 1, '/dev/full')
+
+
+def little_space() -> None:
+    resource.setrlimit(resource.RLIMIT_AS, (SPACE, SPACE))
+
+
+def try_without_memory(program: pathlib.Path, count: Count) -> None:
+    ended = common.run([program], b'\n' * LARGE, preexec_fn=little_space)
+    count.expect(f'little memory: {ended}', ended.status == 4 and NOTHING(ended.stdout) and NO_MEMORY(ended.stderr))
+
+
+def try_progress_among_findings(program: pathlib.Path, folder: pathlib.Path, horizon: int, count: Count) -> None:
+    """One terminal shows findings and how far the run is: each finding stands in a line of its own."""
+    file = folder / 'seldom.toml'
+    file.write_text(performance.crowd(1, 8) + SELDOM_LATE)
+    command = [program, file, '--horizon', str(2 * horizon)]
+    with terminal() as (theirs, seen):
+        status = subprocess.run(command, stdin=subprocess.DEVNULL, stdout=theirs, stderr=theirs).returncode
+    shown = seen.decode()
+    lines, times = re.subn(rf'(?:\rmcscheck: \d+ of {2 * horizon}\x1b\[K)+{re.escape(WIPED)}', '', shown)
+    wanted = common.run(command)
+    good = status == wanted.status == 5 and times > 0 and lines == wanted.stdout.decode().replace('\n', '\r\n')
+    count.expect(f'findings among progress, {times} times, up to {2 * horizon}: {shown[:300]!r}', good)
+
+
+def try_progress(program: pathlib.Path, folder: pathlib.Path, count: Count) -> None:
+    file, out = folder / 'long.toml', folder / 'out'
+    file.write_text(performance.crowd(1, 8))
+    command = Command(program, file, ('--show', 'findings'))
+    with open(out, 'wb') as target:
+        count.expect('a short run shows something', command.on_terminal(1000, target) == (0, ''))
+    long = command.long_run(out)
+    wanted = (CLEAN % 0).encode()
+    good = long.status == 0 and command.is_progress(long) and out.read_bytes() == wanted
+    count.expect(f'progress up to {long.horizon}: {long.shown[:60]!r}..{long.shown[-60:]!r}', good)
+    long = command.long_run(pathlib.Path('/dev/full'))
+    good = long.status == 3 and command.is_progress(long, 'mcscheck: write failed\r\n')
+    count.expect(f'progress up to {long.horizon} of a run that cannot write: {long.shown[-80:]!r}', good)
+    try_progress_among_findings(program, folder, long.horizon, count)
+    count.expect('a pipe sees progress', common.run(command.line(2 * long.horizon)) == Ran(0, wanted, b''))
+
+
+def main() -> None:
+    simulator = common.built_program(common.asking_program(__doc__).parse_args().program)
+    program, count = common.beside(simulator, NAME), Count()
+    with tempfile.TemporaryDirectory() as name:
+        folder = pathlib.Path(name)
+        for case in (*cases_of_findings(), *cases_of_files(folder), *cases_of_words(folder), *cases_of_rounds(folder), *cases_of_targets()):
+            ended = ran(program, case)
+            differs = case.differs(ended)
+            count.expect(f'{case.name}: {differs} differ: {ended}', not differs)
+        try_without_memory(program, count)
+        try_progress(program, folder, count)
+    count.end()
+
+
+if __name__ == '__main__':
+    main()

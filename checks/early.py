@@ -1,0 +1,134 @@
+#!/usr/bin/env python3
+"""Tells in some seconds what the gate (rt ci) refuses before it proves anything, and which edits cannot be applied.
+
+That is a layout that is not that of rt fmt, a file that no check reads, a module without a file, an operator under another name. An edit, whether the
+gate tries it or not, cannot be applied where its text does not stand once. And the launcher mcsim is asked for the crates that it proves: they are
+those on which each program stands. Each finding has a line, and each crate counts as one try. It needs the command rt; without it all of it is skipped."""
+from __future__ import annotations
+
+import glob
+import importlib.machinery
+import importlib.util
+import os
+import re
+import shutil
+import subprocess
+import sys
+import tempfile
+import types
+from collections.abc import Callable, Iterator, Sequence
+
+sys.dont_write_bytecode = True
+import common
+from common import TOP, Count
+
+LAUNCHER = 'mcsim'
+# the folder of the edits that the gate leaves out
+LEFT_OUT = 'edits'
+
+
+def refuse(why: str) -> None:
+    raise SystemExit(why)
+
+
+def loaded(path: str) -> types.ModuleType:
+    """The command rt as a module that looks at this repository as the gate does."""
+    sys.argv = ['rt', 'ci']
+    loader = importlib.machinery.SourceFileLoader('rt_main', path)
+    rt = importlib.util.module_from_spec(importlib.util.spec_from_loader('rt_main', loader))
+    loader.exec_module(rt)
+    rt.rtlib.Crate, rt.rtlib.stop = rt.Crate, refuse
+    rt.Crate.cuts_libraries = True
+    rt.Crate.allowed = rt.handles_of(str(TOP))
+    return rt
+
+
+def said(look: Callable[[], object]) -> list[str]:
+    """What a look of the gate stops with."""
+    try:
+        look()
+    except SystemExit as why:
+        return [str(why)]
+    return []
+
+
+class Looks:
+    """What the gate looks at before it proves."""
+
+    def __init__(self, rt: types.ModuleType) -> None:
+        self.rt, self.kit = rt, rt.rtlib
+        self.crates = self.kit.crates_below(str(TOP))
+
+    def files(self, crate: object) -> Iterator[str]:
+        yield from said(lambda: self.kit.stop_on_links(crate.folder))
+        yield from said(lambda: self.kit.stop_on_unread(crate.folder, self.crates))
+
+    def texts(self, crate: object) -> Iterator[str]:
+        yield from said(lambda: self.kit.stop_on_text(crate, 'verdict'))
+        yield from said(lambda: self.rt.stop_on_words(crate))
+        code = self.kit.code_of(crate.folder)
+        if re.search(self.rt.RENAMES, code):
+            yield 'it renames std, or takes it whole'
+        if re.search(self.rt.IGNORED, code):
+            yield 'it has a test under #[ignore]'
+
+    def layout(self, crate: object) -> Iterator[str]:
+        with tempfile.TemporaryFile('a+', errors='replace') as out:
+            if self.kit.fmt(crate.folder, '--check', out):
+                yield 'run rt fmt in its folder'
+
+    def edits(self, crate: object) -> Iterator[str]:
+        good, bad = self.rt.edits_of(crate)
+        yield from (f'{os.path.basename(edit)} is no name of an edit' for edit in bad)
+        for edit in (*good, *sorted(glob.glob(f'{crate.folder}/{LEFT_OUT}/*.edit'))):
+            texts, why = self.rt.read_edit(edit, crate.folder)
+            if texts is None:
+                yield f'{os.path.basename(edit)}: {why}'
+
+    def modules(self, crate: object) -> Iterator[str]:
+        for file in glob.glob(f'{crate.folder}/**/*.antt', recursive=True):
+            # Lib.antt lists what stands beside it, and any other file what stands in the folder of its name
+            folder = os.path.dirname(file) if os.path.basename(file) == 'Lib.antt' else file.removesuffix('.antt')
+            with open(file) as text:
+                names = re.findall(r'^(?:pub )?mod (\w+)$', text.read(), re.M)
+            yield from (f'{os.path.relpath(file, crate.folder)} names {name}, which has no file' for name in names if not os.path.exists(f'{folder}/{name}.antt'))
+
+    def findings(self, crate: object) -> list[str]:
+        return [found for look in (self.files, self.texts, self.layout, self.modules, self.edits) for found in look(crate)]
+
+
+def launched(program: str) -> list[str] | None:
+    """The crates that the launcher takes for those below a program, or None where it asks in another way."""
+    asks = re.search(r'^libraries\(\) \{\n.*?^\}\n', (TOP / LAUNCHER).read_text(), re.M | re.S)
+    if asks is None:
+        return None
+    script = f'top=.\n{asks[0]}libraries {program}'
+    return subprocess.run(['sh', '-c', script], cwd=TOP, capture_output=True, text=True).stdout.split()
+
+
+def look_at_launcher(crates: Sequence[object], count: Count) -> None:
+    for program in common.PROGRAMS:
+        wanted = next(([below.name for below in crate.below()] for crate in crates if crate.name == program), [])
+        found = launched(program)
+        what = 'no function libraries' if found is None else f'{" ".join(found) or "no crate"}, and the program stands on {" ".join(wanted) or "none"}'
+        # a crate that crates.txt leaves out stands on none to both
+        count.expect(f'{program}: the launcher has {what}', bool(found) and sorted(found) == sorted(wanted))
+
+
+def main() -> None:
+    common.asking(__doc__).parse_args()
+    count = Count()
+    path = shutil.which('rt')
+    if path is None:
+        count.skip('what the gate looks at first, since the command rt is not on PATH')
+        count.end()
+    looks = Looks(loaded(os.path.realpath(path)))
+    look_at_launcher(looks.crates, count)
+    for crate in looks.crates:
+        found = looks.findings(crate)
+        count.expect('\n'.join(f'{crate.name}: {it}' for it in found), not found)
+    count.end()
+
+
+if __name__ == '__main__':
+    main()

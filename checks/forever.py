@@ -1,0 +1,205 @@
+#!/usr/bin/env python3
+"""Tells whether what mcscheck --forever says of all time holds as far as it can be run, on random systems and on some whose findings are known.
+
+Of each set of cores that is said to repeat, mcsim runs three more periods: their rows are those of the first one, later, and their missed deadlines and
+lost signals are as many. All lines are those of a second, plain reading (`checks/forever_reading.py`) of these rows, byte by byte, as text and as JSON,
+and so are the statuses. Where nothing is ever to be found, nothing is at four horizons. Of a set that is not said to repeat, the lines are those of the
+rows up to the horizon. A kind of line or of status that was seen nowhere is a failure: a test that sees nothing of it tells nothing."""
+from __future__ import annotations
+
+import collections
+import pathlib
+import random
+import sys
+import tomllib
+from collections.abc import Sequence
+from typing import Optional
+
+sys.dont_write_bytecode = True
+import common
+import forever_reading as forever
+import reading
+import verdicts
+from common import TOP, Count, Ran
+from forever_reading import Claim, Told
+from reading import Tables
+from verdicts import System, allowing, differing
+
+SYSTEMS = TOP / 'examples' / 'systems'
+# systems with their horizon, how many sets repeat, and the kinds of what is found
+KNOWN = {
+    SYSTEMS / 'loop_and_its_clock.toml': (1000, 2, set()),
+    SYSTEMS / 'loop_by_its_budget.toml': (1000, 1, set()),
+    SYSTEMS / 'car_gateway_as_found.toml': (3000, None, {'miss', 'lost', 'overdue'}),
+}
+# A's word of 16, 56, .. is held while A waits for its budget, and B takes it at 26, 66, ..: from 21 to 25 a round of A is overdue that never ends, which the
+# ends of no period tell. So nothing is told to be found, nor that nothing ever is
+TAKEN = '''version = 1
+cores = 2
+delay = 1
+context = [
+    { name = "a", core = 0, budget = 2, period = 40 },
+    { name = "b", core = 0, budget = 9, period = 40 },
+    { name = "clock", core = 1, budget = 40, period = 40 },
+]
+note = [{ name = "n", core = 0 }, { name = "m", core = 0 }]
+thread = [
+    { name = "A", context = "a", priority = 5, deadline = 5, script = ["wait n", "compute 1"] },
+    { name = "B", context = "b", priority = 9, script = ["wait m", "wait n", "compute 1"] },
+    { name = "Clock", context = "clock", priority = 1, script = [
+        "compute 9", "signal n 1", "compute 4", "signal n 1", "compute 8", "signal m 1", "compute 16",
+    ] },
+]
+'''
+HORIZONS = (30, 100, 400, 1000, 1000, 1500)
+# a schedule of more rows takes the plain reading too long
+MOST_ROWS = 10_000
+REFUSED = (['--show=table'], ['--show=findings'], ['--why', 'Loop', '1'], ['--format=csv'])
+# what the random systems have to show
+SEEN = (
+    'status 0', 'status 1', 'status 5', 'status 6', 'a set of several cores', 'a core of a larger set', 'repeats', 'open', 'at rest', 'rounds that go on',
+    'miss in each period', 'miss before alone', 'miss so far', 'lost in each period', 'lost before alone', 'lost so far', 'overdue', 'overdue so far',
+    'never', 'never so far', 'greatest', 'no greatest', 'throttled never', 'throttled', 'ends no round', 'ends rounds', 'clean', 'a lost signal that is allowed',
+    'an order',
+)
+
+
+class Trial:
+    """The two programs, and what the systems have shown."""
+
+    def __init__(self, simulator: pathlib.Path, checker: pathlib.Path) -> None:
+        self.simulator, self.checker = simulator, checker
+        self.count = Count()
+        self.seen: collections.Counter[str] = collections.Counter()
+
+    def check(self, system: System, words: Sequence[str]) -> Ran:
+        return common.run([self.checker, '--forever', f'--horizon={system.horizon}', *words], system.text.encode())
+
+    def same(self, system: System, words: Sequence[str], ran: Ran, wanted: Ran) -> None:
+        self.seen[f'status {ran.status}'] += 1
+        differs = ran != wanted
+        self.count.expect(f'{system.kept(differs)} --forever --horizon={system.horizon} {" ".join(words)}: {differing(ran, wanted)}', not differs)
+
+    def rows(self, system: System, far: int) -> Ran:
+        return common.run([self.simulator, f'--horizon={far}'], system.text.encode())
+
+    def agrees(self, system: System, words: Sequence[str] = (), allowed: Sequence[str] = ()) -> list[Told]:
+        """Tries a system with these words, of which some allow signals to be lost."""
+        ran = self.check(system, words)
+        # what is wrong with the file is told as ever
+        start = self.rows(system, 0)
+        if start.status:
+            self.same(system, words, ran, start._replace(stderr=start.stderr.replace(b'mcsim: ', b'mcscheck: ', 1)))
+            return []
+        claims = forever.claims_of(ran.stdout.decode())
+        told = self.told(system, claims)
+        if told is None:
+            return []
+        wrong = [f'cores {each.group.name}: {broken}' for each in told for broken in each.broken(allowed)]
+        self.count.expect(f'{system.kept(wrong)} --forever --horizon={system.horizon}: {wrong}', not wrong)
+        values, statuses = forever.values_of(told, allowed), forever.statuses_of(told, allowed)
+        status = ran.status if ran.status in statuses else min(statuses)
+        self.same(system, words, ran, Ran(status, forever.text_of(values).encode(), b''))
+        words = [*words, '--format=json']
+        self.same(system, words, self.check(system, words), Ran(status, forever.json_of(values).encode(), b''))
+        self.tell(told, allowed)
+        return told
+
+    def told(self, system: System, claims: Sequence[Claim]) -> Optional[list[Told]]:
+        """What is to be told where this is claimed, if it is claimed of each set, and its schedule is not too long."""
+        tables = tomllib.loads(system.text)
+        names, sets = [claim.cores for claim in claims], [each.name for each in forever.core_sets(tables)]
+        self.count.expect(f'{system.kept(names != sets)}: claims of {names}, and the sets are {sets}', names == sets)
+        if names != sets:
+            return None
+        text = self.rows(system, max((claim.far(system.horizon) for claim in claims), default=0)).stdout.decode()
+        if text.count('\n') > MOST_ROWS:
+            self.seen['too long'] += 1
+            return None
+        return forever.told_of(tables, text, claims, system.horizon)
+
+    def tell(self, told: Sequence[Told], allowed: Sequence[str]) -> None:
+        """Counts what was seen."""
+        for each in told:
+            so_far = '' if each.claim.start is not None else ' so far'
+            self.seen['a set of several cores'] += len(each.group.cores) > 1
+            self.seen['a core of a larger set'] += each.group.own != each.group.cores
+            self.seen['open' if so_far else 'repeats'] += 1
+            self.seen['clean'] += each.claim.is_clean
+            self.seen['a lost signal that is allowed'] += each.is_allowed(allowed)
+            self.seen['an order'] += bool(each.tables.get('order')) and not so_far
+            if not so_far:
+                self.seen['at rest'] += not each.rows_in(0)
+                self.seen['rounds that go on'] += bool(each.numbers(0))
+                # what is found at no horizon that was tried, and not said to be found at none
+                self.seen['not said to be clean'] += not each.claim.is_clean and not list(each.not_clean(allowed))
+            for values in each.values(allowed):
+                self.tell_line(values, so_far)
+
+    def tell_line(self, values: dict, so_far: str) -> None:
+        kind = values['kind']
+        if kind in ('overdue', 'never'):
+            self.seen[f'{kind}{so_far}'] += 1
+        elif kind in ('miss', 'lost'):
+            self.seen[f'{kind}{so_far or (" in each period" if values["each_period"] else " before alone")}'] += 1
+        elif kind == 'thread':
+            self.seen['greatest' if values['greatest'] is not None else 'no greatest'] += 1
+            self.seen['throttled never' if 'throttled' in values else 'throttled'] += 1
+            self.seen['ends no round' if 'ends_no_round_from' in values else 'ends rounds'] += 1
+
+    def known(self) -> None:
+        """The systems whose findings are known."""
+        for file, (horizon, repeating, kinds) in KNOWN.items():
+            told = self.agrees(System(file.stem, file.read_text(), horizon))
+            found = {values['kind'] for each in told for values in each.findings(())}
+            self.count.expect(f'{file.stem}: found {found}', found == kinds and bool(told))
+            if repeating is not None:
+                clean = sum(each.claim.is_clean for each in told)
+                self.count.expect(f'{file.stem}: {clean} sets in which nothing is ever found', clean == repeating == len(told))
+        self.taken()
+        self.refused(next(iter(KNOWN)))
+
+    def taken(self) -> None:
+        """A round that is overdue now and then, and neither ends nor is overdue at the end of a period."""
+        told = self.agrees(System('taken', TAKEN, 1000))
+        self.count.expect(f'taken: {[each.claim for each in told]}', [each.claim.is_clean for each in told] == [False, True])
+        ends = [common.run([self.checker, f'--horizon={horizon}'], TAKEN.encode()).status for horizon in (1000, 1022)]
+        self.count.expect(f'taken: status {ends} at horizons 1000 and 1022', ends == [0, 5])
+
+    def refused(self, file: pathlib.Path) -> None:
+        """Words that do not go with the option: one line says so."""
+        for words in REFUSED:
+            ran = common.run([self.checker, file, '--forever', *words])
+            is_good = ran.status == 2 and not ran.stdout and ran.stderr.startswith(b'mcscheck: --') and ran.stderr.count(b'\n') == 1
+            self.count.expect(f'--forever {" ".join(words)}: {ran}', is_good)
+        ran = common.run([self.checker, file, '--forever', '--allow-lost=tik'])
+        self.count.expect(f'a notification that is not there: {ran}', ran == Ran(2, b'', reading.unknown_note('tik', ['tick']).encode()))
+
+
+def random_system(name: str) -> tuple[System, list[str], list[str]]:
+    """A random system with the words of a run, and which signals may be lost."""
+    rng = random.Random(name)
+    tables: Tables = verdicts.tables_of(rng)
+    notes = [note['name'] for note in tables.get('note', [])]
+    allowed = [note for note in notes if rng.random() < 0.5] if rng.random() < 0.3 else []
+    words = [*allowing(allowed), *['--workers=2'] * (rng.random() < 0.3)]
+    return System(name.replace(' ', '-'), verdicts.text_of(tables), rng.choice(HORIZONS)), words, allowed
+
+
+def main() -> None:
+    words = common.asking_random(__doc__, 100).parse_args()
+    simulator = common.built_program(words.program)
+    trial = Trial(simulator, common.beside(simulator, 'mcscheck'))
+    trial.known()
+    # what the known systems show does not count
+    trial.seen.clear()
+    for number in range(words.systems):
+        trial.agrees(*random_system(f'{words.seed} {number}'))
+    print(', '.join(f'{what} {many}' for what, many in trial.seen.items()))
+    for what in SEEN:
+        trial.count.expect(f'no system shows: {what}', trial.seen[what] > 0)
+    trial.count.end()
+
+
+if __name__ == '__main__':
+    main()

@@ -1,0 +1,325 @@
+#!/usr/bin/env python3
+"""Tells whether mcscheck --forever finds what a plain model finds that looks for repetitions at the same moments, as docs/FOREVER.md says what is compared.
+
+The model (checks/model.py) takes random systems as of verdicts.py moment by moment. After 1, 2, 4, 8 and so on moments at which some core does more than
+count a tick, and behind the last order, a moment is kept, and each later one is compared with it. What the program claims and the model does not see is a
+failure: another moment, another period, or nothing that is ever found where the model can't tell. What the model sees and the program says nothing of, or
+says later, is counted as missed: nothing says that it has to be found. The last line is a count of sets of cores."""
+from __future__ import annotations
+
+import collections
+import copy
+import random
+import sys
+import tomllib
+from collections.abc import Iterator, Sequence
+from typing import NamedTuple, Optional
+
+sys.dont_write_bytecode = True
+import common
+import forever_reading as forever
+import verdicts
+from common import Count
+from forever_reading import Claim, CoreSet
+from model import Core, Row, System, World
+
+STANDINGS = {'release': 'ready', 'run': 'running', 'wake': 'woken'}
+STOPPED = {'wait': 'blocked', 'done': 'done'}
+WOKEN = {'release': 'throttled', 'run': 'ready'}
+
+
+class Account:
+    """What is kept of the rows of a thread: how it stands and since when; when its round that is under way began, was called by a word and was first
+    ready or running; how often it was preempted, and how many ticks it stood in each way."""
+
+    def __init__(self, system: System, thread: int) -> None:
+        self.waits = system.first_wait(thread)
+        self.standing, self.since, self.called = 'pending', 0, None
+        self.preemptions = 0
+        self.begins(None if self.waits is not None else system.start(thread))
+
+    def begins(self, moment: Optional[int]) -> None:
+        self.begun, self.active = moment, None
+        self.stood: collections.Counter[str] = collections.Counter()
+
+    def given(self, moment: int, called: int) -> None:
+        """A word begins a round, where one is to begin by it."""
+        if self.waits is not None and self.begun is None:
+            self.called = called
+            self.begins(moment)
+
+    def ends(self, moment: Optional[int]) -> None:
+        self.begins(moment)
+        self.preemptions = 0
+
+    def passed(self, kind: str, moment: int) -> None:
+        """The ticks up to a row are counted."""
+        standing = WOKEN.get(kind, 'woken') if self.standing == 'woken' else self.standing
+        if self.begun is None:
+            return
+        first = max(self.since, self.begun)
+        if first < moment:
+            self.stood[standing] += moment - first
+            if self.active is None and standing in ('ready', 'running'):
+                self.active = first
+
+    def told(self, row: Row) -> None:
+        """A row that tells how the thread stands."""
+        self.passed(row.kind, row.moment)
+        self.since = row.moment
+        if row.kind != 'stop':
+            self.standing = STANDINGS[row.kind]
+            return
+        _, why, _, until = row.what
+        self.standing = STOPPED.get(why, 'ready' if until is None else 'throttled')
+        if why == 'done':
+            self.ends(None)
+        self.preemptions += why == 'preempt' and self.begun is not None
+
+    def kept(self, by: int) -> tuple[object, ...]:
+        """All of it, with moments later."""
+        moments = (self.begun, self.called, self.active)
+        return self.standing, self.preemptions, self.stood, self.since + by, *(None if moment is None else moment + by for moment in moments)
+
+
+class Watch:
+    """What is kept of rows: an account of each thread, the word of each notification with the moment since which it is set, and what the rows since some
+    moment did."""
+
+    def __init__(self, system: System) -> None:
+        self.system = system
+        self.accounts = [Account(system, thread) for thread in range(len(system.threads))]
+        self.words = [(0, 0)] * len(system.notes)
+        self.clear()
+
+    def clear(self) -> None:
+        """Of what the rows did: threads whose context or whose round was compared with now, that ended a round, or are told of at all; words that were
+        taken, or in which a signal was held."""
+        self.contexts, self.rounds, self.ended, self.told, self.taken, self.held = (set() for _ in range(6))
+
+    def see(self, row: Row) -> None:
+        if row.kind == 'hold':
+            note, word = row.what
+            before, since = self.words[note]
+            self.words[note] = word, since if before else row.moment
+            self.held.add(note)
+        elif row.kind not in ('signal', 'arrive', 'order'):
+            self.see_thread(row, row.what[0], self.accounts[row.what[0]])
+
+    def see_thread(self, row: Row, thread: int, account: Account) -> None:
+        self.told.add(thread)
+        if row.kind == 'got':
+            note = row.what[1]
+            account.given(row.moment, self.words[note][1])
+            self.words[note] = 0, self.words[note][1]
+            self.taken.add(note)
+        elif row.kind == 'round':
+            account.ends(row.moment if account.waits is None else None)
+            self.ended.add(thread)
+        else:
+            account.told(row)
+        if row.kind == 'wake':
+            account.given(row.moment, row.moment)
+        if row.kind in ('wake', 'got', 'round'):
+            self.rounds.add(thread)
+        until = row.kind == 'stop' and row.what[3] is not None
+        if until or row.kind == 'wake' or row.kind == 'run' and self.system.is_bandwidth(self.system.context_of[thread]):
+            self.contexts.add(thread)
+
+
+class Kept(NamedTuple):
+    """All cores before a moment, and what was kept of the rows before it."""
+
+    moment: int
+    world: World
+    watch: Watch
+
+
+class Repeats(NamedTuple):
+    start: int
+    period: int
+    # whether horizons tell the same again and again
+    ends_recur: bool
+
+
+def of_thread(core: Core, thread: int) -> tuple[str, int, int]:
+    state = core.threads[thread]
+    return state.standing, state.item, state.left
+
+
+class Comparing:
+    """The present moment beside the kept one, for a set of cores."""
+
+    def __init__(self, kept: Kept, world: World, watch: Watch, group: CoreSet) -> None:
+        self.kept, self.world, self.watch, self.group = kept, world, watch, group
+        self.system, self.by = world.system, world.moment - kept.moment
+        self.threads = [thread for thread, core in enumerate(self.system.core_of) if core in group.cores]
+        self.notes = [note for note in range(len(self.system.notes)) if self.system.home(note) in group.cores]
+
+    def recurs(self) -> bool:
+        cores = [(self.kept.world.cores[core], self.world.cores[core]) for core in self.group.cores]
+        same = all(self.is_same(before, after) for before, after in cores) and self.mails_are_later()
+        return same and all(self.threads_are_later(*pair) and self.contexts_are_later(*pair) for pair in cores) and self.findings_recur()
+
+    def is_same(self, before: Core, after: Core) -> bool:
+        def ready(core: Core) -> list[int]:
+            return sorted(core.ready, key=self.system.priority, reverse=True)
+
+        releases = [(thread, date + self.by) for thread, date in before.releases] == after.releases
+        stand = all(of_thread(before, thread) == of_thread(after, thread) for thread in before.threads)
+        return releases and stand and before.running == after.running and before.notes == after.notes and ready(before) == ready(after)
+
+    def mails_are_later(self) -> bool:
+        before, after = ([mail for mail in world.mails if mail.note in self.notes] for world in (self.kept.world, self.world))
+        return [mail._replace(arrives=mail.arrives + self.by, made=mail.made + self.by) for mail in before] == after
+
+    def threads_are_later(self, before: Core, after: Core) -> bool:
+        """The rounds, of which no more end where there is a last one; the beginning of one may lag unless it was compared with now."""
+        for thread, state in before.threads.items():
+            later = after.threads[thread]
+            if self.system.rounds(thread) and state.round != later.round:
+                return False
+            if thread in self.watch.rounds and later.since != state.since + self.by:
+                return False
+        return True
+
+    def contexts_are_later(self, before: Core, after: Core) -> bool:
+        """The dates of a context may lag, all of them by the same, unless they were compared with now."""
+        compared = {self.system.context_of[thread] for thread in self.watch.contexts}
+        for number, context in before.contexts.items():
+            later = after.contexts[number]
+            if (context.config, context.left) != (later.config, later.left):
+                return False
+            if not context.is_slice:
+                lag = later.dates[0] - context.dates[0]
+                if [date + lag for date in context.dates] != later.dates or not 0 <= lag <= self.by or number in compared and lag != self.by:
+                    return False
+        return True
+
+    # ---- what is found
+
+    def is_later(self, thread: int) -> bool:
+        return self.kept.watch.accounts[thread].kept(self.by) == self.watch.accounts[thread].kept(0)
+
+    def word_is_later(self, note: int) -> bool:
+        return self.kept.watch.words[note][1] + self.by == self.watch.words[note][1]
+
+    def findings_recur(self) -> bool:
+        threads = all(thread not in self.watch.ended or self.is_later(thread) for thread in self.threads)
+        words = all(self.kept.watch.words[note][0] == self.watch.words[note][0] for note in self.notes)
+        return threads and words and all(note not in self.watch.taken or self.word_is_later(note) for note in self.notes)
+
+    def ends_recur(self) -> bool:
+        return all(self.end_recurs(thread) for thread in self.threads if self.system.deadline(thread))
+
+    def end_recurs(self, thread: int) -> bool:
+        """Whether horizons tell the same of the thread in each period, and the ends of one tell all between."""
+        note = self.system.first_wait(thread)
+        is_empty = note is None or self.kept.watch.words[note][0] == 0 and note not in self.watch.held
+        if note is not None and any(('wait', note) in script for other, script in enumerate(self.system.scripts) if other != thread):
+            return False
+        account = self.kept.watch.accounts[thread]
+        is_idle = thread not in self.watch.told and account.begun is None and (account.standing == 'done' or is_empty)
+        return is_idle or self.is_later(thread) and (is_empty or self.word_is_later(note))
+
+
+class Search:
+    """A model that goes on from moment to moment, and tells of each set where it repeats."""
+
+    def __init__(self, system: System, groups: Sequence[CoreSet]) -> None:
+        self.world, self.watch, self.groups = World(system), Watch(system), groups
+        self.first = max((order['at'] + 1 for order in system.orders), default=0)
+        self.told: list[Optional[Repeats]] = [None] * len(groups)
+        self.keep()
+
+    def keep(self) -> None:
+        self.kept = Kept(self.world.moment, copy.deepcopy(self.world), copy.deepcopy(self.watch))
+        self.watch.clear()
+
+    def turn(self) -> None:
+        for row in self.world.turn():
+            self.watch.see(row)
+
+    def skip(self, horizon: int) -> None:
+        """To the next moment at which some core does more than count a tick."""
+        while self.world.moment <= horizon and not self.world.is_busy():
+            self.turn()
+
+    def compare(self) -> None:
+        for place, group in enumerate(self.groups):
+            if self.told[place] is None and self.first <= self.kept.moment < self.world.moment:
+                found = Comparing(self.kept, self.world, self.watch, group)
+                if found.recurs():
+                    self.told[place] = Repeats(self.kept.moment, found.by, found.ends_recur())
+
+    def run(self, horizon: int) -> list[Optional[Repeats]]:
+        stretch = left = 1
+        while self.world.moment <= horizon and None in self.told:
+            if self.world.is_at_rest():
+                return self.rest()
+            if self.first <= self.world.moment:
+                if left == 0:
+                    self.keep()
+                    stretch *= 2
+                    left = stretch
+                left -= 1
+            self.turn()
+            if not self.world.is_at_rest():
+                self.skip(horizon)
+            self.compare()
+        return self.told
+
+    def rest(self) -> list[Optional[Repeats]]:
+        """What is at rest repeats with each tick."""
+        self.keep()
+        self.turn()
+        self.compare()
+        return self.told
+
+
+# ---- the program beside it
+
+
+def is_as_seen(claim: Claim, seen: Optional[Repeats]) -> bool:
+    return (claim.start, claim.period) == ((seen.start, seen.period) if seen else (None, None))
+
+
+class Trial:
+    def __init__(self, words) -> None:
+        self.checker = common.beside(common.built_program(words.program), 'mcscheck')
+        self.horizon, self.count, self.missed = words.horizon, Count(), 0
+
+    def look(self, name: str, text: str) -> None:
+        """A system, which may be refused."""
+        ran = common.run([self.checker, '--forever', f'--horizon={self.horizon}'], text.encode())
+        if ran.status == 1:
+            return
+        tables = tomllib.loads(text)
+        claims, groups = forever.claims_of(ran.stdout.decode()), forever.core_sets(tables)
+        self.count.expect(f'{name}: {ran}', len(claims) == len(groups))
+        for what, claim, seen in zip(self.names(name, groups), claims, Search(System(tables), groups).run(self.horizon)):
+            if seen and claim.start is None:
+                self.missed += 1
+                print(f'missed: {what}: {seen}')
+                continue
+            is_good = is_as_seen(claim, seen) and (not claim.is_clean or seen.ends_recur)
+            self.count.expect(f'{what}: {claim}, and the model sees {seen}', is_good)
+
+    def names(self, name: str, groups: Sequence[CoreSet]) -> Iterator[str]:
+        return (f'{name}, cores {group.name}' for group in groups)
+
+
+def main() -> None:
+    parser = common.asking_random(__doc__, 100)
+    parser.add_argument('--horizon', type=int, default=2000, help='up to which a repetition is looked for (default 2000)')
+    words = parser.parse_args()
+    trial = Trial(words)
+    for number in range(words.systems):
+        text = verdicts.text_of(verdicts.tables_of(random.Random(f'{words.seed} {number}')))
+        trial.look(f'random {words.seed} {number}', text)
+    print(f'missed {trial.missed}')
+    trial.count.end()
+
+
+if __name__ == '__main__':
+    main()

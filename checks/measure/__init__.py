@@ -1,1 +1,0 @@
-"""What measures the programs, and writes the tables of the pages."""

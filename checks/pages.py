@@ -1,0 +1,251 @@
+#!/usr/bin/env python3
+"""Tells whether the pages show what the built programs write: those of examples/, README.md and the guides of docs/. Each of their commands that runs
+a system is run, at the top of the repository. mcscheck is that beside the program that is tried, or the repository's; where there is none, its commands
+are skipped, and so are those of scripts over pandas where Debian's Python has none.
+
+The lines of a block that follows a command are lines of its output, in order; a page may leave lines out, and marks that by a line of two dots.
+Each command says nothing on standard error, and ends with status 0, or with 5 where its verdict is that something was found. So does that of each row
+of a table of questions and commands, and the words that the row names are in what it writes.
+
+The jobs of pipelines on docs/CI.md are YAML, and the lines of their scripts are run in a shell with an empty environment, for a system in which all is
+well and for one in which a deadline is missed."""
+from __future__ import annotations
+
+import functools
+import os
+import pathlib
+import re
+import shlex
+import sys
+import tempfile
+from collections.abc import Iterable, Iterator, Sequence
+
+sys.dont_write_bytecode = True
+try:
+    import yaml
+except ImportError:
+    yaml = None
+import common
+from common import TOP, Count, Ran
+
+PROGRAM = './mcsim'
+CHECKER = './mcscheck'
+LEFT_OUT = '..'
+# tools that run a program by themselves: the first mcsim, the second mcscheck
+ANALYSES = ' --analyse'
+LEAST = ' --least '
+# scripts of examples that ask the second for data frames, by Debian's Python
+FRAMES = ('examples/python/responses.py ',)
+DEBIAN_PYTHON = '/usr/bin/python3'
+# a search for a least value makes some hundred runs
+SECONDS = 600
+# the status of a verdict that is not clean, and the lines by which it is told
+FOUND = 5
+# the status of one for all time that is not known to be clean, its last line, and the line of a set that is clean
+NOT_KNOWN = 6
+SETS = re.compile(r'sets (\d+) repeating (\d+) findings (\d+)')
+CLEAN = 'nothing is ever found'
+FOREVER = ' --forever'
+COUNTS = re.compile(r'missed (\d+) overdue (\d+) lost (\d+) never (\d+) .*hints (\d+)')
+# a block that ends with the status of any of its verdicts
+EXITS = 'exit $status'
+NONE_WILL_DO = re.compile(r'.*: under none of .*')
+SOURCES = ('.toml', '.csv', '<<', '--random')
+# a block that writes files is run elsewhere
+WRITES = ' -o '
+GUIDES = [TOP / 'docs' / name for name in ('CI.md', 'FOREVER.md', 'KERNEL.md', 'LEFT_OUT.md', 'MODELLING.md', 'SWEEPS.md', 'WAYS_IN.md')]
+# pages with blocks beside those that a command wrote
+SHOW_OTHERS = (pathlib.Path('README.md'), pathlib.Path('examples', 'README.md'), pathlib.Path('docs', 'CI.md'), pathlib.Path('docs', 'WAYS_IN.md'))
+
+
+def are_in(lines: Iterable[str], others: Iterable[str]) -> bool:
+    """Whether these lines stand among the others, in order."""
+    rest = iter(others)
+    return all(line in rest for line in lines)
+
+
+def blocks_in(text: str) -> list[tuple[str, str]]:
+    """The blocks of a page's text: the word after the fence, and what stands in it."""
+    return re.findall(r'^```(\w*)\n(.*?)^```', text, re.M | re.S)
+
+
+def questions_in(text: str) -> Iterator[tuple[str, list[str]]]:
+    """The command of each row of a page's table of questions, and the words of its answer that the row names."""
+    for table in re.findall(r'^\| Question \| Command \|\n\|---\|---\|\n((?:\|.*\n)+)', text, re.M):
+        for row in table.splitlines():
+            if found := re.findall(r'`([^`]+)`', row):
+                yield found[0], found[1:]
+
+
+# a page may show once more what another one shows
+@functools.cache
+def ran(program: pathlib.Path, block: str) -> Ran:
+    """What a block of commands comes to, with this program in place of ./mcsim, its mcscheck in place of ./mcscheck, and both for the tools."""
+    block, environment = block.replace(PROGRAM, shlex.quote(str(program))), {**os.environ, 'MCSIM': str(program)}
+    if checker := common.checker_of(program):
+        block = block.replace(CHECKER, shlex.quote(str(checker)))
+        environment['MCSCHECK'] = str(checker)
+    return common.run(['sh', '-c', block], seconds=SECONDS, cwd=TOP, env=environment)
+
+
+def gives_a_verdict(block: str) -> bool:
+    return CHECKER in block or LEAST in block
+
+
+def status_of(block: str, written: Sequence[str]) -> int:
+    """The status with which a block is to end: that of its verdict, where no other command ends it."""
+    if EXITS in block:
+        return FOUND if any(is_found(line, block) for line in written) else 0
+    if FOREVER in block.rpartition('|')[2] and written:
+        return status_for_ever(written)
+    return FOUND if gives_a_verdict(block.rpartition('|')[2]) and written and is_found(written[-1], block) else 0
+
+
+def status_for_ever(written: Sequence[str]) -> int:
+    """That of a verdict for all time."""
+    told = SETS.fullmatch(written[-1])
+    if told is None or told[3] != '0':
+        return FOUND
+    return 0 if written.count(CLEAN) == int(told[1]) else NOT_KNOWN
+
+
+def is_found(line: str, block: str) -> bool:
+    """Whether a line is the last one of a verdict that is not clean."""
+    if counts := COUNTS.fullmatch(line):
+        return any(int(count) for count in counts.groups()[:None if '--strict' in block else -1])
+    return NONE_WILL_DO.fullmatch(line) is not None
+
+
+def is_shown(block: str, written: Sequence[str]) -> bool:
+    """Whether a block shows lines that were written."""
+    lines = [line for line in block.splitlines() if line != LEFT_OUT]
+    return bool(lines) and are_in(lines, written)
+
+
+def wants_pandas(block: str) -> bool:
+    return any(script in block for script in FRAMES)
+
+
+@functools.cache
+def has_pandas() -> bool:
+    """Whether Debian's Python has pandas; it is not loaded, which takes long on a busy machine."""
+    asking = 'import importlib.util, sys; sys.exit(importlib.util.find_spec("pandas") is None)'
+    return common.is_program(pathlib.Path(DEBIAN_PYTHON)) and common.run([DEBIAN_PYTHON, '-c', asking], seconds=SECONDS).status == 0
+
+
+def missing(block: str, has_checker: bool) -> str | None:
+    """What a block of commands needs and is not there, if anything."""
+    if not has_checker and (gives_a_verdict(block) or wants_pandas(block)):
+        return 'mcscheck'
+    return 'the package pandas of Python' if wants_pandas(block) and not has_pandas() else None
+
+
+def runs_a_system(block: str) -> bool:
+    """Whether a block of commands runs a program with a file, or with a text in the block."""
+    runs = PROGRAM in block or ANALYSES in block or gives_a_verdict(block) or wants_pandas(block)
+    return runs and any(source in block for source in SOURCES) and WRITES not in block
+
+
+def try_block(program: pathlib.Path, name: pathlib.Path, block: str, count: Count) -> list[str]:
+    """Tries a block of commands, and gives the lines that it wrote."""
+    status, stdout, stderr = ran(program, block.strip())
+    written = stdout.decode().splitlines()
+    is_good = status == status_of(block, written) and not stderr
+    count.expect(f'{name}: {block.strip()}: status {status}, {stderr.decode().strip()}', is_good)
+    return written
+
+
+def try_questions(program: pathlib.Path, page: pathlib.Path, count: Count) -> None:
+    """Tries the commands of a page's tables of questions; where a row says FILE it is for a file of the reader's own."""
+    name, has_checker = page.relative_to(TOP), common.checker_of(program) is not None
+    for command, named in questions_in(page.read_text()):
+        if not runs_a_system(command):
+            continue
+        if needed := missing(command, has_checker):
+            count.skip(f'{name}: {needed} is not there: {command}')
+            continue
+        words = ' '.join(try_block(program, name, command, count)).split()
+        for word in named:
+            count.expect(f'{name}: {command}: an answer without {word}', word in words)
+
+
+def try_page(program: pathlib.Path, page: pathlib.Path, count: Count) -> None:
+    """Tries a page. On those that show other blocks too, only one that follows a command directly is its output."""
+    name, has_checker = page.relative_to(TOP), common.checker_of(program) is not None
+    shows_others = name in SHOW_OTHERS
+    written: list[str] | None = None if shows_others else []
+    for kind, block in blocks_in(page.read_text()):
+        if kind == 'sh' and runs_a_system(block) and (needed := missing(block, has_checker)):
+            count.skip(f'{name}: {needed} is not there: {block.strip()}')
+            written = None
+        elif kind == 'sh' and runs_a_system(block):
+            written = try_block(program, name, block, count)
+        elif kind == '' and written is not None:
+            count.expect(f'{name}: a block that its command did not write: {block.splitlines()[:1]}', is_shown(block, written))
+            written = None if shows_others else written
+        elif shows_others:
+            written = None
+
+
+# ---- jobs of pipelines
+
+
+JOBS = TOP / 'docs' / 'CI.md'
+# what a job gets from elsewhere
+FETCHES = ('apt-get ', 'git clone ')
+GOOD, BAD = (common.DATA / 'examples' / f'{name}.toml' for name in ('refills_enough', 'refills_too_few'))
+
+
+def script_lines(job: object) -> Iterator[str]:
+    """The lines that a job gives to a shell."""
+    if isinstance(job, dict):
+        for key, value in job.items():
+            if key in ('run', 'script', 'before_script'):
+                yield from [value] if isinstance(value, str) else value
+            else:
+                yield from script_lines(value)
+    elif isinstance(job, list):
+        for part in job:
+            yield from script_lines(part)
+
+
+def ran_in_a_job(program: pathlib.Path, checker: pathlib.Path, line: str, system: pathlib.Path) -> Ran:
+    """What a line comes to where a checkout of the repository is mcsim, a copy of the checker ci/mcscheck, and a system system.toml."""
+    with tempfile.TemporaryDirectory() as place:
+        folder = pathlib.Path(place)
+        links = {'mcsim/tools': TOP / 'tools', 'mcsim/mcsim': program, 'mcsim/mcscheck': checker, 'ci/mcscheck': checker, 'system.toml': system}
+        for name, target in links.items():
+            (folder / name).parent.mkdir(exist_ok=True)
+            (folder / name).symlink_to(target)
+        path = f'{pathlib.Path(sys.executable).parent}:/usr/bin:/bin'
+        return common.run(['sh', '-ec', line], seconds=SECONDS, cwd=folder, env={'PATH': path, 'MCSIM': str(program), 'PYTHONDONTWRITEBYTECODE': '1'})
+
+
+def try_jobs(program: pathlib.Path, count: Count) -> None:
+    checker = common.checker_of(program)
+    if yaml is None or checker is None:
+        count.skip(f'{JOBS.relative_to(TOP)}: jobs: {"mcscheck" if yaml else "the package yaml of Python"} is not there')
+        return
+    for block in (block for kind, block in blocks_in(JOBS.read_text()) if kind == 'yaml'):
+        lines = list(script_lines(yaml.safe_load(block)))
+        count.expect(f'{JOBS.relative_to(TOP)}: a job without a verdict: {lines}', any('mcscheck system.toml' in line for line in lines))
+        for line in (line for line in lines if not line.startswith(FETCHES)):
+            if needed := missing(line, True):
+                count.skip(f'{JOBS.relative_to(TOP)}: {needed} is not there: {line}')
+                continue
+            ends = [ran_in_a_job(program, checker, line, system).status for system in (GOOD, BAD)]
+            count.expect(f'{JOBS.relative_to(TOP)}: {line}: status {ends}', ends == ([0, FOUND] if 'mcscheck' in line else [0, 0]))
+
+
+def main() -> None:
+    program = common.built_program(common.asking_program(__doc__).parse_args().program)
+    count = Count()
+    for page in (*sorted((TOP / 'examples').glob('*.md')), TOP / 'README.md', *GUIDES):
+        try_questions(program, page, count)
+        try_page(program, page, count)
+    try_jobs(program, count)
+    count.end()
+
+
+if __name__ == '__main__':
+    main()

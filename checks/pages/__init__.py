@@ -1,1 +1,0 @@
-"""What holds the pages to the programs."""

@@ -1,1 +1,0 @@
-"""What tries the built programs, the library for C, and the tools."""

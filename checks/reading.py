@@ -1,0 +1,401 @@
+"""What mcscheck has to write of a system, found a second time: from the file and the rows that mcsim writes of it.
+
+It follows the definitions of crates/mcs_verdict and crates/mcs_hints, and docs/FORMAT.md. Nothing is kept from one row to the next: what is asked
+of a moment is looked up in the rows before it, tick by tick. So it takes small systems alone."""
+from __future__ import annotations
+
+import bisect
+import collections
+import csv
+import functools
+import io
+import json
+from collections.abc import Iterator, Sequence
+from fractions import Fraction
+from typing import Any, NamedTuple, Optional
+
+Tables = dict[str, Any]
+# the values of a line by their names, of which some may be missing
+Values = dict[str, Any]
+
+TELLING = ('release', 'run', 'stop', 'wake')
+OF_THREADS = (*TELLING, 'got', 'round')
+PARTS = ('ready', 'running', 'throttled', 'blocked', 'woken')
+STANDINGS = ('pending', *PARTS, 'done')
+KINDS = ('missed', 'overdue', 'lost', 'never', 'merged', 'allowed', 'hints')
+FOUND = KINDS[:4]
+# the words of a line before those that have their name before them
+FIRST = {'miss': ('thread', 'number', 'response'), 'overdue': ('thread',), 'lost': ('note', 'word'), 'never': ('thread',), 'job': ('thread', 'number')}
+COLUMNS = {
+    'findings': ('moment', 'core', 'kind', 'thread', 'note', 'word', 'number', 'response', 'deadline', 'activated', 'queued', *PARTS),
+    'jobs': ('moment', 'core', 'kind', 'thread', 'number', 'activated', 'begun', 'response', 'queued', 'preemptions', *PARTS),
+    'table': (
+        'kind', 'thread', 'core', 'priority', 'budget', 'period', 'granted', 'used', 'rounds', 'greatest', 'p50', 'p90', 'p99', 'deadline', 'margin',
+        'missed', 'late', 'lost', 'merged', *(f'ticks_{standing}' for standing in STANDINGS),
+    ),
+}
+HINTS = {'note': 'unsignalled', 'context': 'unbound', 'core': 'overcommitted'}
+
+
+class Row(NamedTuple):
+    """A row of a schedule: its place among all of them, its moment, its core, and its further words."""
+
+    place: int
+    moment: int
+    core: int
+    what: list[str]
+
+    @property
+    def kind(self) -> str:
+        return self.what[0]
+
+    @property
+    def thread(self) -> Optional[str]:
+        return self.what[1] if self.kind in OF_THREADS else None
+
+    @property
+    def note(self) -> Optional[str]:
+        """The notification whose word the row tells or empties."""
+        return {'hold': self.what[1], 'got': self.what[2]}[self.kind] if self.kind in ('hold', 'got') else None
+
+
+def rows_of(text: str) -> list[Row]:
+    lines = (line.split() for line in text.splitlines())
+    return [Row(place, int(moment), int(core), what) for place, (moment, core, *what) in enumerate(lines)]
+
+
+def standing_after(row: Row, following: Optional[Row]) -> str:
+    """How a thread stands from a row of it on, up to the next one that tells how it stands, where there is one."""
+    if row.kind == 'run':
+        return 'running'
+    if row.kind == 'release':
+        return 'ready'
+    if row.kind == 'wake':
+        return {'release': 'throttled', 'run': 'ready'}.get(following.kind, 'woken') if following else 'woken'
+    why = row.what[2]
+    if why in ('wait', 'done'):
+        return {'wait': 'blocked', 'done': 'done'}[why]
+    # with `until` and a date
+    return 'throttled' if len(row.what) == 6 else 'ready'
+
+
+class Past:
+    """The rows before a place of a schedule."""
+
+    def __init__(self, schedule: Schedule, place: int) -> None:
+        self.schedule, self.place = schedule, place
+
+    def before(self, rows: Sequence[Row]) -> Sequence[Row]:
+        return rows[:bisect.bisect_left(rows, self.place, key=lambda row: row.place)]
+
+    def of_thread(self, thread: str) -> Sequence[Row]:
+        return self.before(self.schedule.of_thread[thread])
+
+    def of_note(self, note: str) -> Sequence[Row]:
+        return self.before(self.schedule.of_note[note])
+
+    def standings(self, thread: str, begin: int, end: int) -> list[str]:
+        """How the thread stands in each tick of [begin, end)."""
+        telling = [row for row in self.of_thread(thread) if row.kind in TELLING]
+        moments = [row.moment for row in telling]
+
+        def at(tick: int) -> str:
+            place = bisect.bisect_right(moments, tick)
+            following = telling[place] if place < len(telling) else None
+            return standing_after(telling[place - 1], following) if place else 'pending'
+
+        return [at(tick) for tick in range(begin, end)]
+
+    def is_done(self, thread: str) -> bool:
+        return any(row.kind == 'stop' and row.what[2] == 'done' for row in self.of_thread(thread))
+
+    def word(self, note: str) -> tuple[int, Optional[int]]:
+        """The notification's word, and since when it is not 0."""
+        told = self.of_note(note)
+        taken = next((place for place in reversed(range(len(told))) if told[place].kind == 'got'), -1)
+        holds = told[taken + 1:]
+        return (int(holds[-1].what[2]), holds[0].moment) if holds else (0, None)
+
+
+class Schedule:
+    """The rows of a schedule, and those of each thread and of each notification."""
+
+    def __init__(self, text: str) -> None:
+        self.rows = rows_of(text)
+        self.of_thread: dict[str, list[Row]] = collections.defaultdict(list)
+        self.of_note: dict[str, list[Row]] = collections.defaultdict(list)
+        for row in self.rows:
+            for name, rows in ((row.thread, self.of_thread), (row.note, self.of_note)):
+                if name is not None:
+                    rows[name].append(row)
+
+
+class Round(NamedTuple):
+    """A round: when it began, when it was activated, how the thread stood in each tick from its beginning up to a moment, and its rows."""
+
+    begun: int
+    activated: Optional[int]
+    standings: list[str]
+    rows: Sequence[Row]
+
+    @property
+    def queued(self) -> int:
+        return max(self.begun - (self.activated or 0), 0)
+
+    @property
+    def preemptions(self) -> int:
+        return sum(row.kind == 'stop' and row.what[2] == 'preempt' for row in self.rows)
+
+    @property
+    def parts(self) -> str:
+        """How many ticks the thread stood in each way, as words."""
+        parts = collections.Counter(self.standings)
+        return ' '.join(f'{part} {parts[part]}' for part in PARTS)
+
+
+class Wanted(NamedTuple):
+    """What a run of mcscheck has to come to."""
+
+    text: str
+    counts: dict[str, int]
+
+    def status(self, is_strict: bool = False) -> int:
+        return 5 if any(self.counts[kind] for kind in FOUND) or is_strict and self.counts['hints'] else 0
+
+
+class Reading:
+    """A system and the rows of its schedule up to a horizon."""
+
+    def __init__(self, tables: Tables, text: str, horizon: int) -> None:
+        self.schedule, self.horizon = Schedule(text), horizon
+        self.rows, self.whole = self.schedule.rows, Past(self.schedule, len(self.schedule.rows))
+        self.contexts = {context['name']: context for context in tables.get('context', [])}
+        self.threads = {thread['name']: thread for thread in tables.get('thread', [])}
+        self.notes = [note['name'] for note in tables.get('note', [])]
+        self.cores = tables['cores']
+        self.ordered = {order['context'] for order in tables.get('order', [])}
+
+    def past(self, row: Row) -> Past:
+        return Past(self.schedule, row.place)
+
+    def deadline(self, thread: str) -> int:
+        return self.threads[thread].get('deadline', 0)
+
+    def first_wait(self, thread: str) -> Optional[str]:
+        """The notification on which the thread's script waits first, where it begins with a wait."""
+        word, *rest = self.threads[thread]['script'][0].split()
+        return rest[0] if word == 'wait' else None
+
+    def round_at(self, past: Past, thread: str, moment: int) -> Optional[Round]:
+        """The round that is under way at a moment, by the rows so far."""
+        if past.is_done(thread):
+            return None
+        own = past.of_thread(thread)
+        last = max((place for place, row in enumerate(own) if row.kind == 'round'), default=-1)
+        if self.first_wait(thread):
+            return self.round_of_word(past, thread, own[last + 1:], moment)
+        begun = own[last].moment if last >= 0 else self.threads[thread].get('start', 0)
+        standings = past.standings(thread, begun, moment)
+        active = (begun + place for place, standing in enumerate(standings) if standing in ('ready', 'running'))
+        return Round(begun, next(active, None), standings, own[last + 1:])
+
+    def round_of_word(self, past: Past, thread: str, own: Sequence[Row], moment: int) -> Optional[Round]:
+        """The same where the script begins with a wait, by the thread's rows after its last round."""
+        place = next((place for place, row in enumerate(own) if row.kind in ('got', 'wake')), None)
+        if place is None:
+            return None
+        first = own[place]
+        activated = first.moment if first.kind == 'wake' else self.past(first).word(first.what[2])[1]
+        return Round(first.moment, activated, past.standings(thread, first.moment, moment), own[place:])
+
+    @functools.cached_property
+    def ended(self) -> dict[int, Optional[Round]]:
+        """For the place of each row that ends a round this round."""
+        ends = ((row, row.what[1]) for row in self.rows if row.kind == 'round')
+        return {row.place: self.round_at(self.past(row), thread, row.moment) for row, thread in ends}
+
+    def late(self, thread: str, round_: Round) -> str:
+        """The words of a round that is late, from its deadline on."""
+        return f'deadline {self.deadline(thread)} activated {round_.activated} queued {round_.queued} {round_.parts}'
+
+    def found(self, row: Row) -> Optional[tuple[str, str]]:
+        """What a row tells: its kind and its line; of a merged signal there is no line."""
+        if row.kind == 'hold':
+            before, word = self.past(row).word(row.what[1])[0], int(row.what[2])
+            if before == word:
+                return 'lost', f'{row.moment} {row.core} lost {row.what[1]} {word}'
+            return ('merged', '') if before else None
+        if row.kind == 'round':
+            _, thread, number, _ = row.what
+            ended = self.ended[row.place]
+            response = row.moment - ended.activated
+            if 0 < self.deadline(thread) < response:
+                return 'missed', f'{row.moment} {row.core} miss {thread} {number} {response} {self.late(thread, ended)}'
+        return None
+
+    def overdue(self, thread: str) -> Optional[Round]:
+        """The round that can only miss its deadline, if there is one: under way, or yet to begin by a word that is held."""
+        waits = self.first_wait(thread)
+        pending = self.round_at(self.whole, thread, self.horizon)
+        if pending is None and waits and not self.whole.is_done(thread):
+            pending = Round(self.horizon, self.whole.word(waits)[1], [], [])
+        if pending is None or pending.activated is None:
+            return None
+        return pending if 0 < self.deadline(thread) <= self.horizon - pending.activated else None
+
+    def was_activated(self, thread: str) -> bool:
+        waits = self.first_wait(thread)
+        if waits:
+            return self.whole.word(waits)[0] > 0 or any(row.kind in ('got', 'wake') for row in self.whole.of_thread(thread))
+        return bool({'ready', 'running'} & set(self.whole.standings(thread, 0, self.horizon)))
+
+    def found_at_end(self, thread: str) -> Optional[tuple[str, str]]:
+        head = f'{self.horizon} {self.contexts[self.threads[thread]["context"]]["core"]}'
+        if late := self.overdue(thread):
+            return 'overdue', f'{head} overdue {thread} {self.late(thread, late)}'
+        if self.deadline(thread) and not self.was_activated(thread):
+            return 'never', f'{head} never {thread} deadline {self.deadline(thread)}'
+        return None
+
+    @functools.cached_property
+    def all_found(self) -> list[tuple[str, str]]:
+        """The kind and the line of all that is found."""
+        return list(filter(None, [*map(self.found, self.rows), *map(self.found_at_end, self.threads)]))
+
+    def jobs(self) -> Iterator[str]:
+        """The line of each round that ended."""
+        for row in self.rows:
+            if row.kind == 'round':
+                _, thread, number, _ = row.what
+                job = self.ended[row.place]
+                times = f'activated {job.activated} begun {job.begun} response {row.moment - job.activated} queued {job.queued}'
+                yield f'{row.moment} {row.core} job {thread} {number} {times} preemptions {job.preemptions} {job.parts}'
+
+    def signals(self, note: str) -> dict[str, int]:
+        """How many signals of the notification were lost, and how many merged."""
+        kinds = collections.Counter(found[0] for row in self.rows if row.kind == 'hold' and row.what[1] == note and (found := self.found(row)))
+        return {'lost': kinds['lost'], 'merged': kinds['merged']}
+
+    def figures(self, thread: str) -> Values:
+        """What the table tells of a thread."""
+        part = self.threads[thread]
+        context, deadline, waits = self.contexts[part['context']], self.deadline(thread), self.first_wait(thread)
+        ends = [row for row in self.rows if row.kind == 'round' and row.what[1] == thread]
+        responses = sorted(row.moment - self.ended[row.place].activated for row in ends)
+        greatest = responses[-1] if responses else None
+        stood = collections.Counter(self.whole.standings(thread, 0, self.horizon))
+        return {
+            'kind': 'thread', 'thread': thread, 'core': context['core'], 'priority': part['priority'],
+            'budget': context['budget'], 'period': context['period'], 'granted': context['budget'] * 1_000_000 // context['period'],
+            'used': stood['running'] * 1_000_000 // self.horizon if self.horizon else 0, 'rounds': len(responses), 'greatest': greatest,
+            **{f'p{percent}': percentile(responses, percent) for percent in (50, 90, 99)}, 'deadline': deadline or None,
+            'margin': deadline - greatest if deadline and greatest is not None else None,
+            'missed': sum(0 < deadline < response for response in responses), 'late': sum(0 < deadline < int(row.what[3]) for row in ends),
+            **(self.signals(waits) if waits else {'lost': None, 'merged': None}),
+            **{f'ticks_{standing}': stood[standing] for standing in STANDINGS},
+        }
+
+    def unused(self, name: str) -> Values:
+        """What the table tells of a context: what it could let run up to the horizon, less what its threads ran."""
+        budget, period = (self.contexts[name][key] for key in ('budget', 'period'))
+        bound = [thread for thread, part in self.threads.items() if part['context'] == name]
+        ran = sum(self.whole.standings(thread, 0, self.horizon).count('running') for thread in bound)
+        most = budget * (self.horizon // period) + min(budget, self.horizon % period)
+        return {'kind': 'context', 'context': name, 'unused': None if name in self.ordered else max(most - ran, 0)}
+
+    def table(self) -> list[Values]:
+        return [*map(self.figures, self.threads), *map(self.unused, self.contexts)]
+
+    def hints(self) -> Iterator[str]:
+        items = [item.split() for thread in self.threads.values() for item in thread['script']]
+        used = {thread['context'] for thread in self.threads.values()}
+        for note in self.notes:
+            if ['wait', note] in items and not any(item[0] == 'signal' and item[1] == note for item in items):
+                yield f'hint note {note} is waited on and no script signals it'
+        yield from (f'hint context {name} has no thread' for name in self.contexts if name not in used)
+        for core in range(self.cores):
+            on_core = [context for name, context in self.contexts.items() if context['core'] == core and name in used]
+            parts = [Fraction(c['budget'], c['period']) for c in on_core if c['budget'] < c['period']]
+            if sum(parts) > 1:
+                yield f'hint core {core} grants {sum(int(part * 1_000_000) for part in parts)} of 1000000'
+
+    def wanted(self, allowed: Sequence[str] = (), show: str = 'findings', form: str = 'text') -> Wanted:
+        """What is written of all this, where these notifications may lose signals: findings and hints, jobs, or figures, and what is counted."""
+        counts, lines, hints = dict.fromkeys(KINDS, 0), [], list(self.hints())
+        for kind, line in self.all_found:
+            if kind == 'lost' and line.split()[3] in allowed:
+                kind, line = 'allowed', ''
+            counts[kind] += 1
+            lines += [line] if line else []
+        counts['hints'] = len(hints)
+        shown, hinted = (lines, hints) if show in ('findings', 'both') else ([*self.jobs()] if show == 'jobs' else [], [])
+        figures = self.table() if show in ('table', 'both') else []
+        if form == 'csv':
+            rows = [*map(values_of, shown), *(values for values in figures if values['kind'] == 'thread')]
+            return Wanted(rows_text(COLUMNS[show], rows), counts)
+        if form == 'json':
+            known = ({name: value for name, value in values.items() if value is not None} for values in figures)
+            objects = [*map(values_of, shown), *map(values_of_hint, hinted), *known, {'kind': 'counts', **counts}]
+            return Wanted(''.join(json.dumps(each, separators=(',', ':')) + '\n' for each in objects), counts)
+        told = [*shown, *hinted, *map(line_of, figures), ' '.join(f'{kind} {many}' for kind, many in counts.items())]
+        return Wanted(''.join(f'{line}\n' for line in told), counts)
+
+
+def percentile(responses: Sequence[int], percent: int) -> Optional[int]:
+    """The percentile of responses in rising order, by nearest rank, as the end of its bucket: from 128 on there are 64 between two powers of two."""
+    if not responses:
+        return None
+    value = responses[-(-percent * len(responses) // 100) - 1]
+    width = 1 if value < 128 else 2 ** (value.bit_length() - 7)
+    return min(value - value % width + width - 1, responses[-1])
+
+
+def line_of(values: Values) -> str:
+    """Figures as a line of text: all but the kind, each behind its name."""
+    return ' '.join(f'{name} {"-" if value is None else value}' for name, value in values.items() if name != 'kind')
+
+
+def values_of(line: str) -> dict[str, int | str]:
+    """The values of a line of a finding or a job, by their names."""
+    moment, core, kind, *words = line.split()
+    first = FIRST[kind]
+    pairs = [*zip(first, words), *zip(words[len(first)::2], words[len(first) + 1::2])]
+    numbers = {name: int(word) if name not in ('thread', 'note') else word for name, word in pairs}
+    return {'moment': int(moment), 'core': int(core), 'kind': kind, **numbers}
+
+
+def values_of_hint(line: str) -> dict[str, int | str]:
+    _, what, name, *rest = line.split()
+    values = {'core': int(name), 'grants': int(rest[1])} if what == 'core' else {what: name}
+    return {'kind': 'hint', 'hint': HINTS[what], **values}
+
+
+def rows_text(columns: Sequence[str], rows: Sequence[Values]) -> str:
+    """These values as rows of CSV."""
+    text = io.StringIO()
+    writer = csv.DictWriter(text, columns, lineterminator='\n')
+    writer.writeheader()
+    writer.writerows(rows)
+    return text.getvalue()
+
+
+def distance(name: str, other: str) -> int:
+    """How many characters have to be put in, taken out or changed to make one of the other."""
+
+    @functools.cache
+    def left(i: int, j: int) -> int:
+        if i == 0 or j == 0:
+            return i + j
+        return min(left(i - 1, j) + 1, left(i, j - 1) + 1, left(i - 1, j - 1) + (name[i - 1] != other[j - 1]))
+
+    return left(len(name), len(other))
+
+
+# what is said where rows of findings and of figures are asked for
+MIXED = 'mcscheck: --format csv: rows are of one kind: --show findings, jobs or table\n'
+
+
+def unknown_note(name: str, notes: Sequence[str]) -> str:
+    """What is said of a notification that the system has not; `min` takes the first of the nearest."""
+    near = f'the nearest is {min(notes, key=lambda note: distance(name, note))}' if notes else 'there is none'
+    return f'mcscheck: --allow-lost: no notification is called "{name}": {near}\n'

@@ -1,0 +1,119 @@
+"""Runs `rt ci` with the words that follow FILE, and writes to FILE, as JSON, what each of the gate's tasks took; for gate.py.
+
+    python3 timed_rt.py FILE [WORD..]
+
+rt has no option that tells times, so it is loaded as a module and three calls are replaced, none of which changes what the gate does: the one that
+runs tasks side by side (there each task gets its clock), the pool in which a task starts commands (its threads count for that task), and the one
+by which Python waits for a process (there the processor's seconds come from)."""
+from __future__ import annotations
+
+import collections
+import importlib.machinery
+import importlib.util
+import json
+import os
+import pathlib
+import shutil
+import sys
+import threading
+import time
+import types
+from collections.abc import Callable
+from concurrent.futures import Future, ThreadPoolExecutor
+from typing import Any
+
+# (crate, part) of a task, and the number of an edit
+Key = tuple
+
+here = threading.local()
+counting = threading.Lock()
+seconds: dict[Key | None, float] = collections.defaultdict(float)
+clocks: dict[Key, tuple[float, float]] = {}
+tasks_seen: dict[Key, tuple] = {}
+began = time.monotonic()
+
+
+def loaded(path: str) -> types.ModuleType:
+    """The command rt as a module."""
+    loader = importlib.machinery.SourceFileLoader('rt_main', path)
+    module = importlib.util.module_from_spec(importlib.util.spec_from_loader('rt_main', loader))
+    loader.exec_module(module)
+    return module
+
+
+def counted_wait(process: int, flags: int) -> tuple[int, int]:
+    """As os.waitpid; the seconds of a process that has ended are those of this thread's task."""
+    ended, status, used = os.wait4(process, flags)
+    if ended:
+        with counting:
+            seconds[getattr(here, 'task', None)] += used.ru_utime + used.ru_stime
+    return ended, status
+
+
+def clocked(key: Key, call: Callable[[Any, int], Any]) -> Callable[[Any, int], Any]:
+    """The call of a task, which tells when it began and when it ended."""
+
+    def run(given: Any, jobs: int) -> Any:
+        here.task = key
+        started = time.monotonic() - began
+        try:
+            return call(given, jobs)
+        finally:
+            clocks[key] = started, time.monotonic() - began
+            here.task = None
+
+    return run
+
+
+class Counted(ThreadPoolExecutor):
+    """Threads that count for the task of the thread that hands them work."""
+
+    def submit(self, call: Callable, /, *given: Any, **named: Any) -> Future:
+        return super().submit(self.within, getattr(here, 'task', None), call, *given, **named)
+
+    @staticmethod
+    def within(task: Key | None, call: Callable, *given: Any, **named: Any) -> Any:
+        here.task = task
+        return call(*given, **named)
+
+
+def hook(rt: types.ModuleType) -> None:
+    """Replaces the three calls."""
+    in_lanes = rt.in_lanes
+
+    def clocked_lanes(tasks: dict[Key, tuple]) -> Any:
+        tasks_seen.update(tasks)
+        return in_lanes({key: (*task[:3], clocked(key, task[3])) for key, task in tasks.items()})
+
+    rt.in_lanes = clocked_lanes
+    rt.rtlib.ThreadPoolExecutor = Counted
+    os.waitpid = counted_wait
+
+
+def told() -> dict[str, Any]:
+    """All that was measured. A task names those that it waits for by their places in the list."""
+    place = {key: number for number, key in enumerate(tasks_seen)}
+    tasks = [
+        {
+            'crate': key[0], 'part': key[1], 'number': key[2] if len(key) > 2 else None, 'waits': [place[it] for it in waits], 'lines': lines,
+            'seconds': seconds[key], 'began': clocks.get(key, (0, 0))[0], 'ended': clocks.get(key, (0, 0))[1],
+        }
+        for key, (waits, lines, *_) in tasks_seen.items()
+    ]
+    return {'tasks': tasks, 'runs': seconds[None], 'minutes': (time.monotonic() - began) / 60}
+
+
+def main() -> int:
+    file, words = sys.argv[1], sys.argv[2:]
+    path = os.path.realpath(shutil.which('rt') or sys.exit('timed_rt.py: the command rt is not on PATH'))
+    # rt reads its own words from here, too
+    sys.argv = ['rt', 'ci', *words]
+    rt = loaded(path)
+    hook(rt)
+    status = rt.main(['ci', *words])
+    pathlib.Path(file).write_text(json.dumps(told()))
+    return status
+
+
+if __name__ == '__main__':
+    sys.exit(main())

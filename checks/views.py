@@ -1,0 +1,273 @@
+#!/usr/bin/env python3
+"""Tells whether the pages of tools/view show what schedules say, in a real browser: a headless Chromium, where one is installed.
+
+Each system is drawn as a page and opened. Bars, signs and lines that stand in the page are counted, and the ticks of a thread's bars summed, and held
+against the rows, which are read here once more in another way. Then the wheel is turned, the picture is drawn aside, a bar is pointed at, and a
+finding and a thread of the table are chosen: what is drawn stays the same, and the page throws nothing. At last a page of tools/live follows its file."""
+from __future__ import annotations
+
+import collections
+import contextlib
+import os
+import pathlib
+import random
+import subprocess
+import sys
+import tempfile
+import time
+import tomllib
+from collections.abc import Iterator, Sequence
+from typing import Any, Optional
+
+sys.dont_write_bytecode = True
+import browser
+import common
+import random_systems
+from browser import Browser
+from common import DATA, TOP, Count
+
+HORIZONS = (12, 60, 300)
+SYSTEMS = 12
+COUNTED = """(() => {
+  const found = {}, svg = document.querySelector('#draw svg'), scale = svg.dataset.wide / (svg.dataset.b - svg.dataset.a);
+  const tell = (name, many) => found[name] = (found[name] || 0) + many;
+  for (const sign of document.querySelectorAll('#marks g.M use')) tell(sign.getAttribute('href').slice(1).replace(/-s$/, ''), 1);
+  for (const lane of document.querySelectorAll('g.T')) for (const bar of lane.querySelectorAll('rect')) {
+    const kind = bar.classList[0];
+    tell(kind, 1);
+    tell(lane.dataset.name + ' ' + kind, Math.round(bar.getAttribute('width') / scale));
+  }
+  tell('on', document.querySelectorAll('rect.on').length);
+  return found;
+})()"""
+DRAWN = 'new Promise(done => requestAnimationFrame(() => requestAnimationFrame(done)))'
+PLACE = "document.querySelector('#draw .z').getAttribute('transform')"
+A_BAR = """(() => {
+  const bars = [...document.querySelectorAll('g.T rect.running')].map(bar => bar.getBoundingClientRect());
+  const bar = bars.find(bar => bar.width > 3 && bar.bottom < innerHeight && bar.left > 176 && bar.right < innerWidth);
+  return bar ? [bar.x + bar.width / 2, bar.bottom - 2] : null;
+})()"""
+TIP = "document.querySelector('#tip').style.display === 'block' ? document.querySelector('#tip').textContent : ''"
+
+Row = list[str]
+
+
+class Expected:
+    """What a page has to have, from all rows of a schedule at once."""
+
+    def __init__(self, system: bytes, text: str, horizon: int) -> None:
+        tables = tomllib.loads(system.decode())
+        self.threads = {thread['name']: thread for thread in tables['thread']}
+        self.with_thread = {thread['context'] for thread in tables['thread']}
+        self.waited = {item.split()[1] for thread in self.threads.values() for item in thread['script'] if item.split()[0] == 'wait'}
+        self.rows = [line.split() for line in text.splitlines()]
+        self.horizon = horizon
+        self.count: collections.Counter[str] = collections.Counter()
+        for name in self.threads:
+            own = [row for row in self.rows if row[2] in ('run', 'stop', 'release', 'wake', 'got', 'round') and row[3] == name]
+            self.stands(name, [row for row in own if row[2] in ('run', 'stop', 'release', 'wake')])
+            self.rounds(name)
+        self.signals()
+        self.count['on'] = self.count['running']
+
+    def standing(self, row: Row, after: Optional[Row]) -> Optional[str]:
+        if row[2] in ('run', 'release'):
+            return {'run': 'running', 'release': 'ready'}[row[2]]
+        if row[2] == 'wake':
+            # what follows the wake says what it was; where nothing does, the page knows more than the rows
+            return 'woken' if after is None else 'throttled' if after[2] == 'release' else 'ready'
+        return 'throttled' if len(row) == 8 else {'wait': 'blocked', 'done': None}.get(row[4], 'ready')
+
+    def stands(self, name: str, own: Sequence[Row]) -> None:
+        """How a thread stands, as (begin, end, standing); the last one goes on beyond the horizon, which is a moment too."""
+        ends = [int(row[0]) for row in own[1:]] + [self.horizon + 1]
+        kinds = [self.standing(row, after) for row, after in zip(own, [*own[1:], None])]
+        self.segments = [(int(row[0]), end, kind) for row, end, kind in zip(own, ends, kinds) if int(row[0]) < end]
+        for begin, end, kind in self.segments:
+            length = min(end, self.horizon) - begin
+            if kind and length:
+                self.count[kind] += 1
+                self.count[f'{name} {kind}'] += length
+
+    def first_ready(self, begun: int) -> Optional[int]:
+        """The first moment from a round's beginning on at which the thread is ready or runs."""
+        return next((max(begin, begun) for begin, end, kind in self.segments if end > begun and kind in ('ready', 'running')), None)
+
+    def rounds(self, name: str) -> None:
+        """Activations, deadlines and ends of a thread's rounds, and of the one that is open at the horizon."""
+        first = self.threads[name]['script'][0].split()
+        note = first[1] if first[0] == 'wait' else None
+        begun, activated, first_set, is_done = self.segments[0][0] if self.segments else None, None, None, False
+        for moment, _, kind, *rest in self.rows:
+            if kind == 'hold' and rest[0] == note and first_set is None:
+                first_set = int(moment)
+            elif kind == 'got' and rest[1] == note:
+                activated = first_set if rest[0] == name and activated is None else activated
+                first_set = None
+            elif kind == 'wake' and rest[0] == name and note and activated is None:
+                activated = int(moment)
+            elif kind == 'round' and rest[0] == name:
+                self.round(name, activated if note else self.first_ready(begun), int(moment))
+                begun, activated = int(moment), None
+            elif kind == 'stop' and rest[:2] == [name, 'done']:
+                is_done = True
+        if begun is not None and not is_done:
+            self.round(name, (first_set if activated is None else activated) if note else self.first_ready(begun), None)
+
+    def round(self, name: str, activated: Optional[int], end: Optional[int]) -> None:
+        if activated is None:
+            return
+        deadline = self.threads[name].get('deadline', 0)
+        due, until = activated + deadline, self.horizon if end is None else end
+        is_bad = bool(deadline) and (due <= until if end is None else due < until)
+        self.count['up'] += 1
+        self.count['down'] += bool(deadline) and due <= self.horizon
+        self.count['late'] += is_bad and due < until
+        if end is not None:
+            self.count['endlate' if is_bad else 'end'] += 1
+
+    def signals(self) -> None:
+        words: collections.Counter[str] = collections.Counter()
+        for row in self.rows:
+            if row[2] == 'signal':
+                self.count['made'] += 1
+            elif row[2] == 'hold':
+                if row[3] in self.waited:
+                    self.count['lost' if words[row[3]] == int(row[4]) else 'hold'] += 1
+                words[row[3]] = int(row[4])
+            elif row[2] == 'got':
+                words[row[4]] = 0
+            elif row[2] == 'order' and row[3] in self.with_thread:
+                self.count['order'] += 1
+
+
+def is_apart(kind: str) -> bool:
+    """Whether a kind is counted by itself. At the end of the rows the page knows whether a woken thread is ready or throttled, and they do not."""
+    return kind.split()[-1] not in ('ready', 'throttled', 'woken', 'resp', 'queued', 'late') or kind == 'late'
+
+
+def differences(found: dict[str, int], wanted: dict[str, int]) -> list[str]:
+    kinds = {*found, *wanted}
+    both = ((kind, found.get(kind, 0), wanted.get(kind, 0)) for kind in sorted(filter(is_apart, kinds)))
+    said = [f'{kind}: {one} in the page, {two} in the rows' for kind, one, two in both if one != two]
+    for stem in {kind.rpartition(' ')[0] for kind in kinds}:
+        both = [[counts.get(f'{stem} {kind}'.strip(), 0) for kind in ('ready', 'throttled', 'woken')] for counts in (found, wanted)]
+        # what is woken in the rows is one of both in the page
+        more = [one - two for one, two in zip(*both)]
+        if sum(more) or min(more[:2]) < 0 or both[0][2]:
+            said.append(f'{stem} ready, throttled, woken: {both[0]} in the page, {both[1]} in the rows')
+    return said
+
+
+def hands(page: Browser, horizon: int) -> list[str]:
+    """What goes wrong where the page is used: zoomed, drawn aside, pointed at, and chosen from."""
+    found, before = [], page.value(COUNTED)
+    if (place := page.value(A_BAR)) is not None:
+        page.mouse('mouseMoved', *place)
+        page.value(DRAWN)
+        if not page.value(TIP):
+            found.append('a bar that is pointed at tells nothing')
+    all_ = page.value(PLACE)
+    page.wheel(600, 200, -600)
+    page.value(DRAWN)
+    near = page.value(PLACE)
+    for kind, x, more in (('mousePressed', 600, {'buttons': 1}), ('mouseMoved', 680, {'buttons': 1}), ('mouseReleased', 680, {})):
+        page.mouse(kind, x, 200, button='left', clickCount=1, **more)
+    page.value(DRAWN)
+    if horizon > 60 and not all_ != near != page.value(PLACE):
+        found.append('the wheel does not zoom, or the hand does not move')
+    if page.value(COUNTED) != before:
+        found.append('zooming changes what is drawn')
+    page.value("document.querySelector('#found li[data-a]:not(.far)')?.click()")
+    page.value("document.querySelector('#table tbody tr').dispatchEvent(new Event('mouseover', { bubbles: true }))")
+    if page.value("document.querySelectorAll('.lane.hi').length") < 1:
+        found.append('a thread of the table has no lane')
+    return found + page.faults()
+
+
+# what the live page says: how many bars show a thread that runs, and its fault
+LIVE = "[document.querySelectorAll('g.T rect.running').length, $('fault').hidden ? '' : $('fault').textContent]"
+# so long a machine with much to do may take, which else takes half a second
+FOLLOWS = 30
+
+
+@contextlib.contextmanager
+def live_page(system: pathlib.Path, program: pathlib.Path) -> Iterator[str]:
+    """The address of the live page of a system."""
+    command = [sys.executable, TOP / 'tools' / 'live', system, '--program', program, '--horizon', '12']
+    with subprocess.Popen(command, stdout=subprocess.PIPE, text=True) as running:
+        try:
+            yield running.stdout.readline().strip()
+        finally:
+            running.terminate()
+
+
+def try_live(page: Browser, program: pathlib.Path, folder: pathlib.Path, count: Count) -> None:
+    """A file is saved with another budget, with a fault, and as it was: the page follows each time."""
+    file, text = folder / 'live.toml', (DATA / 'examples' / 'depletes_and_refills.toml').read_text()
+    key = text.splitlines().index('priority = 5') + 1
+    # 5 ticks with 2 in 5 are run in three pieces, with 5 in 5 in one
+    saved = [(text, [3, '']), (text.replace('budget = 2', 'budget = 5'), [1, '']),
+             (text.replace('priority = 5', 'priority = 256'), [1, f'{file}:{key}: out of range at thread 1 priority']), (text, [3, ''])]
+    file.write_text(text)
+    with live_page(file, program) as address:
+        page.open(address)
+        for text, wanted in saved:
+            file.write_text(text)
+            until = time.monotonic() + FOLLOWS
+            while (found := page.value(LIVE)) != wanted and time.monotonic() < until:
+                time.sleep(0.05)
+            count.expect(f'the live page shows {found} where it should show {wanted}', found == wanted)
+    count.expect(f'the live page throws {page.faults()}', not page.faults())
+
+
+class Trial:
+    """Systems that are drawn and looked at."""
+
+    def __init__(self, program: pathlib.Path, page: Browser, folder: pathlib.Path) -> None:
+        self.program, self.page, self.folder, self.count, self.counted = program, page, folder, Count(), 0
+
+    def drawn(self, system: pathlib.Path, horizon: int) -> common.Ran:
+        words = [sys.executable, TOP / 'tools' / 'view', system, '--horizon', str(horizon), '-o', self.folder / 'page.html']
+        return common.run(words, env={**os.environ, 'MCSIM': str(self.program), 'PYTHONDONTWRITEBYTECODE': '1'})
+
+    def look(self, system: pathlib.Path, horizon: int) -> None:
+        text = common.run([self.program, system, '--horizon', str(horizon)])
+        if text.status:
+            # a random system that is refused
+            return
+        drawn = self.drawn(system, horizon)
+        found = [drawn.stderr.decode().strip()] if drawn.status else self.seen(system, text.stdout.decode(), horizon)
+        shown = system.read_text() if found and self.folder in system.parents else ''
+        self.count.expect(f'{system.name} to {horizon}: {found}\n{shown}', not found)
+
+    def seen(self, system: pathlib.Path, text: str, horizon: int) -> list[str]:
+        self.page.open((self.folder / 'page.html').as_uri())
+        counted: dict[str, Any] = self.page.value(COUNTED)
+        self.counted += sum(many for kind, many in counted.items() if ' ' not in kind)
+        return differences(counted, Expected(system.read_bytes(), text, horizon).count) + hands(self.page, horizon)
+
+
+def main() -> None:
+    words = common.asking_random(__doc__, SYSTEMS).parse_args()
+    program = common.built_program(words.program)
+    if not browser.found():
+        count = Count()
+        count.skip('pages in a browser, since no Chromium is installed')
+        count.end()
+    rng = random.Random(words.seed)
+    with tempfile.TemporaryDirectory() as folder, Browser(1400, 1000) as page:
+        trial = Trial(program, page, pathlib.Path(folder))
+        for file in sorted((DATA / 'examples').glob('*.toml')):
+            trial.look(file, 60)
+        for number in range(words.systems):
+            file = trial.folder / f'random_{number}.toml'
+            file.write_text(random_systems.system_of(rng).text())
+            trial.look(file, rng.choice(HORIZONS))
+        try_live(page, program, trial.folder, trial.count)
+    print(f'{trial.counted} bars and signs were counted')
+    trial.count.end()
+
+
+if __name__ == '__main__':
+    main()
