@@ -14,9 +14,14 @@ pub struct ThreadId(pub usize);
 #[derive(Clone, Copy, Debug, PartialEq, Eq, PartialOrd, Ord)]
 pub struct ContextId(pub usize);
 
-/// The number of a notification, from 0, in the file's order.
+/// The number of a notification, or of a server, which is one that a thread takes and gives back: from 0, in the file's order,
+/// notifications first.
 #[derive(Clone, Copy, Debug, PartialEq, Eq, PartialOrd, Ord)]
 pub struct NoteId(pub usize);
+
+/// The number of a source of interrupts, from 0, in the file's order.
+#[derive(Clone, Copy, Debug, PartialEq, Eq, PartialOrd, Ord)]
+pub struct SourceId(pub usize);
 
 impl Model for CoreId {
     ghost Value = { ℕ };
@@ -43,6 +48,14 @@ impl Model for ContextId {
 }
 
 impl Model for NoteId {
+    ghost Value = { ℕ };
+
+    ghost view = { λ a. a.0 };
+
+    ghost inverse = { λ n. record { 0 = n } };
+}
+
+impl Model for SourceId {
     ghost Value = { ℕ };
 
     ghost view = { λ a. a.0 };

@@ -1,4 +1,4 @@
-//! Time, the numbers of cores, threads, contexts and notifications, and the rows of a schedule: the words that all other crates
+//! Time, the numbers of cores, threads, contexts, notifications and sources, and the rows of a schedule: the words that all other crates
 //! speak. Nothing here knows a scheduling rule.
 #![tactic(auto)]
 
@@ -15,7 +15,7 @@ mod soonest;
 mod tick;
 
 pub use beside::{Nothing, Pair};
-pub use ids::{ContextId, CoreId, NoteId, ThreadId};
+pub use ids::{ContextId, CoreId, NoteId, SourceId, ThreadId};
 pub use laws::queues_answer_alike;
 pub use limits::Limits;
 pub use memory::NoMemory;

@@ -9,8 +9,14 @@ impl Limits {
     /// Scheduling contexts of a system: 0 to this.
     pub const CONTEXTS: usize = 4_096;
 
-    /// Notifications of a system: 0 to this.
+    /// Notifications and servers of a system: 0 to this.
     pub const NOTES: usize = 4_096;
+
+    /// Sources of a system: 0 to this.
+    pub const SOURCES: usize = 4_096;
+
+    /// Dates of a source in one of its periods: 1 to this.
+    pub const DATES: usize = 1_024;
 
     /// Threads of a system: 0 to this.
     pub const THREADS: usize = 4_096;

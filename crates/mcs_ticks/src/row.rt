@@ -1,4 +1,4 @@
-use crate::{ContextId, CoreId, NoteId, ThreadId, Tick};
+use crate::{ContextId, CoreId, NoteId, SourceId, ThreadId, Tick};
 
 /// Why a thread stops.
 #[derive(Clone, Copy, Debug, PartialEq, Eq)]
@@ -9,6 +9,8 @@ pub enum Why {
     Yield,
     /// It waits on a notification whose word is 0.
     Wait,
+    /// It calls a server that is taken.
+    Call,
     /// It finished the last of its rounds.
     Done,
     /// A thread of greater priority is ready.
@@ -73,6 +75,12 @@ pub enum What {
     /// A SchedControl order for the context is applied.
     Order {
         context: ContextId,
+    },
+    /// A source interrupts: it posts this badge.
+    Interrupt {
+        source: SourceId,
+        note: NoteId,
+        badge: u32,
     },
 }
 
