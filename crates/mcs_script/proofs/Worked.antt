@@ -1,13 +1,14 @@
 -- Worked values: items as they are written, and a walk through a script.
-use Rattle.std.proofs.Common.{◌≡◌, List, [], ◌∷◌, Ok, Err, refl}
+use Rattle.std.proofs.Common.{◌≡◌, ℕ, List, [], ◌∷◌, Ok, Err, Some, None, refl}
 use Rattle.std.specs.Prelude.{codes}
 use Rattle.mcs_script.specs.declared.fault.ItemFault.TheVariants.{UnknownWord, MissingPart, ExtraPart, BadNumber}
 use Rattle.mcs_script.specs.declared.item.Item.{Item}
 use Rattle.mcs_script.specs.declared.item.Item.TheVariants as item
-use Rattle.mcs_script.specs.declared.moved.Moved.TheVariants.{RoundEnds, AllDone}
-use Rattle.mcs_script.specs.Raw.{read_as}
-use Rattle.mcs_script.specs.Raw.Raw.{Compute, Signal, Wait, Yield}
-use Rattle.mcs_script.specs.Script.{first_place, move_after, place_after}
+use Rattle.mcs_script.specs.declared.moved.Moved.TheVariants.{Next, RoundEnds, AllDone}
+use Rattle.mcs_script.specs.Raw.{read_as, read_new_as}
+use Rattle.mcs_script.specs.Raw.Raw.{Compute, Signal, Wait, Yield, On, Call, Spin}
+use Rattle.mcs_script.specs.Script.{first_place, move_after, place_after, goes_to, next_item, heard, left_after, cost}
+use Rattle.mcs_script.specs.declared.place.Place.{Place}
 
 five_ticks : read_as (codes "compute 5") ≡ Ok (Compute 5)
 five_ticks = refl
@@ -57,24 +58,112 @@ unknown_before_missing = refl
 no_parts : read_as [] ≡ Err UnknownWord
 no_parts = refl
 
+-- the items of version 3
+badges_of_a_handler : read_new_as (codes "on 3") ≡ Ok (On 3)
+badges_of_a_handler = refl
+
+a_call : read_new_as (codes " call disk 4294967295") ≡ Ok (Call (codes "disk") 4294967295)
+a_call = refl
+
+a_call_without_a_badge : read_new_as (codes "call disk") ≡ Err MissingPart
+a_call_without_a_badge = refl
+
+no_badges : read_new_as (codes "on 0") ≡ Err BadNumber
+no_badges = refl
+
+a_spin_of_some_ticks : read_new_as (codes "spin 5") ≡ Err ExtraPart
+a_spin_of_some_ticks = refl
+
+without_end : read_new_as (codes "spin") ≡ Ok Spin
+without_end = refl
+
+the_older_words_too : read_new_as (codes "wait n") ≡ Ok (Wait (codes "n"))
+the_older_words_too = refl
+
+unknown_to_the_older_ones : read_as (codes "spin") ≡ Err UnknownWord
+unknown_to_the_older_ones = refl
+
 -- a compute of 3 and a signal, in rounds of which a call costs 2
 abbrev script : List Item
 script = item.Compute 3 ∷ item.Signal 0 1 ∷ []
 
-begins : first_place 2 script ≡ record { round = 1; item = 0; left = 3 }
+-- a place of a thread of priority 9
+abbrev at : ℕ → ℕ → ℕ → ℕ → Place
+at round item left word = record { round = round; item = item; left = left; word = word; priority = 9 }
+
+begins : first_place 2 9 script ≡ at 1 0 3 0
 begins = refl
 
-then_the_signal : place_after 2 script (move_after script 2 (record { round = 1; item = 0; left = 0 })) (record { round = 1; item = 0; left = 0 }) ≡ record { round = 1; item = 1; left = 2 }
+then_the_signal : place_after 2 script (move_after script 2 (at 1 0 0 0)) (at 1 0 0 0) ≡ at 1 1 2 0
 then_the_signal = refl
 
-then_the_second_round : place_after 2 script (move_after script 2 (record { round = 1; item = 1; left = 0 })) (record { round = 1; item = 1; left = 0 }) ≡ record { round = 2; item = 0; left = 3 }
+then_the_second_round : place_after 2 script (move_after script 2 (at 1 1 0 0)) (at 1 1 0 0) ≡ at 2 0 3 0
 then_the_second_round = refl
 
-then_done : move_after script 2 (record { round = 2; item = 1; left = 0 }) ≡ AllDone
+then_done : move_after script 2 (at 2 1 0 0) ≡ AllDone
 then_done = refl
 
-no_last_round : move_after script 0 (record { round = 2; item = 1; left = 0 }) ≡ RoundEnds
+no_last_round : move_after script 0 (at 2 1 0 0) ≡ RoundEnds
 no_last_round = refl
 
-the_last_round_number : place_after 2 script RoundEnds (record { round = 18446744073709551615; item = 1; left = 0 }) ≡ record { round = 18446744073709551615; item = 0; left = 3 }
+the_last_round_number : place_after 2 script RoundEnds (at 18446744073709551615 1 0 0) ≡ at 18446744073709551615 0 3 0
 the_last_round_number = refl
+
+-- a wait, a compute of 2 for badge 1, and a compute of 3 for badge 2
+abbrev handlers : List Item
+handlers = item.Wait 0 ∷ item.On 1 ∷ item.Compute 2 ∷ item.On 2 ∷ item.Compute 3 ∷ []
+
+to_the_first : next_item handlers 1 0 ≡ Some 2
+to_the_first = refl
+
+to_the_second : next_item handlers 2 0 ≡ Some 4
+to_the_second = refl
+
+from_one_to_the_other : next_item handlers 3 2 ≡ Some 4
+from_one_to_the_other = refl
+
+past_the_other : next_item handlers 1 2 ≡ None
+past_the_other = refl
+
+nobodys_badge : next_item handlers (heard handlers 4) 0 ≡ Some 0
+nobodys_badge = refl
+
+-- the word of a round is of badges that a handler takes
+only_badges_that_are_taken : heard handlers 6 ≡ 2
+only_badges_that_are_taken = refl
+
+into_the_second_by_its_word : place_after 1 handlers (move_after handlers 0 (at 1 0 0 2)) (at 1 0 0 2) ≡ at 1 4 3 2
+into_the_second_by_its_word = refl
+
+-- no word has begun the next round yet
+a_round_of_the_first_ends : place_after 1 handlers (move_after handlers 0 (at 1 2 0 1)) (at 1 2 0 1) ≡ at 2 0 1 0
+a_round_of_the_first_ends = refl
+
+back_to_the_wait : place_after 1 handlers (move_after handlers 1 (at 1 0 0 0)) (at 1 0 0 0) ≡ at 1 0 1 0
+back_to_the_wait = refl
+
+-- a handler that is empty takes badge 1, so there is nothing to do for it
+abbrev nothing_to_do : List Item
+nothing_to_do = item.Wait 0 ∷ item.On 1 ∷ item.On 2 ∷ item.Compute 3 ∷ []
+
+back_from_an_empty_handler : place_after 1 nothing_to_do (move_after nothing_to_do 1 (at 1 0 0 1)) (at 1 0 0 1) ≡ at 1 0 1 0
+back_from_an_empty_handler = refl
+
+past_an_empty_handler : place_after 1 nothing_to_do (move_after nothing_to_do 1 (at 1 0 0 3)) (at 1 0 0 3) ≡ at 1 3 3 3
+past_an_empty_handler = refl
+
+-- a wait alone ends no round either
+a_wait_alone : move_after (item.Wait 0 ∷ []) 1 (at 1 0 0 0) ≡ Next
+a_wait_alone = refl
+
+-- a server of priority 40
+enters : goes_to 1 (item.Enter 1 40 ∷ item.Compute 4 ∷ item.Leave 1 9 ∷ []) 1 1 (at 1 0 0 0)
+    ≡ record { round = 1; item = 1; left = 4; word = 0; priority = 40 }
+enters = refl
+
+leaves : goes_to 1 (item.Enter 1 40 ∷ item.Compute 4 ∷ item.Leave 1 9 ∷ item.Yield ∷ []) 1 3 (record { round = 1; item = 2; left = 0; word = 0; priority = 40 })
+    ≡ record { round = 1; item = 3; left = 1; word = 0; priority = 9 }
+leaves = refl
+
+spins : left_after 1000 (cost 1 item.Spin) ≡ cost 1 item.Spin
+spins = refl

@@ -14,12 +14,18 @@ pub data Raw : Type 0 where
   Signal : List ℕ → ℕ → Raw
   Wait : List ℕ → Raw
   Yield : Raw
+  On : ℕ → Raw
+  Call : List ℕ → ℕ → Raw
+  Spin : Raw
 
 abbrev pub raw_view : RawItem → Raw
 raw_view (code.Compute ticks) = Compute ticks
 raw_view (code.Signal note badge) = Signal note.now badge
 raw_view (code.Wait note) = Wait note.now
 raw_view code.Yield = Yield
+raw_view (code.On badges) = On badges
+raw_view (code.Call server badge) = Call server.now badge
+raw_view code.Spin = Spin
 
 abbrev pub is_empty : List ℕ → Bool
 is_empty [] = true
@@ -69,6 +75,21 @@ abbrev pub yield_of : List (List ℕ) → Result Raw ItemFault
 yield_of [] = Ok Yield
 yield_of (extra ∷ others) = Err ExtraPart
 
+abbrev pub on_of : List (List ℕ) → Result Raw ItemFault
+on_of [] = Err MissingPart
+on_of (badges ∷ []) = with_number On (number_up_to (2 ^ 32 - 1) badges)
+on_of (badges ∷ extra ∷ others) = Err ExtraPart
+
+abbrev pub call_of : List (List ℕ) → Result Raw ItemFault
+call_of [] = Err MissingPart
+call_of (server ∷ []) = Err MissingPart
+call_of (server ∷ badge ∷ []) = with_number (Call server) (number_up_to (2 ^ 32 - 1) badge)
+call_of (server ∷ badge ∷ extra ∷ others) = Err ExtraPart
+
+abbrev pub spin_of : List (List ℕ) → Result Raw ItemFault
+spin_of [] = Ok Spin
+spin_of (extra ∷ others) = Err ExtraPart
+
 abbrev pub is_text : List ℕ → List ℕ → Bool
 is_text word text = pointwise nat_eq word text
 
@@ -84,6 +105,18 @@ item_of (word ∷ others) =
 
 abbrev pub read_as : List ℕ → Result Raw ItemFault
 read_as text = item_of (parts text)
+
+-- with the words of version 3 too
+abbrev pub new_item_of : List (List ℕ) → Result Raw ItemFault
+new_item_of [] = Err UnknownWord
+new_item_of (word ∷ others) =
+    if is_text word (codes "on") then on_of others
+    else if is_text word (codes "call") then call_of others
+    else if is_text word (codes "spin") then spin_of others
+    else item_of (word ∷ others)
+
+abbrev pub read_new_as : List ℕ → Result Raw ItemFault
+read_new_as text = new_item_of (parts text)
 
 -- a call's answer is this one
 abbrev pub Says : {A B : Type 0} → (A → B) → Result A ItemFault → Result B ItemFault → Type 0

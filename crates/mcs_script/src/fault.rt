@@ -7,7 +7,8 @@ use thiserror::Error;
 /// Why a text is no item. Of several faults the first of this list is the answer. Each has a text of its own (profile M).
 #[derive(Clone, Copy, Debug, PartialEq, Eq, Error)]
 pub enum ItemFault {
-    /// The first part is none of `compute`, `signal`, `wait` and `yield`, or there is no part.
+    /// The first part is no item's word, or there is no part. The words are `compute`, `signal`, `wait` and `yield`, and of version 3
+    /// also `on`, `call` and `spin`.
     UnknownWord,
     /// There are too few parts after the word.
     MissingPart,

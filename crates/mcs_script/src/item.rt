@@ -1,9 +1,9 @@
 ghost use Rattle.std.specs.Prelude.{◌≡◌};
-ghost use Rattle.mcs_script.specs.Script.{cost};
+ghost use Rattle.mcs_script.specs.Script.{cost, is_on, badges_in, passes_after};
 
 use mcs_ticks::NoteId;
 
-/// An item of a script: what a thread does next. Notifications are named by their numbers (profile M).
+/// An item of a script: what a thread does next. Notifications and servers are named by their numbers (profile M).
 #[derive(Clone, Copy, Debug, PartialEq, Eq)]
 pub enum Item {
     /// Run for this many ticks, 1 to 2^40.
@@ -14,16 +14,58 @@ pub enum Item {
     Wait(NoteId),
     /// Give the rest of the head refill, or of the time slice, away.
     Yield,
+    /// Begin a handler of these badges, 1 to 2^32 - 1: the items from here to the next handler are gone through only where the
+    /// round's word has one of them. It takes no time.
+    On(u32),
+    /// Run without end.
+    Spin,
+    /// Enter the server, and go on at this priority.
+    Enter(NoteId, u8),
+    /// Leave the server, and go on at this priority.
+    Leave(NoteId, u8),
 }
 
 impl Item {
-    /// The ticks that the item costs, where a signal, a wait or a yield costs `call`.
+    /// The rest of an item that never ends.
+    pub const NEVER: u64 = u64::MAX;
+
+    /// Whether it begins a handler.
+    pub(crate) fn is_on(&self) -> bool
+        ensures { result ≡ is_on self.now }
+    {
+        matches!(self, Item::On(_))
+    }
+
+    /// Its badges, where it begins a handler.
+    pub(crate) fn badges(self) -> u32
+        ensures { result ≡ badges_in self }
+    {
+        match self {
+            Item::On(badges) => badges,
+            _ => 0,
+        }
+    }
+
+    /// Whether a thread passes over what follows it, where it does so before it: at the beginning of a handler its badges decide.
+    pub(crate) fn passes_after(&self, word: u32, passes: bool) -> bool
+        ensures { result ≡ passes_after word passes self.now }
+    {
+        match self {
+            Item::On(badges) => word & *badges == 0,
+            _ => passes,
+        }
+    }
+
+    /// The ticks that the item costs, where each but `compute`, `spin` and `on` costs `call`.
     pub(crate) fn cost(self, call: u64) -> u64
         ensures { result ≡ cost call self }
     {
         match self {
             Item::Compute(ticks) => ticks,
-            Item::Signal(..) | Item::Wait(_) | Item::Yield => call,
+            Item::Signal(..) | Item::Wait(_) | Item::Yield | Item::Enter(..) | Item::Leave(..) =>
+                call,
+            Item::On(_) => 0,
+            Item::Spin => Item::NEVER,
         }
     }
 }

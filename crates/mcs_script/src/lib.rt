@@ -12,5 +12,5 @@ pub use fault::ItemFault;
 pub use item::Item;
 pub use moved::Moved;
 pub use place::Place;
-pub use raw::{RawItem, read_item};
+pub use raw::{RawItem, read_item, read_new_item};
 pub use script::Script;

@@ -1,5 +1,5 @@
 ghost use Rattle.std.specs.Prelude.{◌≡◌, ◌≤◌, ◌∷◌, [], length, MatchOption, IfOk, IfErr, option_and_then};
-ghost use Rattle.mcs_script.specs.Raw.{Says, parts, raw_view, number_up_to, compute_of, signal_of, wait_of, yield_of, read_as};
+ghost use Rattle.mcs_script.specs.Raw.{Says, parts, raw_view, number_up_to, compute_of, signal_of, wait_of, yield_of, on_of, call_of, spin_of, read_as, read_new_as};
 
 use crate::fault::ItemFault;
 
@@ -14,6 +14,12 @@ pub enum RawItem<'a> {
     Wait(&'a str),
     /// `yield`: give the rest of the head refill, or of the time slice, away.
     Yield,
+    /// `on BADGES`: begin a handler of these badges, 1 to 2^32 - 1.
+    On(u32),
+    /// `call SERVER BADGE`: call the server, which knows the caller by this badge, 1 to 2^32 - 1.
+    Call(&'a str, u32),
+    /// `spin`: run without end.
+    Spin,
 }
 
 /// The item that a text says, or the first fault in the order of [`ItemFault`]. The text is split at runs of spaces (U+0020 alone, so
@@ -31,6 +37,63 @@ pub fn read_item(text: &str) -> Result<RawItem<'_>, ItemFault>
         "yield" => read_yield(rest),
         _ => Err(ItemFault::UnknownWord),
     }
+}
+
+/// The item that a text says, as [`read_item`] but with the words of version 3 too: `on`, `call` and `spin`.
+pub fn read_new_item(text: &str) -> Result<RawItem<'_>, ItemFault>
+    ensures { Says raw_view result (read_new_as text.now) }
+{
+    let Some((word, rest)) = next_part(text) else {
+        return Err(ItemFault::UnknownWord);
+    };
+    match word {
+        "on" => read_on(rest),
+        "call" => read_call(rest),
+        "spin" => read_spin(rest),
+        _ => read_item(text),
+    }
+}
+
+fn read_on(rest: &str) -> Result<RawItem<'_>, ItemFault>
+    ensures { Says raw_view result (on_of (parts rest.now)) }
+{
+    let Some((badges, rest)) = next_part(rest) else {
+        return Err(ItemFault::MissingPart);
+    };
+    if next_part(rest).is_some() {
+        return Err(ItemFault::ExtraPart);
+    }
+    match number_up_to(u32::MAX as u64, badges) {
+        Some(badges) => Ok(RawItem::On(badges as u32)),
+        None => Err(ItemFault::BadNumber),
+    }
+}
+
+fn read_call(rest: &str) -> Result<RawItem<'_>, ItemFault>
+    ensures { Says raw_view result (call_of (parts rest.now)) }
+{
+    let Some((server, rest)) = next_part(rest) else {
+        return Err(ItemFault::MissingPart);
+    };
+    let Some((badge, rest)) = next_part(rest) else {
+        return Err(ItemFault::MissingPart);
+    };
+    if next_part(rest).is_some() {
+        return Err(ItemFault::ExtraPart);
+    }
+    match number_up_to(u32::MAX as u64, badge) {
+        Some(badge) => Ok(RawItem::Call(server, badge as u32)),
+        None => Err(ItemFault::BadNumber),
+    }
+}
+
+fn read_spin(rest: &str) -> Result<RawItem<'_>, ItemFault>
+    ensures { Says raw_view result (spin_of (parts rest.now)) }
+{
+    if next_part(rest).is_some() {
+        return Err(ItemFault::ExtraPart);
+    }
+    Ok(RawItem::Spin)
 }
 
 fn read_compute(rest: &str) -> Result<RawItem<'_>, ItemFault>

@@ -1,4 +1,4 @@
-use mcs_script::{ItemFault, RawItem, read_item};
+use mcs_script::{ItemFault, RawItem, read_item, read_new_item};
 use std::test::Fail;
 
 #[test]
@@ -62,6 +62,61 @@ fn the_first_fault_of_an_item(rt: HostRuntime) {
     ];
     for (text, want) in rows {
         assert_eq!(rt; read_item(text), Err(want), "{text}");
+    }
+}
+
+/// The words of version 3 are read with it alone, and the older ones with both.
+#[test]
+fn items_of_version_3(rt: HostRuntime) {
+    let rows = [
+        ("on 1", RawItem::On(1)),
+        ("  on   4294967295 ", RawItem::On(4_294_967_295)),
+        ("call v 1", RawItem::Call("v", 1)),
+        ("call 05 4294967295", RawItem::Call("05", 4_294_967_295)),
+        (" spin ", RawItem::Spin),
+    ];
+    for (text, want) in rows {
+        assert_eq!(rt; read_new_item(text), Ok(want), "{text}");
+        assert_eq!(rt; read_item(text), Err(ItemFault::UnknownWord), "{text}");
+    }
+    let older = [
+        "compute 5",
+        "signal n 1",
+        "wait n",
+        "yield",
+        "wait",
+        "yield 0",
+        "sleep",
+        "",
+    ];
+    for text in older {
+        assert_eq!(rt; read_new_item(text), read_item(text), "{text}");
+    }
+}
+
+/// Each fault of an item of version 3 alone, and each beside a later one.
+#[test]
+fn the_first_fault_of_an_item_of_version_3(rt: HostRuntime) {
+    let rows = [
+        ("On 1", ItemFault::UnknownWord),
+        ("call\tv 1", ItemFault::UnknownWord),
+        ("spin5", ItemFault::UnknownWord),
+        ("on", ItemFault::MissingPart),
+        ("call", ItemFault::MissingPart),
+        ("call 0", ItemFault::MissingPart),
+        ("on 1 2", ItemFault::ExtraPart),
+        ("on 0 1", ItemFault::ExtraPart),
+        ("call v 0 x", ItemFault::ExtraPart),
+        ("spin 0", ItemFault::ExtraPart),
+        ("on 0", ItemFault::BadNumber),
+        ("on 01", ItemFault::BadNumber),
+        ("on 4294967296", ItemFault::BadNumber),
+        ("call v 0", ItemFault::BadNumber),
+        ("call v 4294967296", ItemFault::BadNumber),
+        ("call v one", ItemFault::BadNumber),
+    ];
+    for (text, want) in rows {
+        assert_eq!(rt; read_new_item(text), Err(want), "{text}");
     }
 }
 
