@@ -4,3 +4,4 @@ pub mod Pairs
 pub mod Linked
 pub mod Least
 mod Worked
+pub mod InOrder

@@ -15,6 +15,10 @@ linked links = record {
   threads = [];
   orders = [];
   links = links;
+  servers = 0;
+  sources = [];
+  beats = [];
+  chains = [];
 }
 
 -- a slower link, and a faster one

@@ -1,9 +1,10 @@
 -- A system: what a file describes, each thing numbered by its place in its list.
-use Rattle.std.specs.Prelude.{ℕ, ◌≡◌, ◌≢◌, ◌<◌, ◌≤◌, ◌==◌, ◌&&◌, if◌then◌else◌, List, [], ◌∷◌, get_or}
+use Rattle.std.specs.Prelude.{ℕ, ◌≡◌, ◌≢◌, ◌<◌, ◌≤◌, ◌==◌, ◌&&◌, ◌+◌, Bool, nat_le, if◌then◌else◌, List, [], ◌∷◌, length, get_or}
 use Rattle.mcs_control.specs.declared.config.Mode.TheVariants.{Sporadic}
 use Rattle.mcs_system.specs.declared.part.ContextPart.{ContextPart}
 use Rattle.mcs_system.specs.declared.part.Link.{Link}
 use Rattle.mcs_system.specs.declared.part.NotePart.{NotePart}
+use Rattle.mcs_system.specs.declared.part.SourcePart.{SourcePart}
 use Rattle.mcs_system.specs.declared.part.ThreadPart.{ThreadPart}
 use Rattle.mcs_system.specs.declared.part.SystemParts.{SystemParts}
 
@@ -18,7 +19,10 @@ abbrev pub no_thread : ThreadPart
 no_thread = record { name = []; context = 0; priority = 0; start = 0; rounds = 0; deadline = 0; script = [] }
 
 abbrev pub no_note : NotePart
-no_note = record { name = []; core = 0 }
+no_note = record { name = []; core = 0; word = 0 }
+
+abbrev pub no_source : SourcePart
+no_source = record { name = []; note = 0; badge = 0 }
 
 abbrev pub context_part : System → ℕ → ContextPart
 context_part system context = get_or system.contexts context no_context
@@ -28,6 +32,13 @@ note_part system note = get_or system.notes note no_note
 
 abbrev pub thread_part : System → ℕ → ThreadPart
 thread_part system thread = get_or system.threads thread no_thread
+
+abbrev pub source_part : System → ℕ → SourcePart
+source_part system source = get_or system.sources source no_source
+
+-- the last of the notes are servers
+abbrev pub is_server : System → ℕ → Bool
+is_server system note = nat_le (length system.notes) (note + system.servers)
 
 -- a thread's core is its context's
 abbrev pub core_of : System → ThreadPart → ℕ

@@ -1,22 +1,35 @@
 -- Which systems are well formed.
-use Rattle.std.specs.Prelude.{◌≡◌, ℕ, ◌<◌, ◌≤◌, ◌^◌, ◌≢◌, List, length, All, AllPairs, IsOk, IsTrue}
+use Rattle.std.specs.Prelude.{◌≡◌, ℕ, ◌+◌, ◌-◌, ◌<◌, ◌≤◌, ◌^◌, ◌≢◌, true, false, List, length, drop, All, AllPairs, IsOk, IsTrue}
 use Rattle.mcs_control.specs.declared.config.Order.{Order}
 use Rattle.mcs_control.specs.Control.{checked, kind_of, IsModeOf}
 use Rattle.mcs_script.specs.declared.item.Item.{Item}
-use Rattle.mcs_script.specs.declared.item.Item.TheVariants.{Compute, Signal, Wait, Yield}
+use Rattle.mcs_script.specs.declared.item.Item.TheVariants.{Compute, Signal, Wait, Yield, On, Spin, Enter, Leave}
 use Rattle.mcs_script.specs.Script.{IsScript}
+use Rattle.mcs_system.specs.declared.part.Beat.{Beat}
+use Rattle.mcs_system.specs.declared.part.ChainPart.{ChainPart}
 use Rattle.mcs_system.specs.declared.part.ContextPart.{ContextPart}
 use Rattle.mcs_system.specs.declared.part.Link.{Link}
 use Rattle.mcs_system.specs.declared.part.NotePart.{NotePart}
+use Rattle.mcs_system.specs.declared.part.SourcePart.{SourcePart}
 use Rattle.mcs_system.specs.declared.part.ThreadPart.{ThreadPart}
 use Rattle.mcs_system.specs.Names.{is_name}
-use Rattle.mcs_system.specs.System.{System, context_part, note_part, core_of}
+use Rattle.mcs_system.specs.System.{System, context_part, note_part, core_of, is_server}
 
 -- all things of one kind: at most 4,096, each with a name, no two with one name
 pub record AreNamed {A : Type 0} (name : A → List ℕ) (things : List A) : Type 0 where
   pub few : length things ≤ 4096
   pub each : All (λ thing. IsTrue (is_name (name thing))) things
   pub distinct : AllPairs (λ a b. name a ≢ name b) things
+
+-- of two beats the first is of an earlier source, or of the same, with an earlier date in the same period
+abbrev pub DoPrecede : Beat → Beat → Type 0
+DoPrecede a b =
+    (a.source ≤ b.source)
+    × (a.source ≡ b.source → (a.period ≡ b.period) × (a.first < b.first) × (b.first < a.first + a.period))
+
+-- the beats of a source stand in the order of their dates in a period, and those of all sources in the order of the sources
+pub record AreInOrder (beats : List Beat) : Type 0 where
+  pub each : AllPairs DoPrecede beats
 
 -- no two links go from the same core to the same core
 abbrev pub DifferInCores : Link → Link → Type 0
@@ -40,14 +53,29 @@ module _ (system : System) where
   abbrev pub IsNote : NotePart → Type 0
   IsNote note = note.core < system.cores
 
-  -- an item of a thread of this core: its numbers are within their limits, its notification is there, and a wait is at home
+  -- a notification of this core, and a server
+  abbrev pub IsNotification : ℕ → ℕ → Type 0
+  IsNotification core note =
+      (note < length system.notes) × ((note_part system note).core ≡ core) × (is_server system note ≡ false)
+
+  abbrev pub IsServer : ℕ → ℕ → Type 0
+  IsServer core note =
+      (note < length system.notes) × ((note_part system note).core ≡ core) × (is_server system note ≡ true)
+
+  -- an item of a thread of this core: its numbers are within their limits, its notification is there, and a wait is at home, as is a
+  -- server
   abbrev pub IsItem : ℕ → Item → Type 0
   IsItem core (Compute ticks) = (1 ≤ ticks) × (ticks ≤ 2 ^ 40)
-  IsItem core (Signal note badge) = (note < length system.notes) × (1 ≤ badge) × (badge < 2 ^ 32)
-  IsItem core (Wait note) = (note < length system.notes) × ((note_part system note).core ≡ core)
+  IsItem core (Signal note badge) =
+      (note < length system.notes) × (is_server system note ≡ false) × (1 ≤ badge) × (badge < 2 ^ 32)
+  IsItem core (Wait note) = IsNotification core note
   IsItem core Yield = Unit {0}
+  IsItem core (On badges) = (1 ≤ badges) × (badges < 2 ^ 32)
+  IsItem core Spin = Unit {0}
+  IsItem core (Enter server priority) = IsServer core server
+  IsItem core (Leave server priority) = IsServer core server
 
-  -- bound to a context that there is, with numbers within their limits and a script of 1 to 1,024 items, the last no wait
+  -- bound to a context that there is, with numbers within their limits and a script of 1 to 1,024 items
   pub record IsThread (thread : ThreadPart) : Type 0 where
     pub bound : thread.context < length system.contexts
     pub priority : thread.priority ≤ 255
@@ -71,6 +99,42 @@ module _ (system : System) where
     pub other : link.maker ≢ link.home
     pub delay : (1 ≤ link.delay) × (link.delay ≤ 2 ^ 20)
 
+  -- it posts a badge on a notification that there is
+  pub record IsSource (source : SourcePart) : Type 0 where
+    pub note : source.note < length system.notes
+    pub signalled : is_server system source.note ≡ false
+    pub badge : (1 ≤ source.badge) × (source.badge < 2 ^ 32)
+
+  -- of a source that there is, with numbers within their limits
+  pub record IsBeat (beat : Beat) : Type 0 where
+    pub source : beat.source < length system.sources
+    pub first : beat.first ≤ 2 ^ 41
+    pub period : (1 ≤ beat.period) × (beat.period ≤ 2 ^ 40)
+
+  -- some of the notes are servers, and each of them is free at first
+  pub record AreServers : Type 0 where
+    pub few : system.servers ≤ length system.notes
+    pub free : All (λ note. note.word ≡ 1) (drop (length system.notes - system.servers) system.notes)
+
+  -- from a source that there is to a thread that there is, with numbers within their limits
+  pub record IsChain (chain : ChainPart) : Type 0 where
+    pub source : chain.source < length system.sources
+    pub thread : chain.thread < length system.threads
+    pub badges : chain.badges < 2 ^ 32
+    pub deadline : chain.deadline ≤ 2 ^ 40
+
+  pub record AreChains : Type 0 where
+    pub names : AreNamed (λ chain. chain.name) system.chains
+    pub chains : All IsChain system.chains
+
+  -- the sources and their dates
+  pub record AreSources : Type 0 where
+    pub names : AreNamed (λ source. source.name) system.sources
+    pub sources : All IsSource system.sources
+    pub few_beats : length system.beats ≤ 4096
+    pub beats : All IsBeat system.beats
+    pub order : AreInOrder system.beats
+
   pub record IsWellFormed : Type 0 where
     pub limits : AreLimits
     pub context_names : AreNamed (λ context. context.name) system.contexts
@@ -86,3 +150,6 @@ module _ (system : System) where
     pub few_links : length system.links ≤ 4096
     pub links : All IsLink system.links
     pub one_link : AllPairs DifferInCores system.links
+    pub servers : AreServers
+    pub sources : AreSources
+    pub chains : AreChains

@@ -2,7 +2,7 @@ ghost use Rattle.std.specs.Prelude.{◌≡◌, ◌↔◌, nat_eq, IsTrue};
 ghost use Rattle.std.specs.Cmp.Lexicographic.{pointwise};
 ghost use Rattle.std.specs.Cmp.{partial_equiv_from_equiv};
 ghost use Rattle.std.proofs.lemmas.Cmp.{nat_list_eq_equiv};
-ghost use Rattle.mcs_system.specs.Equality.{same_thread, same_limits, same_system};
+ghost use Rattle.mcs_system.specs.Equality.{same_thread, same_things, same_ties, same_limits, same_system};
 ghost use Rattle.mcs_system.specs.laws.Equality.{same_thread_equivalence, same_system_equivalence};
 
 use crate::{Name, SystemParts, ThreadPart};
@@ -57,17 +57,31 @@ fn same_limits(one: &SystemParts, other: &SystemParts) -> bool
         && one.delay == other.delay
         && one.call == other.call
         && one.min_budget == other.min_budget
+        && one.servers == other.servers
+}
+
+fn same_things(one: &SystemParts, other: &SystemParts) -> bool
+    ensures { result ≡ same_things one.now other.now }
+{
+    one.contexts.as_slice() == other.contexts.as_slice()
+        && one.notes.as_slice() == other.notes.as_slice()
+        && one.threads.as_slice() == other.threads.as_slice()
+        && one.orders.as_slice() == other.orders.as_slice()
+}
+
+fn same_ties(one: &SystemParts, other: &SystemParts) -> bool
+    ensures { result ≡ same_ties one.now other.now }
+{
+    one.links.as_slice() == other.links.as_slice()
+        && one.sources.as_slice() == other.sources.as_slice()
+        && one.beats.as_slice() == other.beats.as_slice()
+        && one.chains.as_slice() == other.chains.as_slice()
 }
 
 fn same_parts(one: &SystemParts, other: &SystemParts) -> bool
     ensures { result ≡ same_system one.now other.now }
 {
-    same_limits(one, other)
-        && one.contexts.as_slice() == other.contexts.as_slice()
-        && one.notes.as_slice() == other.notes.as_slice()
-        && one.threads.as_slice() == other.threads.as_slice()
-        && one.orders.as_slice() == other.orders.as_slice()
-        && one.links.as_slice() == other.links.as_slice()
+    same_limits(one, other) && same_things(one, other) && same_ties(one, other)
 }
 
 impl PartialEq for SystemParts {

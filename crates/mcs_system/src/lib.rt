@@ -10,5 +10,5 @@ mod system;
 mod well_formed;
 
 pub use name::Name;
-pub use part::{ContextPart, Link, NotePart, SystemParts, ThreadPart};
+pub use part::{Beat, ChainPart, ContextPart, Link, NotePart, SourcePart, SystemParts, ThreadPart};
 pub use system::System;

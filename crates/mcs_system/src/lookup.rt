@@ -1,8 +1,8 @@
 ghost use Rattle.std.specs.Prelude.{◌≡◌, ◌<◌, length};
-ghost use Rattle.mcs_system.specs.System.{context_part, note_part, thread_part, core_of};
+ghost use Rattle.mcs_system.specs.System.{context_part, note_part, source_part, thread_part, core_of};
 
-use crate::{ContextPart, NotePart, System, SystemParts, ThreadPart};
-use mcs_ticks::{ContextId, CoreId, NoteId, ThreadId};
+use crate::{ContextPart, NotePart, SourcePart, System, SystemParts, ThreadPart};
+use mcs_ticks::{ContextId, CoreId, NoteId, SourceId, ThreadId};
 
 impl SystemParts {
     /// The context with this number.
@@ -27,6 +27,24 @@ impl SystemParts {
         ensures { result.now ≡ thread_part self.now thread }
     {
         &self.threads.as_slice()[thread.0]
+    }
+
+    /// The source with this number.
+    pub fn source(&self, source: SourceId) -> &SourcePart
+        requires { source < length self.now.sources }
+        ensures { result.now ≡ source_part self.now source }
+    {
+        &self.sources.as_slice()[source.0]
+    }
+
+    /// The core of a note, and core 0 where there is no such note.
+    pub fn core_of_note(&self, note: NoteId) -> CoreId
+        ensures { result ≡ (note_part self.now note).core }
+    {
+        match self.notes.as_slice().get(note.0) {
+            Some(part) => part.core,
+            None => CoreId(0),
+        }
     }
 
     /// The core of a context, and core 0 where there is no such context.

@@ -1,7 +1,7 @@
 use crate::Name;
 use mcs_control::{Config, Mode, Order};
 use mcs_script::Script;
-use mcs_ticks::{ContextId, CoreId, Sequence, Tick};
+use mcs_ticks::{ContextId, CoreId, NoteId, Sequence, SourceId, ThreadId, Tick};
 
 /// A scheduling context of a system: a budget on a core.
 #[derive(Debug, PartialEq, Eq, Drop)]
@@ -13,11 +13,56 @@ pub struct ContextPart {
     pub mode: Mode,
 }
 
-/// A notification of a system, at home on a core.
+/// A notification of a system, or a server, at home on a core.
 #[derive(Debug, PartialEq, Eq, Drop)]
 pub struct NotePart {
     pub name: Name,
     pub core: CoreId,
+    /// The word that it holds at first. A server holds 1 where it is free.
+    pub word: u32,
+}
+
+/// A source of interrupts: a device or a timer, which posts a badge on a notification.
+#[derive(Debug, PartialEq, Eq, Drop)]
+pub struct SourcePart {
+    pub name: Name,
+    pub note: NoteId,
+    /// 1 to 2^32 - 1.
+    pub badge: u32,
+}
+
+/// Dates of a source: the first one, and each a period after the one before.
+#[derive(Clone, Copy, Debug, PartialEq, Eq)]
+pub struct Beat {
+    pub source: SourceId,
+    /// At most 2^41.
+    pub first: Tick,
+    /// 1 to 2^40.
+    pub period: u64,
+    /// How many dates there are; 0 means without end.
+    pub count: u64,
+}
+
+impl Beat {
+    /// Beats of a system: 0 to this.
+    pub const MOST: usize = 4_096;
+}
+
+/// A way from the interrupts of a source to the ends of a thread's rounds. It changes no schedule.
+#[derive(Debug, PartialEq, Eq, Drop)]
+pub struct ChainPart {
+    pub name: Name,
+    pub source: SourceId,
+    pub thread: ThreadId,
+    /// The badges of the rounds that answer; 0 means any.
+    pub badges: u32,
+    /// The ticks within which each interrupt is to have its answer, at most 2^40; 0 means none.
+    pub deadline: u64,
+}
+
+impl ChainPart {
+    /// Chains of a system: 0 to this.
+    pub const MOST: usize = 4_096;
 }
 
 /// A thread of a system. Its core is its context's.
@@ -61,14 +106,21 @@ pub struct SystemParts {
     pub cores: usize,
     /// The ticks for which a signal to another core is under way where no link says otherwise, 1 to 2^20.
     pub delay: u64,
-    /// The ticks that a `signal`, a `wait` or a `yield` costs, 1 to 2^16.
+    /// The ticks that a call of the kernel costs, such as `signal` or `wait`, 1 to 2^16.
     pub call: u64,
     /// The least ticks that the head of a refill list has after a charge, 1 to 2^20.
     pub min_budget: u64,
     pub contexts: Sequence<ContextPart>,
+    /// The notifications, and then the servers.
     pub notes: Sequence<NotePart>,
+    /// How many of the notes, the last ones, are servers.
+    pub servers: usize,
     pub threads: Sequence<ThreadPart>,
     pub orders: Sequence<Order>,
     /// The pairs of cores that have a delay of their own, no pair twice, at most 4,096.
     pub links: Sequence<Link>,
+    pub sources: Sequence<SourcePart>,
+    /// The dates of the sources, in the order of the sources; of one source those that come first in a period stand first.
+    pub beats: Sequence<Beat>,
+    pub chains: Sequence<ChainPart>,
 }

@@ -1,10 +1,12 @@
 ghost use Rattle.std.specs.Prelude.{◌≡◌, ◌↔◌, ◌≢◌, ℕ, ◌<◌, ◌≤◌, ◌^◌, List, length, All, AllPairs, Any, IsTrue, IsSome, IfSome};
 ghost use Rattle.mcs_script.specs.Script.{IsScript};
-ghost use Rattle.mcs_system.specs.System.{context_part};
+ghost use Rattle.mcs_system.specs.System.{context_part, note_part, is_server};
 ghost use Rattle.mcs_system.specs.Names.{is_name};
-ghost use Rattle.mcs_system.specs.WellFormed.{AreNamed, AreLimits, IsContext, IsNote, IsItem, IsThread, IsOrder, IsLink, DifferInCores, IsWellFormed};
+ghost use Rattle.mcs_system.specs.WellFormed.{AreNamed, AreLimits, IsContext, IsNote, IsNotification, IsServer, IsItem, IsThread, IsOrder, IsLink, IsSource, IsBeat, DoPrecede, AreInOrder, AreSources, AreServers, IsChain, AreChains, DifferInCores, IsWellFormed};
 
-use crate::{ContextPart, Link, Name, NotePart, SystemParts, ThreadPart};
+use crate::{
+    Beat, ChainPart, ContextPart, Link, Name, NotePart, SourcePart, SystemParts, ThreadPart,
+};
 use mcs_control::{Config, Order};
 use mcs_script::{Item, Script};
 use mcs_ticks::{ContextId, CoreId, Limits, NoteId};
@@ -41,6 +43,22 @@ impl Named for ThreadPart {
     }
 }
 
+impl Named for SourcePart {
+    ghost name = { λ source. source.name };
+
+    fn name(&self) -> &Name {
+        &self.name
+    }
+}
+
+impl Named for ChainPart {
+    ghost name = { λ chain. chain.name };
+
+    fn name(&self) -> &Name {
+        &self.name
+    }
+}
+
 fn have_names<T: Named>(things: &[T]) -> bool
     ensures { IsTrue result ↔ All (λ thing. IsTrue (is_name (T.name thing))) things.now }
 {
@@ -67,7 +85,7 @@ fn have_distinct_names<T: Named>(things: &[T]) -> bool
     true
 }
 
-/// The limits of contexts, notifications and threads are the same.
+/// The limits of all things with names are the same.
 fn are_named<T: Named>(things: &[T]) -> bool
     ensures { IsTrue result ↔ AreNamed T.name things.now }
 {
@@ -106,6 +124,43 @@ fn have_cores_of_their_own(links: &[Link]) -> bool
     true
 }
 
+fn do_precede(one: Beat, other: Beat) -> bool
+    requires { (one.first ≤ 2 ^ 41) × (one.period ≤ 2 ^ 40) }
+    ensures { IsTrue result ↔ DoPrecede one other }
+{
+    one.source.0 < other.source.0
+        || one.source == other.source
+            && one.period == other.period
+            && one.first.get() < other.first.get()
+            && other.first.get() < one.first.get() + one.period
+}
+
+fn stands_behind(beat: Beat, earlier: &[Beat]) -> bool
+    requires { All (λ other. (other.first ≤ 2 ^ 41) × (other.period ≤ 2 ^ 40)) earlier.now }
+    ensures { IsTrue result ↔ All (λ other. DoPrecede other beat) earlier.now }
+{
+    earlier.iter().all(|other| do_precede(*other, beat))
+}
+
+/// Each beat is compared with all earlier ones, as names are.
+fn are_in_order(beats: &[Beat]) -> bool
+    requires { All (λ beat. (beat.first ≤ 2 ^ 41) × (beat.period ≤ 2 ^ 40)) beats.now }
+    ensures { IsTrue result ↔ AreInOrder beats.now }
+{
+    for (i, beat) in beats.iter().enumerate() {
+        if !stands_behind(*beat, &beats[..i]) {
+            return false;
+        }
+    }
+    true
+}
+
+fn are_free(servers: &[NotePart]) -> bool
+    ensures { IsTrue result ↔ All (λ note. note.word ≡ 1) servers.now }
+{
+    servers.iter().all(|server| server.word == 1)
+}
+
 fn has_numbers(thread: &ThreadPart) -> bool
     ensures { IsTrue result
         ↔ (thread.now.priority ≤ 255) × (thread.now.start ≤ 2 ^ 40) × (thread.now.rounds ≤ 2 ^ 40)
@@ -120,8 +175,8 @@ fn has_numbers(thread: &ThreadPart) -> bool
 impl SystemParts {
     /// Whether the system is well formed: counts and numbers lie in their ranges (profile M), names are 1 to 32 characters of
     /// `A-Z a-z 0-9 _ -` and distinct in each kind, each configuration passes its check with the system's least budget, a round robin context has the mode `Sporadic`, no two
-    /// threads have one context, a thread waits on notifications of its own core alone, an order keeps the context's kind, and no
-    /// two links go from the same core to the same other core. It takes no memory, so names are compared in pairs, in time with the
+    /// threads have one context, a thread waits on notifications of its own core alone and enters servers of it alone, an order keeps the context's kind, no
+    /// two links go from the same core to the same other core, servers are free at first, and the dates of a source in one period rise. It takes no memory, so names and dates are compared in pairs, in time with the
     /// square of their number; the rest is linear.
     pub fn is_well_formed(&self) -> bool
         ensures { IsTrue result ↔ IsWellFormed self.now }
@@ -138,7 +193,7 @@ impl SystemParts {
             && self.has_orders()
             && self.links.len() <= Link::MOST
             && self.has_links()
-            && have_cores_of_their_own(self.links.as_slice())
+            && self.has_ties()
     }
 
     fn has_limits(&self) -> bool
@@ -181,7 +236,7 @@ impl SystemParts {
     }
 
     fn is_at_home(&self, note: NoteId, core: CoreId) -> bool
-        ensures { IsTrue result ↔ IsItem self.now core (Item.Wait note) }
+        ensures { IsTrue result ↔ (note < length self.now.notes) × ((note_part self.now note).core ≡ core) }
     {
         match self.notes.as_slice().get(note.0) {
             Some(part) => part.core == core,
@@ -189,14 +244,38 @@ impl SystemParts {
         }
     }
 
+    /// Whether a note, of those that there are, is a server.
+    pub fn is_server(&self, note: NoteId) -> bool
+        requires { note < length self.now.notes }
+        ensures { result ≡ is_server self.now note }
+    {
+        self.notes.len() - note.0 <= self.servers
+    }
+
+    fn is_notification(&self, note: NoteId, core: CoreId) -> bool
+        ensures { IsTrue result ↔ IsNotification self.now core note }
+    {
+        self.is_at_home(note, core) && !self.is_server(note)
+    }
+
+    fn is_server_of(&self, note: NoteId, core: CoreId) -> bool
+        ensures { IsTrue result ↔ IsServer self.now core note }
+    {
+        self.is_at_home(note, core) && self.is_server(note)
+    }
+
     fn is_item(&self, core: CoreId, item: Item) -> bool
         ensures { IsTrue result ↔ IsItem self.now core item }
     {
         match item {
             Item::Compute(ticks) => 1 <= ticks && ticks <= Limits::COMPUTE,
-            Item::Signal(note, badge) => note.0 < self.notes.len() && 1 <= badge,
-            Item::Wait(note) => self.is_at_home(note, core),
-            Item::Yield => true,
+            Item::Signal(note, badge) => {
+                note.0 < self.notes.len() && !self.is_server(note) && 1 <= badge
+            }
+            Item::Wait(note) => self.is_notification(note, core),
+            Item::Yield | Item::Spin => true,
+            Item::On(badges) => 1 <= badges,
+            Item::Enter(server, _) | Item::Leave(server, _) => self.is_server_of(server, core),
         }
     }
 
@@ -204,13 +283,10 @@ impl SystemParts {
         ensures items { IsTrue result ↔ All (IsItem self.now core) script.now }
         ensures is_script { IsScript script.now }
     {
-        for i in 0..script.len() {
-            match script.get(i) {
-                Some(item) if !self.is_item(core, item) => return false,
-                _ => {}
-            }
-        }
-        true
+        script
+            .as_slice()
+            .iter()
+            .all(|item| self.is_item(core, *item))
     }
 
     /// The context with this number, if there is one: its core and its configuration.
@@ -280,5 +356,97 @@ impl SystemParts {
         ensures { IsTrue result ↔ All (IsLink self.now) self.now.links }
     {
         self.links.as_slice().iter().all(|link| self.is_link(*link))
+    }
+
+    fn is_source(&self, source: &SourcePart) -> bool
+        ensures { IsTrue result ↔ IsSource self.now source.now }
+    {
+        source.note.0 < self.notes.len() && !self.is_server(source.note) && 1 <= source.badge
+    }
+
+    fn has_sources(&self) -> bool
+        ensures { IsTrue result ↔ All (IsSource self.now) self.now.sources }
+    {
+        self.sources
+            .as_slice()
+            .iter()
+            .all(|source| self.is_source(source))
+    }
+
+    fn has_ties(&self) -> bool
+        requires { All (λ link. (link.maker < 64) × (link.home < 64)) self.now.links }
+        ensures { IsTrue result
+            ↔ AllPairs DifferInCores self.now.links × AreServers self.now × AreSources self.now × AreChains self.now }
+    {
+        have_cores_of_their_own(self.links.as_slice())
+            && self.are_servers()
+            && self.are_sources()
+            && self.are_chains()
+    }
+
+    fn are_servers(&self) -> bool
+        ensures { IsTrue result ↔ AreServers self.now }
+    {
+        let notes = self.notes.as_slice();
+        self.servers <= notes.len() && are_free(&notes[notes.len() - self.servers..])
+    }
+
+    fn is_chain(&self, chain: &ChainPart) -> bool
+        ensures { IsTrue result ↔ IsChain self.now chain.now }
+    {
+        chain.source.0 < self.sources.len()
+            && chain.thread.0 < self.threads.len()
+            && u64::from(chain.badges) <= Limits::BADGE
+            && chain.deadline <= Limits::DEADLINE
+    }
+
+    fn has_chains(&self) -> bool
+        ensures { IsTrue result ↔ All (IsChain self.now) self.now.chains }
+    {
+        self.chains
+            .as_slice()
+            .iter()
+            .all(|chain| self.is_chain(chain))
+    }
+
+    fn are_chains(&self) -> bool
+        ensures { IsTrue result ↔ AreChains self.now }
+    {
+        are_named(self.chains.as_slice()) && self.has_chains()
+    }
+
+    fn are_sources(&self) -> bool
+        ensures { IsTrue result ↔ AreSources self.now }
+    {
+        self.has_named_sources() && self.are_beats()
+    }
+
+    fn has_named_sources(&self) -> bool
+        ensures { IsTrue result
+            ↔ AreNamed (λ source. source.name) self.now.sources × All (IsSource self.now) self.now.sources }
+    {
+        are_named(self.sources.as_slice()) && self.has_sources()
+    }
+
+    fn are_beats(&self) -> bool
+        ensures { IsTrue result
+            ↔ (length self.now.beats ≤ 4096) × All (IsBeat self.now) self.now.beats × AreInOrder self.now.beats }
+    {
+        self.beats.len() <= Beat::MOST && self.has_beats() && are_in_order(self.beats.as_slice())
+    }
+
+    fn is_beat(&self, beat: Beat) -> bool
+        ensures { IsTrue result ↔ IsBeat self.now beat }
+    {
+        beat.source.0 < self.sources.len()
+            && beat.first.get() <= 1 << 41
+            && 1 <= beat.period
+            && beat.period <= Limits::PERIOD
+    }
+
+    fn has_beats(&self) -> bool
+        ensures { IsTrue result ↔ All (IsBeat self.now) self.now.beats }
+    {
+        self.beats.as_slice().iter().all(|beat| self.is_beat(*beat))
     }
 }

@@ -19,6 +19,10 @@ fn parts(alloc: Global, cores: usize, links: Vec<Link>) -> SystemParts {
         threads: Sequence::new(Vec::new(alloc)),
         orders: Sequence::new(Vec::new(alloc)),
         links: Sequence::new(links),
+        servers: 0,
+        sources: Sequence::new(Vec::new(alloc)),
+        beats: Sequence::new(Vec::new(alloc)),
+        chains: Sequence::new(Vec::new(alloc)),
     }
 }
 

@@ -2,8 +2,10 @@
 
 use mcs_control::{Config, Mode, Order};
 use mcs_script::{Item, Script};
-use mcs_system::{ContextPart, Link, Name, NotePart, SystemParts, ThreadPart};
-use mcs_ticks::{ContextId, CoreId, NoteId, Sequence, Tick};
+use mcs_system::{
+    Beat, ChainPart, ContextPart, Link, Name, NotePart, SourcePart, SystemParts, ThreadPart,
+};
+use mcs_ticks::{ContextId, CoreId, NoteId, Sequence, SourceId, ThreadId, Tick};
 use std::alloc::Global;
 use std::test::Fail;
 
@@ -36,6 +38,21 @@ struct Sample {
     maker: usize,
     home: usize,
     link_delay: u64,
+    servers: usize,
+    server_word: u32,
+    entered: usize,
+    source: &'static str,
+    source_note: usize,
+    source_badge: u32,
+    beat_source: usize,
+    first: u64,
+    period: u64,
+    last_first: u64,
+    last_period: u64,
+    chain: &'static str,
+    chain_source: usize,
+    chain_thread: usize,
+    chain_deadline: u64,
 }
 
 const SPORADIC: Config = Config {
@@ -71,6 +88,21 @@ const SAMPLE: Sample = Sample {
     maker: 0,
     home: 1,
     link_delay: 3,
+    servers: 1,
+    server_word: 1,
+    entered: 2,
+    source: "s",
+    source_note: 1,
+    source_badge: 1,
+    beat_source: 0,
+    first: 5,
+    period: 10,
+    last_first: 7,
+    last_period: 10,
+    chain: "c",
+    chain_source: 0,
+    chain_thread: 0,
+    chain_deadline: 0,
 };
 
 fn tick(ticks: u64) -> Result<Tick, Fail> {
@@ -109,12 +141,19 @@ fn notes(alloc: Global, sample: Sample) -> Result<Vec<NotePart>, Fail> {
     let first = NotePart {
         name: name(alloc, sample.note)?,
         core: CoreId(sample.note_core),
+        word: 0,
     };
     let second = NotePart {
         name: name(alloc, "m")?,
         core: CoreId(1),
+        word: 0,
     };
-    Ok(vec![in alloc; first, second]?)
+    let server = NotePart {
+        name: name(alloc, "v")?,
+        core: CoreId(0),
+        word: sample.server_word,
+    };
+    Ok(vec![in alloc; first, second, server]?)
 }
 
 fn threads(alloc: Global, sample: Sample) -> Result<Vec<ThreadPart>, Fail> {
@@ -122,6 +161,8 @@ fn threads(alloc: Global, sample: Sample) -> Result<Vec<ThreadPart>, Fail> {
         Item::Compute(sample.compute),
         Item::Signal(NoteId(sample.signal_to), sample.badge),
         Item::Wait(NoteId(sample.wait_on)),
+        Item::Enter(NoteId(sample.entered), 7),
+        Item::Leave(NoteId(2), 5),
         Item::Yield,
     ]?;
     let first = ThreadPart {
@@ -141,6 +182,61 @@ fn threads(alloc: Global, sample: Sample) -> Result<Vec<ThreadPart>, Fail> {
         rounds: 0,
         deadline: 0,
         script: script(vec![in alloc; Item::Yield]?)?,
+    };
+    Ok(vec![in alloc; first, second]?)
+}
+
+fn sources(alloc: Global, sample: Sample) -> Result<Vec<SourcePart>, Fail> {
+    let first = SourcePart {
+        name: name(alloc, sample.source)?,
+        note: NoteId(sample.source_note),
+        badge: sample.source_badge,
+    };
+    let second = SourcePart {
+        name: name(alloc, "k")?,
+        note: NoteId(0),
+        badge: 1,
+    };
+    Ok(vec![in alloc; first, second]?)
+}
+
+/// Two dates in each period of the first source, of which the later may change, and one of the second.
+fn beats(alloc: Global, sample: Sample) -> Result<Vec<Beat>, Fail> {
+    let first = Beat {
+        source: SourceId(0),
+        first: tick(2)?,
+        period: 10,
+        count: 0,
+    };
+    let second = Beat {
+        source: SourceId(sample.beat_source),
+        first: tick(sample.first)?,
+        period: sample.period,
+        count: 0,
+    };
+    let third = Beat {
+        source: SourceId(1),
+        first: tick(sample.last_first)?,
+        period: sample.last_period,
+        count: 3,
+    };
+    Ok(vec![in alloc; first, second, third]?)
+}
+
+fn chains(alloc: Global, sample: Sample) -> Result<Vec<ChainPart>, Fail> {
+    let first = ChainPart {
+        name: name(alloc, sample.chain)?,
+        source: SourceId(sample.chain_source),
+        thread: ThreadId(sample.chain_thread),
+        badges: 0,
+        deadline: sample.chain_deadline,
+    };
+    let second = ChainPart {
+        name: name(alloc, "d")?,
+        source: SourceId(1),
+        thread: ThreadId(1),
+        badges: u32::MAX,
+        deadline: 0,
     };
     Ok(vec![in alloc; first, second]?)
 }
@@ -175,6 +271,10 @@ fn parts(alloc: Global, sample: Sample) -> Result<SystemParts, Fail> {
         threads: Sequence::new(threads(alloc, sample)?),
         orders: Sequence::new(vec![in alloc; order]?),
         links: Sequence::new(links(alloc, sample)?),
+        servers: sample.servers,
+        sources: Sequence::new(sources(alloc, sample)?),
+        beats: Sequence::new(beats(alloc, sample)?),
+        chains: Sequence::new(chains(alloc, sample)?),
     })
 }
 
@@ -205,6 +305,16 @@ pub(crate) enum Change {
     OrderFor(usize),
     Ordered(u64, u64, u64),
     Linked(usize, usize, u64),
+    Servers(usize),
+    ServerWord(u32),
+    Entered(usize),
+    Source(&'static str),
+    Interrupting(usize, u32),
+    Beating(usize, u64, u64),
+    LastBeat(u64, u64),
+    Chain(&'static str),
+    Chained(usize, usize),
+    ChainDeadline(u64),
 }
 
 fn config(budget: u64, period: u64, extra: u64) -> Config {
@@ -248,6 +358,29 @@ fn apply(change: Change, sample: &mut Sample) {
             sample.home = home;
             sample.link_delay = delay;
         }
+        Change::Servers(servers) => sample.servers = servers,
+        Change::ServerWord(word) => sample.server_word = word,
+        Change::Entered(server) => sample.entered = server,
+        Change::Source(name) => sample.source = name,
+        Change::Interrupting(note, badge) => {
+            sample.source_note = note;
+            sample.source_badge = badge;
+        }
+        Change::Beating(source, first, period) => {
+            sample.beat_source = source;
+            sample.first = first;
+            sample.period = period;
+        }
+        Change::LastBeat(first, period) => {
+            sample.last_first = first;
+            sample.last_period = period;
+        }
+        Change::Chain(name) => sample.chain = name,
+        Change::Chained(source, thread) => {
+            sample.chain_source = source;
+            sample.chain_thread = thread;
+        }
+        Change::ChainDeadline(deadline) => sample.chain_deadline = deadline,
     }
 }
 

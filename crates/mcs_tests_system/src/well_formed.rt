@@ -44,6 +44,14 @@ fn limits_are_accepted(rt: HostRuntime) -> Result<(), Fail> {
         Change::Ordered(LONGEST - 1, LONGEST, 64),
         Change::Linked(0, 1, 1),
         Change::Linked(0, 1, 1_048_576),
+        Change::Interrupting(0, u32::MAX),
+        Change::Beating(0, 3, 10),
+        Change::Beating(0, 11, 10),
+        Change::Beating(1, 6, 10),
+        Change::LastBeat(LONGEST * 2, LONGEST),
+        Change::LastBeat(0, 1),
+        Change::Chained(1, 1),
+        Change::ChainDeadline(LONGEST),
     ];
     all_are(&rt, rt.alloc(), true, &changes)
 }
@@ -69,13 +77,21 @@ fn one_past_a_limit_is_refused(rt: HostRuntime) -> Result<(), Fail> {
         Change::OrderAt(LONGEST + 1),
         Change::Linked(0, 1, 0),
         Change::Linked(0, 1, 1_048_577),
+        Change::Servers(4),
+        Change::Interrupting(0, 0),
+        Change::Beating(0, 12, 10),
+        Change::LastBeat(0, 0),
+        Change::LastBeat(0, LONGEST + 1),
+        Change::LastBeat(LONGEST * 2 + 1, LONGEST),
+        Change::ChainDeadline(LONGEST + 1),
     ];
     all_are(&rt, rt.alloc(), false, &changes)
 }
 
-/// One part that does not fit the others: a core, a context or a notification that is not there, a configuration that is refused, a
-/// context that two threads have, a wait away from home, an order that changes the kind, a name that another one has, a link from a
-/// core to itself, a second link of two cores.
+/// One part that does not fit the others: a core, a context, a notification, a source or a thread that is not there, a configuration that is
+/// refused, a context that two threads have, a wait away from home, an order that changes the kind, a name that another one has, a link from a
+/// core to itself, a second link of two cores, a server that is not free at first, a signal to a server, a call of a notification, dates of a
+/// source that do not rise within one period.
 #[test]
 fn parts_that_do_not_fit_are_refused(rt: HostRuntime) -> Result<(), Fail> {
     let changes = [
@@ -106,6 +122,27 @@ fn parts_that_do_not_fit_are_refused(rt: HostRuntime) -> Result<(), Fail> {
         Change::Linked(2, 0, 3),
         Change::Linked(0, 0, 3),
         Change::Linked(1, 0, 3),
+        Change::Servers(0),
+        Change::Servers(2),
+        Change::ServerWord(0),
+        Change::ServerWord(2),
+        Change::Entered(0),
+        Change::Entered(1),
+        Change::Entered(3),
+        Change::SignalTo(3),
+        Change::WaitOn(3),
+        Change::Source("k"),
+        Change::Interrupting(2, 1),
+        Change::Interrupting(3, 1),
+        Change::Beating(0, 2, 10),
+        Change::Beating(0, 1, 10),
+        Change::Beating(0, 5, 9),
+        Change::Beating(1, 7, 10),
+        Change::Beating(1, 8, 10),
+        Change::Beating(2, 5, 10),
+        Change::Chain("d"),
+        Change::Chained(2, 0),
+        Change::Chained(0, 2),
     ];
     all_are(&rt, rt.alloc(), false, &changes)
 }
@@ -128,6 +165,8 @@ fn names_are_of_32_characters(rt: HostRuntime) -> Result<(), Fail> {
             Change::Context(name),
             Change::Note(name),
             Change::Thread(name),
+            Change::Source(name),
+            Change::Chain(name),
         ];
         all_are(&rt, rt.alloc(), true, &changes)?;
     }
@@ -149,6 +188,8 @@ fn names_are_of_32_characters(rt: HostRuntime) -> Result<(), Fail> {
             Change::Context(name),
             Change::Note(name),
             Change::Thread(name),
+            Change::Source(name),
+            Change::Chain(name),
         ];
         all_are(&rt, rt.alloc(), false, &changes)?;
     }
