@@ -5,7 +5,7 @@ use Rattle.mcs_ticks.specs.Queue.{by_priority, in_one_list}
 use Rattle.mcs_ticks.proofs.Queues.{sorted-back, first-sorted, rest-sorted}
 use Rattle.mcs_control.specs.declared.config.Order.{Order}
 use Rattle.mcs_script.specs.declared.item.Item.{Item}
-use Rattle.mcs_script.specs.declared.item.Item.TheVariants.{Compute, Signal, Wait, Yield}
+use Rattle.mcs_script.specs.declared.item.Item.TheVariants.{Compute, Signal, Wait, Yield, On, Spin, Enter, Leave}
 use Rattle.mcs_mail.specs.declared.mail.Mail.{Mail}
 use Rattle.mcs_mail.specs.Box.{arriving, staying}
 use Rattle.mcs_system.specs.System.{System}
@@ -15,6 +15,8 @@ use Rattle.mcs_core.specs.declared.standing.AfterItem.TheVariants as after
 use Rattle.mcs_core.specs.declared.standing.Chosen.{Chosen}
 use Rattle.mcs_release.specs.declared.dated.Dated.{Dated}
 use Rattle.mcs_release.specs.Release.{is_due}
+use Rattle.mcs_core.specs.Alarms.{ringing, alarms_at}
+use Rattle.mcs_core.specs.declared.alarm.Alarm.{Alarm}
 use Rattle.mcs_core.specs.Clock.{shown}
 use Rattle.mcs_core.specs.Run.{ran, ran_with, with_turn}
 use Rattle.mcs_core.specs.State.{State, ran_shown, AreOfOneList}
@@ -50,6 +52,10 @@ module _ (system : System) (c t : ℕ) where
       turn_shown (turns.signals in_one_list system c t x note badge k) ≡ turns.signals by_priority system c t x note badge (shown k)
   signals-alike x note badge k = grind (arith, sorted-back)
 
+  frees-alike : (x server : ℕ) (k : Core) →
+      turn_shown (turns.frees in_one_list system t x server k) ≡ turns.frees by_priority system t x server (shown k)
+  frees-alike x server k = grind (arith, sorted-back)
+
   takes_effect-alike : (x : ℕ) (item : Option Item) (k : Core) →
       turn_shown (turns.takes_effect in_one_list system c t x item k) ≡ turns.takes_effect by_priority system c t x item (shown k)
   takes_effect-alike x (Some (Signal note badge)) k =
@@ -57,6 +63,11 @@ module _ (system : System) (c t : ℕ) where
   takes_effect-alike x (Some (Wait note)) k = grind arith
   takes_effect-alike x (Some (Compute ticks)) k = moves_on-alike x k
   takes_effect-alike x (Some Yield) k = moves_on-alike x k
+  takes_effect-alike x (Some (On badges)) k = moves_on-alike x k
+  takes_effect-alike x (Some Spin) k = moves_on-alike x k
+  takes_effect-alike x (Some (Enter server priority)) k = grind arith
+  takes_effect-alike x (Some (Leave server priority)) k =
+      then_part _ _ (turns.moves_on system t x) (turns.moves_on system t x) (frees-alike x server k) (moves_on-alike x)
   takes_effect-alike x None k = refl
 
   may_stop-alike : (x using : ℕ) (cause : AfterItem) (k : Core) →
@@ -82,18 +93,21 @@ module _ (system : System) (c t : ℕ) where
       by_test ((thread_of l chosen.thread).place.left == 0) _ _ _ _ (finishes-alike chosen.thread (chosen.using + 1) (turns.item_of system chosen.thread l) l)
       (may_stop-alike chosen.thread (chosen.using + 1) after.GoesOn l)
 
+  interrupts-alike : (alarm : Alarm) (k : Core) → turn_shown (turns.interrupts in_one_list system t alarm k) ≡ turns.interrupts by_priority system t alarm (shown k)
+  interrupts-alike alarm k = grind (arith, sorted-back)
+
   arrives-alike : (mail : Mail) (k : Core) → turn_shown (turns.arrives in_one_list system t mail k) ≡ turns.arrives by_priority system t mail (shown k)
   arrives-alike mail k = grind (arith, sorted-back)
 
   obeys-alike : (order : Order) (k : Core) → turn_shown (turns.obeys in_one_list system t order k) ≡ turns.obeys by_priority system t order (shown k)
   obeys-alike order k = grind arith
 
-  released-alike : (due : Dated) (k : Core) → turn_shown (turns.released in_one_list system due k) ≡ turns.released by_priority system due (shown k)
+  released-alike : (due : Dated) (k : Core) → turn_shown (turns.released in_one_list due k) ≡ turns.released by_priority due (shown k)
   released-alike due k = grind (arith, sorted-back)
 
   releases-alike : (k : Core) → turn_shown (turns.releases in_one_list system t k) ≡ turns.releases by_priority system t (shown k)
   releases-alike k =
-      each_part (turns.released in_one_list system) (turns.released by_priority system) released-alike (filter (is_due t) k.releases) _
+      each_part (turns.released in_one_list) (turns.released by_priority) released-alike (filter (is_due t) k.releases) _
 
   preempts-alike : (k : Core) → turn_shown (turns.preempts in_one_list system t k) ≡ turns.preempts by_priority system t (shown k)
   preempts-alike k = grind (arith, first-sorted k.ready)
@@ -110,7 +124,9 @@ module _ (system : System) (c t : ℕ) where
       (then_part _ _ (turns.releases in_one_list system t) (turns.releases by_priority system t)
       (then_part _ _ (each (turns.obeys in_one_list system t) orders) (each (turns.obeys by_priority system t) orders)
       (then_part _ _ (each (turns.arrives in_one_list system t) mails) (each (turns.arrives by_priority system t) mails)
+      (then_part _ _ (each (turns.interrupts in_one_list system t) alarms) (each (turns.interrupts by_priority system t) alarms)
       (tick_of-alike k.running k)
+      (λ l. each_part (turns.interrupts in_one_list system t) (turns.interrupts by_priority system t) interrupts-alike alarms l))
       (λ l. each_part (turns.arrives in_one_list system t) (turns.arrives by_priority system t) arrives-alike mails l))
       (λ l. each_part (turns.obeys in_one_list system t) (turns.obeys by_priority system t) obeys-alike orders l))
       releases-alike)
@@ -119,6 +135,9 @@ module _ (system : System) (c t : ℕ) where
     where
       orders : List Order
       orders = filter (turns.is_for_now system c t) system.orders
+
+      alarms : List Alarm
+      alarms = ringing t (alarms_at system c t)
 
 -- and so do the turns of one core alone
 pub shown-runs : (system : System) (c n t : ℕ) (core : Core) (box : List Mail) →

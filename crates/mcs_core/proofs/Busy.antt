@@ -1,6 +1,6 @@
 -- The next busy moment, from what comes first.
-use Rattle.std.proofs.Common.{◌≡◌, ◌≢◌, ℕ, ◌+◌, ◌-◌, ◌<◌, ◌≤◌, ◌^◌, List, [], ◌∷◌, length, refl, sym, ap, subst, ◌∙◌, arith}
-use Rattle.std.specs.Prelude.{nat_lt, min, max, filter, All, Option, Some, None, option_map, IsSome, IfSome, ◌↔◌}
+use Rattle.std.proofs.Common.{◌≡◌, ◌≢◌, ◌⊎◌, inl, inr, Bool, true, false, cond, ℕ, ◌+◌, ◌-◌, ◌<◌, ◌≤◌, ◌^◌, List, [], ◌∷◌, length, refl, sym, ap, subst, ◌∙◌, arith}
+use Rattle.std.specs.Prelude.{nat_lt, nat_le, min, max, filter, All, Option, Some, None, option_map, IsSome, IfSome, ◌↔◌}
 use Rattle.std.specs.List.{AllByRecursion}
 use Rattle.std.proofs.Math.ListN.{length-set}
 use Rattle.std.proofs.lemmas.Bool.Decides.{nat_tests}
@@ -20,8 +20,11 @@ use Rattle.mcs_core.specs.Core.{Core, thread_of}
 use Rattle.mcs_core.specs.Orders.{AreByMoment, due_now, to_come, orders_of}
 use Rattle.mcs_core.specs.Turn.{its_context, is_for_now}
 use Rattle.mcs_ticks.specs.Soonest.{sooner}
+use Rattle.mcs_script.specs.Script.{never, left_after}
+use Rattle.mcs_script.proofs.Steps.{left-none}
+use Rattle.mcs_core.specs.Alarms.{ringing, alarms_at}
 use Rattle.mcs_core.specs.Busy.{IsFirst, first_moment, IsBest, GoesOnAfter, counted_by}
-use Rattle.mcs_core.specs.Quiet.{counted_times, IsQuietWith, IsNextBusyWith}
+use Rattle.mcs_core.specs.Quiet.{counted_of, counted_times, IsQuietWith, IsNextBusyWith}
 use Rattle.mcs_core.specs.stored.Ends.{IsEnd}
 use Rattle.mcs_core.proofs.Firsts.{first-both, first-same, not_le}
 use Rattle.mcs_core.proofs.Plans.{due-none, due-of, due-to_come}
@@ -103,40 +106,56 @@ first-release clock ds h s = by (earliest ds) refl
 pub first-now : (clock : ℕ) (P : ℕ → Type 0) → clock ≤ 2 ^ 42 → (P 0 → ⊥) → IsFirst clock P (Some clock)
 first-now clock P l h = (0, omega arith, l, λ m k. absurd (omega arith), h)
 
+-- an item goes on as long as more than one tick of it is left; one that never ends has more than any run
+goes-on : (left n : ℕ) → n + 1 < left → 1 < left_after n left
+goes-on left n h = grind (arith, nat_tests)
+
+ended : (left n : ℕ) → 1 < left_after n left → n + 1 < left ⊎ (never ≤ left)
+ended left n h = by (nat_le never left) refl h
+  where
+    by : (b : Bool) → nat_le never left ≡ b → 1 < cond b left (left - n) → n + 1 < left ⊎ (never ≤ left)
+    by true e h = inr (grind (arith, nat_tests))
+    by false e h = inl (omega (arith, h))
+
 -- the end of the item, or of the head
 pub first-end : (clock left using head : ℕ) (o : Option ℕ) → using < head →
     (IsSome o ↔ (clock + min (left - 1) (head - using - 1) ≤ 2 ^ 42)) → IfSome o (λ m. m ≡ clock + min (left - 1) (head - using - 1)) →
-    IsFirst clock (λ n. (n + 1 < left) × (using + n + 1 ≢ head)) o
+    IsFirst clock (λ n. (1 < left_after n left) × (using + n + 1 ≢ head)) o
 first-end clock left using head None l h g =
     let far = not_le (clock + min (left - 1) (head - using - 1)) (2 ^ 42) (λ p. (let e = h.1 p in cc)) in
-    λ n k. (omega arith, omega arith)
+    λ n k. (goes-on left n (omega arith), omega arith)
 first-end clock left using head (Some m) l h g =
-    (min (left - 1) (head - using - 1), g, rw g (h.0 refl), λ n k. (omega arith, omega arith), λ p. omega arith)
+    (min (left - 1) (head - using - 1), g, rw g (h.0 refl), λ n k. (goes-on left n (omega arith), omega arith), λ p. by (ended left (min (left - 1) (head - using - 1)) p.0) (h.0 refl) p.1)
+  where
+    by : (min (left - 1) (head - using - 1) + 1 < left) ⊎ (never ≤ left) → clock + min (left - 1) (head - using - 1) ≤ 2 ^ 42 → using + min (left - 1) (head - using - 1) + 1 ≢ head → ⊥
+    by (inl e) k f = f (omega (arith, e))
+    by (inr e) k f = f (omega (arith, e, k))
 
 -- the running thread is one of the core, and its item one of its script
 pub record IsKnown (system : System) (core : Core) (chosen : Chosen) : Type 0 where
   pub thread : chosen.thread < length core.threads
   pub item : (thread_of core chosen.thread).place.item < length (thread_part system chosen.thread).script
 
-goes-to : (left left' using head n : ℕ) → left' ≡ left - n → n + 1 < left → using + n + 1 ≢ head → (0 + 1 < left') × (using + n + 0 + 1 ≢ head)
-goes-to left left' using head n e a b = (omega arith, omega arith)
+goes-to : (left left' using head n : ℕ) → left' ≡ left_after n left → 1 < left_after n left → using + n + 1 ≢ head → (1 < left_after 0 left') × (using + n + 0 + 1 ≢ head)
+goes-to left left' using head n e a b = (rw (left-none left', e) a, omega arith)
 
-goes-back : (left left' using head n : ℕ) → left' ≡ left - n → 0 + 1 < left' → using + n + 0 + 1 ≢ head → (n + 1 < left) × (using + n + 1 ≢ head)
-goes-back left left' using head n e a b = (omega arith, omega arith)
+goes-back : (left left' using head n : ℕ) → left' ≡ left_after n left → 1 < left_after 0 left' → using + n + 0 + 1 ≢ head → (1 < left_after n left) × (using + n + 1 ≢ head)
+goes-back left left' using head n e a b = (rw (left-none left', e) at a, omega arith)
 
 module _ (system : System) (c : ℕ) where
   -- of the turn after so many, what is asked of the core before them on which this thread runs
   abbrev pub StaysQuiet : ℕ → List Mail → Core → Option Chosen → ℕ → Type 0
   StaysQuiet clock box core o n =
       GoesOnAfter system n o core
-      × IsBest system o (first_of core.ready)
+      × IsBest core o (first_of core.ready)
       × (filter (is_due (clock + n)) core.releases ≡ [])
       × (filter (is_for_now system c (clock + n)) system.orders ≡ [])
       × (arriving (clock + n) box ≡ [])
+      × (ringing (clock + n) (alarms_at system c (clock + n)) ≡ [])
 
-  best-same : (a b : Chosen) (best : Option Queued) → a.thread ≡ b.thread → IsBest system (Some a) best → IsBest system (Some b) best
-  best-same a b None e h = tt
-  best-same a b (Some best) e h = ap (λ x. nat_lt (thread_part system x).priority best.priority) (sym e) ∙ h
+  best-same : (k l : Core) (a b : Chosen) (best : Option Queued) → (thread_of k a.thread).place.priority ≡ (thread_of l b.thread).place.priority → IsBest k (Some a) best → IsBest l (Some b) best
+  best-same k l a b None e h = tt
+  best-same k l a b (Some best) e h = ap (λ p. nat_lt p best.priority) (sym e) ∙ h
 
   module _ (clock : ℕ) (box : List Mail) (n : ℕ) (core : Core) where
     abbrev pub now : ℕ
@@ -144,19 +163,24 @@ module _ (system : System) (c : ℕ) where
 
     idle-quiet : core.running ≡ None → StaysQuiet clock box core None n → IsQuietWith by_priority system c now (arriving now box) core
     idle-quiet e h =
-        quiet-when system c now (arriving now box) core (λ chosen f. cc) (rw e tt) (rw e (record { no_mail = h.4; no_order = h.3; no_release = h.2; best = h.1 }))
+        quiet-when system c now (arriving now box) core (λ chosen f. cc) (rw e tt) (rw e (record { no_alarm = h.5; no_mail = h.4; no_order = h.3; no_release = h.2; best = h.1 }))
 
     quiet-idle : core.running ≡ None → IsQuietWith by_priority system c now (arriving now box) core → StaysQuiet clock box core None n
     quiet-idle e q =
         let calm = rw e at (quiet-calm system c now (arriving now box) core (λ chosen f. cc) (rw e tt) q) in
-        (tt, calm.best, calm.no_release, calm.no_order, calm.no_mail)
+        (tt, calm.best, calm.no_release, calm.no_order, calm.no_mail, calm.no_alarm)
 
     module _ (chosen : Chosen) (known : IsKnown system core chosen) where
-      left-after : (thread_of (counted_by n chosen core) chosen.thread).place.left ≡ (thread_of core chosen.thread).place.left - n
-      left-after = ap (λ (thread : Thread). thread.place.left) (set-same chosen.thread (record (thread_of core chosen.thread) { place = record ((thread_of core chosen.thread).place) { left = (thread_of core chosen.thread).place.left - n } }) core.threads known.thread)
+      left-after : (thread_of (counted_by n chosen core) chosen.thread).place.left ≡ left_after n (thread_of core chosen.thread).place.left
+      left-after = ap (λ (thread : Thread). thread.place.left) (set-same chosen.thread (record (thread_of core chosen.thread) { place = record ((thread_of core chosen.thread).place) { left = left_after n (thread_of core chosen.thread).place.left } }) core.threads known.thread)
 
       item-after : (thread_of (counted_by n chosen core) chosen.thread).place.item ≡ (thread_of core chosen.thread).place.item
-      item-after = ap (λ (thread : Thread). thread.place.item) (set-same chosen.thread (record (thread_of core chosen.thread) { place = record ((thread_of core chosen.thread).place) { left = (thread_of core chosen.thread).place.left - n } }) core.threads known.thread)
+      item-after = ap (λ (thread : Thread). thread.place.item) (set-same chosen.thread (record (thread_of core chosen.thread) { place = record ((thread_of core chosen.thread).place) { left = left_after n (thread_of core chosen.thread).place.left } }) core.threads known.thread)
+
+      priority-after : (thread_of (counted_of system c (Some (record { thread = chosen.thread; using = chosen.using + n })) (counted_by n chosen core)) chosen.thread).place.priority ≡ (thread_of core chosen.thread).place.priority
+      priority-after =
+          ap (λ (thread : Thread). thread.place.priority) (set-same chosen.thread _ (counted_by n chosen core).threads (rw length-set known.thread))
+          ∙ ap (λ (thread : Thread). thread.place.priority) (set-same chosen.thread (record (thread_of core chosen.thread) { place = record ((thread_of core chosen.thread).place) { left = left_after n (thread_of core chosen.thread).place.left } }) core.threads known.thread)
 
       runner-after : (other : Chosen) → (counted_by n chosen core).running ≡ Some other → chosen.thread ≡ other.thread
       runner-after other e =
@@ -174,17 +198,18 @@ module _ (system : System) (c : ℕ) where
       busy-quiet h =
           quiet-when system c now (arriving now box) (counted_by n chosen core) thread-after
           (goes-to (thread_of core chosen.thread).place.left (thread_of (counted_by n chosen core) chosen.thread).place.left chosen.using (head_amount (its_context system chosen.thread core)) n left-after h.0.0 h.0.1)
-          (record { no_mail = h.4; no_order = h.3; no_release = h.2; best = best-same chosen (record { thread = chosen.thread; using = chosen.using + n + 1 }) (first_of core.ready) refl h.1 })
+          (record { no_alarm = h.5; no_mail = h.4; no_order = h.3; no_release = h.2; best = best-same core (counted_of system c (Some (record { thread = chosen.thread; using = chosen.using + n })) (counted_by n chosen core)) chosen (record { thread = chosen.thread; using = chosen.using + n + 1 }) (first_of core.ready) (sym priority-after) h.1 })
 
       quiet-busy : IsQuietWith by_priority system c now (arriving now box) (counted_by n chosen core) → StaysQuiet clock box core (Some chosen) n
       quiet-busy q =
           let goes = quiet-goes system c now (arriving now box) (counted_by n chosen core) known-after q in
           let calm = quiet-calm system c now (arriving now box) (counted_by n chosen core) thread-after goes q in (
             goes-back (thread_of core chosen.thread).place.left (thread_of (counted_by n chosen core) chosen.thread).place.left chosen.using (head_amount (its_context system chosen.thread core)) n left-after goes.0 goes.1,
-            best-same (record { thread = chosen.thread; using = chosen.using + n + 1 }) chosen (first_of core.ready) refl calm.best,
+            best-same (counted_of system c (Some (record { thread = chosen.thread; using = chosen.using + n })) (counted_by n chosen core)) core (record { thread = chosen.thread; using = chosen.using + n + 1 }) chosen (first_of core.ready) priority-after calm.best,
             calm.no_release,
             calm.no_order,
             calm.no_mail,
+            calm.no_alarm,
           )
 
     pub stays-quiet : ((chosen : Chosen) → core.running ≡ Some chosen → IsKnown system core chosen) → StaysQuiet clock box core core.running n → IsQuietWith by_priority system c now (arriving now box) (counted_times system c n core)
@@ -202,18 +227,19 @@ module _ (system : System) (c : ℕ) where
         by (Some chosen) e = quiet-busy chosen (known chosen e) (rw (counted-by system c n chosen core e (known chosen e).thread) at q)
 
   -- the next busy moment is the soonest of these
-  pub next-busy : (clock : ℕ) (box : List Mail) (core : Core) (ends date order mail : Option ℕ) → ((chosen : Chosen) → core.running ≡ Some chosen → IsKnown system core chosen) →
+  pub next-busy : (clock : ℕ) (box : List Mail) (core : Core) (ends date order alarm mail : Option ℕ) → ((chosen : Chosen) → core.running ≡ Some chosen → IsKnown system core chosen) →
       IsEnd system clock core ends →
       IsFirst clock (λ n. filter (is_due (clock + n)) core.releases ≡ []) date →
       IsFirst clock (λ n. filter (is_for_now system c (clock + n)) system.orders ≡ []) order →
+      IsFirst clock (λ n. ringing (clock + n) (alarms_at system c (clock + n)) ≡ []) alarm →
       IsFirst clock (λ n. arriving (clock + n) box ≡ []) mail →
-      IsNextBusyWith by_priority system c clock box core (sooner (sooner (sooner ends date) order) mail)
-  next-busy clock box core ends date order mail known h1 h3 h4 h5 =
-      let all = first-both clock _ _ _ _ (first-both clock _ _ _ _ (first-both clock _ _ _ _ h1 h3) h4) h5 in
-      is (sooner (sooner (sooner ends date) order) mail)
+      IsNextBusyWith by_priority system c clock box core (sooner (sooner (sooner (sooner ends date) order) alarm) mail)
+  next-busy clock box core ends date order alarm mail known h1 h3 h4 h6 h5 =
+      let all = first-both clock _ _ _ _ (first-both clock _ _ _ _ (first-both clock _ _ _ _ (first-both clock _ _ _ _ h1 h3) h4) h6) h5 in
+      is (sooner (sooner (sooner (sooner ends date) order) alarm) mail)
       (first-same clock _ (λ n. IsQuietWith by_priority system c (clock + n) (arriving (clock + n) box) (counted_times system c n core)) _
-      (λ n h. stays-quiet clock box n core known (h.0.0.0.0, h.0.0.0.1, h.0.0.1, h.0.1, h.1))
-      (λ n q. (let h = quiet-stays clock box n core known q in ((((h.0, h.1), h.2), h.3), h.4))) all)
+      (λ n h. stays-quiet clock box n core known (h.0.0.0.0.0, h.0.0.0.0.1, h.0.0.0.1, h.0.0.1, h.1, h.0.1))
+      (λ n q. (let h = quiet-stays clock box n core known q in (((((h.0, h.1), h.2), h.3), h.5), h.4))) all)
     where
       is : (o : Option ℕ) → IsFirst clock (λ n. IsQuietWith by_priority system c (clock + n) (arriving (clock + n) box) (counted_times system c n core)) o → IsNextBusyWith by_priority system c clock box core o
       is None h = h

@@ -7,20 +7,20 @@ use Rattle.mcs_notify.specs.Note.{waited}
 use Rattle.mcs_notify.specs.declared.posted.Waited.{Waited}
 use Rattle.mcs_notify.specs.declared.posted.Waited.TheVariants.{Got, Blocks}
 use Rattle.mcs_script.specs.declared.item.Item.{Item}
-use Rattle.mcs_script.specs.declared.item.Item.TheVariants.{Compute, Signal, Wait, Yield}
+use Rattle.mcs_script.specs.declared.item.Item.TheVariants.{Compute, Signal, Wait, Yield, On, Spin, Enter, Leave}
 use Rattle.mcs_core.specs.declared.standing.Chosen.{Chosen}
 use Rattle.mcs_core.specs.declared.standing.Standing.TheVariants.{Done}
 use Rattle.mcs_system.specs.System.{System, thread_part}
 use Rattle.mcs_core.specs.Core.{Core, note_of}
 use Rattle.mcs_core.specs.stored.Items.{IsNoted, SignalsFree, CanTakeEffect}
-use Rattle.mcs_core.specs.Turn.{its_context, takes_effect, waits_as}
+use Rattle.mcs_core.specs.Turn.{its_context, takes_effect, waits_as, enters_as}
 use Rattle.mcs_core.specs.stored.Sound.{times_ready, times_pending, times_blocked, Phase, IsFree, CanStop, WakesFree, IsSound}
 use Rattle.mcs_core.specs.stored.Sound.Phase.{Between, InTick}
 use Rattle.mcs_core.proofs.Soundness.{IsOneEach, itself, placed-same}
 use Rattle.mcs_core.proofs.Budgets.{accepted-is, kept-head-most}
-use Rattle.mcs_core.proofs.Wakes.{IsWoken, woken-sound}
+use Rattle.mcs_core.proofs.Wakes.{IsWoken, woken-sound, frees-sound}
 use Rattle.mcs_core.proofs.Stopping.{moves-sound}
-use Rattle.mcs_core.proofs.Ticks.{runner, runner-placed, signals-sound, signals-running, moves-running, got-sound}
+use Rattle.mcs_core.proofs.Ticks.{runner, runner-placed, signals-sound, signals-running, moves-running, got-sound, taken-sound, frees-running}
 
 module _ (system : System) (number from : ℕ) (each : IsOneEach system) where
   free_woken : (phase : Phase) (x : ℕ) (core : Core) → IsWoken system number from phase x core → IsFree system x core
@@ -75,6 +75,14 @@ module _ (system : System) (number from : ℕ) (each : IsOneEach system) where
       frees (Some (Wait note)) k = tt
       frees (Some (Compute ticks)) k = tt
       frees (Some Yield) k = tt
+      frees (Some (On badges)) k = tt
+      frees (Some Spin) k = tt
+      frees (Some (Enter server priority)) k = tt
+      frees (Some (Leave server priority)) k =
+          let s = frees-sound system number from each InTick t chosen.thread server core l f (rw h.notes k) h in
+          let i = frees-running system number from each t chosen.thread server core ∙ e in
+          let g = free_running InTick chosen _ s i in
+          (wakes_free InTick server 1 core (rw h.notes k) h, g.known, g.placed)
       frees None k = tt
 
   -- and after it the thread may stop
@@ -101,6 +109,27 @@ module _ (system : System) (number from : ℕ) (each : IsOneEach system) where
       can_stop chosen _ (moves-sound system number from each InTick t chosen.thread core h (runner-placed system number from each InTick chosen core h e)) (moves-running system number from each t chosen.thread core ∙ e)
   can_stop_after t chosen (Some Yield) core l f k h e =
       can_stop chosen _ (moves-sound system number from each InTick t chosen.thread core h (runner-placed system number from each InTick chosen core h e)) (moves-running system number from each t chosen.thread core ∙ e)
+  can_stop_after t chosen (Some (On badges)) core l f k h e =
+      can_stop chosen _ (moves-sound system number from each InTick t chosen.thread core h (runner-placed system number from each InTick chosen core h e)) (moves-running system number from each t chosen.thread core ∙ e)
+  can_stop_after t chosen (Some Spin) core l f k h e =
+      can_stop chosen _ (moves-sound system number from each InTick t chosen.thread core h (runner-placed system number from each InTick chosen core h e)) (moves-running system number from each t chosen.thread core ∙ e)
+  can_stop_after t chosen (Some (Enter server priority)) core l f k h e = by (waited (note_of core server))
+    where
+      by : (w : Waited) → CanStop system chosen.thread chosen.using (enters_as system t chosen.thread server w core).core
+      by (Got word) = can_stop chosen _ (taken-sound system number from each InTick t server word chosen core h e (rw h.notes k)) (moves-running system number from each t chosen.thread _ ∙ e)
+      by Blocks =
+          let s = can_stop chosen core h e in
+          record {
+            free = record { known = s.free.known; placed = placed-same system core _ refl chosen.thread refl s.free.placed; not_ready = s.free.not_ready; not_pending = s.free.not_pending };
+            some = s.some;
+            in_head = s.in_head;
+            early = s.early;
+          }
+  can_stop_after t chosen (Some (Leave server priority)) core l f k h e =
+      let s = frees-sound system number from each InTick t chosen.thread server core l f (rw h.notes k) h in
+      let i = frees-running system number from each t chosen.thread server core ∙ e in
+      let m = moves-sound system number from each InTick t chosen.thread _ s (runner-placed system number from each InTick chosen _ s i) in
+      can_stop chosen _ m (moves-running system number from each t chosen.thread _ ∙ i)
   can_stop_after t chosen None core l f k h e = can_stop chosen core h e
 
   -- the running thread has used no more than a budget

@@ -12,6 +12,7 @@ use Rattle.mcs_system.specs.System.{System, thread_part}
 use Rattle.mcs_core.specs.declared.standing.Chosen.{Chosen}
 use Rattle.mcs_core.specs.declared.standing.Standing.TheVariants.{Running}
 use Rattle.mcs_core.specs.declared.standing.Thread.{Thread}
+use Rattle.mcs_script.specs.Script.{left_after}
 use Rattle.mcs_core.specs.Busy.{IsFirst, IsBest, GoesOnAfter, counted_by}
 use Rattle.mcs_core.specs.Contexts.{is_own, held}
 use Rattle.mcs_core.specs.Core.{Core, thread_of, off}
@@ -60,7 +61,7 @@ module _ (system : System) where
   pub goes-before : (clock n moment : ℕ) (core : Core) (ends : Option ℕ) → IsEnd system clock core ends → moment ≡ clock + n → moment ≤ 2 ^ 42 → (HasCome moment ends → ⊥) →
       GoesOnAfter system n core.running core
   goes-before clock n moment core ends h e l f =
-      (holds-before clock n moment (λ n. GoesOnAfter system n core.running core × IsBest system core.running (first_of core.ready)) ends h e l f).0
+      (holds-before clock n moment (λ n. GoesOnAfter system n core.running core × IsBest core core.running (first_of core.ready)) ends h e l f).0
 
   -- where no thread runs and none is ready
   pub never-ends : (from : ℕ) (core : Core) → core.running ≡ None → first_of core.ready ≡ None → IsEnd system from core None
@@ -70,7 +71,7 @@ module _ (system : System) where
   pub goes-ends : (from : ℕ) (core : Core) (ends : Option ℕ) → (core.running ≡ None → ⊥) → HoldsOn system core → IsFirst from (λ n. GoesOnAfter system n core.running core) ends → IsEnd system from core ends
   goes-ends from core ends e h first = first-same from (λ n. GoesOnAfter system n core.running core) _ ends (λ n p. (p, by core.running e h)) (λ n q. q.0) first
     where
-      by : (o : Option Chosen) → (o ≡ None → ⊥) → IfSome o (λ chosen. IsBest system (Some chosen) (first_of core.ready)) → IsBest system o (first_of core.ready)
+      by : (o : Option Chosen) → (o ≡ None → ⊥) → IfSome o (λ chosen. IsBest core (Some chosen) (first_of core.ready)) → IsBest core o (first_of core.ready)
       by (Some x) f g = g
       by None f g = absurd (f refl)
 
@@ -78,16 +79,16 @@ module _ (system : System) where
   pub preempted-holds : (t : ℕ) (core : Core) → HoldsOn system (preempts by_priority system t core).core
   preempted-holds t core = by core.running (first_of core.ready) refl refl
     where
-      idle : (thread : ℕ) (date : Option ℕ) (core : Core) → HoldsOn system (enters_front by_priority system thread date (off core))
+      idle : (thread : ℕ) (date : Option ℕ) (core : Core) → HoldsOn system (enters_front by_priority thread date (off core))
       idle thread None core = tt
       idle thread (Some moment) core = tt
 
       by : (o : Option Chosen) (q : Option Queued) → core.running ≡ o → first_of core.ready ≡ q → HoldsOn system (preempts_by by_priority system t o q core).core
       by None q e f = rw e tt
       by (Some chosen) None e f = rw (e, f) tt
-      by (Some chosen) (Some best) e f = cases (nat_lt (thread_part system chosen.thread).priority best.priority) refl
+      by (Some chosen) (Some best) e f = cases (nat_lt (thread_of core chosen.thread).place.priority best.priority) refl
         where
-          cases : (b : Bool) → nat_lt (thread_part system chosen.thread).priority best.priority ≡ b →
+          cases : (b : Bool) → nat_lt (thread_of core chosen.thread).place.priority best.priority ≡ b →
               HoldsOn system (cond b (stops_to_front by_priority system t chosen.thread why.Preempt chosen.using (charged system chosen.thread chosen.using core)) (silent core)).core
           cases true g = let after : Core = charged system chosen.thread chosen.using core in idle chosen.thread (date_of system t chosen.thread after) after
           cases false g = rw (e, f) g
@@ -109,13 +110,13 @@ module _ (system : System) where
       GoesOnAfter system n (Some chosen) core → after_count by_priority system c t chosen.thread used left ≡ silent left
   counted-goes c t n used chosen core left known e f h =
       rw (
-        ap (λ k. k == 0) (ap (λ (k : Core). (thread_of k chosen.thread).place.left) f ∙ ap (λ (thread : Thread). thread.place.left) (set-same chosen.thread (record (thread_of core chosen.thread) { place = record ((thread_of core chosen.thread).place) { left = (thread_of core chosen.thread).place.left - (n + 1) } }) core.threads known))
+        ap (λ k. k == 0) (ap (λ (k : Core). (thread_of k chosen.thread).place.left) f ∙ ap (λ (thread : Thread). thread.place.left) (set-same chosen.thread (record (thread_of core chosen.thread) { place = record ((thread_of core chosen.thread).place) { left = left_after (n + 1) (thread_of core chosen.thread).place.left } }) core.threads known))
             ∙ over (thread_of core chosen.thread).place.left n h.0,
         other used chosen.using n (head_amount (its_context system chosen.thread left)) (head_amount (its_context system chosen.thread core)) e
             (ap (λ (k : Core). head_amount (its_context system chosen.thread k)) f) h.1,
       ) refl
     where
-      over : (k n : ℕ) → n + 1 < k → (k - (n + 1) == 0) ≡ false
+      over : (k n : ℕ) → 1 < left_after n k → (left_after (n + 1) k == 0) ≡ false
       over k n h = grind (arith, nat_tests)
 
       other : (used using n m k : ℕ) → used ≡ using + n + 1 → m ≡ k → using + n + 1 ≢ k → (used == m) ≡ false
@@ -132,12 +133,12 @@ module _ (system : System) where
     pub started-ends : t ≤ 2 ^ 40 → 1 ≤ head → left ≡ (thread_of core thread).place.left → head ≡ head_amount (context_chosen t (its_context system thread core)) →
         head ≤ 2 ^ 40 →
         IsEnd system (t + 1) (started system t thread core)
-        (sooner (Some (t + 1 + min (left - 1) (head - 0 - 1))) (better (thread_part system thread).priority (t + 1) (first_of core.ready)))
+        (sooner (Some (t + 1 + min (left - 1) (head - 0 - 1))) (better (thread_of core thread).place.priority (t + 1) (first_of core.ready)))
     started-ends soon some e f few =
-        first-both (t + 1) (λ n. GoesOnAfter system n (Some chosen) (started system t thread core)) (λ n. IsBest system (Some chosen) (first_of core.ready)) (Some (t + 1 + min (left - 1) (head - 0 - 1)))
-        (better (thread_part system thread).priority (t + 1) (first_of core.ready))
-        (let P : ℕ → Type 0 = λ k. IsFirst (t + 1) (λ n. (n + 1 < k) × (0 + n + 1 ≢ head)) (Some (t + 1 + min (left - 1) (head - 0 - 1))) in
-        let Q : ℕ → Type 0 = λ k. IsFirst (t + 1) (λ n. (n + 1 < (thread_of (started system t thread core) thread).place.left) × (0 + n + 1 ≢ k)) (Some (t + 1 + min (left - 1) (head - 0 - 1))) in
+        first-both (t + 1) (λ n. GoesOnAfter system n (Some chosen) (started system t thread core)) (λ n. IsBest (started system t thread core) (Some chosen) (first_of core.ready)) (Some (t + 1 + min (left - 1) (head - 0 - 1)))
+        (better (thread_of core thread).place.priority (t + 1) (first_of core.ready))
+        (let P : ℕ → Type 0 = λ k. IsFirst (t + 1) (λ n. (1 < left_after n k) × (0 + n + 1 ≢ head)) (Some (t + 1 + min (left - 1) (head - 0 - 1))) in
+        let Q : ℕ → Type 0 = λ k. IsFirst (t + 1) (λ n. (1 < left_after n (thread_of (started system t thread core) thread).place.left) × (0 + n + 1 ≢ k)) (Some (t + 1 + min (left - 1) (head - 0 - 1))) in
         subst Q head_same (subst P left_same (first-end (t + 1) left 0 head (Some (t + 1 + min (left - 1) (head - 0 - 1))) (omega arith) (λ h. omega arith, λ h. refl) refl)))
         (best (first_of core.ready))
       where
@@ -147,11 +148,16 @@ module _ (system : System) where
         head_same : head ≡ head_amount (its_context system thread (started system t thread core))
         head_same = f ∙ ap head_amount (sym (kept-context (thread_part system thread).context context core.contexts own))
 
-        best : (q : Option Queued) → IsFirst (t + 1) (λ n. IsBest system (Some chosen) q) (better (thread_part system thread).priority (t + 1) q)
+        same_priority : (thread_of (started system t thread core) thread).place.priority ≡ (thread_of core thread).place.priority
+        same_priority = ap (λ (state : Thread). state.place.priority) (set-same thread (record (thread_of core thread) { standing = Running }) core.threads known)
+
+        best : (q : Option Queued) → IsFirst (t + 1) (λ n. IsBest (started system t thread core) (Some chosen) q) (better (thread_of core thread).place.priority (t + 1) q)
         best None = λ n l. tt
-        best (Some first) = by (nat_lt (thread_part system thread).priority first.priority) refl
+        best (Some first) =
+            let P : ℕ → Type 0 = λ p. IsFirst (t + 1) (λ n. nat_lt p first.priority ≡ false) (better (thread_of core thread).place.priority (t + 1) (Some first)) in
+            subst P (sym same_priority) (by (nat_lt (thread_of core thread).place.priority first.priority) refl)
           where
-            by : (k : Bool) → nat_lt (thread_part system thread).priority first.priority ≡ k →
-                IsFirst (t + 1) (λ n. nat_lt (thread_part system thread).priority first.priority ≡ false) (cond k (Some (t + 1)) None)
-            by true g = first-now (t + 1) (λ n. nat_lt (thread_part system thread).priority first.priority ≡ false) (omega arith) (λ h. cc)
+            by : (k : Bool) → nat_lt (thread_of core thread).place.priority first.priority ≡ k →
+                IsFirst (t + 1) (λ n. nat_lt (thread_of core thread).place.priority first.priority ≡ false) (cond k (Some (t + 1)) None)
+            by true g = first-now (t + 1) (λ n. nat_lt (thread_of core thread).place.priority first.priority ≡ false) (omega arith) (λ h. cc)
             by false g = λ n l. g

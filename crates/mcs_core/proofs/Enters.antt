@@ -91,16 +91,16 @@ module _ (system : System) (number from : ℕ) where
 
   pub enters_back-sound : (phase : Phase) (x : ℕ) (until : Option ℕ) (core : Core) → IsSound system number from phase (Some (record { thread = x; standing = Done })) core →
       x < length core.threads → (thread_of core x).place.item < length (thread_part system x).script → EntersEarly x until core → IsAway phase x core →
-      IsSound system number from phase None (enters_back by_priority system x until core)
+      IsSound system number from phase None (enters_back by_priority x until core)
   enters_back-sound phase x None core h l item early away =
-      enters-sound phase x Ready core (entered_back (queued system x) core.ready) core.releases
-      (queued-sound phase x core (entered_back (queued system x) core.ready) (λ y. times_queued-back y (queued system x) core.ready) h early) l item away
+      enters-sound phase x Ready core (entered_back (queued x core) core.ready) core.releases
+      (queued-sound phase x core (entered_back (queued x core) core.ready) (λ y. times_queued-back y (queued x core) core.ready) h early) l item away
   enters_back-sound phase x (Some date) core h l item early away = pends-sound phase x date core h l item early.0 early.1 away
 
   pub enters_front-sound : (phase : Phase) (x : ℕ) (until : Option ℕ) (core : Core) → IsSound system number from phase (Some (record { thread = x; standing = Done })) core →
       x < length core.threads → (thread_of core x).place.item < length (thread_part system x).script → EntersEarly x until core → IsAway phase x core →
-      IsSound system number from phase None (enters_front by_priority system x until core)
+      IsSound system number from phase None (enters_front by_priority x until core)
   enters_front-sound phase x None core h l item early away =
-      enters-sound phase x Ready core (entered_front (queued system x) core.ready) core.releases
-      (queued-sound phase x core (entered_front (queued system x) core.ready) (λ y. times_queued-front y (queued system x) core.ready) h early) l item away
+      enters-sound phase x Ready core (entered_front (queued x core) core.ready) core.releases
+      (queued-sound phase x core (entered_front (queued x core) core.ready) (λ y. times_queued-front y (queued x core) core.ready) h early) l item away
   enters_front-sound phase x (Some date) core h l item early away = pends-sound phase x date core h l item early.0 early.1 away

@@ -1,4 +1,6 @@
+pub mod Ringing
 pub mod Alike
+pub mod Blocks
 pub mod Budgets
 pub mod Busy
 pub mod Clock

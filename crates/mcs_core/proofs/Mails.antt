@@ -9,10 +9,12 @@ use Rattle.mcs_control.specs.declared.config.Order.{Order}
 use Rattle.mcs_notify.specs.Note.{waited}
 use Rattle.mcs_notify.specs.declared.posted.Waited.{Waited}
 use Rattle.mcs_script.specs.declared.item.Item.{Item}
-use Rattle.mcs_script.specs.declared.item.Item.TheVariants.{Compute, Signal, Wait, Yield}
+use Rattle.mcs_script.specs.declared.item.Item.TheVariants.{Compute, Signal, Wait, Yield, On, Spin, Enter, Leave}
 use Rattle.mcs_script.specs.declared.moved.Moved.{Moved}
 use Rattle.mcs_mail.specs.declared.mail.Mail.{Mail}
 use Rattle.mcs_system.specs.System.{System, note_part, thread_part, delay_between}
+use Rattle.mcs_core.specs.Alarms.{ringing, alarms_at}
+use Rattle.mcs_core.specs.declared.alarm.Alarm.{Alarm}
 use Rattle.mcs_core.specs.Core.{Core, note_of, thread_of}
 use Rattle.mcs_core.specs.declared.standing.AfterItem.{AfterItem}
 use Rattle.mcs_core.specs.declared.standing.AfterItem.TheVariants as after
@@ -47,6 +49,9 @@ module _ (queue : Discipline) (system : System) (c t : ℕ) where
   posts-none : (note badge : ℕ) (core : Core) → (turns.posts queue system t note badge core).mails ≡ []
   posts-none note badge core = grind arith
 
+  interrupts-none : (alarm : Alarm) (core : Core) → (turns.interrupts queue system t alarm core).mails ≡ []
+  interrupts-none alarm core = posts-none alarm.note alarm.badge core
+
   arrives-none : (mail : Mail) (core : Core) → (turns.arrives queue system t mail core).mails ≡ []
   arrives-none mail core = posts-none mail.note mail.badge core
 
@@ -54,7 +59,7 @@ module _ (queue : Discipline) (system : System) (c t : ℕ) where
   obeys-none order core = grind arith
 
   releases-none : (core : Core) → (turns.releases queue system t core).mails ≡ []
-  releases-none core = each-none (turns.released queue system) (λ due core. refl) (filter (is_due t) core.releases) _
+  releases-none core = each-none (turns.released queue) (λ due core. refl) (filter (is_due t) core.releases) _
 
   preempts_by-none : (o : Option Chosen) (best : Option Queued) (core : Core) → (turns.preempts_by queue system t o best core).mails ≡ []
   preempts_by-none o best core = grind arith
@@ -64,15 +69,24 @@ module _ (queue : Discipline) (system : System) (c t : ℕ) where
 
   -- only the end of the tick makes signals
   pub mails-turn : (mails : List Mail) (core : Core) → (turns.turn_with queue system c t mails core).mails ≡ (turns.tick queue system c t core).mails
-  mails-turn mails core = nothing_more (turns.tick queue system c t core).mails _ _ _ _ _
-      (each-none (turns.arrives queue system t) arrives-none mails _)
-      (each-none (turns.obeys queue system t) obeys-none (filter (turns.is_for_now system c t) system.orders) _)
-      (releases-none _)
-      (preempts_by-none _ _ _)
-      (chooses_of-none _ _ _)
+  mails-turn mails core =
+      let first = turns.tick queue system c t core in
+      let rang = each (turns.interrupts queue system t) (ringing t (alarms_at system c t)) first.core in
+      let came = each (turns.arrives queue system t) mails rang.core in
+      let obeyed = each (turns.obeys queue system t) (filter (turns.is_for_now system c t) system.orders) came.core in
+      let freed = turns.releases queue system t obeyed.core in
+      let gave = turns.preempts queue system t freed.core in
+      let chosen = turns.chooses queue system t gave.core in
+      nothing_more first.mails rang.mails came.mails obeyed.mails freed.mails gave.mails chosen.mails
+      (each-none (turns.interrupts queue system t) interrupts-none (ringing t (alarms_at system c t)) first.core)
+      (each-none (turns.arrives queue system t) arrives-none mails rang.core)
+      (each-none (turns.obeys queue system t) obeys-none (filter (turns.is_for_now system c t) system.orders) came.core)
+      (releases-none obeyed.core)
+      (preempts_by-none freed.core.running (queue.best freed.core.ready) freed.core)
+      (chooses_of-none gave.core.running (queue.best gave.core.ready) gave.core)
     where
-      nothing_more : (a b d e f g : List Mail) → b ≡ [] → d ≡ [] → e ≡ [] → f ≡ [] → g ≡ [] → a ++ b ++ d ++ e ++ f ++ g ≡ a
-      nothing_more a b d e f g p q r s u = rw (p, q, r, s, u, append-nil, append-nil, append-nil, append-nil, append-nil) refl
+      nothing_more : (a i b d e f g : List Mail) → i ≡ [] → b ≡ [] → d ≡ [] → e ≡ [] → f ≡ [] → g ≡ [] → a ++ i ++ b ++ d ++ e ++ f ++ g ≡ a
+      nothing_more a i b d e f g o p q r s u = rw (o, p, q, r, s, u, append-nil, append-nil, append-nil, append-nil, append-nil, append-nil) refl
 
   -- at most one signal, made now by this core
   abbrev pub IsOutgoing : List Mail → Type 0
@@ -102,12 +116,23 @@ module _ (queue : Discipline) (system : System) (c t : ℕ) where
   waits_as-none : (x note : ℕ) (w : Waited) (core : Core) → (turns.waits_as system t x note w core).mails ≡ []
   waits_as-none x note w core = grind arith
 
+  enters_as-none : (x server : ℕ) (w : Waited) (core : Core) → (turns.enters_as system t x server w core).mails ≡ []
+  enters_as-none x server w core = grind arith
+
+  frees-none : (x server : ℕ) (core : Core) → (turns.frees queue system t x server core).mails ≡ []
+  frees-none x server core = grind arith
+
   takes_effect-out : (x i : ℕ) (item : Option Item) (core : Core) → slice_get (thread_part system x).script i ≡ item → IsOutgoing (turns.takes_effect queue system c t x item core).mails
   takes_effect-out x i (Some (Signal note badge)) core e =
       IsOutgoing-append (turns.signals queue system c t x note badge core).mails _ (signals-out x note badge core (record { thread = x; place = i; item = e })) (moves_on-none x _)
   takes_effect-out x i (Some (Wait note)) core e = IsOutgoing-none _ (waits_as-none x note (waited (note_of core note)) core)
   takes_effect-out x i (Some (Compute ticks)) core e = IsOutgoing-none _ (moves_on-none x core)
   takes_effect-out x i (Some Yield) core e = IsOutgoing-none _ (moves_on-none x core)
+  takes_effect-out x i (Some (On badges)) core e = IsOutgoing-none _ (moves_on-none x core)
+  takes_effect-out x i (Some Spin) core e = IsOutgoing-none _ (moves_on-none x core)
+  takes_effect-out x i (Some (Enter server priority)) core e = IsOutgoing-none _ (enters_as-none x server (waited (note_of core server)) core)
+  takes_effect-out x i (Some (Leave server priority)) core e =
+      IsOutgoing-append (turns.frees queue system t x server core).mails _ (IsOutgoing-none _ (frees-none x server core)) (moves_on-none x _)
   takes_effect-out x i None core e = tt
 
   pub may_stop-none : (x using : ℕ) (cause : AfterItem) (core : Core) → (turns.may_stop queue system t x using cause core).mails ≡ []

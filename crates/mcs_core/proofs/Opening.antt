@@ -1,5 +1,5 @@
 -- The core with which a run opens is sound.
-use Rattle.std.proofs.Common.{◌≡◌, ℕ, zero, suc, ◌+◌, ◌^◌, ◌<◌, ◌≤◌, ◌⊎◌, inl, inr, Bool, true, false, cond, List, [], ◌∷◌, ◌++◌, length, take, replicate, map, get_or, add-one, refl, sym, ap, ◌∙◌, arith}
+use Rattle.std.proofs.Common.{◌≡◌, ℕ, zero, suc, ◌+◌, ◌^◌, ◌<◌, ◌≤◌, ◌⊎◌, inl, inr, Bool, true, false, cond, List, [], ◌∷◌, ◌++◌, length, take, replicate, set, map, get_or, add-one, refl, sym, ap, ◌∙◌, arith}
 use Rattle.std.specs.Prelude.{◌==◌, Option, Some, None, unwrap_or, option_map, All}
 use Rattle.std.specs.List.{AllByRecursion}
 use Rattle.std.proofs.lemmas.Bool.{cases_lt}
@@ -15,7 +15,9 @@ use Rattle.mcs_control.specs.declared.config.Kind.{Kind}
 use Rattle.mcs_control.specs.declared.config.Kind.TheVariants.{Sporadic, RoundRobin}
 use Rattle.mcs_control.specs.Control.{kind_of}
 use Rattle.mcs_control.specs.Context.{Context, new_context, first_budget, head_moment, moment_of}
-use Rattle.mcs_notify.specs.Note.{Note, quiet_note}
+use Rattle.mcs_notify.specs.Note.{Note, quiet_note, posted, after_post}
+use Rattle.mcs_notify.specs.declared.posted.Posted.{Posted}
+use Rattle.std.specs.Int.Bits.{or_zero_l}
 use Rattle.mcs_release.specs.declared.dated.Dated.{Dated}
 use Rattle.mcs_system.specs.declared.part.ContextPart.{ContextPart}
 use Rattle.mcs_system.specs.declared.part.NotePart.{NotePart}
@@ -25,8 +27,10 @@ use Rattle.mcs_core.specs.declared.standing.Thread.{Thread}
 use Rattle.mcs_system.specs.System.{System, context_part, thread_part, no_context, no_thread, core_of, start_of}
 use Rattle.mcs_core.specs.stored.Contexts.{Kept, unboxed, seen_contexts, HasRoom, HaveRoom}
 use Rattle.mcs_core.specs.Contexts.{no_server, is_some, is_own}
-use Rattle.mcs_core.specs.Core.{Core, no_state, thread_of, context_of, opening_thread, opening_releases, opening_contexts, opening_core}
+use Rattle.mcs_core.specs.Core.{Core, no_state, thread_of, context_of, opening_thread, opening_releases, opening_contexts, opening_note, opening_core}
 use Rattle.mcs_core.specs.stored.Sound.{times_pending, is_here, has_context, IsPlaced, AreEarly, IsContextOf, IsSound}
+use Rattle.mcs_core.specs.Alarms.{alarms_of}
+use Rattle.mcs_core.specs.declared.alarm.Alarm.{Alarm}
 use Rattle.mcs_core.specs.Places.{times_dated, times_waiting}
 use Rattle.mcs_core.specs.stored.Sound.Phase.{Between}
 use Rattle.mcs_system.specs.WellFormed.{IsWellFormed, IsContext, IsThread}
@@ -65,7 +69,7 @@ new-kept min_budget config mode at a = by (kind_of config)
     by RoundRobin = (a.some, omega arith)
 
 -- no thread waits on a quiet notification
-none-waits : (x : ℕ) (notes : List NotePart) → times_waiting x (map (λ _. quiet_note) notes) ≡ 0
+none-waits : (x : ℕ) (notes : List NotePart) → times_waiting x (map opening_note notes) ≡ 0
 none-waits x [] = refl
 none-waits x (note ∷ notes) = let i = none-waits x notes in omega arith
 
@@ -136,7 +140,7 @@ module _ (system : System) (c : ℕ) where
   opening w = record {
     threads = length-map system.threads (opening_thread system c);
     contexts = many-contexts 0 system.contexts;
-    notes = length-map system.notes (λ _. quiet_note);
+    notes = length-map system.notes opening_note;
     ready = λ x. grind (arith, rests x);
     pending = λ x. once-each x 0 x system.threads (omega arith);
     blocked = λ x. none-waits x system.notes ∙ grind (arith, rests x);
@@ -189,21 +193,22 @@ pub opening-sound : (system : System) → IsWellFormed system → (c : ℕ) → 
 opening-sound system w c l = opening system c w
 
 -- and with the orders of the core it is a first state
-pub fits-opening : (system : System) → IsWellFormed system → (c : ℕ) → c < system.cores → (core : Core) (orders : List Order) (delays : List ℕ) →
-    core ≡ opening_core system c → orders ≡ orders_of system c → delays ≡ delays_from system c →
-    Fits system (record { number = c; clock = 0; core = core; orders = orders; delays = delays; failed = false })
-fits-opening system w c l core orders delays e f d = rw (e, f, d) record {
+pub fits-opening : (system : System) → IsWellFormed system → (c : ℕ) → c < system.cores → (core : Core) (orders : List Order) (alarms : List Alarm) (delays : List ℕ) →
+    core ≡ opening_core system c → orders ≡ orders_of system c → alarms ≡ alarms_of system c → delays ≡ delays_from system c →
+    Fits system (record { number = c; clock = 0; core = core; orders = orders; alarms = alarms; delays = delays; failed = false })
+fits-opening system w c l core orders alarms delays e f a d = rw (e, f, a, d) record {
   known = l;
   early = omega arith;
   sound = λ g. opening-sound system w c l;
   orders = λ g. sym (to_come-all (orders_of system c));
+  alarms = λ g. refl;
   delays = λ g. refl;
 }
 
-pub state-opening : (system : System) (c : ℕ) (core : Core) (orders : List Order) (delays : List ℕ) →
-    core ≡ opening_core system c → orders ≡ orders_of system c → delays ≡ delays_from system c →
-    (let state : State = record { number = c; clock = 0; core = core; orders = orders; delays = delays; failed = false } in state) ≡ opening_state system c
-state-opening system c core orders delays e f d = rw (e, f, d) refl
+pub state-opening : (system : System) (c : ℕ) (core : Core) (orders : List Order) (alarms : List Alarm) (delays : List ℕ) →
+    core ≡ opening_core system c → orders ≡ orders_of system c → alarms ≡ alarms_of system c → delays ≡ delays_from system c →
+    (let state : State = record { number = c; clock = 0; core = core; orders = orders; alarms = alarms; delays = delays; failed = false } in state) ≡ opening_state system c
+state-opening system c core orders alarms delays e f a d = rw (e, f, a, d) refl
 
 -- how the code makes it: the release queue thread by thread
 module _ (system : System) (c : ℕ) where
@@ -254,16 +259,45 @@ room-next [] more h r = (r, tt)
 room-next (x ∷ kept) more h r = (h.0, room-next kept more h.1 r)
 
 -- and the notifications, as many quiet ones
-pub quiet_notes : (notes : List NotePart) (made : List Note) (n : ℕ) → n ≡ length notes → made ≡ replicate n quiet_note → made ≡ map (λ _. quiet_note) notes
-quiet_notes notes made n e f = rw (f, e) (all notes)
-  where
-    all : (notes : List NotePart) → replicate (length notes) quiet_note ≡ map (λ _. quiet_note) notes
-    all [] = refl
-    all (note ∷ notes) = ap (λ made. quiet_note ∷ made) (all notes)
+-- the first so many have their first words, and the others none
+abbrev pub opened_notes : ℕ → List NotePart → List Note
+opened_notes n [] = []
+opened_notes zero (note ∷ notes) = quiet_note ∷ opened_notes zero notes
+opened_notes (suc n) (note ∷ notes) = opening_note note ∷ opened_notes n notes
+
+pub opened-many : (n : ℕ) (notes : List NotePart) → length (opened_notes n notes) ≡ length notes
+opened-many n [] = refl
+opened-many zero (note ∷ notes) = ap suc (opened-many zero notes)
+opened-many (suc n) (note ∷ notes) = ap suc (opened-many n notes)
+
+pub opened-none : (notes : List NotePart) → replicate (length notes) quiet_note ≡ opened_notes zero notes
+opened-none [] = refl
+opened-none (note ∷ notes) = ap (λ made. quiet_note ∷ made) (opened-none notes)
+
+pub opened-all : (n : ℕ) (notes : List NotePart) → length notes ≤ n → opened_notes n notes ≡ map opening_note notes
+opened-all n [] l = refl
+opened-all zero (note ∷ notes) l = absurd (omega arith)
+opened-all (suc n) (note ∷ notes) l = ap (λ made. opening_note note ∷ made) (opened-all n notes (omega arith))
+
+-- a word that is posted on a quiet notification is held
+pub held-word : (word : ℕ) (note : Note) (answer : Posted) → note ≡ quiet_note → answer ≡ posted word note → after_post answer note ≡ record { word = word; waiters = [] }
+held-word word note answer e f = rw (f, e) (ap (λ w. let made : Note = record { word = w; waiters = [] } in made) (or_zero_l word))
+
+-- the next one is posted its first word
+pub opened-here : (n : ℕ) (notes : List NotePart) → n < length notes → get_or (opened_notes n notes) n quiet_note ≡ quiet_note
+opened-here n [] l = absurd (omega arith)
+opened-here zero (note ∷ notes) l = refl
+opened-here (suc n) (note ∷ notes) l = opened-here n notes (omega arith)
+
+pub opened-more : (n : ℕ) (notes : List NotePart) (part : NotePart) → n < length notes → part ≡ get_or notes n part →
+    set (opened_notes n notes) n (record { word = part.word; waiters = [] }) ≡ opened_notes (suc n) notes
+opened-more n [] part l e = absurd (omega arith)
+opened-more zero (note ∷ notes) part l e = ap (λ (p : NotePart). opening_note p ∷ opened_notes zero notes) e
+opened-more (suc n) (note ∷ notes) part l e = ap (λ made. opening_note note ∷ made) (opened-more n notes part (omega arith) e)
 
 -- the parts together
 pub opened : (system : System) (c : ℕ) (core : Core) (threads : List Thread) (ready : List Queued) (releases : List Dated) (contexts : List (Option Context)) (notes : List Note) →
     core ≡ record { running = None; threads = threads; ready = ready; releases = releases; contexts = contexts; notes = notes } →
     threads ≡ map (opening_thread system c) system.threads → ready ≡ [] → releases ≡ opening_releases system c 0 system.threads →
-    contexts ≡ opening_contexts system c 0 system.contexts → notes ≡ map (λ _. quiet_note) system.notes → core ≡ opening_core system c
+    contexts ≡ opening_contexts system c 0 system.contexts → notes ≡ map opening_note system.notes → core ≡ opening_core system c
 opened system c core threads ready releases contexts notes e a b d f g = e ∙ rw (a, b, d, f, g) refl

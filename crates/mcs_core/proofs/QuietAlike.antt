@@ -26,7 +26,7 @@ module _ (queue : Discipline) (system : System) (c t : ℕ) where
   tick_of-keep o k e = grind arith
 
   releases-keep : (k : Core) → Keeps (turns.releases queue system t k) k
-  releases-keep k e = rw (none-each queue system c (turns.released queue system) (λ d l e. cc) (filter (is_due t) k.releases) _ e) refl
+  releases-keep k e = rw (none-each queue system c (turns.released queue) (λ d l e. cc) (filter (is_due t) k.releases) _ e) refl
 
   preempts_by-keep : (o : Option Chosen) (best : Option Queued) (k : Core) → Keeps (turns.preempts_by queue system t o best k) k
   preempts_by-keep o best k e = grind arith
@@ -37,8 +37,11 @@ module _ (queue : Discipline) (system : System) (c t : ℕ) where
   turn-keeps : (mails : List Mail) (k : Core) → Keeps (turns.turn_with queue system c t mails k) k
   turn-keeps mails k e =
       let none = no-row queue system c t mails (turns.tick queue system c t k) e in
-      rw (none.no_mail, none.no_order)
-      (chooses_of-keep _ _ _ none.chosen ∙ preempts_by-keep _ _ _ none.preempted ∙ releases-keep _ none.released ∙ tick_of-keep k.running k none.ticked)
+      rw (none.no_alarm, none.no_mail, none.no_order)
+      (let k0 = (turns.tick queue system c t k).core in
+      let k1 = (turns.releases queue system t k0).core in
+      let k2 = (turns.preempts queue system t k1).core in
+      chooses_of-keep k2.running (queue.best k2.ready) k2 none.chosen ∙ preempts_by-keep k1.running (queue.best k1.ready) k1 none.preempted ∙ releases-keep k0 none.released ∙ tick_of-keep k.running k none.ticked)
 
 -- a core is what is shown of it, and its list
 same-core : (a b : Core) → shown a ≡ shown b → a.ready ≡ b.ready → a ≡ b

@@ -39,8 +39,8 @@ module _ (system : System) (state : State) (to : ℕ) (box : List Mail) where
       let orders : to_come (max state.clock to) state.orders ≡ to_come to state.orders =
       ap (to_come (max state.clock to)) held ∙ to_come-twice (max state.clock to) state.clock all
       ∙ ap (λ t. to_come t all) past ∙ sym (to_come-twice to state.clock all) ∙ ap (to_come to) (sym held) in
-      ap (λ (t : ℕ). record { number = state.number; clock = t; core = made.core; orders = to_come (max state.clock to) state.orders; delays = state.delays; failed = state.failed }) past
-      ∙ ap (λ (os : List Order). record { number = state.number; clock = max state.clock to; core = made.core; orders = os; delays = state.delays; failed = state.failed }) orders
+      ap (λ (t : ℕ). record { number = state.number; clock = t; core = made.core; orders = to_come (max state.clock to) state.orders; alarms = state.alarms; delays = state.delays; failed = state.failed }) past
+      ∙ ap (λ (os : List Order). record { number = state.number; clock = max state.clock to; core = made.core; orders = os; alarms = state.alarms; delays = state.delays; failed = state.failed }) orders
 
   -- a state that has come that far is the one that was asked for
   pub state-reached : (new : State) → Fits system state → state.failed ≡ false → new.clock ≡ max state.clock to →

@@ -32,8 +32,8 @@ pub record IsReleased (system : System) (c t x : ℕ) (core : Core) : Type 0 whe
   pub left : without_first_due t core.releases ≡ without x core.releases
   pub fewer : length (without x core.releases) < length core.releases
   pub free : IsFree system x (record core { releases = without x core.releases })
-  pub sound : IsSound system c t PastTick None (enters_back by_priority system x None (record core { releases = without x core.releases }))
-  pub step : releases by_priority system t core ≡ (released by_priority system due (record core { releases = without x core.releases }) followed_by releases by_priority system t)
+  pub sound : IsSound system c t PastTick None (enters_back by_priority x None (record core { releases = without x core.releases }))
+  pub step : releases by_priority system t core ≡ (released by_priority due (record core { releases = without x core.releases }) followed_by releases by_priority system t)
 
 module _ (system : System) (c : ℕ) (one_each : IsOneEach system) (t : ℕ) (soon : t ≤ 2 ^ 40) where
   released-at : (core : Core) (d : Dated) (rest : List Dated) → all_due system t core.releases ≡ d ∷ rest → first_due t core.releases ≡ Some d → IsSound system c t PastTick None core →
@@ -85,10 +85,10 @@ module _ (system : System) (c : ℕ) (one_each : IsOneEach system) (t : ℕ) (so
 
 -- what the code makes of the thread that it takes is what is made of one whose date has come
 pub made-released : {S : Type 0} {takes : S → Row → Bool → S → Type 0} (here : Here) (due : Dated) (x : ℕ) (core core' left : Core) (before after : Log S) → due.thread ≡ x → core' ≡ core →
-    Makes takes here (says (row.Release x) (enters_back by_priority here.system.now x None core')) left before after → Makes takes here (released by_priority here.system.now due core) left before after
+    Makes takes here (says (row.Release x) (enters_back by_priority x None core')) left before after → Makes takes here (released by_priority due core) left before after
 made-released {S} {takes} here due x core core' left before after e f h =
-    let P : Core → Type 0 = λ (y : Core). Makes takes here (says (row.Release x) (enters_back by_priority here.system.now x None y)) left before after in
-    let Q : ℕ → Type 0 = λ y. Makes takes here (says (row.Release y) (enters_back by_priority here.system.now y None core)) left before after in
+    let P : Core → Type 0 = λ (y : Core). Makes takes here (says (row.Release x) (enters_back by_priority x None y)) left before after in
+    let Q : ℕ → Type 0 = λ y. Makes takes here (says (row.Release y) (enters_back by_priority y None core)) left before after in
     subst Q (sym e) (subst P f h)
 
 -- the best ready thread is one of the core

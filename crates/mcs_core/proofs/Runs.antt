@@ -10,6 +10,7 @@ use Rattle.mcs_ticks.specs.declared.row.Row.{Row}
 use Rattle.mcs_mail.specs.declared.mail.Mail.{Mail}
 use Rattle.mcs_mail.specs.Box.{arriving, staying, is_before, put}
 use Rattle.mcs_system.specs.System.{System, note_part}
+use Rattle.mcs_core.specs.declared.alarm.Alarm.{Alarm}
 use Rattle.mcs_core.specs.Core.{Core}
 use Rattle.mcs_core.specs.Orders.{orders_of, to_come}
 use Rattle.mcs_core.specs.State.{State, Fits, IsExpected, made_by, state_after}
@@ -97,9 +98,9 @@ pub if_ok : {E : Type 0} (r : Result (Unit {0}) E) (P : Type 0) → is_err r ≡
 if_ok (Ok x) P e p = p
 if_ok (Err x) P e p = cc
 
-pub same_state : (s : State) (number time : ℕ) (core : Core) (orders : List Order) (delays : List ℕ) (failed : Bool) → s.number ≡ number → s.clock ≡ time → s.core ≡ core → s.orders ≡ orders → s.delays ≡ delays → s.failed ≡ failed →
-    s ≡ record { number = number; clock = time; core = core; orders = orders; delays = delays; failed = failed }
-same_state s number time core orders delays failed a b d e g f = rw (sym a, sym b, sym d, sym e, sym g, sym f) refl
+pub same_state : (s : State) (number time : ℕ) (core : Core) (orders : List Order) (alarms : List Alarm) (delays : List ℕ) (failed : Bool) → s.number ≡ number → s.clock ≡ time → s.core ≡ core → s.orders ≡ orders → s.alarms ≡ alarms → s.delays ≡ delays → s.failed ≡ failed →
+    s ≡ record { number = number; clock = time; core = core; orders = orders; alarms = alarms; delays = delays; failed = failed }
+same_state s number time core orders alarms delays failed a b d e h g f = rw (sym a, sym b, sym d, sym e, sym h, sym g, sym f) refl
 
 -- what is to come from two moments on is what is to come from the later one on
 pub to_come-twice : (a b : ℕ) (os : List Order) → to_come a (to_come b os) ≡ to_come (max b a) os
@@ -125,9 +126,9 @@ module _ (system : System) where
   state-at-first state box fits going =
       let time : state.clock ≡ max state.clock state.clock = omega arith in
       let orders = fits.orders going in
-      same_state state _ _ _ _ _ _ refl time (ap (λ (made : Ran). made.core) (sym (none-made state box)))
+      same_state state _ _ _ _ _ _ _ refl time (ap (λ (made : Ran). made.core) (sym (none-made state box)))
       (orders ∙ ap (λ t. to_come t (orders_of system state.number)) time ∙ sym (to_come-twice state.clock state.clock (orders_of system state.number)) ∙ ap (to_come state.clock) (sym orders))
-      refl refl
+      refl refl refl
 
   module _ (u to : ℕ) (state mid : State) (box left : List Mail) (l : state.clock ≤ u) (k : u ≤ to) (e : mid ≡ state_after state u (made_by system state u box)) (f : left ≡ (made_by system state u box).box) where
     pub state-through : state_after mid to (made_by system mid to left) ≡ state_after state to (made_by system state to box)
@@ -135,9 +136,9 @@ module _ (system : System) where
         let all = made-through system u to state mid box left l k e f in
         let time : max mid.clock to ≡ max state.clock to = (let s = ap (λ (s : State). s.clock) e in omega arith) in
         let past : max u to ≡ to = omega arith in
-        same_state (state_after mid to (made_by system mid to left)) _ _ _ _ _ _ (ap (λ (s : State). s.number) e) time (ap (λ (made : Ran). made.core) (sym all))
+        same_state (state_after mid to (made_by system mid to left)) _ _ _ _ _ _ _ (ap (λ (s : State). s.number) e) time (ap (λ (made : Ran). made.core) (sym all))
         (ap (λ (s : State). to_come to s.orders) e ∙ to_come-twice to u state.orders ∙ ap (λ n. to_come n state.orders) past)
-        (ap (λ (s : State). s.delays) e) (ap (λ (s : State). s.failed) e)
+        (ap (λ (s : State). s.alarms) e) (ap (λ (s : State). s.delays) e) (ap (λ (s : State). s.failed) e)
 
     pub given-through : {S : Type 0} (takes : S → Row → Bool → S → Type 0) (before now after : S) → Given takes before (made_by system state u box).rows now →
         Given takes now (made_by system mid to left).rows after → Given takes before (made_by system state to box).rows after

@@ -30,7 +30,10 @@ use Rattle.mcs_core.proofs.Plans.{orders_of-by_moment, to_come-by_moment, due-of
 use Rattle.mcs_core.proofs.Systems.{one-each, orders-proper, all-noted}
 use Rattle.mcs_core.proofs.Ticks.{runner-placed}
 use Rattle.mcs_core.proofs.Turning.{turn-sound}
-use Rattle.mcs_core.proofs.Quiet.{no_mail, no_order, counted-for, quiet-ran}
+use Rattle.mcs_core.specs.Alarms.{alarms_of, alarms_at, before_moment, first_date}
+use Rattle.mcs_core.specs.declared.alarm.Alarm.{Alarm}
+use Rattle.mcs_core.proofs.Ringing.{stay-still, first-alarm, alarms-are, ringing-known}
+use Rattle.mcs_core.proofs.Quiet.{no_alarm, no_mail, no_order, counted-for, quiet-ran}
 use Rattle.mcs_core.proofs.Busy.{IsKnown, next-busy, first-mail, first-order-of, first-release}
 
 abbrev pub IsEarlyTick : Option ℕ → Type 0
@@ -51,7 +54,7 @@ module _ (system : System) (c : ℕ) (w : IsWellFormed system) where
   quiet-sound (suc n) t core h q l =
       let before = quiet-sound n t core h (λ m k. q m (omega arith)) (omega arith) in
       let soon : t + n ≤ 2 ^ 40 = omega arith in
-      let made = turn-sound system c (one-each system w) (t + n) soon [] (counted_times system c n core) (all-noted system w) (orders-proper system w) tt before in
+      let made = turn-sound system c (one-each system w) (t + n) soon [] (counted_times system c n core) (all-noted system w) (orders-proper system w) tt (ringing-known (length system.notes) (t + n) (alarms_at system c (t + n)) (alarms-are system c w (t + n))) before in
       let same = ap (λ (turn : Turn). turn.core) (q n (omega arith)) in
       let e : t + n + 1 ≡ t + suc n = omega arith in
       let P : Core → Type 0 = λ k. IsSound system c (t + n + 1) Between None k in
@@ -67,6 +70,10 @@ module _ (system : System) (c : ℕ) (w : IsWellFormed system) where
       quiet-orders n t core (λ m k. q m (omega arith))
       ∙ none-now (t + n) (orders_of system c) (sym (due-to_come (t + n) (orders_of system c)) ∙ due-of system c (t + n) ∙ none)
       ∙ ap (λ u. to_come u (orders_of system c)) e
+
+  -- nor does an alarm ring
+  pub quiet-alarms : (n t : ℕ) (core : Core) → AreQuietWith by_priority system c t [] core n → alarms_at system c (t + n) ≡ alarms_at system c t
+  quiet-alarms n t core q = stay-still n t (alarms_of system c) (λ m l. no_alarm by_priority system c (t + m) [] (counted_times system c m core) (q m l))
 
   known : (t : ℕ) (core : Core) → IsSound system c t Between None core → (chosen : Chosen) → core.running ≡ Some chosen → IsKnown system core chosen
   known t core h chosen e =
@@ -94,15 +101,16 @@ module _ (system : System) (c : ℕ) (w : IsWellFormed system) where
       by None e = tt
       by (Some chosen) e = (known t core h chosen e).thread
 
-  pub next-busy-of : (clock : ℕ) (box : List Mail) (core : Core) (orders : List Order) (ends date order mail : Option ℕ) →
+  pub next-busy-of : (clock : ℕ) (box : List Mail) (core : Core) (orders : List Order) (beats : List Alarm) (ends date order alarm mail : Option ℕ) →
       IsSound system c clock Between None core → orders ≡ to_come clock (orders_of system c) → IsOrdered box → All (λ (mail : Mail). clock ≤ mail.arrives) box →
       IsEnd system clock core ends →
-      date ≡ next_date core.releases → IsEarlyTick date → order ≡ first_moment orders → IsEarlyTick order → mail ≡ first_arrival box → IsEarlyTick mail →
-      IsNextBusyWith by_priority system c clock box core (sooner (sooner (sooner ends date) order) mail)
-  next-busy-of clock box core orders ends date order mail h planned ordered come h1 e3 l3 e4 l4 e5 l5 =
-      next-busy system c clock box core ends date order mail (known clock core h) h1
+      date ≡ next_date core.releases → IsEarlyTick date → order ≡ first_moment orders → IsEarlyTick order → beats ≡ alarms_of system c → alarm ≡ first_date (before_moment clock beats) → IsEarlyTick alarm → mail ≡ first_arrival box → IsEarlyTick mail →
+      IsNextBusyWith by_priority system c clock box core (sooner (sooner (sooner (sooner ends date) order) alarm) mail)
+  next-busy-of clock box core orders beats ends date order alarm mail h planned ordered come h1 e3 l3 e4 l4 first e6 l6 e5 l5 =
+      next-busy system c clock box core ends date order alarm mail (known clock core h) h1
       (rw e3 (first-release clock core.releases h.later (λ m e. early-some date l3 m (e3 ∙ e))))
       (rw e4 (first-order-of system c clock orders planned (rw planned (to_come-by_moment 0 clock (orders_of system c) (orders_of-by_moment system c))) (λ m e. early-some order l4 m (e4 ∙ e))))
+      (rw (e6, first) (first-alarm (length system.notes) clock (alarms_of system c) (alarms-are system c w clock) (λ m e. early-some alarm l6 m (e6 ∙ rw first e))))
       (rw e5 (first-mail clock box ordered come (λ m e. early-some mail l5 m (e5 ∙ e))))
 
 -- a state after quiet turns
@@ -117,6 +125,7 @@ skipped-fits system w state to core fits going later in_time quiet e =
       early = in_time;
       sound = λ f. rw e (rw there at after);
       orders = λ f. fits.orders going ∙ quiet-orders system state.number w (to - state.clock) state.clock state.core quiet ∙ ap (λ u. to_come u (orders_of system state.number)) there;
+      alarms = fits.alarms;
       delays = λ f. fits.delays going;
     }
 
@@ -187,7 +196,7 @@ module _ (system : System) (state : State) (box : List Mail) (until : ℕ) (late
   after-on to l =
       let late : max until to ≡ max state.clock to = omega arith in
       ap (λ (made : Ran). state_after quiet_state to made) (sym (made-on to l))
-      ∙ ap (λ t. let made : State = record { number = state.number; clock = t; core = (made_by system state to box).core; orders = to_come to state.orders; delays = state.delays; failed = state.failed } in made) late
+      ∙ ap (λ t. let made : State = record { number = state.number; clock = t; core = (made_by system state to box).core; orders = to_come to state.orders; alarms = state.alarms; delays = state.delays; failed = state.failed } in made) late
 
   -- mail that is expected is expected after them
   pub expected-on : All (IsExpected system state) box → All (IsExpected system quiet_state) box
@@ -240,7 +249,7 @@ module _ (system : System) (state : State) (box : List Mail) (until : ℕ) (late
         let late : skipped.clock ≡ max state.clock skipped.clock = omega arith in
         let number = ap (λ (s : State). s.number) same in
         let failed = ap (λ (s : State). s.failed) same in
-        same_state skipped _ _ _ _ _ _ number late (ap (λ (made : Ran). made.core) (sym quiet-made))
+        same_state skipped _ _ _ _ _ _ _ number late (ap (λ (made : Ran). made.core) (sym quiet-made))
         (after.orders (failed ∙ going) ∙ ap (λ n. to_come skipped.clock (orders_of system n)) number ∙ ap (λ t. to_come t (orders_of system state.number)) late
         ∙ sym (to_come-twice skipped.clock state.clock (orders_of system state.number)) ∙ ap (to_come skipped.clock) (sym (fits.orders going)))
-        (ap (λ (s : State). s.delays) same) failed
+        (ap (λ (s : State). s.alarms) same) (ap (λ (s : State). s.delays) same) failed

@@ -1,7 +1,6 @@
 -- Threads that stop, move on in their scripts, and are woken: the core stays sound.
-use Rattle.std.proofs.Common.{◌≡◌, ℕ, ◌+◌, ◌^◌, ◌<◌, ◌≤◌, true, false, cond, List, length, set, inl, inr, refl, sym, ap, ◌∙◌, arith}
-use Rattle.std.specs.Prelude.{◌==◌, Some, None}
-use Rattle.std.proofs.lemmas.Bool.Decides.{nat_tests}
+use Rattle.std.proofs.Common.{◌≡◌, ℕ, ◌+◌, ◌^◌, ◌<◌, ◌≤◌, Bool, true, false, cond, List, length, set, inl, inr, refl, sym, ap, ◌∙◌, arith}
+use Rattle.std.specs.Prelude.{◌==◌, ◌&&◌, not, nat_le, Option, Some, None}
 use Rattle.std.proofs.lemmas.Bool.{cases_eq}
 use Rattle.std.proofs.Math.ListN.{length-set}
 use Rattle.mcs_ticks.specs.Queue.{by_priority}
@@ -13,7 +12,8 @@ use Rattle.mcs_script.specs.declared.item.Item.{Item}
 use Rattle.mcs_script.specs.declared.moved.Moved.{Moved}
 use Rattle.mcs_script.specs.declared.moved.Moved.TheVariants.{Next, RoundEnds, AllDone}
 use Rattle.mcs_script.specs.declared.place.Place.{Place}
-use Rattle.mcs_script.specs.Script.{move_after, place_after}
+use Rattle.mcs_script.specs.Script.{next_of, move_by, move_after, place_after}
+use Rattle.mcs_script.proofs.Steps.{next-within}
 use Rattle.mcs_core.specs.declared.standing.Standing.{Standing}
 use Rattle.mcs_core.specs.declared.standing.Standing.TheVariants.{Done}
 use Rattle.mcs_core.specs.declared.standing.Thread.{Thread}
@@ -30,7 +30,15 @@ use Rattle.mcs_core.proofs.Enters.{date-early, enters_back-sound, enters_front-s
 -- a place in a script stays one when the thread moves on
 pub place-within : (call rounds : ℕ) (script : List Item) (place : Place) → place.item < length script →
     (place_after call script (move_after script rounds place) place).item < length script
-place-within call rounds script place h = grind (arith, nat_tests)
+place-within call rounds script place h = by (next_of script place) refl
+  where
+    by : (o : Option ℕ) → next_of script place ≡ o → (place_after call script (move_by o rounds place) place).item < length script
+    by (Some next) e = rw e (next-within script place.word place.item next h e)
+    by None e = either-way (not (rounds == 0) && nat_le rounds place.round)
+      where
+        either-way : (b : Bool) → (place_after call script (cond b AllDone RoundEnds) place).item < length script
+        either-way true = h
+        either-way false = omega (arith, h)
 
 pub unblocked-early : (t : ℕ) (context : Context) → t ≤ 2 ^ 40 → head_moment context ≤ 2 ^ 40 → head_moment (context_unblocked t context) ≤ 2 ^ 40
 unblocked-early t context l h = grind arith
@@ -93,7 +101,7 @@ module _ (system : System) (number from : ℕ) (each : IsOneEach system) where
       (rw h.threads p.known) p.item (date-early system number from t x (off (charged system x k core)) l f) (λ state. tt)
 
   pub front-sound : (phase : Phase) (t x : ℕ) (core : Core) → t ≤ 2 ^ 40 → from ≤ t + 1 → IsSound system number from phase (Some (record { thread = x; standing = Done })) (off core) →
-      IsPlaced system x core → IsSound system number from phase None (enters_front by_priority system x (date_of system t x core) (off core))
+      IsPlaced system x core → IsSound system number from phase None (enters_front by_priority x (date_of system t x core) (off core))
   front-sound phase t x core l f h p =
       enters_front-sound system number from phase x (date_of system t x core) (off core) h
       (rw h.threads p.known) p.item (date-early system number from t x (off core) l f) (λ state. tt)
@@ -122,8 +130,8 @@ module _ (system : System) (number from : ℕ) (each : IsOneEach system) where
       by RoundEnds i = replaced phase x _ core h (rw h.threads p.known) refl (λ e. i)
       by AllDone i = h
 
-  pub given-sound : (phase : Phase) (t x : ℕ) (core : Core) → IsSound system number from phase None core → IsPlaced system x core → IsSound system number from phase None (given t x core)
-  given-sound phase t x core h p = replaced phase x _ core h (rw h.threads p.known) refl (λ e. p.item)
+  pub given-sound : (phase : Phase) (t x word : ℕ) (core : Core) → IsSound system number from phase None core → IsPlaced system x core → IsSound system number from phase None (given system t x word core)
+  given-sound phase t x word core h p = replaced phase x _ core h (rw h.threads p.known) refl (λ e. p.item)
 
   -- another word at a notification with the same waiters
   pub reworded : (phase : Phase) (note word : ℕ) (core : Core) → IsSound system number from phase None core → note < length core.notes →

@@ -7,7 +7,7 @@ use Rattle.std.proofs.lemmas.List.{get_or_past, ext_get_or}
 use Rattle.std.proofs.lemmas.List.FromFn.{get_or-map-range_with_len, length-map-range_with_len}
 use Rattle.mcs_control.specs.declared.config.Order.{Order}
 use Rattle.mcs_script.specs.declared.item.Item.{Item}
-use Rattle.mcs_script.specs.declared.item.Item.TheVariants.{Compute, Signal, Wait, Yield}
+use Rattle.mcs_script.specs.declared.item.Item.TheVariants.{Compute, Signal, Wait, Yield, On, Spin, Enter, Leave}
 use Rattle.mcs_system.specs.System.{System, thread_part, no_thread, note_part, no_note, core_of, delay_between}
 use Rattle.mcs_system.proofs.Linked.{delays_within}
 use Rattle.mcs_system.specs.WellFormed.{IsWellFormed, IsItem, IsOrder}
@@ -50,6 +50,10 @@ all-noted system w x i = elim (cases_lt x (length system.threads)) [
     noted core (Signal note badge) h = h.0
     noted core (Wait note) h = h.0
     noted core Yield h = tt
+    noted core (On badges) h = tt
+    noted core Spin h = tt
+    noted core (Enter server priority) h = h.0
+    noted core (Leave server priority) h = h.0
 
     items : (core : ℕ) (script : List Item) (i : ℕ) → All (IsItem system core) script → IsNoted (length system.notes) (slice_get script i)
     items core [] i h = tt

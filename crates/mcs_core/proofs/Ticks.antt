@@ -12,8 +12,9 @@ use Rattle.mcs_notify.specs.Note.{waited, after_wait}
 use Rattle.mcs_notify.specs.declared.posted.Waited.{Waited}
 use Rattle.mcs_notify.specs.declared.posted.Waited.TheVariants.{Got, Blocks}
 use Rattle.mcs_script.specs.declared.item.Item.{Item}
-use Rattle.mcs_script.specs.declared.item.Item.TheVariants.{Compute, Signal, Wait, Yield}
+use Rattle.mcs_script.specs.declared.item.Item.TheVariants.{Compute, Signal, Wait, Yield, On, Spin, Enter, Leave}
 use Rattle.mcs_script.specs.declared.moved.Moved.{Moved}
+use Rattle.mcs_script.specs.declared.moved.Moved.TheVariants.{Next, RoundEnds, AllDone}
 use Rattle.mcs_core.specs.declared.standing.AfterItem.{AfterItem}
 use Rattle.mcs_core.specs.declared.standing.AfterItem.TheVariants as after
 use Rattle.mcs_core.specs.declared.standing.Chosen.{Chosen}
@@ -21,14 +22,22 @@ use Rattle.mcs_core.specs.declared.standing.Standing.TheVariants.{Blocked, Runni
 use Rattle.mcs_system.specs.System.{System, thread_part, note_part}
 use Rattle.mcs_core.specs.Core.{Core, thread_of, note_of, with_note, off}
 use Rattle.mcs_core.specs.stored.Items.{IsNoted}
-use Rattle.mcs_core.specs.Turn.{its_context, queued, moves_on, move_of, posts, mail_to, signals, waits_as, after_waited, may_stop, after_move, finishes, after_count, counts, item_of, tick_of, tick, stops_to_back}
+use Rattle.mcs_core.specs.Turn.{its_context, queued, moves_on, move_of, posts, mail_to, signals, waits_as, enters_as, frees, after_waited, after_entered, may_stop, after_move, finishes, after_count, counts, item_of, tick_of, tick, stops_to_back}
 use Rattle.mcs_core.specs.stored.Sound.{Phase, IsPlaced, IsRunning, RunsRight, IsSound}
 use Rattle.mcs_core.specs.stored.Sound.Phase.{Between, InTick, PastTick}
 use Rattle.mcs_core.proofs.Counts.{times_queued-append, times_waiting-set}
 use Rattle.mcs_core.proofs.Soundness.{IsOneEach, placed-same, re_stands, re_runs, loosened}
 use Rattle.mcs_core.proofs.Budgets.{accepted-is, kept-head}
 use Rattle.mcs_core.proofs.Stopping.{off-sound, stops-sound, stops_to_back-sound, replaced, moves-sound, given-sound, reworded}
-use Rattle.mcs_core.proofs.Wakes.{posts-sound}
+use Rattle.mcs_core.proofs.Wakes.{posts-sound, frees-sound}
+
+-- a thread that goes on, ends or yields
+abbrev pub DoesNotBlock : AfterItem → Type 0
+DoesNotBlock after.Blocks = ⊥
+DoesNotBlock after.Calls = ⊥
+DoesNotBlock after.GoesOn = Unit {0}
+DoesNotBlock after.Ends = Unit {0}
+DoesNotBlock after.Yields = Unit {0}
 
 module _ (system : System) (number from : ℕ) (each : IsOneEach system) where
   -- the running thread stays the same one
@@ -65,20 +74,31 @@ module _ (system : System) (number from : ℕ) (each : IsOneEach system) where
   -- the running thread waits: it joins the waiters, or is given its word
 
   pub blocks-sound : (phase : Phase) (note x : ℕ) (core : Core) → IsSound system number from phase None core → (thread_of core x).standing ≡ Running → note < length core.notes →
-      IsSound system number from phase (Some (record { thread = x; standing = Blocked })) (with_note note (after_wait Blocks (queued system x) (note_of core note)) core)
+      IsSound system number from phase (Some (record { thread = x; standing = Blocked })) (with_note note (after_wait Blocks (queued x core) (note_of core note)) core)
   blocks-sound phase note x core h e l =
-      re_stands system number from phase x Running Blocked core core.running core.ready core.releases (set core.notes note (after_wait Blocks (queued system x) (note_of core note)))
+      re_stands system number from phase x Running Blocked core core.running core.ready core.releases (set core.notes note (after_wait Blocks (queued x core) (note_of core note)))
       (loosened system number from phase x Running core e h)
       (λ y. refl) (λ y. refl)
-      (λ y. grind (arith, times_queued-append y (note_of core note).waiters (queued system x), times_waiting-set y note (after_wait Blocks (queued system x) (note_of core note)) core.notes l))
+      (λ y. grind (arith, times_queued-append y (note_of core note).waiters (queued x core), times_waiting-set y note (after_wait Blocks (queued x core) (note_of core note)) core.notes l))
       (length-set core.notes note _) refl (λ f. cc) h.dates h.later h.running
 
   pub got-sound : (phase : Phase) (t note word : ℕ) (chosen : Chosen) (core : Core) → IsSound system number from phase None core → core.running ≡ Some chosen → note < length core.notes →
       IsSound system number from phase None (waits_as system t chosen.thread note (Got word) core).core
   got-sound phase t note word chosen core h e l =
       let first = reworded system number from each phase note 0 core h l in
-      let second = given-sound system number from each phase t chosen.thread _ first (runner-placed phase chosen _ first e) in
+      let second = given-sound system number from each phase t chosen.thread word _ first (runner-placed phase chosen _ first e) in
       moves-sound system number from each phase t chosen.thread _ second (runner-placed phase chosen _ second e)
+
+  -- the running thread takes a server
+  pub taken-sound : (phase : Phase) (t server word : ℕ) (chosen : Chosen) (core : Core) → IsSound system number from phase None core → core.running ≡ Some chosen → server < length core.notes →
+      IsSound system number from phase None (enters_as system t chosen.thread server (Got word) core).core
+  taken-sound phase t server word chosen core h e l =
+      let first = reworded system number from each phase server 0 core h l in
+      moves-sound system number from each phase t chosen.thread _ first (runner-placed phase chosen _ first e)
+
+  -- and leaves one
+  pub frees-running : (t x server : ℕ) (core : Core) → (frees by_priority system t x server core).core.running ≡ core.running
+  frees-running t x server core = grind arith
 
   -- a signal, and what else does not block
   pub signals-sound : (c t note badge : ℕ) (x : ℕ) (core : Core) → t ≤ 2 ^ 40 → from ≤ t + 1 → note < length core.notes → IsSound system number from InTick None core →
@@ -93,7 +113,7 @@ module _ (system : System) (number from : ℕ) (each : IsOneEach system) where
   signals-running c t note badge x core = grind (arith, posts-running t note badge core)
 
   -- at most one stop, of a thread that did not block
-  pub may_stop-sound : (c t : ℕ) (chosen : Chosen) (cause : AfterItem) (core : Core) → t ≤ 2 ^ 40 → from ≤ t + 1 → IsSound system number from InTick None core → core.running ≡ Some chosen → (cause ≡ after.Blocks → ⊥) →
+  pub may_stop-sound : (c t : ℕ) (chosen : Chosen) (cause : AfterItem) (core : Core) → t ≤ 2 ^ 40 → from ≤ t + 1 → IsSound system number from InTick None core → core.running ≡ Some chosen → DoesNotBlock cause →
       IsSound system number from PastTick None (may_stop by_priority system t chosen.thread chosen.using cause core).core
   may_stop-sound c t chosen cause core l f h e n = by cause n
     where
@@ -120,9 +140,10 @@ module _ (system : System) (number from : ℕ) (each : IsOneEach system) where
       spent true f = back chosen.using why.Spent r.used
       spent false f = stays f
 
-      by : (cause : AfterItem) → (cause ≡ after.Blocks → ⊥) → IsSound system number from PastTick None (may_stop by_priority system t chosen.thread chosen.using cause core).core
+      by : (cause : AfterItem) → DoesNotBlock cause → IsSound system number from PastTick None (may_stop by_priority system t chosen.thread chosen.using cause core).core
       by after.Ends n = stops-sound system number from each PastTick t chosen.thread chosen.using why.Done Done core gone p refl refl refl r.used
-      by after.Blocks n = absurd (n refl)
+      by after.Blocks n = absurd n
+      by after.Calls n = absurd n
       by after.Yields n = back (head_amount (its_context system chosen.thread core)) why.Yield (runner-head InTick chosen core h e)
       by after.GoesOn n = spent (chosen.using == head_amount (its_context system chosen.thread core)) refl
 
@@ -134,11 +155,24 @@ module _ (system : System) (number from : ℕ) (each : IsOneEach system) where
       let p = runner-placed InTick chosen core h e in
       let waits = blocks-sound InTick note chosen.thread core h r.stands l in
       let gone = off-sound system number from each InTick PastTick chosen.thread chosen.using Blocked Blocked _ waits refl refl refl refl refl in
-      stops-sound system number from each PastTick t chosen.thread chosen.using why.Wait Blocked (with_note note (after_wait Blocks (queued system chosen.thread) (note_of core note)) core) gone
+      stops-sound system number from each PastTick t chosen.thread chosen.using why.Wait Blocked (with_note note (after_wait Blocks (queued chosen.thread core) (note_of core note)) core) gone
       (placed-same system core _ refl chosen.thread refl p) refl refl refl r.used
 
-  moved-never : (m : Moved) (cause : AfterItem) → (cause ≡ after.Blocks → ⊥) → after_move m cause ≡ after.Blocks → ⊥
-  moved-never m cause n e = grind arith
+  -- the same of one that waits for a server
+  pub calling-sound : (c t server : ℕ) (chosen : Chosen) (core : Core) → IsSound system number from InTick None core → core.running ≡ Some chosen → server < length core.notes →
+      IsSound system number from PastTick None (may_stop by_priority system t chosen.thread chosen.using after.Calls (enters_as system t chosen.thread server Blocks core).core).core
+  calling-sound c t server chosen core h e l =
+      let r = runner InTick chosen core h e in
+      let p = runner-placed InTick chosen core h e in
+      let waits = blocks-sound InTick server chosen.thread core h r.stands l in
+      let gone = off-sound system number from each InTick PastTick chosen.thread chosen.using Blocked Blocked _ waits refl refl refl refl refl in
+      stops-sound system number from each PastTick t chosen.thread chosen.using why.Call Blocked (with_note server (after_wait Blocks (queued chosen.thread core) (note_of core server)) core) gone
+      (placed-same system core _ refl chosen.thread refl p) refl refl refl r.used
+
+  moved-never : (m : Moved) (cause : AfterItem) → DoesNotBlock cause → DoesNotBlock (after_move m cause)
+  moved-never Next cause n = n
+  moved-never RoundEnds cause n = n
+  moved-never AllDone cause n = tt
 
   -- the finished item takes effect, and at most one stop follows
   pub finishes-sound : (c t : ℕ) (chosen : Chosen) (item : Option Item) (core : Core) → t ≤ 2 ^ 40 → from ≤ t + 1 → IsNoted (length system.notes) item → IsSound system number from InTick None core → core.running ≡ Some chosen →
@@ -147,17 +181,31 @@ module _ (system : System) (number from : ℕ) (each : IsOneEach system) where
       let first = signals-sound c t note badge chosen.thread core l f (rw h.notes k) h in
       let runs = signals-running c t note badge chosen.thread core ∙ e in
       let second = moves-sound system number from each InTick t chosen.thread _ first (runner-placed InTick chosen _ first runs) in
-      may_stop-sound c t chosen _ _ l f second (moves-running t chosen.thread _ ∙ runs) (moved-never (move_of system chosen.thread core) after.GoesOn (λ f. cc))
+      may_stop-sound c t chosen _ _ l f second (moves-running t chosen.thread _ ∙ runs) (moved-never (move_of system chosen.thread core) after.GoesOn tt)
   finishes-sound c t chosen (Some (Wait note)) core l f k h e = by (waited (note_of core note))
     where
       by : (w : Waited) → IsSound system number from PastTick None (may_stop by_priority system t chosen.thread chosen.using (after_waited w) (waits_as system t chosen.thread note w core).core).core
-      by (Got word) = may_stop-sound c t chosen after.GoesOn _ l f (got-sound InTick t note word chosen core h e (rw h.notes k)) (moves-running t chosen.thread _ ∙ e) (λ f. cc)
+      by (Got word) = may_stop-sound c t chosen after.GoesOn _ l f (got-sound InTick t note word chosen core h e (rw h.notes k)) (moves-running t chosen.thread _ ∙ e) tt
       by Blocks = blocked-sound c t note chosen core h e (rw h.notes k)
   finishes-sound c t chosen (Some (Compute ticks)) core l f k h e =
-      may_stop-sound c t chosen _ _ l f (moves-sound system number from each InTick t chosen.thread core h (runner-placed InTick chosen core h e)) (moves-running t chosen.thread core ∙ e) (moved-never (move_of system chosen.thread core) after.GoesOn (λ f. cc))
+      may_stop-sound c t chosen _ _ l f (moves-sound system number from each InTick t chosen.thread core h (runner-placed InTick chosen core h e)) (moves-running t chosen.thread core ∙ e) (moved-never (move_of system chosen.thread core) after.GoesOn tt)
   finishes-sound c t chosen (Some Yield) core l f k h e =
-      may_stop-sound c t chosen _ _ l f (moves-sound system number from each InTick t chosen.thread core h (runner-placed InTick chosen core h e)) (moves-running t chosen.thread core ∙ e) (moved-never (move_of system chosen.thread core) after.Yields (λ f. cc))
-  finishes-sound c t chosen None core l f k h e = may_stop-sound c t chosen after.GoesOn core l f h e (λ f. cc)
+      may_stop-sound c t chosen _ _ l f (moves-sound system number from each InTick t chosen.thread core h (runner-placed InTick chosen core h e)) (moves-running t chosen.thread core ∙ e) (moved-never (move_of system chosen.thread core) after.Yields tt)
+  finishes-sound c t chosen (Some (On badges)) core l f k h e =
+      may_stop-sound c t chosen _ _ l f (moves-sound system number from each InTick t chosen.thread core h (runner-placed InTick chosen core h e)) (moves-running t chosen.thread core ∙ e) (moved-never (move_of system chosen.thread core) after.GoesOn tt)
+  finishes-sound c t chosen (Some Spin) core l f k h e =
+      may_stop-sound c t chosen _ _ l f (moves-sound system number from each InTick t chosen.thread core h (runner-placed InTick chosen core h e)) (moves-running t chosen.thread core ∙ e) (moved-never (move_of system chosen.thread core) after.GoesOn tt)
+  finishes-sound c t chosen (Some (Enter server priority)) core l f k h e = by (waited (note_of core server))
+    where
+      by : (w : Waited) → IsSound system number from PastTick None (may_stop by_priority system t chosen.thread chosen.using (after_entered w) (enters_as system t chosen.thread server w core).core).core
+      by (Got word) = may_stop-sound c t chosen after.GoesOn _ l f (taken-sound InTick t server word chosen core h e (rw h.notes k)) (moves-running t chosen.thread _ ∙ e) tt
+      by Blocks = calling-sound c t server chosen core h e (rw h.notes k)
+  finishes-sound c t chosen (Some (Leave server priority)) core l f k h e =
+      let first = frees-sound system number from each InTick t chosen.thread server core l f (rw h.notes k) h in
+      let runs = frees-running t chosen.thread server core ∙ e in
+      let second = moves-sound system number from each InTick t chosen.thread _ first (runner-placed InTick chosen _ first runs) in
+      may_stop-sound c t chosen _ _ l f second (moves-running t chosen.thread _ ∙ runs) (moved-never (move_of system chosen.thread core) after.GoesOn tt)
+  finishes-sound c t chosen None core l f k h e = may_stop-sound c t chosen after.GoesOn core l f h e tt
 
   -- the notifications of all items are the system's
   abbrev pub AreNoted : Type 0
@@ -175,7 +223,7 @@ module _ (system : System) (number from : ℕ) (each : IsOneEach system) where
         where
           ends : (b : Bool) → IsSound system number from PastTick None (cond b (finishes by_priority system c t chosen.thread (chosen.using + 1) (item_of system chosen.thread (counts chosen core)) (counts chosen core)) (may_stop by_priority system t chosen.thread (chosen.using + 1) after.GoesOn (counts chosen core))).core
           ends true = finishes-sound c t (record { thread = chosen.thread; using = chosen.using + 1 }) (item_of system chosen.thread (counts chosen core)) (counts chosen core) l f (noted chosen.thread (thread_of (counts chosen core) chosen.thread).place.item) i refl
-          ends false = may_stop-sound c t (record { thread = chosen.thread; using = chosen.using + 1 }) after.GoesOn (counts chosen core) l f i refl (λ f. cc)
+          ends false = may_stop-sound c t (record { thread = chosen.thread; using = chosen.using + 1 }) after.GoesOn (counts chosen core) l f i refl tt
 
       by : (o : Option Chosen) → core.running ≡ o → IsSound system number from PastTick None (tick_of by_priority system c t o core).core
       by None e = idle-sound core h e

@@ -18,7 +18,9 @@ use Rattle.mcs_core.specs.declared.standing.Standing.{Standing}
 use Rattle.mcs_core.specs.declared.standing.Standing.TheVariants.{Pending, Ready, Running, Done}
 use Rattle.mcs_system.specs.System.{System, thread_part, context_part}
 use Rattle.mcs_core.specs.Core.{Core, thread_of, context_of, with_thread, stands, off}
-use Rattle.mcs_core.specs.Turn.{silent, ◌followed_by◌, each, its_context, date_of, charged, applied, orders_running, obeys, is_for_now, arrives, released, releases, preempts_by, preempts, chooses_of, chooses, with_chosen_context, turn, enters_front, stops_to_front}
+use Rattle.mcs_core.specs.Alarms.{ringing, alarms_at}
+use Rattle.mcs_core.specs.declared.alarm.Alarm.{Alarm}
+use Rattle.mcs_core.specs.Turn.{silent, ◌followed_by◌, each, its_context, date_of, charged, applied, orders_running, obeys, is_for_now, interrupts, arrives, released, releases, preempts_by, preempts, chooses_of, chooses, with_chosen_context, turn, enters_front, stops_to_front}
 use Rattle.mcs_release.specs.Release.{is_due}
 use Rattle.mcs_core.specs.stored.Sound.{times_pending, times_ready, is_here, Loose, Phase, has_context, IsPlaced, IsEarly, AreEarly, RunsRight, IsSound}
 use Rattle.mcs_core.specs.Places.{times_queued, times_dated}
@@ -38,6 +40,13 @@ pub record IsProperOrder (system : System) (order : Order) : Type 0 where
   pub known : order.context < length system.contexts
 
 module _ (system : System) (number from : ℕ) (one_each : IsOneEach system) where
+  -- interrupts
+  pub interrupts-sound : (t : ℕ) (alarms : List Alarm) (core : Core) → t ≤ 2 ^ 40 → from ≤ t + 1 → AllByRecursion (λ alarm. alarm.note < length system.notes) alarms → IsSound system number from PastTick None core →
+      IsSound system number from PastTick None (each (interrupts by_priority system t) alarms core).core
+  interrupts-sound t [] core l f k h = h
+  interrupts-sound t (alarm ∷ alarms) core l f k h =
+      interrupts-sound t alarms _ l f k.1 (posts-sound system number from one_each PastTick t alarm.note alarm.badge core l f (rw h.notes k.0) h)
+
   -- arrivals
   pub arrivals-sound : (t : ℕ) (mails : List Mail) (core : Core) → t ≤ 2 ^ 40 → from ≤ t + 1 → AllByRecursion (λ mail. mail.note < length system.notes) mails → IsSound system number from PastTick None core →
       IsSound system number from PastTick None (each (arrives by_priority system t) mails core).core
@@ -75,7 +84,7 @@ module _ (system : System) (number from : ℕ) (one_each : IsOneEach system) whe
   obeys-sound t order core l f o has h = by core.running refl
     where
       stopped : (chosen : Chosen) → core.running ≡ Some chosen → has_context order.context (off (charged system chosen.thread chosen.using core)) ≡ true →
-          IsSound system number from PastTick None (enters_front by_priority system chosen.thread (date_of system t chosen.thread (applied t order (charged system chosen.thread chosen.using core))) (off (applied t order (charged system chosen.thread chosen.using core))))
+          IsSound system number from PastTick None (enters_front by_priority chosen.thread (date_of system t chosen.thread (applied t order (charged system chosen.thread chosen.using core))) (off (applied t order (charged system chosen.thread chosen.using core))))
       stopped chosen e has_after =
           let gone = gone-sound chosen core h e in
           let after = applied-sound t (Some (record { thread = chosen.thread; standing = Done })) order (off (charged system chosen.thread chosen.using core)) l f o has_after gone tt in
@@ -145,7 +154,7 @@ module _ (system : System) (number from : ℕ) (one_each : IsOneEach system) whe
 
   -- a thread that is due is released
   pub released-sound : (t : ℕ) (due : Dated) (core : Core) → due.date ≤ 2 ^ 40 → 1 ≤ times_dated due.thread core.releases → (due.date ≤ 2 ^ 40 → IsEarly system due.thread core) →
-      IsSound system number from PastTick None core → IsSound system number from PastTick None (released by_priority system due (core_without due.thread core)).core
+      IsSound system number from PastTick None core → IsSound system number from PastTick None (released by_priority due (core_without due.thread core)).core
   released-sound t due core l some early h =
       let left = leaves-sound due.thread core some h in
       let p = placed-from due.thread (core_without due.thread core) left in
@@ -191,7 +200,7 @@ module _ (system : System) (t : ℕ) where
 
   -- the releases, one after another
   pub releases-step : (d : Dated) (rest : List Dated) (core : Core) → all_due core.releases ≡ d ∷ rest → times_dated d.thread core.releases ≤ 1 →
-      releases by_priority system t core ≡ (released by_priority system d (record core { releases = without d.thread core.releases }) followed_by releases by_priority system t)
+      releases by_priority system t core ≡ (released by_priority d (record core { releases = without d.thread core.releases }) followed_by releases by_priority system t)
   releases-step d rest core e few =
       let s = split-due core.releases d rest e few in
       rw (e, s.0, s.1) refl
@@ -224,7 +233,7 @@ module _ (system : System) (number : ℕ) (one_each : IsOneEach system) (t : ℕ
   at_most_once x core h = grind (arith, h.pending x)
 
   pub release-sound : (core : Core) (d : Dated) (rest : List Dated) → all_due system t core.releases ≡ d ∷ rest → IsSound system number t PastTick None core →
-      IsSound system number t PastTick None (released by_priority system d (record core { releases = without d.thread core.releases })).core
+      IsSound system number t PastTick None (released by_priority d (record core { releases = without d.thread core.releases })).core
   release-sound core d rest e h =
       let early = due-early core.releases core d rest e h.dates in
       released-sound system number t one_each t d core early.0 (stands-due system t core.releases d rest e) early.1 h
@@ -244,7 +253,7 @@ module _ (system : System) (number : ℕ) (one_each : IsOneEach system) (t : ℕ
       let few = at_most_once d.thread core h in
       let s = split-due system t core.releases d rest e few in
       rw (releases-step system t d rest core e few)
-      (releases-sound rest (released by_priority system d (record core { releases = without d.thread core.releases })).core s.0 (release-sound core d rest e h))
+      (releases-sound rest (released by_priority d (record core { releases = without d.thread core.releases })).core s.0 (release-sound core d rest e h))
 
   -- a running thread gives way
   pub preempts-sound : (core : Core) → IsSound system number (t + 1) PastTick None core → IsSound system number (t + 1) PastTick None (preempts by_priority system t core).core
@@ -253,7 +262,7 @@ module _ (system : System) (number : ℕ) (one_each : IsOneEach system) (t : ℕ
       by : (o : Option Chosen) → core.running ≡ o → (best : Option Queued) → IsSound system number (t + 1) PastTick None (preempts_by by_priority system t o best core).core
       by None e best = h
       by (Some chosen) e None = h
-      by (Some chosen) e (Some best) = cases (nat_lt (thread_part system chosen.thread).priority best.priority)
+      by (Some chosen) e (Some best) = cases (nat_lt (thread_of core chosen.thread).place.priority best.priority)
         where
           cases : (b : Bool) → IsSound system number (t + 1) PastTick None (cond b (stops_to_front by_priority system t chosen.thread why.Preempt chosen.using (charged system chosen.thread chosen.using core)) (silent core)).core
           cases true =
@@ -316,9 +325,11 @@ module _ (system : System) (number : ℕ) (one_each : IsOneEach system) (t : ℕ
 
   -- the whole turn keeps a sound core sound
   pub turn-sound : (mails : List Mail) (core : Core) → AreNoted system number t one_each → AllByRecursion (IsProperOrder system) system.orders → AllByRecursion (λ mail. mail.note < length system.notes) mails →
+      AllByRecursion (λ alarm. alarm.note < length system.notes) (ringing t (alarms_at system number t)) →
       IsSound system number t Between None core → IsSound system number (t + 1) Between None (turn system number t mails core).core
-  turn-sound mails core noted orders known h =
+  turn-sound mails core noted orders known rings h =
       chooses-sound _ (preempts-sound _ (releases-sound _ _ refl
       (orders-sound system number t one_each t system.orders _ soon (omega arith) orders
       (arrivals-sound system number t one_each t mails _ soon (omega arith) known
-      (tick-sound system number t one_each number t core soon (omega arith) noted h)))))
+      (interrupts-sound system number t one_each t (ringing t (alarms_at system number t)) _ soon (omega arith) rings
+      (tick-sound system number t one_each number t core soon (omega arith) noted h))))))

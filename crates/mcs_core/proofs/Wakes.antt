@@ -17,12 +17,12 @@ use Rattle.mcs_core.specs.declared.standing.Standing.TheVariants.{Blocked, Done}
 use Rattle.mcs_core.specs.declared.standing.Thread.{Thread}
 use Rattle.mcs_system.specs.System.{System, thread_part}
 use Rattle.mcs_core.specs.Core.{Core, thread_of, note_of, with_thread, with_note}
-use Rattle.mcs_core.specs.Turn.{its_context, date_of, with_woken_context, enters_back, given, moves, moves_on, move_of, wakes, posts_as, posts}
+use Rattle.mcs_core.specs.Turn.{its_context, date_of, with_woken_context, enters_back, enters_front, given, moves, moves_on, move_of, resumes, wakes, posts_as, posts, frees_as, frees}
 use Rattle.mcs_core.specs.stored.Sound.{times_blocked, is_here, Phase, IsPlaced, RunsRight, IsSound}
 use Rattle.mcs_core.specs.Places.{times_queued, times_waiting}
 use Rattle.mcs_core.proofs.Counts.{times_queued-without, greatest-stands, times_waiting-set, times_waiting-at}
 use Rattle.mcs_core.proofs.Soundness.{IsOneEach, itself, placed-same, re_stands, loosened, recontexted, rethreaded, keeps_if, runs-other, runs-context, thread-same}
-use Rattle.mcs_core.proofs.Enters.{date-early, enters_back-sound}
+use Rattle.mcs_core.proofs.Enters.{date-early, enters_back-sound, enters_front-sound}
 use Rattle.mcs_core.proofs.Stopping.{place-within, woken-early, woken-budget, reworded}
 
 -- a thread that waits stands blocked
@@ -92,8 +92,8 @@ module _ (system : System) (number from : ℕ) (each : IsOneEach system) where
         placed = record { known = p.known; item = rw same item; bound = p.bound; has = p.has };
       }
 
-  pub given-woken : (phase : Phase) (t x : ℕ) (core : Core) → IsWoken system number from phase x core → IsWoken system number from phase x (given t x core)
-  given-woken phase t x core w = changed phase x _ core w refl w.placed.item
+  pub given-woken : (phase : Phase) (t x word : ℕ) (core : Core) → IsWoken system number from phase x core → IsWoken system number from phase x (given system t x word core)
+  given-woken phase t x word core w = changed phase x _ core w refl w.placed.item
 
   pub moves-woken : (phase : Phase) (t x : ℕ) (core : Core) → IsWoken system number from phase x core → IsWoken system number from phase x (moves_on system t x core).core
   moves-woken phase t x core w = by (move_of system x core) (place-within system.call (thread_part system x).rounds (thread_part system x).script (thread_of core x).place w.placed.item)
@@ -104,14 +104,31 @@ module _ (system : System) (number from : ℕ) (each : IsOneEach system) where
       by RoundEnds i = changed phase x _ core w refl i
       by AllDone i = w
 
-  pub entered-woken : (phase : Phase) (t x : ℕ) (core : Core) → t ≤ 2 ^ 40 → from ≤ t + 1 → IsWoken system number from phase x core → IsSound system number from phase None (enters_back by_priority system x (date_of system t x core) core)
+  pub entered-woken : (phase : Phase) (t x : ℕ) (core : Core) → t ≤ 2 ^ 40 → from ≤ t + 1 → IsWoken system number from phase x core → IsSound system number from phase None (enters_back by_priority x (date_of system t x core) core)
   entered-woken phase t x core l f w =
       enters_back-sound system number from phase x (date_of system t x core) core w.sound (rw w.sound.threads w.placed.known) w.placed.item (date-early system number from t x core l f)
       (away_from phase x core w.stands w.sound.running)
 
-  pub wakes-sound : (phase : Phase) (t x : ℕ) (core : Core) → t ≤ 2 ^ 40 → from ≤ t + 1 → IsWoken system number from phase x core → IsSound system number from phase None (wakes by_priority system t x core).core
-  wakes-sound phase t x core l f w =
-      entered-woken phase t x _ l f (moves-woken phase t x _ (given-woken phase t x _ (context-woken phase t x core l w)))
+  entered-front : (phase : Phase) (t x : ℕ) (core : Core) → t ≤ 2 ^ 40 → from ≤ t + 1 → IsWoken system number from phase x core → IsSound system number from phase None (enters_front by_priority x (date_of system t x core) core)
+  entered-front phase t x core l f w =
+      enters_front-sound system number from phase x (date_of system t x core) core w.sound (rw w.sound.threads w.placed.known) w.placed.item (date-early system number from t x core l f)
+      (away_from phase x core w.stands w.sound.running)
+
+  resumes-sound : (phase : Phase) (t x : ℕ) (core : Core) → t ≤ 2 ^ 40 → from ≤ t + 1 → IsWoken system number from phase x core → IsSound system number from phase None (resumes by_priority system t x core).core
+  resumes-sound phase t x core l f w = entered-woken phase t x _ l f (moves-woken phase t x _ w)
+
+  pub wakes-sound : (phase : Phase) (t x word : ℕ) (core : Core) → t ≤ 2 ^ 40 → from ≤ t + 1 → IsWoken system number from phase x core → IsSound system number from phase None (wakes by_priority system t x word core).core
+  wakes-sound phase t x word core l f w =
+      resumes-sound phase t x _ l f (given-woken phase t x word _ (context-woken phase t x core l w))
+
+  -- a server is left
+  pub frees-sound : (phase : Phase) (t x server : ℕ) (core : Core) → t ≤ 2 ^ 40 → from ≤ t + 1 → server < length core.notes → IsSound system number from phase None core →
+      IsSound system number from phase None (frees by_priority system t x server core).core
+  frees-sound phase t x server core l f k h = by (posted 1 (note_of core server)) refl
+    where
+      by : (p : Posted) → posted 1 (note_of core server) ≡ p → IsSound system number from phase None (frees_as by_priority system t server p core).core
+      by (Woke y word) e = entered-front phase t y _ l f (moves-woken phase t y _ (context-woken phase t y _ l (woken-sound phase server 1 y word core h k e)))
+      by (Held word) e = reworded system number from each phase server word core h k
 
   -- a post
   pub posts-sound : (phase : Phase) (t note badge : ℕ) (core : Core) → t ≤ 2 ^ 40 → from ≤ t + 1 → note < length core.notes → IsSound system number from phase None core →
@@ -119,5 +136,5 @@ module _ (system : System) (number from : ℕ) (each : IsOneEach system) where
   posts-sound phase t note badge core l f k h = by (posted badge (note_of core note)) refl
     where
       by : (p : Posted) → posted badge (note_of core note) ≡ p → IsSound system number from phase None (posts_as by_priority system t note p core).core
-      by (Woke x word) e = wakes-sound phase t x _ l f (woken-sound phase note badge x word core h k e)
+      by (Woke x word) e = wakes-sound phase t x word _ l f (woken-sound phase note badge x word core h k e)
       by (Held word) e = reworded system number from each phase note word core h k

@@ -5,7 +5,7 @@ use Rattle.mcs_ticks.specs.declared.row.What.{What}
 use Rattle.mcs_ticks.specs.declared.row.What.TheVariants as row
 use Rattle.mcs_ticks.specs.declared.row.Why.TheVariants as why
 use Rattle.mcs_script.specs.declared.item.Item.{Item}
-use Rattle.mcs_script.specs.declared.item.Item.TheVariants.{Compute, Signal, Wait}
+use Rattle.mcs_script.specs.declared.item.Item.TheVariants.{Compute, Signal, Wait, On, Enter, Leave}
 use Rattle.mcs_control.specs.declared.config.Mode.{Mode}
 use Rattle.mcs_control.specs.declared.config.Mode.TheVariants.{Sporadic, Bandwidth}
 use Rattle.mcs_system.specs.declared.part.ContextPart.{ContextPart}
@@ -36,7 +36,7 @@ two_cores = record {
   call = 1;
   min_budget = 1;
   contexts = context 0 3 10 ∷ context 0 2 5 ∷ context 1 5 10 ∷ [];
-  notes = record { name = []; core = 0 } ∷ [];
+  notes = record { name = []; core = 0; word = 0 } ∷ [];
   threads =
       thread 0 7 0 (Wait 0 ∷ Compute 1 ∷ [])
       ∷ thread 1 5 1 (Compute 3 ∷ [])
@@ -44,6 +44,10 @@ two_cores = record {
       ∷ [];
   orders = record { moment = 4; context = 2; config = record { budget = 4; period = 10; extra = 0 } } ∷ [];
   links = [];
+  servers = 0;
+  sources = [];
+  beats = [];
+  chains = [];
 }
 
 two_cores_at_work : schedule two_cores 7 ≡
@@ -82,7 +86,7 @@ one_core = record {
   call = 1;
   min_budget = 1;
   contexts = context 0 9 20 ∷ context 0 9 20 ∷ context 0 9 20 ∷ context 0 2 2 ∷ context 0 9 20 ∷ [];
-  notes = record { name = []; core = 0 } ∷ [];
+  notes = record { name = []; core = 0; word = 0 } ∷ [];
   threads =
       thread 0 5 0 (Compute 4 ∷ [])
       ∷ thread 1 5 0 (Compute 1 ∷ [])
@@ -92,6 +96,10 @@ one_core = record {
       ∷ [];
   orders = [];
   links = [];
+  servers = 0;
+  sources = [];
+  beats = [];
+  chains = [];
 }
 
 one_core_at_work : schedule one_core 11 ≡
@@ -135,13 +143,17 @@ from_core_0 = record {
   call = 1;
   min_budget = 1;
   contexts = context 0 9 20 ∷ context 1 9 20 ∷ [];
-  notes = record { name = []; core = 1 } ∷ [];
+  notes = record { name = []; core = 1; word = 0 } ∷ [];
   threads =
       thread 0 5 0 (Compute 1 ∷ Signal 0 4 ∷ [])
       ∷ thread 1 5 0 (Wait 0 ∷ Compute 1 ∷ [])
       ∷ [];
   orders = [];
   links = [];
+  servers = 0;
+  sources = [];
+  beats = [];
+  chains = [];
 }
 
 a_signal_arrives_at_its_home : schedule from_core_0 5 ≡
@@ -173,6 +185,10 @@ chosen_late mode = record {
   threads = thread 0 5 0 (Compute 20 ∷ []) ∷ thread 1 9 0 (Compute 3 ∷ []) ∷ [];
   orders = [];
   links = [];
+  servers = 0;
+  sources = [];
+  beats = [];
+  chains = [];
 }
 
 bandwidth_unblocks_when_chosen : schedule (chosen_late Bandwidth) 13
@@ -185,3 +201,84 @@ sporadic_does_not : schedule (chosen_late Sporadic) 10
     ≡ at 0 0 (row.Release 0) ∷ at 0 0 (row.Release 1) ∷ at 0 0 (row.Run 1) ∷ at 3 0 (row.Round 1 1 3) ∷ at 3 0 (row.Stop 1 why.Done 3 None) ∷ at 3 0 (row.Run 0)
     ∷ at 7 0 (row.Stop 0 why.Spent 4 (Some 10)) ∷ at 10 0 (row.Release 0) ∷ at 10 0 (row.Run 0) ∷ []
 sporadic_does_not = refl
+
+-- Version 3: a thread of handlers, which two sources interrupt. Both do so at 2: it is woken with the badge of the first, and takes that
+-- of the second from the word when its round has ended.
+abbrev handlers : System
+handlers = record {
+  cores = 1;
+  delay = 1;
+  call = 1;
+  min_budget = 1;
+  contexts = context 0 9 20 ∷ [];
+  notes = record { name = []; core = 0; word = 0 } ∷ [];
+  threads = record { name = []; context = 0; priority = 5; start = 0; rounds = 0; deadline = 0; script = Wait 0 ∷ On 1 ∷ Compute 2 ∷ On 2 ∷ Compute 3 ∷ [] } ∷ [];
+  orders = [];
+  links = [];
+  servers = 0;
+  sources = record { name = []; note = 0; badge = 1 } ∷ record { name = []; note = 0; badge = 2 } ∷ [];
+  beats = record { source = 0; first = 2; period = 10; count = 0 } ∷ record { source = 1; first = 2; period = 10; count = 1 } ∷ [];
+  chains = [];
+}
+
+handlers_at_work : schedule handlers 12 ≡
+    at 0 0 (row.Release 0)
+    ∷ at 0 0 (row.Run 0)
+    ∷ at 1 0 (row.Stop 0 why.Wait 1 None)
+    ∷ at 2 0 (row.Interrupt 0 0 1)
+    ∷ at 2 0 (row.Wake 0 0 1)
+    ∷ at 2 0 (row.Interrupt 1 0 2)
+    ∷ at 2 0 (row.Hold 0 2)
+    ∷ at 2 0 (row.Run 0)
+    ∷ at 4 0 (row.Round 0 1 2)
+    ∷ at 5 0 (row.Got 0 0 2)
+    ∷ at 8 0 (row.Round 0 2 3)
+    ∷ at 9 0 (row.Stop 0 why.Wait 7 None)
+    ∷ at 12 0 (row.Interrupt 0 0 1)
+    ∷ at 12 0 (row.Wake 0 0 1)
+    ∷ at 12 0 (row.Run 0)
+    ∷ []
+handlers_at_work = refl
+
+-- A server of priority 40 that is taken when a thread of priority 30 calls it: it stops in the middle where the budget of its caller is
+-- spent, and who waits for it goes on when it is left.
+abbrev a_server : System
+a_server = record {
+  cores = 1;
+  delay = 1;
+  call = 1;
+  min_budget = 1;
+  contexts = context 0 3 10 ∷ context 0 20 100 ∷ [];
+  notes = record { name = []; core = 0; word = 1 } ∷ [];
+  threads =
+      thread 0 10 0 (Enter 0 40 ∷ Compute 5 ∷ Leave 0 10 ∷ [])
+      ∷ thread 1 30 4 (Enter 0 40 ∷ Compute 5 ∷ Leave 0 30 ∷ [])
+      ∷ [];
+  orders = [];
+  links = [];
+  servers = 1;
+  sources = [];
+  beats = [];
+  chains = [];
+}
+
+a_server_at_work : schedule a_server 22 ≡
+    at 0 0 (row.Release 0)
+    ∷ at 0 0 (row.Run 0)
+    ∷ at 1 0 (row.Got 0 0 1)
+    ∷ at 3 0 (row.Stop 0 why.Spent 3 (Some 10))
+    ∷ at 4 0 (row.Release 1)
+    ∷ at 4 0 (row.Run 1)
+    ∷ at 5 0 (row.Stop 1 why.Call 1 None)
+    ∷ at 10 0 (row.Release 0)
+    ∷ at 10 0 (row.Run 0)
+    ∷ at 13 0 (row.Stop 0 why.Spent 3 (Some 20))
+    ∷ at 20 0 (row.Release 0)
+    ∷ at 20 0 (row.Run 0)
+    ∷ at 21 0 (row.Signal 0 0 1)
+    ∷ at 21 0 (row.Wake 1 0 1)
+    ∷ at 21 0 (row.Round 0 1 21)
+    ∷ at 21 0 (row.Stop 0 why.Done 1 None)
+    ∷ at 21 0 (row.Run 1)
+    ∷ []
+a_server_at_work = refl

@@ -1,12 +1,13 @@
 -- The first moment at which something does not hold, and what a busy moment may come from: the end of an item or of a
 -- head, a better thread, a date, an order, an arrival.
-use Rattle.std.specs.Prelude.{◌≡◌, ◌≢◌, ℕ, ◌+◌, ◌-◌, ◌<◌, ◌≤◌, ◌^◌, false, nat_lt, Option, Some, None, List, [], ◌∷◌}
+use Rattle.std.specs.Prelude.{◌≡◌, ◌≢◌, ℕ, ◌+◌, ◌<◌, ◌≤◌, ◌^◌, false, nat_lt, Option, Some, None, List, [], ◌∷◌}
 use Rattle.mcs_ticks.specs.declared.queue.Queued.{Queued}
 use Rattle.mcs_control.specs.declared.config.Order.{Order}
 use Rattle.mcs_control.specs.Context.{head_amount}
-use Rattle.mcs_system.specs.System.{System, thread_part}
+use Rattle.mcs_system.specs.System.{System}
 use Rattle.mcs_core.specs.declared.standing.Chosen.{Chosen}
 use Rattle.mcs_core.specs.Core.{Core, thread_of, with_thread}
+use Rattle.mcs_script.specs.Script.{left_after}
 use Rattle.mcs_core.specs.Turn.{its_context}
 
 -- from the clock on, the first moment at which it does not hold, and none where it holds at all moments up to 2^42
@@ -28,24 +29,24 @@ first_moment (order ∷ orders) = Some order.moment
 abbrev pub counted_by : ℕ → Chosen → Core → Core
 counted_by n chosen core =
     let state = thread_of core chosen.thread in
-    with_thread chosen.thread (record state { place = record (state.place) { left = state.place.left - n } })
+    with_thread chosen.thread (record state { place = record (state.place) { left = left_after n state.place.left } })
     (record core { running = Some (record { thread = chosen.thread; using = chosen.using + n }) })
 
 abbrev pub counted_for : ℕ → Option Chosen → Core → Core
 counted_for n None core = core
 counted_for n (Some chosen) core = counted_by n chosen core
 
-module _ (system : System) where
-  -- no ready thread is to run instead of the one that runs
-  abbrev pub IsBest : Option Chosen → Option Queued → Type 0
-  IsBest (Some chosen) (Some best) = nat_lt (thread_part system chosen.thread).priority best.priority ≡ false
-  IsBest (Some chosen) None = Unit {0}
-  IsBest None (Some best) = ⊥
-  IsBest None None = Unit {0}
+-- no ready thread is to run instead of the one that runs
+abbrev pub IsBest : Core → Option Chosen → Option Queued → Type 0
+IsBest core (Some chosen) (Some best) = nat_lt (thread_of core chosen.thread).place.priority best.priority ≡ false
+IsBest core (Some chosen) None = Unit {0}
+IsBest core None (Some best) = ⊥
+IsBest core None None = Unit {0}
 
+module _ (system : System) where
   -- after so many ticks, the thread that runs neither ends its item nor uses up its head with one more
   abbrev pub GoesOnAfter : ℕ → Option Chosen → Core → Type 0
   GoesOnAfter n None core = Unit {0}
   GoesOnAfter n (Some chosen) core =
-      (n + 1 < (thread_of core chosen.thread).place.left)
+      (1 < left_after n (thread_of core chosen.thread).place.left)
       × (chosen.using + n + 1 ≢ head_amount (its_context system chosen.thread core))

@@ -10,6 +10,7 @@ use Rattle.mcs_core.specs.declared.standing.Thread.{Thread}
 use Rattle.mcs_core.specs.declared.standing.Chosen.{Chosen}
 use Rattle.mcs_release.specs.declared.dated.Dated.{Dated}
 use Rattle.mcs_system.specs.declared.part.ContextPart.{ContextPart}
+use Rattle.mcs_system.specs.declared.part.NotePart.{NotePart}
 use Rattle.mcs_system.specs.declared.part.ThreadPart.{ThreadPart}
 use Rattle.mcs_core.specs.Contexts.{held}
 use Rattle.mcs_system.specs.System.{System, core_of, start_of}
@@ -25,7 +26,7 @@ pub record Core : Type 0 where
   pub notes : List Note
 
 abbrev pub no_state : Thread
-no_state = record { standing = Elsewhere; place = record { round = 0; item = 0; left = 0 }; since = 0 }
+no_state = record { standing = Elsewhere; place = record { round = 0; item = 0; left = 0; word = 0; priority = 0 }; since = 0 }
 
 abbrev pub thread_of : Core → ℕ → Thread
 thread_of core thread = get_or core.threads thread no_state
@@ -64,7 +65,7 @@ abbrev pub opening_thread : System → ℕ → ThreadPart → Thread
 opening_thread system c thread =
     record {
       standing = if core_of system thread == c then Pending else Elsewhere;
-      place = first_place system.call thread.script;
+      place = first_place system.call thread.priority thread.script;
       since = thread.start;
     }
 
@@ -80,6 +81,10 @@ opening_contexts system c number (context ∷ contexts) =
     let others = opening_contexts system c (number + 1) contexts in
     (if context.core == c then Some (new_context context.config context.mode (start_of system.threads number)) else None) ∷ others
 
+-- a notification holds its first word
+abbrev pub opening_note : NotePart → Note
+opening_note note = record { word = note.word; waiters = [] }
+
 abbrev pub opening_core : System → ℕ → Core
 opening_core system c =
     record {
@@ -88,5 +93,5 @@ opening_core system c =
       ready = [];
       releases = opening_releases system c 0 system.threads;
       contexts = opening_contexts system c 0 system.contexts;
-      notes = map (λ _. quiet_note) system.notes;
+      notes = map opening_note system.notes;
     }

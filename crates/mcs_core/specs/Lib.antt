@@ -7,6 +7,7 @@ pub mod Run
 pub mod Orders
 pub mod State
 pub mod Quiet
+pub mod Alarms
 pub mod Busy
 pub mod Views
 pub mod stored

@@ -6,6 +6,8 @@ use Rattle.mcs_control.specs.declared.config.Order.{Order}
 use Rattle.mcs_mail.specs.declared.mail.Mail.{Mail}
 use Rattle.mcs_system.specs.System.{System, note_part, delay_between}
 use Rattle.mcs_core.specs.Core.{Core, opening_core}
+use Rattle.mcs_core.specs.Alarms.{alarms_of}
+use Rattle.mcs_core.specs.declared.alarm.Alarm.{Alarm}
 use Rattle.mcs_core.specs.Orders.{orders_of, to_come}
 use Rattle.mcs_core.specs.Quiet.{counted_times}
 use Rattle.mcs_core.specs.Run.{Ran, ran, ran_with}
@@ -17,13 +19,14 @@ use Rattle.mcs_core.specs.stored.Sound.Phase.{Between}
 abbrev pub delays_from : System → ℕ → List ℕ
 delays_from system c = map (delay_between system c) (range_with_len 0 64)
 
--- which core it is, the moment whose turn is next, the core, the orders that it is yet to obey, how long its signals are
+-- which core it is, the moment whose turn is next, the core, the orders that it is yet to obey, its alarms as they were at first, how long its signals are
 -- under way to each core, and whether memory failed it
 pub record State : Type 0 where
   pub number : ℕ
   pub clock : ℕ
   pub core : Core
   pub orders : List Order
+  pub alarms : List Alarm
   pub delays : List ℕ
   pub failed : Bool
 
@@ -34,6 +37,7 @@ opening_state system c =
       clock = 0;
       core = opening_core system c;
       orders = orders_of system c;
+      alarms = alarms_of system c;
       delays = delays_from system c;
       failed = false;
     }
@@ -46,6 +50,7 @@ pub record Fits (system : System) (state : State) : Type 0 where
   pub early : state.clock ≤ 2 ^ 40 + 1
   pub sound : state.failed ≡ false → IsSound system state.number state.clock Between None state.core
   pub orders : state.failed ≡ false → state.orders ≡ to_come state.clock (orders_of system state.number)
+  pub alarms : state.failed ≡ false → state.alarms ≡ alarms_of system state.number
   pub delays : state.failed ≡ false → state.delays ≡ delays_from system state.number
 
 -- mail of its box: for a notification of this core, and not before the clock
@@ -61,7 +66,11 @@ made_by system state to box = ran system state.number (to - state.clock) state.c
 -- the state after them; no turn is taken back
 abbrev pub state_after : State → ℕ → Ran → State
 state_after state to made =
-    record state { clock = max state.clock to; core = made.core; orders = to_come to state.orders }
+    record state {
+      clock = max state.clock to;
+      core = made.core;
+      orders = to_come to state.orders;
+    }
 
 -- what turns make, as the state of a core shows it
 abbrev pub ran_shown : Ran → Ran

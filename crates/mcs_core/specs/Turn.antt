@@ -16,10 +16,12 @@ use Rattle.mcs_notify.specs.declared.posted.Posted.TheVariants.{Woke, Held}
 use Rattle.mcs_notify.specs.declared.posted.Waited.{Waited}
 use Rattle.mcs_notify.specs.declared.posted.Waited.TheVariants.{Got, Blocks}
 use Rattle.mcs_script.specs.declared.item.Item.{Item}
-use Rattle.mcs_script.specs.declared.item.Item.TheVariants.{Compute, Signal, Wait, Yield}
+use Rattle.mcs_script.specs.declared.item.Item.TheVariants.{Compute, Signal, Wait, Yield, On, Spin, Enter, Leave}
 use Rattle.mcs_script.specs.declared.moved.Moved.{Moved}
 use Rattle.mcs_script.specs.declared.moved.Moved.TheVariants.{Next, RoundEnds, AllDone}
-use Rattle.mcs_script.specs.Script.{move_after, place_after}
+use Rattle.mcs_script.specs.Script.{move_after, place_after, heard, left_after}
+use Rattle.mcs_core.specs.Alarms.{ringing, alarms_at}
+use Rattle.mcs_core.specs.declared.alarm.Alarm.{Alarm}
 use Rattle.mcs_mail.specs.declared.mail.Mail.{Mail}
 use Rattle.mcs_system.specs.declared.part.ThreadPart.{ThreadPart}
 use Rattle.mcs_system.specs.System.{System, thread_part, note_part, delay_between}
@@ -31,6 +33,7 @@ use Rattle.mcs_core.specs.declared.standing.AfterItem.{AfterItem}
 use Rattle.mcs_core.specs.declared.standing.AfterItem.TheVariants as after
 use Rattle.mcs_core.specs.declared.standing.Chosen.{Chosen}
 use Rattle.mcs_core.specs.declared.standing.Standing.{Standing}
+use Rattle.mcs_core.specs.declared.standing.Thread.{Thread}
 use Rattle.mcs_core.specs.declared.standing.Standing.TheVariants.{Blocked, Ready, Running, Done}
 
 -- what a turn, or a part of it, makes: the core after it, its rows, and its signals for other cores
@@ -82,24 +85,23 @@ module _ (system : System) where
   abbrev pub charged : ℕ → ℕ → Core → Core
   charged thread k core = with_its_context thread (context_charged k system.min_budget (its_context thread core)) core
 
-  abbrev pub queued : ℕ → Queued
-  queued thread = record { thread = thread; priority = (part_of thread).priority }
+-- a thread with its priority, which is that of the place where it is
+abbrev pub queued : ℕ → Core → Queued
+queued thread core = record { thread = thread; priority = (thread_of core thread).place.priority }
 
 -- where threads enter
-module _ (queue : Discipline) (system : System) where
+module _ (queue : Discipline) where
   -- to the back of the ready queue, or with a date into the release queue
   abbrev pub enters_back : ℕ → Option ℕ → Core → Core
   enters_back thread (Some date) core = pends thread date core
   enters_back thread None core =
-      let core = stands thread Ready core in
-      record core { ready = queue.back (queued system thread) core.ready }
+      record (stands thread Ready core) { ready = queue.back (queued thread core) core.ready }
 
   -- to the front of the ready queue, or with a date into the release queue
   abbrev pub enters_front : ℕ → Option ℕ → Core → Core
   enters_front thread (Some date) core = pends thread date core
   enters_front thread None core =
-      let core = stands thread Ready core in
-      record core { ready = queue.front (queued system thread) core.ready }
+      record (stands thread Ready core) { ready = queue.front (queued thread core) core.ready }
 
 -- a stop for good, or until a signal: the context is charged, and the thread leaves the core
 abbrev pub stops : System → ℕ → Why → ℕ → Standing → Core → Turn
@@ -117,16 +119,17 @@ module _ (queue : Discipline) (system : System) (t : ℕ) where
   -- to the back of the ready queue, when its context is charged
   abbrev pub stops_to_back : ℕ → Why → ℕ → Core → Turn
   stops_to_back thread why k core =
-      leaves (enters_back queue system) thread why k (charged system thread k core)
+      leaves (enters_back queue) thread why k (charged system thread k core)
 
   -- to the front of it; the context has been charged
   abbrev pub stops_to_front : ℕ → Why → ℕ → Core → Turn
-  stops_to_front thread why k core = leaves (enters_front queue system) thread why k core
+  stops_to_front thread why k core = leaves (enters_front queue) thread why k core
 
   -- at most one stop of the thread that has used so many ticks, by what follows its item
   abbrev pub may_stop : ℕ → ℕ → AfterItem → Core → Turn
   may_stop thread using after.Ends core = stops system thread why.Done using Done core
   may_stop thread using after.Blocks core = stops system thread why.Wait using Blocked core
+  may_stop thread using after.Calls core = stops system thread why.Call using Blocked core
   may_stop thread using after.Yields core =
       stops_to_back thread why.Yield (head_amount (its_context system thread core)) core
   may_stop thread using after.GoesOn core =
@@ -144,11 +147,18 @@ module _ (system : System) where
       let part = part_of system thread in
       move_after part.script part.rounds (thread_of core thread).place
 
--- the wait of the thread gives its word at moment t: where it is the first item, the round begins
-abbrev pub given : ℕ → ℕ → Core → Core
-given t thread core =
-    let state = thread_of core thread in
-    with_thread thread (record state { since = if state.place.item == 0 then t else state.since }) core
+-- a wait gives this word at moment t: where it is the first item, the round begins, and the word is the round's
+abbrev pub round_begun : List Item → ℕ → ℕ → Thread → Thread
+round_begun script t word state =
+    let first = state.place.item == 0 in
+    record state {
+      place = record (state.place) { word = if first then heard script word else state.place.word };
+      since = if first then t else state.since;
+    }
+
+abbrev pub given : System → ℕ → ℕ → ℕ → Core → Core
+given system t thread word core =
+    with_thread thread (round_begun (part_of system thread).script t word (thread_of core thread)) core
 
 -- how a thread goes through its script, at moment t
 module _ (system : System) (t : ℕ) where
@@ -175,10 +185,19 @@ module _ (system : System) (t : ℕ) where
   abbrev pub waits_as : ℕ → ℕ → Waited → Core → Turn
   waits_as thread note (Got word) core =
       says (row.Got thread note word)
-      (given t thread (with_note note (after_wait (Got word) (queued system thread) (note_of core note)) core))
+      (given system t thread word (with_note note (after_wait (Got word) (queued thread core) (note_of core note)) core))
       followed_by moves_on thread
   waits_as thread note Blocks core =
-      silent (with_note note (after_wait Blocks (queued system thread) (note_of core note)) core)
+      silent (with_note note (after_wait Blocks (queued thread core) (note_of core note)) core)
+
+  -- the thread takes a server that is free, or waits for it
+  abbrev pub enters_as : ℕ → ℕ → Waited → Core → Turn
+  enters_as thread server (Got word) core =
+      says (row.Got thread server word)
+      (with_note server (after_wait (Got word) (queued thread core) (note_of core server)) core)
+      followed_by moves_on thread
+  enters_as thread server Blocks core =
+      silent (with_note server (after_wait Blocks (queued thread core) (note_of core server)) core)
 
 -- the thread is woken at moment t, or chosen: so is its context
 abbrev pub with_woken_context : System → ℕ → ℕ → Core → Core
@@ -191,21 +210,43 @@ with_chosen_context system t thread core =
 
 -- posts at moment t
 module _ (queue : Discipline) (system : System) (t : ℕ) where
+  -- a thread that has what it waited for moves on, and enters a queue
+  abbrev pub resumes : ℕ → Core → Turn
+  resumes thread core =
+      moves_on system t thread core
+      followed_by λ core. silent (enters_back queue thread (date_of system t thread core) core)
+
   -- a woken thread: its context is unblocked, unless it is in bandwidth mode
-  abbrev pub wakes : ℕ → Core → Turn
-  wakes thread core =
-      moves_on system t thread (given t thread (with_woken_context system t thread core))
-      followed_by λ core. silent (enters_back queue system thread (date_of system t thread core) core)
+  abbrev pub wakes : ℕ → ℕ → Core → Turn
+  wakes thread word core = resumes thread (given system t thread word (with_woken_context system t thread core))
+
+  -- a thread that enters the server for which it waited: the same, but it enters at the front
+  abbrev pub let_in : ℕ → Core → Turn
+  let_in thread core =
+      moves_on system t thread (with_woken_context system t thread core)
+      followed_by λ core. silent (enters_front queue thread (date_of system t thread core) core)
 
   abbrev pub posts_as : ℕ → Posted → Core → Turn
   posts_as note (Woke thread word) core =
       says (row.Wake thread note word) (with_note note (after_post (Woke thread word) (note_of core note)) core)
-      followed_by wakes thread
+      followed_by wakes thread word
   posts_as note (Held word) core =
       says (row.Hold note word) (with_note note (after_post (Held word) (note_of core note)) core)
 
   abbrev pub posts : ℕ → ℕ → Core → Turn
   posts note badge core = posts_as note (posted badge (note_of core note)) core
+
+  -- a server is left: it is taken by the first waiter, or free
+  abbrev pub frees_as : ℕ → Posted → Core → Turn
+  frees_as server (Woke thread word) core =
+      says (row.Wake thread server word) (with_note server (after_post (Woke thread word) (note_of core server)) core)
+      followed_by let_in thread
+  frees_as server (Held word) core = silent (with_note server (after_post (Held word) (note_of core server)) core)
+
+  abbrev pub frees : ℕ → ℕ → Core → Turn
+  frees thread server core =
+      says (row.Signal thread server 1) core
+      followed_by λ core. frees_as server (posted 1 (note_of core server)) core
 
 -- what follows a finished item
 abbrev pub after_move : Moved → AfterItem → AfterItem
@@ -217,18 +258,26 @@ abbrev pub after_waited : Waited → AfterItem
 after_waited Blocks = after.Blocks
 after_waited (Got word) = after.GoesOn
 
+abbrev pub after_entered : Waited → AfterItem
+after_entered Blocks = after.Calls
+after_entered (Got word) = after.GoesOn
+
 abbrev pub after_item : System → ℕ → Option Item → Core → AfterItem
 after_item system thread (Some Yield) core = after_move (move_of system thread core) after.Yields
 after_item system thread (Some (Wait note)) core = after_waited (waited (note_of core note))
 after_item system thread (Some (Compute ticks)) core = after_move (move_of system thread core) after.GoesOn
 after_item system thread (Some (Signal note badge)) core = after_move (move_of system thread core) after.GoesOn
+after_item system thread (Some (On badges)) core = after_move (move_of system thread core) after.GoesOn
+after_item system thread (Some Spin) core = after_move (move_of system thread core) after.GoesOn
+after_item system thread (Some (Enter server priority)) core = after_entered (waited (note_of core server))
+after_item system thread (Some (Leave server priority)) core = after_move (move_of system thread core) after.GoesOn
 after_item system thread None core = after.GoesOn
 
 -- one more tick was used, and the item's rest is one less
 abbrev pub counts : Chosen → Core → Core
 counts chosen core =
     let state = thread_of core chosen.thread in
-    with_thread chosen.thread (record state { place = record (state.place) { left = state.place.left - 1 } })
+    with_thread chosen.thread (record state { place = record (state.place) { left = left_after 1 state.place.left } })
     (record core { running = Some (record { thread = chosen.thread; using = chosen.using + 1 }) })
 
 -- the mail that a signal of core c at moment t is
@@ -260,6 +309,12 @@ module _ (queue : Discipline) (system : System) (c t : ℕ) where
   takes_effect thread (Some (Wait note)) core = waits_as system t thread note (waited (note_of core note)) core
   takes_effect thread (Some (Compute ticks)) core = moves_on system t thread core
   takes_effect thread (Some Yield) core = moves_on system t thread core
+  takes_effect thread (Some (On badges)) core = moves_on system t thread core
+  takes_effect thread (Some Spin) core = moves_on system t thread core
+  takes_effect thread (Some (Enter server priority)) core =
+      enters_as system t thread server (waited (note_of core server)) core
+  takes_effect thread (Some (Leave server priority)) core =
+      frees queue system t thread server core followed_by moves_on system t thread
   takes_effect thread None core = silent core
 
   -- the item is finished: it takes effect, and at most one stop follows
@@ -287,11 +342,17 @@ abbrev pub applied : ℕ → Order → Core → Core
 applied t order core = with_context order.context (context_ordered t order.config (context_of core order.context)) core
 
 -- a thread whose date has come is ready
-abbrev pub released : Discipline → System → Dated → Core → Turn
-released queue system due core = says (row.Release due.thread) (enters_back queue system due.thread None core)
+abbrev pub released : Discipline → Dated → Core → Turn
+released queue due core = says (row.Release due.thread) (enters_back queue due.thread None core)
 
 -- parts 2 to 5
 module _ (queue : Discipline) (system : System) (t : ℕ) where
+  -- part 1a: a source interrupts
+  abbrev pub interrupts : Alarm → Core → Turn
+  interrupts alarm core =
+      says (row.Interrupt alarm.source alarm.note alarm.badge) core
+      followed_by posts queue system t alarm.note alarm.badge
+
   -- part 2: an arrival
   abbrev pub arrives : Mail → Core → Turn
   arrives mail core =
@@ -313,14 +374,14 @@ module _ (queue : Discipline) (system : System) (t : ℕ) where
   -- part 4: releases
   abbrev pub releases : Core → Turn
   releases core =
-      each (released queue system) (filter (is_due t) core.releases)
+      each (released queue) (filter (is_due t) core.releases)
       (record core { releases = filter (λ dated. not (is_due t dated)) core.releases })
 
   -- part 5: the choice; a running thread first gives way to one of greater priority ..
   abbrev pub preempts_by : Option Chosen → Option Queued → Core → Turn
   preempts_by (Some chosen) (Some best) core =
       let after = charged system chosen.thread chosen.using core in
-      if nat_lt (part_of system chosen.thread).priority best.priority
+      if nat_lt (thread_of core chosen.thread).place.priority best.priority
       then stops_to_front queue system t chosen.thread why.Preempt chosen.using after
       else silent core
   preempts_by (Some chosen) None core = silent core
@@ -349,6 +410,7 @@ is_for_now system c t order = is_of t order && is_for_core system c order
 abbrev pub turn_with : Discipline → System → ℕ → ℕ → List Mail → Core → Turn
 turn_with queue system c t mails core =
     tick queue system c t core
+    followed_by each (interrupts queue system t) (ringing t (alarms_at system c t))
     followed_by each (arrives queue system t) mails
     followed_by each (obeys queue system t) (filter (is_for_now system c t) system.orders)
     followed_by releases queue system t

@@ -4,3 +4,4 @@ pub mod Sound
 pub mod Parts
 pub mod Contexts
 pub mod Ends
+pub mod Places

@@ -13,7 +13,6 @@ use crate::events::ticks_before_end;
 use crate::local::Local;
 use crate::log::{Here, Log};
 use crate::{Chosen, Standing};
-use mcs_system::SystemParts;
 use mcs_ticks::{FlowFault, Sink, Soonest, ThreadId, Tick, What, Why};
 
 impl Local {
@@ -37,7 +36,7 @@ impl Local {
         let thread = chosen.thread;
         let used = chosen.using;
         if let Some(best) = self.best() {
-            if gives_way(here.system, thread, best) {
+            if self.thread(thread).place.priority < best {
                 let until = self.charge_until(here, thread, used);
                 return self.stop_to_front(here, thread, Why::Preempt, used, until, log);
             }
@@ -69,7 +68,7 @@ impl Local {
         ensures ends { IsEnd here.now.system.now (here.now.moment + 1) self.new result }
     {
         let next = Tick::at(here.moment.get() + 1);
-        let better = self.better(here.system.thread(thread).priority, next);
+        let better = self.better(self.thread(thread).place.priority, next);
         let left = self.thread(thread).place.left;
         let head = self.choose_context(here, thread);
         let ticks = ticks_before_end(left, 0, head);
@@ -106,12 +105,4 @@ impl Local {
         log.tell(here, What::Run { thread })?;
         Ok(ends)
     }
-}
-
-/// Whether a thread gives way to a ready one of this priority.
-fn gives_way(system: &SystemParts, thread: ThreadId, best: u8) -> bool
-    requires { thread < length system.now.threads }
-    ensures { result ≡ nat_lt (thread_part system.now thread).priority best }
-{
-    system.thread(thread).priority < best
 }

@@ -35,7 +35,7 @@ impl Local {
         requires sound { IsSound here.now.system.now here.now.core here.now.moment Between None self.now }
         requires early { here.now.moment ≤ 2 ^ 40 + 1 }
         ensures { IsFirst here.now.moment
-            (λ n. IsBest here.now.system.now self.now.running (first_of self.now.ready)) result }
+            (λ n. IsBest self.now self.now.running (first_of self.now.ready)) result }
     {
         let Some(best) = self.best() else {
             return Soonest::never();
@@ -43,7 +43,7 @@ impl Local {
         let Some(chosen) = self.running() else {
             return Soonest::at(here.moment);
         };
-        if here.system.thread(chosen.thread).priority < best {
+        if self.thread(chosen.thread).place.priority < best {
             Soonest::at(here.moment)
         } else {
             Soonest::never()

@@ -2,11 +2,14 @@
 #![tactic(auto)]
 
 mod agenda;
+mod alarm;
+mod alarms;
 mod arrivals;
 mod charges;
 mod choice;
 mod contexts;
 mod events;
+mod interrupts;
 mod local;
 mod log;
 mod moves;
@@ -25,6 +28,7 @@ mod turn;
 mod unmeasured;
 mod views;
 
+pub use alarm::Alarm;
 pub use mcs_system::{ContextPart, Link, Name, NotePart, System, SystemParts, ThreadPart};
 pub use standing::{AfterItem, Chosen, Standing, Thread};
 pub use state::CoreState;

@@ -8,6 +8,7 @@ ghost use Rattle.mcs_release.specs.Release.{first_due, without_first_due, next_d
 ghost use Rattle.mcs_system.specs.System.{thread_part};
 ghost use Rattle.mcs_core.specs.stored.Room.{IsRoomy};
 ghost use Rattle.mcs_core.specs.Core.{thread_of, context_of, note_of, with_thread, with_context, with_note, stands, pends, off};
+ghost use Rattle.mcs_script.specs.Script.{left_after};
 ghost use Rattle.mcs_core.specs.Turn.{its_context, applied, charged, queued, date_of, enters_back, enters_front, with_chosen_context};
 ghost use Rattle.mcs_core.specs.stored.Sound.{has_context};
 ghost use Rattle.mcs_core.specs.Places.{times_queued, times_dated, times_waiting};
@@ -20,7 +21,6 @@ use mcs_notify::{Notes, Posted, Waited};
 use mcs_ready::Ready;
 use mcs_release::Releases;
 use mcs_script::Place;
-use mcs_system::SystemParts;
 use mcs_ticks::{ContextId, NoMemory, NoteId, Soonest, ThreadId, Tick};
 use std::alloc::Global;
 use std::marker::Model;
@@ -80,13 +80,12 @@ impl Local {
         requires { thread < length self.old.threads }
         ensures core { let state = thread_of self.old thread in
             self.new
-            ≡ with_thread thread (record state { place = record (state.place) { left = state.place.left - ticks } }) self.old }
-        ensures left { result ≡ (thread_of self.old thread).place.left - ticks }
+            ≡ with_thread thread (record state { place = record (state.place) { left = left_after ticks state.place.left } }) self.old }
+        ensures left { result ≡ left_after ticks (thread_of self.old thread).place.left }
     {
         let state = &mut self.threads[thread.0];
-        let left = state.place.left.saturating_sub(ticks);
-        state.place.left = left;
-        left
+        state.place.use_up(ticks);
+        state.place.left
     }
 
     /// The thread is in the release queue with this date.
@@ -110,18 +109,18 @@ impl Local {
 
     #[tactic(auto, using(crate::proofs::Counts::not_held_ready))]
     /// The thread enters the ready queue at the back, or the release queue with a date.
-    pub(crate) fn enter_back(&mut self, system: &SystemParts, thread: ThreadId, until: Option<Tick>)
+    pub(crate) fn enter_back(&mut self, thread: ThreadId, until: Option<Tick>)
         requires known { thread < length self.old.threads }
-        requires part { thread < length system.now.threads }
         requires not_ready { times_queued thread self.old.ready ≡ 0 }
         requires not_pending { times_dated thread self.old.releases ≡ 0 }
-        ensures { self.new ≡ enters_back by_priority system.now thread until self.old }
+        ensures { self.new ≡ enters_back by_priority thread until self.old }
     {
         match until {
             Some(date) => self.pend(thread, date),
             None => {
-                self.threads[thread.0].standing = Standing::Ready;
-                self.ready.push_back(thread, system.thread(thread).priority);
+                let state = &mut self.threads[thread.0];
+                state.standing = Standing::Ready;
+                self.ready.push_back(thread, state.place.priority);
             }
         }
     }
@@ -129,24 +128,18 @@ impl Local {
     #[tactic(auto, using(crate::proofs::Counts::not_held_ready))]
     /// The thread enters the ready queue at the front, or the release queue with a date.
     #[inline(always)]
-    pub(crate) fn enter_front(
-        &mut self,
-        system: &SystemParts,
-        thread: ThreadId,
-        until: Option<Tick>,
-    )
+    pub(crate) fn enter_front(&mut self, thread: ThreadId, until: Option<Tick>)
         requires known { thread < length self.old.threads }
-        requires part { thread < length system.now.threads }
         requires not_ready { times_queued thread self.old.ready ≡ 0 }
         requires not_pending { times_dated thread self.old.releases ≡ 0 }
-        ensures { self.new ≡ enters_front by_priority system.now thread until self.old }
+        ensures { self.new ≡ enters_front by_priority thread until self.old }
     {
         match until {
             Some(date) => self.pend(thread, date),
             None => {
-                self.threads[thread.0].standing = Standing::Ready;
-                self.ready
-                    .push_front(thread, system.thread(thread).priority);
+                let state = &mut self.threads[thread.0];
+                state.standing = Standing::Ready;
+                self.ready.push_front(thread, state.place.priority);
             }
         }
     }
@@ -170,22 +163,16 @@ impl Local {
 
     #[tactic(auto, using(crate::proofs::Counts::not_waiting))]
     /// A thread waits on a notification.
-    pub(crate) fn wait_note(
-        &mut self,
-        system: &SystemParts,
-        note: NoteId,
-        thread: ThreadId,
-    ) -> Waited
+    pub(crate) fn wait_note(&mut self, note: NoteId, thread: ThreadId) -> Waited
         requires note { note < length self.old.notes }
         requires known { thread < length self.old.threads }
-        requires part { thread < length system.now.threads }
         requires free { times_waiting thread self.old.notes ≡ 0 }
         ensures waited { result ≡ waited (note_of self.old note) }
         ensures core { self.new
-            ≡ with_note note (after_wait result (queued system.now thread) (note_of self.old note)) self.old }
+            ≡ with_note note (after_wait result (queued thread self.old) (note_of self.old note)) self.old }
     {
         self.notes
-            .wait(note, thread, system.thread(thread).priority)
+            .wait(note, thread, self.threads[thread.0].place.priority)
     }
 
     /// The word of a notification.

@@ -7,7 +7,7 @@ use crate::local::Local;
 use crate::log::{Here, Log};
 use mcs_script::{Item, Moved};
 use mcs_system::SystemParts;
-use mcs_ticks::{FlowFault, Sink, ThreadId, Tick, What};
+use mcs_ticks::{FlowFault, Sink, ThreadId, What};
 
 impl Local {
     /// The item at which the thread is.
@@ -68,18 +68,19 @@ impl Local {
         Ok(moved)
     }
 
-    /// The thread's wait gives its word: where it is the first item, the round begins.
-    pub(crate) fn give(&mut self, moment: Tick, thread: ThreadId)
-        requires { thread < length self.old.threads }
-        ensures { self.new ≡ given moment thread self.old }
+    /// A wait gives this word: where it is the first item, the round begins, and the word is the round's.
+    pub(crate) fn give(&mut self, here: &Here<'_>, thread: ThreadId, word: u32)
+        requires known { thread < length self.old.threads }
+        requires part { thread < length here.now.system.now.threads }
+        ensures { self.new ≡ given here.now.system.now here.now.moment thread word self.old }
     {
         let state = self.thread(thread);
-        let since = if state.place.item == 0 {
-            moment
-        } else {
-            state.since
-        };
-        let place = state.place;
+        let mut place = state.place;
+        let mut since = state.since;
+        if place.item == 0 {
+            place.hear(&here.system.thread(thread).script, word);
+            since = here.moment;
+        }
         self.set_place(thread, place, since);
     }
 }

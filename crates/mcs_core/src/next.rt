@@ -46,7 +46,7 @@ impl CoreState {
     }
 
     /// The next busy moment, which is the soonest of this one, at which the thread that runs ends its item or uses up its head, or a ready
-    /// thread is better, and of those at which the least date, the next order or the first mail comes.
+    /// thread is better, and of those at which the least date, the next order, the first mail or an interrupt comes.
     #[inline(always)]
     pub(crate) fn soonest(&self, system: &System, mail: &Mailbox, ends: Soonest) -> Soonest
         requires fits { Fits system.now self.now }
@@ -58,8 +58,9 @@ impl CoreState {
         let _parts = system.parts();
         let date = self.local.next_date();
         let order = self.agenda.next();
+        let alarm = self.alarms.next();
         let arrival = mail.soonest();
-        ends.or(date).or(order).or(arrival)
+        ends.or(date).or(order).or(alarm).or(arrival)
     }
 
     /// Takes the turns from the clock up to, not including, moment `to`, all of which are quiet, at once: the thread

@@ -1,8 +1,9 @@
-ghost use Rattle.std.specs.Prelude.{◌≡◌, ℕ, ◌^◌, ◌==◌, ◌<◌, ◌≤◌, if◌then◌else◌, length, get_or, insert, map, option_map, IfOk, OnOk, Some, None};
+ghost use Rattle.std.specs.Prelude.{◌≡◌, ℕ, ◌^◌, ◌==◌, ◌<◌, ◌≤◌, if◌then◌else◌, length, [], get_or, insert, map, option_map, IfOk, OnOk, Some, None};
 ghost use Rattle.mcs_control.specs.Context.{new_context};
+ghost use Rattle.mcs_notify.specs.Note.{quiet_note, note_of, with_note};
 ghost use Rattle.mcs_control.specs.Control.{IsConfig, IsModeOf, kind_of};
 ghost use Rattle.mcs_core.specs.stored.Contexts.{unboxed, HasRoom};
-ghost use Rattle.mcs_core.specs.Core.{opening_thread, opening_releases, opening_contexts, opening_core};
+ghost use Rattle.mcs_core.specs.Core.{opening_thread, opening_releases, opening_contexts, opening_note, opening_core};
 ghost use Rattle.mcs_core.specs.Orders.{by_moment, orders_of};
 ghost use Rattle.mcs_system.specs.System.{context_part, start_of};
 ghost use Rattle.mcs_system.specs.WellFormed.{IsWellFormed};
@@ -17,7 +18,7 @@ use mcs_ready::Ready;
 use mcs_release::Releases;
 use mcs_script::Place;
 use mcs_system::{ContextPart, SystemParts, ThreadPart};
-use mcs_ticks::{ContextId, CoreId, Limits, NoMemory, ThreadId, Tick};
+use mcs_ticks::{ContextId, CoreId, Limits, NoMemory, NoteId, ThreadId, Tick};
 use std::alloc::Global;
 
 /// Room for as many refills as any configuration may ask for.
@@ -33,7 +34,7 @@ fn opening_thread(system: &SystemParts, core: CoreId, thread: &ThreadPart) -> Th
         } else {
             Standing::Elsewhere
         },
-        place: Place::first(&thread.script, system.call),
+        place: Place::first(&thread.script, system.call, thread.priority),
         since: thread.start,
     }
 }
@@ -131,6 +132,27 @@ fn opening_contexts(alloc: Global, system: &SystemParts, core: CoreId) -> Result
     Ok(Contexts::from_parts(contexts))
 }
 
+/// The notification, on which nothing was posted, holds its first word.
+fn hold_first(notes: &mut Notes, note: NoteId, word: u32)
+    requires known { note < length notes.old.notes }
+    requires quiet { note_of notes.old.notes note ≡ quiet_note }
+    ensures { notes.new ≡ with_note note (record { word = word; waiters = [] }) notes.old }
+{
+    notes.post(note, word);
+}
+
+/// The notifications with their first words.
+fn opening_notes(alloc: Global, system: &SystemParts) -> Result<Notes, NoMemory>
+    ensures notes { IfOk result (λ notes. notes.notes ≡ map opening_note system.now.notes) }
+    ensures room { IfOk result (λ notes. notes.threads ≡ length system.now.threads) }
+{
+    let mut notes = Notes::new(alloc, system.notes.len(), system.threads.len())?;
+    for (i, note) in system.notes.as_slice().iter().enumerate() {
+        hold_first(&mut notes, NoteId(i), note.word);
+    }
+    Ok(notes)
+}
+
 impl Local {
     /// The core with which a run opens: its threads wait for their starts, its contexts are new, and nothing runs.
     pub(crate) fn open(alloc: Global, system: &SystemParts, core: CoreId) -> Result<Local, NoMemory>
@@ -143,7 +165,7 @@ impl Local {
             Ready::new(alloc, count)?,
             opening_releases(alloc, system, core)?,
             opening_contexts(alloc, system, core)?,
-            Notes::new(alloc, system.notes.len(), count)?,
+            opening_notes(alloc, system)?,
         ))
     }
 }

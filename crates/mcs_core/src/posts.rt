@@ -1,6 +1,6 @@
 ghost use Rattle.std.specs.Prelude.{◌≡◌, ◌^◌, ◌≤◌, ◌<◌, OnOk, length};
 ghost use Rattle.mcs_ticks.specs.Queue.{by_priority};
-ghost use Rattle.mcs_core.specs.Turn.{with_woken_context, wakes, posts};
+ghost use Rattle.mcs_core.specs.Turn.{with_woken_context, resumes, wakes, let_in, frees, posts};
 ghost use Rattle.mcs_core.specs.stored.Parts.{Makes};
 ghost use Rattle.mcs_core.specs.stored.Sound.{IsFree, WakesFree};
 
@@ -21,9 +21,48 @@ impl Local {
         self.wake_context(here.system.thread(thread).context, here.moment);
     }
 
-    /// A thread that has left the waiters is woken: it moves on behind its wait, and enters a queue.
+    /// A thread that has what it waited for moves on, and enters a queue.
+    #[inline(always)]
+    fn resume<S: Sink>(
+        &mut self,
+        here: &Here<'_>,
+        thread: ThreadId,
+        log: &mut Log<'_, S>,
+    ) -> Result<(), FlowFault>
+        requires free { IsFree here.now.system.now thread self.old }
+        ensures { OnOk result
+            (Makes S.takes here.now (resumes by_priority here.now.system.now here.now.moment thread self.old)
+            self.new log.old log.new) }
+    {
+        self.move_on(here, thread, log)?;
+        let until = self.date_of(here, thread);
+        self.enter_back(thread, until);
+        Ok(())
+    }
+
+    /// A thread that has left the waiters is woken with a word.
     #[inline(always)]
     pub(crate) fn wake<S: Sink>(
+        &mut self,
+        here: &Here<'_>,
+        thread: ThreadId,
+        word: u32,
+        log: &mut Log<'_, S>,
+    ) -> Result<(), FlowFault>
+        requires free { IsFree here.now.system.now thread self.old }
+        requires soon { here.now.moment ≤ 2 ^ 40 }
+        ensures { OnOk result
+            (Makes S.takes here.now (wakes by_priority here.now.system.now here.now.moment thread word self.old)
+            self.new log.old log.new) }
+    {
+        self.wake_its_context(here, thread);
+        self.give(here, thread, word);
+        self.resume(here, thread, log)
+    }
+
+    /// A thread that has left the waiters enters the server for which it waited.
+    #[inline(always)]
+    fn let_in<S: Sink>(
         &mut self,
         here: &Here<'_>,
         thread: ThreadId,
@@ -32,15 +71,54 @@ impl Local {
         requires free { IsFree here.now.system.now thread self.old }
         requires soon { here.now.moment ≤ 2 ^ 40 }
         ensures { OnOk result
-            (Makes S.takes here.now (wakes by_priority here.now.system.now here.now.moment thread self.old)
+            (Makes S.takes here.now (let_in by_priority here.now.system.now here.now.moment thread self.old)
             self.new log.old log.new) }
     {
         self.wake_its_context(here, thread);
-        self.give(here.moment, thread);
         self.move_on(here, thread, log)?;
         let until = self.date_of(here, thread);
-        self.enter_back(here.system, thread, until);
+        self.enter_front(thread, until);
         Ok(())
+    }
+
+    /// The thread leaves a server of the core, which is taken by the first waiter, or free.
+    #[inline(always)]
+    pub(crate) fn free<S: Sink>(
+        &mut self,
+        here: &Here<'_>,
+        thread: ThreadId,
+        server: NoteId,
+        log: &mut Log<'_, S>,
+    ) -> Result<(), FlowFault>
+        requires known { server < length self.old.notes }
+        requires free { WakesFree here.now.system.now server 1 self.old }
+        requires soon { here.now.moment ≤ 2 ^ 40 }
+        ensures { OnOk result
+            (Makes S.takes here.now (frees by_priority here.now.system.now here.now.moment thread server self.old)
+            self.new log.old log.new) }
+    {
+        log.tell(
+            here,
+            What::Signal {
+                thread,
+                note: server,
+                badge: 1,
+            },
+        )?;
+        match self.post_note(server, 1) {
+            Posted::Woke(thread, word) => {
+                log.tell(
+                    here,
+                    What::Wake {
+                        thread,
+                        note: server,
+                        word,
+                    },
+                )?;
+                self.let_in(here, thread, log)
+            }
+            Posted::Held(_) => Ok(()),
+        }
     }
 
     /// A post on a notification of the core.
@@ -62,7 +140,7 @@ impl Local {
         match self.post_note(note, badge) {
             Posted::Woke(thread, word) => {
                 log.tell(here, What::Wake { thread, note, word })?;
-                self.wake(here, thread, log)
+                self.wake(here, thread, word, log)
             }
             Posted::Held(word) => log.tell(here, What::Hold { note, word }),
         }

@@ -22,11 +22,11 @@ impl Local {
     ) -> Result<(), FlowFault>
         requires { IsFree here.now.system.now thread self.old }
         ensures { OnOk result
-            (Makes S.takes here.now (says (Release thread) (enters_back by_priority here.now.system.now thread None self.old))
+            (Makes S.takes here.now (says (Release thread) (enters_back by_priority thread None self.old))
             self.new log.old log.new) }
     {
         log.tell(here, What::Release { thread })?;
-        self.enter_back(here.system, thread, None);
+        self.enter_back(thread, None);
         Ok(())
     }
 

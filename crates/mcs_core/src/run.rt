@@ -49,6 +49,7 @@ impl CoreState {
             OnOk result (mail.new.mails ≡ (made_by system.now quiet (moment + 1) mail.old.mails).box) }
         ensures fits { OnOk result (Fits system.now self.new) }
         ensures ends { IfOk result (λ ends. IsEnd system.now self.new.clock self.new.core ends) }
+        ensures failed { OnErr result (self.new.failed ≡ true) }
         ensures kept { (self.new.number ≡ self.old.number) × (OnErr result (self.new.clock ≡ self.old.clock)) }
     {
         let here = Here {
@@ -60,10 +61,18 @@ impl CoreState {
         let quiet = moment.get() - self.clock.get();
         let goes_on = !ends.has_come(moment);
         let mut log = Log { sink, signals };
-        let ends = self
-            .local
-            .turn(&here, quiet, goes_on, &mut self.agenda, mail, &mut log)?;
+        self.failed = true;
+        let ends = self.local.turn(
+            &here,
+            quiet,
+            goes_on,
+            &mut self.agenda,
+            &mut self.alarms,
+            mail,
+            &mut log,
+        )?;
         self.clock = Tick::at(moment.get() + 1);
+        self.failed = false;
         Ok(ends)
     }
 
@@ -111,13 +120,8 @@ impl CoreState {
             self.skip(system, to);
             return Ok(Soonest::never());
         };
-        match self.turn_at(system, moment, ends, mail, sink, signals) {
-            Ok(ends) => Ok(ends),
-            Err(fault) => {
-                self.failed = true;
-                Err(fault)
-            }
-        }
+        let next = self.turn_at(system, moment, ends, mail, sink, signals)?;
+        Ok(next)
     }
 
     /// As `run`, but each row goes to the sink as soon as it is made. Where memory or a row is refused the state is spent.

@@ -42,6 +42,8 @@ pub enum AfterItem {
     Ends,
     /// The thread waits on a notification whose word is 0.
     Blocks,
+    /// The thread waits for a server that is taken.
+    Calls,
     /// The item gives the rest of the head away.
     Yields,
 }

@@ -2,7 +2,9 @@ ghost use Rattle.std.specs.Prelude.{◌≡◌, ◌<◌, true, IfOk, IsErr};
 ghost use Rattle.mcs_core.specs.State.{Fits, opening_state};
 ghost use Rattle.mcs_core.specs.Views.{views_of};
 
+use crate::Alarm;
 use crate::agenda::Agenda;
+use crate::alarms::{Alarms, alarms_of};
 use crate::local::Local;
 use mcs_control::ContextView;
 use mcs_system::System;
@@ -11,7 +13,7 @@ use std::alloc::Global;
 use std::marker::Model;
 
 /// The state of one core between two turns: the moment whose turn is next, what stands on the core, the orders that it is
-/// yet to obey, and how long its signals are under way. After a call was refused memory the state is spent.
+/// yet to obey, its alarms, and how long its signals are under way. After a call was refused memory the state is spent.
 #[derive(Drop)]
 pub struct CoreState {
     pub(crate) number: CoreId,
@@ -19,20 +21,28 @@ pub struct CoreState {
     pub(crate) failed: bool,
     pub(crate) local: Local,
     pub(crate) agenda: Agenda,
+    /// Its alarms as they were at first.
+    pub(crate) beats: Vec<Alarm>,
+    pub(crate) alarms: Alarms,
     /// The delay of a signal of this core to each core.
     pub(crate) delays: [u64; Limits::CORES],
 }
 
 impl Model for CoreState {
     ghost use Rattle.mcs_core.specs.State.{State};
+    ghost use Rattle.std.specs.Prelude.{◌≡◌, false};
+    ghost use Rattle.mcs_core.specs.Alarms.{before_moment};
 
     ghost Value = { State };
+
+    ghost invariant = { λ a. a.failed ≡ false → a.alarms ≡ before_moment a.clock a.beats.items };
 
     ghost view = { λ a. record {
       number = a.number;
       clock = a.clock;
       core = a.local;
       orders = a.agenda;
+      alarms = a.beats.items;
       delays = a.delays;
       failed = a.failed;
     } };
@@ -49,12 +59,16 @@ impl CoreState {
         let parts = system.parts();
         let local = Local::open(alloc, parts, core)?;
         let agenda = Agenda::new(alloc, parts, core)?;
+        let beats = alarms_of(alloc, parts, core)?;
+        let alarms = Alarms::new(alloc, &beats)?;
         Ok(CoreState {
             number: core,
             clock: Tick::ZERO,
             failed: false,
             local,
             agenda,
+            beats,
+            alarms,
             delays: system.delays_from(core),
         })
     }

@@ -16,20 +16,20 @@ impl Local {
     #[inline(always)]
     fn leave_to_back(&mut self, here: &Here<'_>, thread: ThreadId, until: Option<Tick>)
         requires { IsFree here.now.system.now thread self.old }
-        ensures { self.new ≡ enters_back by_priority here.now.system.now thread until (off self.old) }
+        ensures { self.new ≡ enters_back by_priority thread until (off self.old) }
     {
         self.leave();
-        self.enter_back(here.system, thread, until);
+        self.enter_back(thread, until);
     }
 
     /// The running thread leaves the core for the front of the ready queue, or for the release queue with this date.
     #[inline(always)]
     fn leave_to_front(&mut self, here: &Here<'_>, thread: ThreadId, until: Option<Tick>)
         requires { IsFree here.now.system.now thread self.old }
-        ensures { self.new ≡ enters_front by_priority here.now.system.now thread until (off self.old) }
+        ensures { self.new ≡ enters_front by_priority thread until (off self.old) }
     {
         self.leave();
-        self.enter_front(here.system, thread, until);
+        self.enter_front(thread, until);
     }
 
     /// The running thread stops for good, or until a signal.
@@ -119,6 +119,9 @@ impl Local {
             }
             AfterItem::Blocks => {
                 return self.stop(here, thread, Why::Wait, used, Standing::Blocked, log);
+            }
+            AfterItem::Calls => {
+                return self.stop(here, thread, Why::Call, used, Standing::Blocked, log);
             }
             AfterItem::Yields => Why::Yield,
             AfterItem::GoesOn => {

@@ -5,7 +5,7 @@ ghost use Rattle.mcs_core.specs.Busy.{GoesOnAfter};
 ghost use Rattle.mcs_core.specs.Core.{note_of};
 ghost use Rattle.mcs_core.specs.Quiet.{counted_times};
 ghost use Rattle.mcs_core.specs.State.{delays_from};
-ghost use Rattle.mcs_core.specs.Turn.{mail_to, signals, waits_as, takes_effect, item_of, after_item, after_move, after_waited, finishes, tick};
+ghost use Rattle.mcs_core.specs.Turn.{mail_to, signals, waits_as, enters_as, takes_effect, item_of, after_item, after_move, after_waited, after_entered, finishes, tick};
 ghost use Rattle.mcs_core.specs.stored.Items.{CanTakeEffect};
 ghost use Rattle.mcs_core.specs.stored.Parts.{HasDelays, Makes};
 ghost use Rattle.mcs_core.specs.stored.Sound.{IsFree, WakesFree, IsSound};
@@ -86,10 +86,56 @@ impl Local {
             (waits_as here.now.system.now here.now.moment thread note (waited (note_of self.old note)) self.old)
             self.new log.old log.new) }
     {
-        match self.wait_note(here.system, note, thread) {
+        match self.wait_note(note, thread) {
             Waited::Got(word) => {
                 log.tell(here, What::Got { thread, note, word })?;
-                self.give(here.moment, thread);
+                self.give(here, thread, word);
+                self.move_on(here, thread, log)?;
+                Ok(())
+            }
+            Waited::Blocks => Ok(()),
+        }
+    }
+
+    /// What follows a call: the thread blocks where the server is taken.
+    fn after_enter(&self, server: NoteId) -> AfterItem
+        requires { server < length self.now.notes }
+        ensures { result ≡ after_entered (waited (note_of self.now server)) }
+    {
+        if self.word(server) == 0 {
+            AfterItem::Calls
+        } else {
+            AfterItem::GoesOn
+        }
+    }
+
+    /// A call: a server that is free is taken, and for one that is taken the thread waits.
+    #[inline(always)]
+    fn enter<S: Sink>(
+        &mut self,
+        here: &Here<'_>,
+        thread: ThreadId,
+        server: NoteId,
+        log: &mut Log<'_, S>,
+    ) -> Result<(), FlowFault>
+        requires known { server < length self.old.notes }
+        requires free { IsFree here.now.system.now thread self.old }
+        requires not_waiting { times_waiting thread self.old.notes ≡ 0 }
+        ensures { OnOk result
+            (Makes S.takes here.now
+            (enters_as here.now.system.now here.now.moment thread server (waited (note_of self.old server)) self.old)
+            self.new log.old log.new) }
+    {
+        match self.wait_note(server, thread) {
+            Waited::Got(word) => {
+                log.tell(
+                    here,
+                    What::Got {
+                        thread,
+                        note: server,
+                        word,
+                    },
+                )?;
                 self.move_on(here, thread, log)?;
                 Ok(())
             }
@@ -127,7 +173,18 @@ impl Local {
                 self.wait_on(here, thread, *note, log)?;
                 Ok(after)
             }
-            Some(Item::Compute(_)) => {
+            Some(Item::Enter(server, _)) => {
+                let after = self.after_enter(*server);
+                self.enter(here, thread, *server, log)?;
+                Ok(after)
+            }
+            Some(Item::Leave(server, _)) => {
+                let moved = self.move_of(here.system, thread);
+                self.free(here, thread, *server, log)?;
+                self.move_on(here, thread, log)?;
+                Ok(after_move(moved, AfterItem::GoesOn))
+            }
+            Some(Item::Compute(_) | Item::On(_) | Item::Spin) => {
                 let moved = self.move_on(here, thread, log)?;
                 Ok(after_move(moved, AfterItem::GoesOn))
             }

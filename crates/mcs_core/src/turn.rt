@@ -1,5 +1,6 @@
 ghost use Rattle.std.specs.Prelude.{◌≡◌, ◌+◌, true, OnOk, IfOk, None};
 ghost use Rattle.mcs_mail.specs.Box.{arriving, staying};
+ghost use Rattle.mcs_core.specs.Alarms.{past};
 ghost use Rattle.mcs_core.specs.Busy.{GoesOnAfter};
 ghost use Rattle.mcs_core.specs.Orders.{to_come};
 ghost use Rattle.mcs_core.specs.Quiet.{counted_times};
@@ -10,6 +11,7 @@ ghost use Rattle.mcs_core.specs.stored.Sound.{IsSound};
 ghost use Rattle.mcs_core.specs.stored.Sound.Phase.{Between};
 
 use crate::agenda::Agenda;
+use crate::alarms::Alarms;
 use crate::local::Local;
 use crate::log::{Here, Log};
 use mcs_mail::Mailbox;
@@ -27,10 +29,11 @@ impl Local {
         quiet: u64,
         goes_on: bool,
         agenda: &mut Agenda,
+        alarms: &mut Alarms,
         mail: &mut Mailbox,
         log: &mut Log<'_, S>,
     ) -> Result<Soonest, FlowFault>
-        requires can { CanTurn here.now.system.now here.now.core here.now.moment here.now.delays.now quiet agenda.old mail.old.mails
+        requires can { CanTurn here.now.system.now here.now.core here.now.moment here.now.delays.now quiet agenda.old alarms.old mail.old.mails
             self.old }
         requires goes { goes_on ≡ true → GoesOnAfter here.now.system.now quiet self.old.running self.old }
         ensures makes { OnOk result
@@ -40,11 +43,13 @@ impl Local {
             self.new log.old log.new) }
         ensures mail { OnOk result (mail.new.mails ≡ staying here.now.moment mail.old.mails) }
         ensures agenda { OnOk result (agenda.new ≡ to_come (here.now.moment + 1) agenda.old) }
+        ensures alarms { OnOk result (alarms.new ≡ past here.now.moment alarms.old) }
         ensures sound { OnOk result
             (IsSound here.now.system.now here.now.core (here.now.moment + 1) Between None self.new) }
         ensures ends { IfOk result (λ ends. IsEnd here.now.system.now (here.now.moment + 1) self.new ends) }
     {
         self.tick(here, quiet, goes_on, log)?;
+        self.interrupts(here, alarms, log)?;
         self.arrivals(here, mail, log)?;
         self.orders(here, agenda, log)?;
         self.releases(here, log)?;

@@ -21,12 +21,12 @@ module _ (system : System) where
 
   -- no ready thread is to run instead of the one that runs, if one does
   abbrev pub HoldsOn : Core → Type 0
-  HoldsOn core = IfSome core.running (λ chosen. IsBest system (Some chosen) (first_of core.ready))
+  HoldsOn core = IfSome core.running (λ chosen. IsBest core (Some chosen) (first_of core.ready))
 
   -- the first moment from this one on at which the thread that runs ends its item or uses up its head, or a ready thread is to run
   abbrev pub IsEnd : ℕ → Core → Option ℕ → Type 0
   IsEnd from core ends =
-      IsFirst from (λ n. GoesOnAfter system n core.running core × IsBest system core.running (first_of core.ready)) ends
+      IsFirst from (λ n. GoesOnAfter system n core.running core × IsBest core core.running (first_of core.ready)) ends
 
   -- a thread that is chosen at moment t runs
   abbrev pub started : ℕ → ℕ → Core → Core

@@ -1,11 +1,11 @@
 -- What an item needs of its core.
 use Rattle.std.specs.Prelude.{◌≡◌, ℕ, ◌<◌, length, Option, Some, None}
 use Rattle.mcs_script.specs.declared.item.Item.{Item}
-use Rattle.mcs_script.specs.declared.item.Item.TheVariants.{Compute, Signal, Wait, Yield}
+use Rattle.mcs_script.specs.declared.item.Item.TheVariants.{Compute, Signal, Wait, Yield, On, Spin, Enter, Leave}
 use Rattle.mcs_ticks.specs.Queue.{by_priority}
 use Rattle.mcs_system.specs.System.{System}
 use Rattle.mcs_core.specs.Core.{Core}
-use Rattle.mcs_core.specs.Turn.{signals}
+use Rattle.mcs_core.specs.Turn.{signals, frees}
 use Rattle.mcs_core.specs.stored.Sound.{IsPlaced, IsFree, WakesFree}
 use Rattle.mcs_core.specs.Places.{times_waiting}
 
@@ -15,6 +15,10 @@ IsNoted notes (Some (Signal note badge)) = note < notes
 IsNoted notes (Some (Wait note)) = note < notes
 IsNoted notes (Some (Compute ticks)) = Unit {0}
 IsNoted notes (Some Yield) = Unit {0}
+IsNoted notes (Some (On badges)) = Unit {0}
+IsNoted notes (Some Spin) = Unit {0}
+IsNoted notes (Some (Enter server priority)) = server < notes
+IsNoted notes (Some (Leave server priority)) = server < notes
 IsNoted notes None = Unit {0}
 
 module _ (system : System) (c t x : ℕ) where
@@ -27,6 +31,13 @@ module _ (system : System) (c t x : ℕ) where
   SignalsFree (Some (Wait note)) core = Unit {0}
   SignalsFree (Some (Compute ticks)) core = Unit {0}
   SignalsFree (Some Yield) core = Unit {0}
+  SignalsFree (Some (On badges)) core = Unit {0}
+  SignalsFree (Some Spin) core = Unit {0}
+  SignalsFree (Some (Enter server priority)) core = Unit {0}
+  SignalsFree (Some (Leave server priority)) core =
+      WakesFree system server 1 core
+      × (x < length (frees by_priority system t x server core).core.threads)
+      × IsPlaced system x (frees by_priority system t x server core).core
   SignalsFree None core = Unit {0}
 
   -- the thread's item may take effect

@@ -9,6 +9,8 @@ use Rattle.mcs_control.specs.declared.config.Order.{Order}
 use Rattle.mcs_system.specs.System.{System, note_part, delay_between}
 use Rattle.mcs_system.specs.WellFormed.{IsWellFormed}
 use Rattle.mcs_core.specs.Orders.{orders_of, to_come}
+use Rattle.mcs_core.specs.Alarms.{alarms_at}
+use Rattle.mcs_core.specs.declared.alarm.Alarm.{Alarm}
 use Rattle.mcs_core.specs.Quiet.{counted_times}
 use Rattle.mcs_core.specs.State.{delays_from}
 use Rattle.mcs_core.specs.stored.Sound.{IsSound}
@@ -45,12 +47,13 @@ module _ {S : Type 0} (takes : S → Row → Bool → S → Type 0) where
 
 -- core c of a system may take its turn at moment t, when so many quiet ticks are counted, with this row of delays of its signals, these orders
 -- to come and this mail in its box
-pub record CanTurn (system : System) (c t : ℕ) (row : List ℕ) (quiet : ℕ) (orders : List Order) (mails : List Mail) (core : Core) : Type 0 where
+pub record CanTurn (system : System) (c t : ℕ) (row : List ℕ) (quiet : ℕ) (orders : List Order) (alarms : List Alarm) (mails : List Mail) (core : Core) : Type 0 where
   pub well_formed : IsWellFormed system
   pub sound : IsSound system c t Between None (counted_times system c quiet core)
   pub running : IfSome core.running (λ chosen. chosen.thread < length core.threads)
   pub few : IfSome core.running (λ chosen. chosen.using + quiet < 2 ^ 63)
   pub planned : orders ≡ to_come t (orders_of system c)
+  pub alarmed : alarms ≡ alarms_at system c t
   pub known : All (λ mail. mail.note < length system.notes) mails
   pub come : All (λ mail. t ≤ mail.arrives) mails
   pub delays : row ≡ delays_from system c

@@ -1,12 +1,24 @@
-use Rattle.std.proofs.Common.{◌≡◌, ◌<◌, length, get_or, ◌∙◌, arith, ap}
+use Rattle.std.proofs.Common.{◌≡◌, ◌<◌, length, get_or, sym, subst, ◌∙◌, arith, ap}
 use Rattle.std.specs.Prelude.{option_map}
 use Rattle.std.proofs.lemmas.List.{get_or_default}
 use Rattle.mcs_control.specs.Context.{WithRoom}
 use Rattle.mcs_system.specs.declared.part.ContextPart.{ContextPart}
 use Rattle.mcs_core.specs.stored.Contexts.{seen_contexts}
 use Rattle.mcs_system.specs.System.{start_of}
+use Rattle.mcs_core.proofs.Budgets.{IsAccepted, accepted-is}
 use Rattle.mcs_core.proofs.Opening.{start-early, made-next, room-next}
 use Rattle.mcs_core.proofs.open.opening_contexts.Goals as goal
+
+pub opening_context-requires-clause-checked : goal.opening_context-requires-clause-checked
+opening_context-requires-clause-checked c =
+    let system = c.args.system.now in
+    let same : c.as_slice-parts.result.now ≡ system.contexts = c.as_slice-parts.ensures in
+    let x : ContextPart = c.index-parts-k.result in
+    let l : c.loop-k.k < length system.contexts = omega (arith, ap length same, c.loop-k-test.true) in
+    let at : x ≡ get_or system.contexts c.loop-k.k x = c.index-parts-k.is ∙ ap (λ xs. get_or xs c.loop-k.k x) same in
+    let P : ContextPart → Type 0 = λ part. IsAccepted system.min_budget part.config in
+    let known = subst P (sym at) (accepted-is system.min_budget (get_or system.contexts c.loop-k.k x).config (c.requires.contexts c.loop-k.k x l).accepted) in
+    record { some = known.some; within = known.within; short = known.short; few = known.few }
 
 pub opening_context-requires-clause-early : goal.opening_context-requires-clause-early
 opening_context-requires-clause-early c =

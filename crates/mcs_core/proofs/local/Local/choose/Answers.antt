@@ -1,6 +1,7 @@
-use Rattle.std.proofs.Common.{◌+◌, sym, ◌∙◌, refl, rules}
+use Rattle.std.proofs.Common.{◌+◌, sym, subst, ◌∙◌, refl, rules}
 use Rattle.mcs_ticks.specs.Queue.{rest_of}
-use Rattle.mcs_core.specs.Core.{context_of}
+use Rattle.mcs_core.specs.Core.{Core, context_of}
+use Rattle.mcs_core.specs.stored.Ends.{IsEnd}
 use Rattle.mcs_core.specs.stored.Sound.Phase.{PastTick}
 use Rattle.mcs_system.specs.System.{thread_part}
 use Rattle.mcs_core.proofs.Ends.{chosen-short, unspent, goes-ends, never-ends, nothing-ready}
@@ -32,9 +33,11 @@ returns-then-is_some-clause-ends g c =
 
 pub returns-in_default-clause-ends : goal.returns-in_default-clause-ends
 returns-in_default-clause-ends g c =
-    rw (c.take_best.ensures.left, c.never.ensures)
+    let P : Core → Type 0 = λ k. IsEnd c.args.here.now.system.now (c.args.here.now.moment + 1) k c.never.result in
+    subst P (sym c.take_best.ensures.left)
+    (rw c.never.ensures
     (never-ends c.args.here.now.system.now (c.args.here.now.moment + 1) (record c.args.self.now { ready = rest_of c.args.self.now.ready }) (search rules)
-    (nothing-ready c.args.self.now.ready (sym c.take_best.ensures.taken ∙ c.in_default.is)))
+    (nothing-ready c.args.self.now.ready (sym c.take_best.ensures.taken ∙ c.in_default.is))))
 
 pub start-ends-requires-clause-few : goal.start-ends-requires-clause-few
 start-ends-requires-clause-few g c =

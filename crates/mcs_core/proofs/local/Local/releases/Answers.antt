@@ -24,7 +24,7 @@ due-preserved g c =
     record {
       sound = rw (c.in_ok-release.ensures.core, c.take_due.ensures.left, i.left) i.sound;
       goes = goes-step c.args.here.now _ _ c.args.log.now c.due.log c.release.new.log
-          (released by_priority c.args.here.now.system.now i.due (record c.due.self { releases = without c.in-Some.thread c.due.self.releases }))
+          (released by_priority i.due (record c.due.self { releases = without c.in-Some.thread c.due.self.releases }))
           (releases by_priority c.args.here.now.system.now c.args.here.now.moment) c.release.new.self
           c.due.invariant.goes i.step
           (made-released c.args.here.now i.due c.in-Some.thread (record c.due.self { releases = without c.in-Some.thread c.due.self.releases }) c.take_due.new.self c.release.new.self

@@ -24,30 +24,30 @@ turn_at-requires-clause-quiet g c =
 pub turn_at-requires-clause-expected : goal.turn_at-requires-clause-expected
 turn_at-requires-clause-expected g c = expected-on c.args.system.now c.args.self.now c.args.mail.now.mails c.in-Some.moment (busy-later c.args.system.now c.args.self.now c.args.mail.now.mails c.args.to c.soonest.result c.soonest.ensures c.in-Some.moment (sym c.before-2.ensures ∙ c.in-Some.is)) (quiet-first c.args.system.now c.args.self.now c.args.mail.now.mails c.args.to c.soonest.result c.soonest.ensures c.in-Some.moment (sym c.before-2.ensures ∙ c.in-Some.is)) c.requires.expected
 
-pub returns-in-Ok-clause-state : goal.returns-in-Ok-clause-state
-returns-in-Ok-clause-state g c =
+pub returns-clause-state : goal.returns-clause-state
+returns-clause-state g c =
     stretch-state c.args.system.now c.args.self.now c.args.mail.now.mails c.in-Some.moment (busy-later c.args.system.now c.args.self.now c.args.mail.now.mails c.args.to c.soonest.result c.soonest.ensures c.in-Some.moment (sym c.before-2.ensures ∙ c.in-Some.is)) (quiet-first c.args.system.now c.args.self.now c.args.mail.now.mails c.args.to c.soonest.result c.soonest.ensures c.in-Some.moment (sym c.before-2.ensures ∙ c.in-Some.is))
-    (skipped c.args.system.now c.in-Some.moment c.args.self.now) c.turn_at.new.self refl c.in-Ok.ensures.state
+    (skipped c.args.system.now c.in-Some.moment c.args.self.now) c.turn_at.new.self refl c.in_ok-next.ensures.state
 
-pub returns-in-Ok-clause-rows : goal.returns-in-Ok-clause-rows
-returns-in-Ok-clause-rows g c =
+pub returns-clause-rows : goal.returns-clause-rows
+returns-clause-rows g c =
     stretch-given c.args.system.now c.args.self.now c.args.mail.now.mails c.in-Some.moment (busy-later c.args.system.now c.args.self.now c.args.mail.now.mails c.args.to c.soonest.result c.soonest.ensures c.in-Some.moment (sym c.before-2.ensures ∙ c.in-Some.is)) (quiet-first c.args.system.now c.args.self.now c.args.mail.now.mails c.args.to c.soonest.result c.soonest.ensures c.in-Some.moment (sym c.before-2.ensures ∙ c.in-Some.is))
-    (skipped c.args.system.now c.in-Some.moment c.args.self.now) c.turn_at.new.self refl c.in-Ok.ensures.state g.S.Sink.takes c.args.sink.now c.turn_at.new.sink c.in-Ok.ensures.rows
+    (skipped c.args.system.now c.in-Some.moment c.args.self.now) c.turn_at.new.self refl c.in_ok-next.ensures.state g.S.Sink.takes c.args.sink.now c.turn_at.new.sink c.in_ok-next.ensures.rows
 
-pub returns-in-Ok-clause-signals : goal.returns-in-Ok-clause-signals
-returns-in-Ok-clause-signals g c =
+pub returns-clause-signals : goal.returns-clause-signals
+returns-clause-signals g c =
     stretch-told c.args.system.now c.args.self.now c.args.mail.now.mails c.in-Some.moment (busy-later c.args.system.now c.args.self.now c.args.mail.now.mails c.args.to c.soonest.result c.soonest.ensures c.in-Some.moment (sym c.before-2.ensures ∙ c.in-Some.is)) (quiet-first c.args.system.now c.args.self.now c.args.mail.now.mails c.args.to c.soonest.result c.soonest.ensures c.in-Some.moment (sym c.before-2.ensures ∙ c.in-Some.is))
-    (skipped c.args.system.now c.in-Some.moment c.args.self.now) c.turn_at.new.self refl c.in-Ok.ensures.state (λ (made : Ran). made.mails) c.args.signals.now.items c.turn_at.new.signals.items c.in-Ok.ensures.signals
+    (skipped c.args.system.now c.in-Some.moment c.args.self.now) c.turn_at.new.self refl c.in_ok-next.ensures.state (λ (made : Ran). made.mails) c.args.signals.now.items c.turn_at.new.signals.items c.in_ok-next.ensures.signals
 
-pub returns-in-Ok-clause-mail : goal.returns-in-Ok-clause-mail
-returns-in-Ok-clause-mail g c =
+pub returns-clause-mail : goal.returns-clause-mail
+returns-clause-mail g c =
     stretch-told c.args.system.now c.args.self.now c.args.mail.now.mails c.in-Some.moment (busy-later c.args.system.now c.args.self.now c.args.mail.now.mails c.args.to c.soonest.result c.soonest.ensures c.in-Some.moment (sym c.before-2.ensures ∙ c.in-Some.is)) (quiet-first c.args.system.now c.args.self.now c.args.mail.now.mails c.args.to c.soonest.result c.soonest.ensures c.in-Some.moment (sym c.before-2.ensures ∙ c.in-Some.is))
-    (skipped c.args.system.now c.in-Some.moment c.args.self.now) c.turn_at.new.self refl c.in-Ok.ensures.state (λ (made : Ran). made.box) [] c.turn_at.new.mail.mails c.in-Ok.ensures.mail
+    (skipped c.args.system.now c.in-Some.moment c.args.self.now) c.turn_at.new.self refl c.in_ok-next.ensures.state (λ (made : Ran). made.box) [] c.turn_at.new.mail.mails c.in_ok-next.ensures.mail
 
-pub returns-in-Ok-clause-last : goal.returns-in-Ok-clause-last
-returns-in-Ok-clause-last g c =
+pub returns-clause-last : goal.returns-clause-last
+returns-clause-last g c =
     stretch-last c.args.system.now c.args.self.now c.args.mail.now.mails c.in-Some.moment (busy-later c.args.system.now c.args.self.now c.args.mail.now.mails c.args.to c.soonest.result c.soonest.ensures c.in-Some.moment (sym c.before-2.ensures ∙ c.in-Some.is)) (quiet-first c.args.system.now c.args.self.now c.args.mail.now.mails c.args.to c.soonest.result c.soonest.ensures c.in-Some.moment (sym c.before-2.ensures ∙ c.in-Some.is))
-    (skipped c.args.system.now c.in-Some.moment c.args.self.now) c.turn_at.new.self refl c.in-Ok.ensures.state
+    (skipped c.args.system.now c.in-Some.moment c.args.self.now) c.turn_at.new.self refl c.in_ok-next.ensures.state
 
 pub returns-in_default-clause-last : goal.returns-in_default-clause-last
 returns-in_default-clause-last g c =

@@ -1,8 +1,7 @@
 use Rattle.std.proofs.Common.{ℕ, refl, sym, subst}
 use Rattle.std.specs.Prelude.{Option}
-use Rattle.mcs_ticks.specs.Queue.{first_of}
 use Rattle.mcs_system.specs.System.{System}
-use Rattle.mcs_core.specs.Busy.{IsFirst, IsBest, GoesOnAfter}
+use Rattle.mcs_core.specs.Busy.{IsFirst, GoesOnAfter}
 use Rattle.mcs_core.specs.Core.{Core}
 use Rattle.mcs_core.specs.State.{State}
 use Rattle.mcs_core.specs.stored.Ends.{IsEnd}
@@ -24,8 +23,7 @@ returns c =
     let clock : ℕ = c.self.inside.clock in
     let core : Core = c.self.inside.local in
     let Q : System → Type 0 = λ parts. IsFirst clock (λ n. GoesOnAfter parts n core.running core) c.next_end.result in
-    let R : System → Type 0 = λ parts. IsFirst clock (λ n. IsBest parts core.running (first_of core.ready)) c.next_choice-better.result in
     let P : State → Type 0 = λ s. IsEnd c.args.system.now s.clock s.core c.or.result in
     let E : Option ℕ → Type 0 = λ o. IsEnd c.args.system.now clock core o in
     subst P c.self.view_is (subst E (sym c.or.ensures)
-    (first-both clock _ _ c.next_end.result c.next_choice-better.result (subst Q c.parts.ensures.same c.next_end.ensures) (subst R c.parts.ensures.same c.next_choice-better.ensures)))
+    (first-both clock _ _ c.next_end.result c.next_choice-better.result (subst Q c.parts.ensures.same c.next_end.ensures) c.next_choice-better.ensures))

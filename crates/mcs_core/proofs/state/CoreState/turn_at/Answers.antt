@@ -1,10 +1,11 @@
-use Rattle.std.proofs.Common.{ℕ, ◌≡◌, ◌+◌, ◌-◌, ◌≤◌, [], false, sym, ap, ◌∙◌, subst, arith, rules}
+use Rattle.std.proofs.Common.{ℕ, Bool, ◌≡◌, ◌+◌, ◌-◌, ◌≤◌, [], false, add-one, sym, ap, ◌∙◌, subst, arith, rules}
 use Rattle.std.specs.Prelude.{None}
 use Rattle.mcs_mail.specs.Box.{arriving}
 use Rattle.mcs_ticks.proofs.Givens.{given-same}
 use Rattle.mcs_ticks.specs.Queue.{by_priority}
 use Rattle.mcs_system.specs.System.{System}
 use Rattle.mcs_core.specs.Busy.{GoesOnAfter}
+use Rattle.mcs_core.specs.Alarms.{past, before_moment}
 use Rattle.mcs_core.specs.Core.{Core}
 use Rattle.mcs_core.specs.Quiet.{AreQuietWith, counted_times}
 use Rattle.mcs_core.specs.Turn.{stamped, turn}
@@ -15,12 +16,12 @@ use Rattle.mcs_core.specs.State.{State, Fits, made_by, state_after, skipped}
 use Rattle.mcs_core.specs.stored.Parts.{CanTurn}
 use Rattle.mcs_core.proofs.Ends.{goes-before, not-come}
 use Rattle.mcs_core.proofs.Runs.{left-turn}
-use Rattle.mcs_core.proofs.Turned.{can-turn, turned-state, turned-fits, turned-rows, turned-sent}
+use Rattle.mcs_core.proofs.Turned.{present, can-turn, turned-state, turned-fits, turned-rows, turned-sent}
 use Rattle.mcs_core.proofs.state.CoreState.turn_at.Goals as goal
 
 pub turn-requires-clause-can : goal.turn-requires-clause-can
 turn-requires-clause-can g c =
-    let state : State = record { number = c.self.inside.number; clock = c.self.inside.clock; core = c.self.inside.local; orders = c.self.inside.agenda; delays = c.self.inside.delays; failed = c.self.inside.failed } in
+    let state : State = record { number = c.self.inside.number; clock = c.self.inside.clock; core = c.self.inside.local; orders = c.self.inside.agenda; alarms = c.self.inside.beats.items; delays = c.self.inside.delays; failed = c.self.inside.failed } in
     let system : System = c.args.system.now in
     let fits : Fits system state = rw (← c.self.view_is) at c.requires.fits in
     let going : state.failed ≡ false = rw (← c.self.view_is) at c.requires.going in
@@ -28,28 +29,29 @@ turn-requires-clause-can g c =
     let quiet = rw (← c.self.view_is) at c.requires.quiet in
     let expected = rw (← c.self.view_is) at c.requires.expected in
     let many : c.get.result - c.get-2.result ≡ c.args.moment - c.self.inside.clock = omega arith in
-    let P : System → Type 0 = λ s. CanTurn s state.number c.args.moment state.delays (c.get.result - c.get-2.result) state.orders c.args.mail.now.mails state.core in
+    let P : System → Type 0 = λ s. CanTurn s state.number c.args.moment state.delays (c.get.result - c.get-2.result) state.orders c.self.inside.alarms c.args.mail.now.mails state.core in
     subst P (sym c.parts.ensures.same)
-    (can-turn system c.parts.ensures.well_formed state c.args.moment c.args.mail.now.mails fits going later c.requires.in_time quiet (c.get.result - c.get-2.result) many expected)
+    (can-turn system c.parts.ensures.well_formed state c.args.moment c.args.mail.now.mails fits going later c.requires.in_time quiet c.self.inside.alarms (present system c.parts.ensures.well_formed state c.args.moment c.args.mail.now.mails fits going later c.requires.in_time quiet c.self.inside.alarms (c.self.invariant going)) (c.get.result - c.get-2.result) many expected)
 
 pub turn-requires-clause-goes : goal.turn-requires-clause-goes
 turn-requires-clause-goes g c e =
     let core : Core = c.self.inside.local in
     let clock : ℕ = c.self.inside.clock in
     let later : clock ≤ c.args.moment = rw (← c.self.view_is) at c.requires.later in
-    let ends : IsEnd c.args.system.now clock core c.args.ends = rw (← c.self.view_is) at c.requires.ends in
+    let E : State → Type 0 = λ s. IsEnd c.args.system.now s.clock s.core c.args.ends in
+    let ends : IsEnd c.args.system.now clock core c.args.ends = subst E (sym c.self.view_is) c.requires.ends in
     let many : c.args.moment ≡ clock + (c.get.result - c.get-2.result) = omega arith in
     let P : System → Type 0 = λ s. GoesOnAfter s (c.get.result - c.get-2.result) core.running core in
     subst P (sym c.parts.ensures.same)
     (goes-before c.args.system.now clock (c.get.result - c.get-2.result) c.args.moment core c.args.ends ends many (omega arith) (not-come c.has_come-goes_on.result _ c.has_come-goes_on.ensures e))
 
 -- what was asked, of the parts that the system shows and of the state as it is kept
-module _ (g : _) (c : goal.After-self-1 g) where
+module _ (g : _) (c : goal.After-self-2-1 g) where
   abbrev kept : State
-  kept = record { number = c.self.inside.number; clock = c.self.inside.clock; core = c.self.inside.local; orders = c.self.inside.agenda; delays = c.self.inside.delays; failed = c.self.inside.failed }
+  kept = record { number = c.self.inside.number; clock = c.self.inside.clock; core = c.self.inside.local; orders = c.self.inside.agenda; alarms = c.self.inside.beats.items; delays = c.self.inside.delays; failed = c.self.inside.failed }
 
   abbrev left : State
-  left = record { number = c.self.inside.number; clock = c.at-self-inside.result; core = c.turn.new.self; orders = c.turn.new.agenda; delays = c.self.inside.delays; failed = c.self.inside.failed }
+  left = record { number = c.self.inside.number; clock = c.at-self-inside.result; core = c.turn.new.self; orders = c.turn.new.agenda; alarms = c.self.inside.beats.items; delays = c.self.inside.delays; failed = false }
 
   abbrev quiets : ℕ
   quiets = c.get.result - c.get-2.result
@@ -81,8 +83,9 @@ module _ (g : _) (c : goal.After-self-1 g) where
 pub returns-clause-state : goal.returns-clause-state
 returns-clause-state g c =
     let P : State → Type 0 = λ s. left g c ≡ state_after (skipped c.args.system.now c.args.moment s) (c.args.moment + 1) (made_by c.args.system.now (skipped c.args.system.now c.args.moment s) (c.args.moment + 1) c.args.mail.now.mails) in
+    let ends : Bool → State = λ f. record { number = c.self.inside.number; clock = c.at-self-inside.result; core = c.turn.new.self; orders = c.turn.new.agenda; alarms = c.self.inside.beats.items; delays = c.self.inside.delays; failed = f } in
     subst P c.self.view_is
-    (turned-state c.args.system.now c.parts.ensures.well_formed (kept g c) c.args.moment c.args.mail.now.mails (fits g c) (going g c) (later g c) c.requires.in_time (quiet g c)
+    (ap ends (sym (going g c)) ∙ turned-state c.args.system.now c.parts.ensures.well_formed (kept g c) c.args.moment c.args.mail.now.mails (fits g c) (going g c) (later g c) c.requires.in_time (quiet g c)
     c.at-self-inside.result c.turn.new.self c.turn.new.agenda (next g c) (quiets g c) (many g c) (made g c) c.in_ok-ends.ensures.agenda)
 
 pub returns-clause-rows : goal.returns-clause-rows
@@ -108,12 +111,22 @@ returns-clause-mail g c = c.in_ok-ends.ensures.mail ∙ sym (left-turn c.args.sy
 pub returns-clause-fits : goal.returns-clause-fits
 returns-clause-fits g c =
     let P : System → Type 0 = λ s. IsSound s (kept g c).number (c.args.moment + 1) Between None c.turn.new.self in
-    turned-fits c.args.system.now c.parts.ensures.well_formed (kept g c) c.args.moment c.args.mail.now.mails (fits g c) (going g c) (later g c) c.requires.in_time (quiet g c)
+    let F : Bool → Type 0 = λ f. Fits c.args.system.now (let s : State = record { number = c.self.inside.number; clock = c.at-self-inside.result; core = c.turn.new.self; orders = c.turn.new.agenda; alarms = c.self.inside.beats.items; delays = c.self.inside.delays; failed = f } in s) in
+    subst F (going g c)
+    (turned-fits c.args.system.now c.parts.ensures.well_formed (kept g c) c.args.moment c.args.mail.now.mails (fits g c) (going g c) (later g c) c.requires.in_time (quiet g c)
     c.at-self-inside.result c.turn.new.self c.turn.new.agenda (next g c) (quiets g c) (many g c) (made g c) c.in_ok-ends.ensures.agenda
-    (subst P c.parts.ensures.same c.in_ok-ends.ensures.sound)
+    (subst P c.parts.ensures.same c.in_ok-ends.ensures.sound))
 
 pub returns-clause-ends : goal.returns-clause-ends
 returns-clause-ends g c =
     let P : System → Type 0 = λ s. IsEnd s (c.args.moment + 1) c.turn.new.self c.in_ok-ends.ends in
     let Q : ℕ → Type 0 = λ t. IsEnd c.args.system.now t c.turn.new.self c.in_ok-ends.ends in
     subst Q (sym (next g c)) (subst P c.parts.ensures.same c.in_ok-ends.ensures.ends)
+
+pub invariant_of-self-2 : goal.invariant_of-self-2
+invariant_of-self-2 g c f =
+    let found = present c.args.system.now c.parts.ensures.well_formed (kept g c) c.args.moment c.args.mail.now.mails (fits g c) (going g c) (later g c) c.requires.in_time (quiet g c)
+    c.self.inside.alarms (c.self.invariant (going g c)) in
+    c.in_ok-ends.ensures.alarms
+    ∙ ap (past c.args.moment) (found ∙ ap (before_moment c.args.moment) (sym ((fits g c).alarms (going g c))))
+    ∙ ap (λ t. before_moment t c.self.inside.beats.items) (sym (next g c ∙ add-one c.args.moment))
