@@ -11,7 +11,7 @@ use Rattle.mcs_notify.specs.declared.posted.Posted.TheVariants.{Woke, Held}
 use Rattle.mcs_notify.specs.declared.posted.Waited.{Waited}
 use Rattle.mcs_notify.specs.declared.posted.Waited.TheVariants.{Got, Blocks}
 use Rattle.mcs_script.specs.declared.item.Item.{Item}
-use Rattle.mcs_script.specs.declared.item.Item.TheVariants.{Compute, Signal, Wait, Yield}
+use Rattle.mcs_script.specs.declared.item.Item.TheVariants.{Compute, Signal, Wait, Yield, On, Spin, Enter, Leave}
 use Rattle.mcs_script.specs.declared.moved.Moved.{Moved}
 use Rattle.mcs_script.specs.declared.moved.Moved.TheVariants.{Next, RoundEnds, AllDone}
 use Rattle.mcs_mail.specs.declared.mail.Mail.{Mail}
@@ -81,6 +81,16 @@ module _ (system : System) (c t x : ℕ) where
   takes_effect-said i (Some (Wait note)) core e = said-none _ (waits_as-none system t x note (waited (note_of core note)) core)
   takes_effect-said i (Some (Compute ticks)) core e = said-none _ (moves_on-none system t x core)
   takes_effect-said i (Some Yield) core e = said-none _ (moves_on-none system t x core)
+  takes_effect-said i (Some (On badges)) core e = said-none _ (moves_on-none system t x core)
+  takes_effect-said i (Some Spin) core e = said-none _ (moves_on-none system t x core)
+  takes_effect-said i (Some (Enter server priority)) core e = said-none _ (enters_none (waited (note_of core server)))
+    where
+      enters_none : (w : Waited) → (turns.enters_as system t x server w core).mails ≡ []
+      enters_none w = grind arith
+  takes_effect-said i (Some (Leave server priority)) core e = said-append _ _ (said-none _ frees_none) (moves_on-none system t x _)
+    where
+      frees_none : (turns.frees by_priority system t x server core).mails ≡ []
+      frees_none = grind arith
   takes_effect-said i None core e = tt
 
   finishes-said : (i using : ℕ) (item : Option Item) (core : Core) → slice_get (thread_part system x).script i ≡ item →

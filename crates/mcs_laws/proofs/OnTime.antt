@@ -23,10 +23,13 @@ use Rattle.mcs_control.specs.Context.{Context, Budget, context_chosen, chosen_by
 use Rattle.mcs_control.specs.Context.Budget.{Dates, Slice}
 use Rattle.mcs_refills.specs.Server as server
 use Rattle.mcs_script.specs.declared.item.Item.{Item}
-use Rattle.mcs_script.specs.declared.item.Item.TheVariants.{Compute, Signal, Wait, Yield}
+use Rattle.mcs_script.specs.declared.item.Item.TheVariants as items
+use Rattle.mcs_script.specs.declared.item.Item.TheVariants.{Compute, Signal, Wait, Yield, Spin, Enter, Leave}
 use Rattle.mcs_script.specs.declared.moved.Moved.{Moved}
 use Rattle.mcs_script.specs.declared.moved.Moved.TheVariants.{Next, RoundEnds, AllDone}
 use Rattle.mcs_mail.specs.declared.mail.Mail.{Mail}
+use Rattle.mcs_core.specs.Alarms.{ringing, alarms_at}
+use Rattle.mcs_core.specs.declared.alarm.Alarm.{Alarm}
 use Rattle.mcs_core.specs.declared.standing.AfterItem.{AfterItem}
 use Rattle.mcs_core.specs.declared.standing.AfterItem.TheVariants as after
 use Rattle.mcs_core.specs.declared.standing.Chosen.{Chosen}
@@ -147,21 +150,21 @@ module _ (system : System) (t x : ℕ) where
       by true f = omega (arith, ready-come t (context_of k own_context) f)
       by false f = omega arith
 
-  enters_back-on_time : (y : ℕ) (o : Option ℕ) (k : Core) → (y ≡ x → Fits (head k) o) → OnTime k → OnTime (turns.enters_back by_priority system y o k)
+  enters_back-on_time : (y : ℕ) (o : Option ℕ) (k : Core) → (y ≡ x → Fits (head k) o) → OnTime k → OnTime (turns.enters_back by_priority y o k)
   enters_back-on_time y (Some date) k f h = record { runs = h.runs; ready = h.ready; pends = also-dated x (head k) y date k.releases h.pends f }
   enters_back-on_time y None k f h =
       record {
         runs = h.runs;
-        ready = also-queued x (head k) (suc t) y k.ready (turns.enters_back by_priority system y None k).ready (held.back-queued x (turns.queued system y) k.ready) h.ready f;
+        ready = also-queued x (head k) (suc t) y k.ready (turns.enters_back by_priority y None k).ready (held.back-queued x (turns.queued y k) k.ready) h.ready f;
         pends = h.pends;
       }
 
-  enters_front-on_time : (y : ℕ) (o : Option ℕ) (k : Core) → (y ≡ x → Fits (head k) o) → OnTime k → OnTime (turns.enters_front by_priority system y o k)
+  enters_front-on_time : (y : ℕ) (o : Option ℕ) (k : Core) → (y ≡ x → Fits (head k) o) → OnTime k → OnTime (turns.enters_front by_priority y o k)
   enters_front-on_time y (Some date) k f h = record { runs = h.runs; ready = h.ready; pends = also-dated x (head k) y date k.releases h.pends f }
   enters_front-on_time y None k f h =
       record {
         runs = h.runs;
-        ready = also-queued x (head k) (suc t) y k.ready (turns.enters_front by_priority system y None k).ready (held.front-queued x (turns.queued system y) k.ready) h.ready f;
+        ready = also-queued x (head k) (suc t) y k.ready (turns.enters_front by_priority y None k).ready (held.front-queued x (turns.queued y k) k.ready) h.ready f;
         pends = h.pends;
       }
 
@@ -172,17 +175,30 @@ module _ (system : System) (t x : ℕ) where
   moves-on_time y AllDone k h = h
 
   -- a thread wakes
-  wakes-on_time : (y : ℕ) (k : Core) → (Owns y → places x k ≡ 0) → OnTime k → OnTime (turns.wakes by_priority system t y k).core
-  wakes-on_time y k none h = enters_back-on_time y (turns.date_of system t y after) after (fits y after) (moves-on_time y (turns.move_of system y given) given (by (same (thread_part system y).context own_context)))
+  wakes-on_time : (y word : ℕ) (k : Core) → (Owns y → places x k ≡ 0) → OnTime k → OnTime (turns.wakes by_priority system t y word k).core
+  wakes-on_time y word k none h = enters_back-on_time y (turns.date_of system t y after) after (fits y after) (moves-on_time y (turns.move_of system y given) given (by (same (thread_part system y).context own_context)))
     where
       woken : Core
       woken = turns.with_woken_context system t y k
 
       given : Core
-      given = turns.given t y (turns.with_woken_context system t y k)
+      given = turns.given system t y word (turns.with_woken_context system t y k)
 
       after : Core
       after = (turns.moves_on system t y given).core
+
+      by : Same (thread_part system y).context own_context → OnTime (turns.with_woken_context system t y k)
+      by (Are e own) = absent x _ (suc t) k.running k.ready k.releases (omega (arith, none own)) (omega (arith, none own)) (omega (arith, none own))
+      by (Differ e other) = moved (head k) (head (turns.with_woken_context system t y k)) (suc t) k.running k.ready k.releases (ap head_moment (sym (other-moment y k _ other))) h
+
+  let_in-on_time : (y : ℕ) (k : Core) → (Owns y → places x k ≡ 0) → OnTime k → OnTime (turns.let_in by_priority system t y k).core
+  let_in-on_time y k none h = enters_front-on_time y (turns.date_of system t y after) after (fits y after) (moves-on_time y (turns.move_of system y woken) woken (by (same (thread_part system y).context own_context)))
+    where
+      woken : Core
+      woken = turns.with_woken_context system t y k
+
+      after : Core
+      after = (turns.moves_on system t y woken).core
 
       by : Same (thread_part system y).context own_context → OnTime (turns.with_woken_context system t y k)
       by (Are e own) = absent x _ (suc t) k.running k.ready k.releases (omega (arith, none own)) (omega (arith, none own)) (omega (arith, none own))
@@ -207,11 +223,25 @@ module _ (system : System) (t x : ℕ) where
 
   posts_as-on_time : (note badge : ℕ) (p : Posted) (k : Core) → posted badge (note_of k note) ≡ p → IsAlone k → OnTime k → OnTime (turns.posts_as by_priority system t note p k).core
   posts_as-on_time note badge (Woke y word) k e alone h =
-      wakes-on_time y (with_note note (after_post (Woke y word) (note_of k note)) k) (woke-none note badge y word k e alone) h
+      wakes-on_time y word (with_note note (after_post (Woke y word) (note_of k note)) k) (woke-none note badge y word k e alone) h
   posts_as-on_time note badge (Held word) k e alone h = h
 
   posts-on_time : (note badge : ℕ) (k : Core) → IsAlone k → OnTime k → OnTime (turns.posts by_priority system t note badge k).core
   posts-on_time note badge k alone h = posts_as-on_time note badge (posted badge (note_of k note)) k refl alone h
+
+  frees_as-on_time : (server : ℕ) (p : Posted) (k : Core) → posted 1 (note_of k server) ≡ p → IsAlone k → OnTime k → OnTime (turns.frees_as by_priority system t server p k).core
+  frees_as-on_time server (Woke y word) k e alone h =
+      let_in-on_time y (with_note server (after_post (Woke y word) (note_of k server)) k) (woke-none server 1 y word k e alone) h
+  frees_as-on_time server (Held word) k e alone h = h
+
+  frees-on_time : (y server : ℕ) (k : Core) → IsAlone k → OnTime k → OnTime (turns.frees by_priority system t y server k).core
+  frees-on_time y server k alone h = frees_as-on_time server (posted 1 (note_of k server)) k refl alone h
+
+  each-interrupts-on_time : (alarms : List Alarm) (k : Core) → IsAlone k → OnTime k → OnTime (each (turns.interrupts by_priority system t) alarms k).core
+  each-interrupts-on_time [] k alone h = h
+  each-interrupts-on_time (alarm ∷ alarms) k alone h =
+      let after = (turns.interrupts by_priority system t alarm k).core in
+      each-interrupts-on_time alarms after (alone-less k after (λ y. held.interrupts-held system t y alarm k) alone) (posts-on_time alarm.note alarm.badge k alone h)
 
   arrives-on_time : (mail : Mail) (k : Core) → IsAlone k → OnTime k → OnTime (turns.arrives by_priority system t mail k).core
   arrives-on_time mail k alone h = posts-on_time mail.note mail.badge k alone h
@@ -320,10 +350,10 @@ module _ (system : System) (t x : ℕ) where
       by true i = (h.0, i)
       by false i = i
 
-  each-released-on_time : (due : List Dated) (k : Core) → HaveCome (head k) due → OnTime k → OnTime (each (turns.released by_priority system) due k).core
+  each-released-on_time : (due : List Dated) (k : Core) → HaveCome (head k) due → OnTime k → OnTime (each (turns.released by_priority) due k).core
   each-released-on_time [] k come h = h
   each-released-on_time (dated ∷ due) k come h =
-      each-released-on_time due (turns.enters_back by_priority system dated.thread None k) come.1 (enters_back-on_time dated.thread None k come.0 h)
+      each-released-on_time due (turns.enters_back by_priority dated.thread None k) come.1 (enters_back-on_time dated.thread None k come.0 h)
 
   releases-on_time : (k : Core) → OnTime k → OnTime (turns.releases by_priority system t k).core
   releases-on_time k h =
@@ -335,7 +365,7 @@ module _ (system : System) (t x : ℕ) where
   preempts_by-on_time : (o : Option Chosen) (best : Option Queued) (k : Core) → k.running ≡ o → IsAlone k → OnTime k → OnTime (turns.preempts_by by_priority system t o best k).core
   preempts_by-on_time (Some chosen) (Some best) k e alone h =
       let charged = turns.charged system chosen.thread chosen.using k in
-      by_test (nat_lt (turns.part_of system chosen.thread).priority best.priority)
+      by_test (nat_lt (thread_of k chosen.thread).place.priority best.priority)
       (turns.stops_to_front by_priority system t chosen.thread why.Preempt chosen.using charged)
       (silent k)
       (stops_to_front-on_time chosen.thread why.Preempt chosen.using charged (charged-on_time chosen.thread chosen.using k (runs-alone chosen.thread chosen.using k e alone) h))
@@ -439,7 +469,7 @@ module _ (system : System) (c t x : ℕ) where
 
   waits_as-on_time : (y note : ℕ) (w : Waited) (k : Core) → On k → On (turns.waits_as system t y note w k).core
   waits_as-on_time y note (Got word) k h =
-      let given = turns.given t y (with_note note (after_wait (Got word) (turns.queued system y) (note_of k note)) k) in
+      let given = turns.given system t y word (with_note note (after_wait (Got word) (turns.queued y k) (note_of k note)) k) in
       moves-on_time system t x y (turns.move_of system y given) given h
   waits_as-on_time y note Blocks k h = h
 
@@ -450,6 +480,18 @@ module _ (system : System) (c t x : ℕ) where
   takes_effect-on_time y (Some (Wait note)) k alone h = waits_as-on_time y note (waited (note_of k note)) k h
   takes_effect-on_time y (Some (Compute ticks)) k alone h = moves-on_time system t x y (turns.move_of system y k) k h
   takes_effect-on_time y (Some Yield) k alone h = moves-on_time system t x y (turns.move_of system y k) k h
+  takes_effect-on_time y (Some (items.On badges)) k alone h = moves-on_time system t x y (turns.move_of system y k) k h
+  takes_effect-on_time y (Some Spin) k alone h = moves-on_time system t x y (turns.move_of system y k) k h
+  takes_effect-on_time y (Some (Enter server priority)) k alone h = by (waited (note_of k server))
+    where
+      by : (w : Waited) → On (turns.enters_as system t y server w k).core
+      by (Got word) =
+          let taken = with_note server (after_wait (Got word) (turns.queued y k) (note_of k server)) k in
+          moves-on_time system t x y (turns.move_of system y taken) taken h
+      by Blocks = h
+  takes_effect-on_time y (Some (Leave server priority)) k alone h =
+      let freed = (turns.frees by_priority system t y server k).core in
+      moves-on_time system t x y (turns.move_of system y freed) freed (frees-on_time system t x y server k alone h)
   takes_effect-on_time y None k alone h = h
 
   -- the thread that runs is in no queue after the effect of its item
@@ -464,7 +506,7 @@ module _ (system : System) (c t x : ℕ) where
 
   waits_as-free : (y using note : ℕ) (w : Waited) (k : Core) → k.running ≡ Some (record { thread = y; using = using }) → Alone k → Free y (turns.waits_as system t y note w k).core
   waits_as-free y using note (Got word) k e alone =
-      let given = turns.given t y (with_note note (after_wait (Got word) (turns.queued system y) (note_of k note)) k) in
+      let given = turns.given system t y word (with_note note (after_wait (Got word) (turns.queued y k) (note_of k note)) k) in
       still-free y using k (turns.waits_as system t y note (Got word) k).core e alone (held.moves-running system t y y (turns.move_of system y given) given) (λ z. held.waits_as-got system c t z y note word k)
   waits_as-free y using note Blocks k e alone = λ own. let f = runs-alone system t x y using k e alone own in record { same = f.same; ready = f.ready; releases = f.releases }
 
@@ -474,6 +516,17 @@ module _ (system : System) (c t x : ℕ) where
   effect-free y using (Some (Wait note)) k e alone = waits_as-free y using note (waited (note_of k note)) k e alone
   effect-free y using (Some (Compute ticks)) k e alone = moves_on-free y using k k e alone refl (λ z. omega arith)
   effect-free y using (Some Yield) k e alone = moves_on-free y using k k e alone refl (λ z. omega arith)
+  effect-free y using (Some (items.On badges)) k e alone = moves_on-free y using k k e alone refl (λ z. omega arith)
+  effect-free y using (Some Spin) k e alone = moves_on-free y using k k e alone refl (λ z. omega arith)
+  effect-free y using (Some (Enter server priority)) k e alone = by (waited (note_of k server))
+    where
+      by : (w : Waited) → Free y (turns.enters_as system t y server w k).core
+      by (Got word) =
+          let taken = with_note server (after_wait (Got word) (turns.queued y k) (note_of k server)) k in
+          still-free y using k (turns.enters_as system t y server (Got word) k).core e alone (held.moves-running system t y y (turns.move_of system y taken) taken) (λ z. held.enters_as-got system c t z y server word k)
+      by Blocks = λ own. let f = runs-alone system t x y using k e alone own in record { same = f.same; ready = f.ready; releases = f.releases }
+  effect-free y using (Some (Leave server priority)) k e alone =
+      moves_on-free y using k (turns.frees by_priority system t y server k).core e alone (held.frees-running system t y y server k) (λ z. held.frees-held system t z y server k)
   effect-free y using None k e alone = runs-alone system t x y using k e alone
 
   spent-on_time : (y using : ℕ) (k : Core) → Free y k → On k → On (turns.may_stop by_priority system t y using after.GoesOn k).core
@@ -484,6 +537,7 @@ module _ (system : System) (c t x : ℕ) where
   may_stop-on_time : (y using : ℕ) (cause : AfterItem) (k : Core) → Free y k → On k → On (turns.may_stop by_priority system t y using cause k).core
   may_stop-on_time y using after.Ends k free h = charged-on_time system t x y using k free h
   may_stop-on_time y using after.Blocks k free h = charged-on_time system t x y using k free h
+  may_stop-on_time y using after.Calls k free h = charged-on_time system t x y using k free h
   may_stop-on_time y using after.Yields k free h = stops_to_back-on_time system t x y why.Yield (head_amount (turns.its_context system y k)) k free h
   may_stop-on_time y using after.GoesOn k free h = spent-on_time y using k free h
 
@@ -530,8 +584,11 @@ module _ (system : System) (c t x : ℕ) where
       first : Core
       first = (turns.tick by_priority system c t k).core
 
+      rang : Core
+      rang = (each (turns.interrupts by_priority system t) (ringing t (alarms_at system c t)) first).core
+
       second : Core
-      second = (each (turns.arrives by_priority system t) mails first).core
+      second = (each (turns.arrives by_priority system t) mails rang).core
 
       third : Core
       third = (each (turns.obeys by_priority system t) orders second).core
@@ -545,10 +602,16 @@ module _ (system : System) (c t x : ℕ) where
       one : On first × Alone first
       one = (tick_of-on_time k.running k refl alone h, alone-less system t x k first (λ z. held.tick_of-held system c t z k.running k refl) alone)
 
+      half : On rang × Alone rang
+      half = (
+        each-interrupts-on_time system t x (ringing t (alarms_at system c t)) first one.1 one.0,
+        alone-less system t x first rang (λ z. held.each-held system t z (turns.interrupts by_priority system t) (held.interrupts-held system t z) (ringing t (alarms_at system c t)) first) one.1,
+      )
+
       two : On second × Alone second
       two = (
-        each-arrives-on_time system t x mails first one.1 one.0,
-        alone-less system t x first second (λ z. held.each-held system t z (turns.arrives by_priority system t) (held.arrives-held system t z) mails first) one.1,
+        each-arrives-on_time system t x mails rang half.1 half.0,
+        alone-less system t x rang second (λ z. held.each-held system t z (turns.arrives by_priority system t) (held.arrives-held system t z) mails rang) half.1,
       )
 
       three : On third × Alone third

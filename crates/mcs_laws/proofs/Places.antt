@@ -8,6 +8,8 @@ use Rattle.mcs_notify.specs.Note.{Note, quiet_note, posted, after_post, waited, 
 use Rattle.mcs_notify.specs.declared.posted.Posted.{Posted}
 use Rattle.mcs_notify.specs.declared.posted.Posted.TheVariants.{Woke, Held}
 use Rattle.mcs_release.specs.declared.dated.Dated.{Dated}
+use Rattle.mcs_core.specs.Alarms.{ringing, alarms_at}
+use Rattle.mcs_core.specs.declared.alarm.Alarm.{Alarm}
 use Rattle.mcs_core.specs.declared.standing.AfterItem.{AfterItem}
 use Rattle.mcs_core.specs.declared.standing.AfterItem.TheVariants as after
 use Rattle.mcs_core.specs.declared.standing.Chosen.{Chosen}
@@ -20,13 +22,14 @@ use Rattle.mcs_control.specs.Context.{head_amount}
 use Rattle.mcs_notify.specs.declared.posted.Waited.{Waited}
 use Rattle.mcs_notify.specs.declared.posted.Waited.TheVariants.{Got, Blocks}
 use Rattle.mcs_script.specs.declared.item.Item.{Item}
-use Rattle.mcs_script.specs.declared.item.Item.TheVariants.{Compute, Signal, Wait, Yield}
+use Rattle.mcs_script.specs.declared.item.Item.TheVariants.{Compute, Signal, Wait, Yield, On, Spin, Enter, Leave}
 use Rattle.mcs_script.specs.declared.moved.Moved.{Moved}
 use Rattle.mcs_script.specs.declared.moved.Moved.TheVariants.{Next, RoundEnds, AllDone}
 use Rattle.mcs_mail.specs.declared.mail.Mail.{Mail}
 use Rattle.mcs_system.specs.System.{System, TakesTime, note_part, core_of}
 use Rattle.mcs_system.specs.declared.part.ThreadPart.{ThreadPart}
-use Rattle.mcs_core.specs.Core.{Core, note_of, thread_of, with_note, off, opening_core, opening_releases}
+use Rattle.mcs_system.specs.declared.part.NotePart.{NotePart}
+use Rattle.mcs_core.specs.Core.{opening_note, Core, note_of, thread_of, with_note, off, opening_core, opening_releases}
 use Rattle.mcs_release.specs.Release.{is_due}
 use Rattle.mcs_core.specs.Turn as turns
 use Rattle.mcs_core.specs.Turn.{Turn, each, silent, says, ◌followed_by◌, is_for_now}
@@ -153,13 +156,13 @@ module _ (system : System) (t y : ℕ) where
   abbrev held : Core → ℕ
   held k = places y k
 
-  enters_back-held : (x : ℕ) (date : Option ℕ) (k : Core) → held (turns.enters_back by_priority system x date k) ≡ held k + one y x
+  enters_back-held : (x : ℕ) (date : Option ℕ) (k : Core) → held (turns.enters_back by_priority x date k) ≡ held k + one y x
   enters_back-held x (Some date) k = omega (arith, dated-push y k.releases (record { thread = x; date = date }))
-  enters_back-held x None k = omega (arith, back-queued y (turns.queued system x) k.ready)
+  enters_back-held x None k = omega (arith, back-queued y (turns.queued x k) k.ready)
 
-  enters_front-held : (x : ℕ) (date : Option ℕ) (k : Core) → held (turns.enters_front by_priority system x date k) ≡ held k + one y x
+  enters_front-held : (x : ℕ) (date : Option ℕ) (k : Core) → held (turns.enters_front by_priority x date k) ≡ held k + one y x
   enters_front-held x (Some date) k = omega (arith, dated-push y k.releases (record { thread = x; date = date }))
-  enters_front-held x None k = omega (arith, front-queued y (turns.queued system x) k.ready)
+  enters_front-held x None k = omega (arith, front-queued y (turns.queued x k) k.ready)
 
   -- the running thread leaves
   off-held : (k : Core) (x using : ℕ) → k.running ≡ Some (record { thread = x; using = using }) → held (off k) + one y x ≡ held k
@@ -179,37 +182,74 @@ module _ (system : System) (t y : ℕ) where
   moves-running x RoundEnds k = refl
   moves-running x AllDone k = refl
 
-  pub enters_back-running : (x : ℕ) (date : Option ℕ) (k : Core) → (turns.enters_back by_priority system x date k).running ≡ k.running
+  pub enters_back-running : (x : ℕ) (date : Option ℕ) (k : Core) → (turns.enters_back by_priority x date k).running ≡ k.running
   enters_back-running x (Some date) k = refl
   enters_back-running x None k = refl
 
   -- a woken thread enters once
-  wakes-held : (x : ℕ) (k : Core) → held (turns.wakes by_priority system t x k).core ≡ held k + one y x
-  wakes-held x k =
-      enters_back-held x _ _
-      ∙ ap (λ n. n + one y x) (moves-held x (turns.move_of system x (turns.given t x (turns.with_woken_context system t x k))) (turns.given t x (turns.with_woken_context system t x k)))
+  enters_front-running : (x : ℕ) (date : Option ℕ) (k : Core) → (turns.enters_front by_priority x date k).running ≡ k.running
+  enters_front-running x (Some date) k = refl
+  enters_front-running x None k = refl
 
-  wakes-running : (x : ℕ) (k : Core) → (turns.wakes by_priority system t x k).core.running ≡ k.running
-  wakes-running x k =
-      enters_back-running x _ _ ∙ moves-running x (turns.move_of system x (turns.given t x (turns.with_woken_context system t x k))) (turns.given t x (turns.with_woken_context system t x k))
+  let_in-held : (x : ℕ) (k : Core) → held (turns.let_in by_priority system t x k).core ≡ held k + one y x
+  let_in-held x k =
+      enters_front-held x _ _ ∙ ap (λ n. n + one y x) (moves-held x (turns.move_of system x (turns.with_woken_context system t x k)) (turns.with_woken_context system t x k))
+
+  let_in-running : (x : ℕ) (k : Core) → (turns.let_in by_priority system t x k).core.running ≡ k.running
+  let_in-running x k =
+      enters_front-running x _ _ ∙ moves-running x (turns.move_of system x (turns.with_woken_context system t x k)) (turns.with_woken_context system t x k)
+
+  wakes-held : (x word : ℕ) (k : Core) → held (turns.wakes by_priority system t x word k).core ≡ held k + one y x
+  wakes-held x word k =
+      enters_back-held x _ _
+      ∙ ap (λ n. n + one y x) (moves-held x (turns.move_of system x (turns.given system t x word (turns.with_woken_context system t x k))) (turns.given system t x word (turns.with_woken_context system t x k)))
+
+  wakes-running : (x word : ℕ) (k : Core) → (turns.wakes by_priority system t x word k).core.running ≡ k.running
+  wakes-running x word k =
+      enters_back-running x _ _ ∙ moves-running x (turns.move_of system x (turns.given system t x word (turns.with_woken_context system t x k))) (turns.given system t x word (turns.with_woken_context system t x k))
 
   posts_as-held : (note badge : ℕ) (p : Posted) (k : Core) → posted badge (note_of k note) ≡ p → held (turns.posts_as by_priority system t note p k).core ≤ held k
   posts_as-held note badge (Woke x word) k e =
       let waits = woke x word badge (note_of k note).word (note_of k note).waiters e in
       omega (
         arith,
-        wakes-held x (with_note note (after_post (Woke x word) (note_of k note)) k),
+        wakes-held x word (with_note note (after_post (Woke x word) (note_of k note)) k),
         set-waiting y k.notes note (after_post (Woke x word) (note_of k note)),
         without-queued y x (note_of k note).waiters waits,
       )
   posts_as-held note badge (Held word) k e = omega (arith, set-waiting y k.notes note (after_post (Held word) (note_of k note)))
 
   pub posts_as-running : (note : ℕ) (p : Posted) (k : Core) → (turns.posts_as by_priority system t note p k).core.running ≡ k.running
-  posts_as-running note (Woke x word) k = wakes-running x (with_note note (after_post (Woke x word) (note_of k note)) k)
+  posts_as-running note (Woke x word) k = wakes-running x word (with_note note (after_post (Woke x word) (note_of k note)) k)
   posts_as-running note (Held word) k = refl
 
   pub posts-held : (note badge : ℕ) (k : Core) → held (turns.posts by_priority system t note badge k).core ≤ held k
   posts-held note badge k = posts_as-held note badge (posted badge (note_of k note)) k refl
+
+  -- a server is left
+  frees_as-held : (server : ℕ) (p : Posted) (k : Core) → posted 1 (note_of k server) ≡ p → held (turns.frees_as by_priority system t server p k).core ≤ held k
+  frees_as-held server (Woke x word) k e =
+      let waits = woke x word 1 (note_of k server).word (note_of k server).waiters e in
+      omega (
+        arith,
+        let_in-held x (with_note server (after_post (Woke x word) (note_of k server)) k),
+        set-waiting y k.notes server (after_post (Woke x word) (note_of k server)),
+        without-queued y x (note_of k server).waiters waits,
+      )
+  frees_as-held server (Held word) k e = omega (arith, set-waiting y k.notes server (after_post (Held word) (note_of k server)))
+
+  pub frees-held : (x server : ℕ) (k : Core) → held (turns.frees by_priority system t x server k).core ≤ held k
+  frees-held x server k = frees_as-held server (posted 1 (note_of k server)) k refl
+
+  frees_as-running : (server : ℕ) (p : Posted) (k : Core) → (turns.frees_as by_priority system t server p k).core.running ≡ k.running
+  frees_as-running server (Woke x word) k = let_in-running x (with_note server (after_post (Woke x word) (note_of k server)) k)
+  frees_as-running server (Held word) k = refl
+
+  pub frees-running : (x server : ℕ) (k : Core) → (turns.frees by_priority system t x server k).core.running ≡ k.running
+  frees-running x server k = frees_as-running server (posted 1 (note_of k server)) k
+
+  pub interrupts-held : (alarm : Alarm) (k : Core) → held (turns.interrupts by_priority system t alarm k).core ≤ held k
+  interrupts-held alarm k = posts-held alarm.note alarm.badge k
 
   pub arrives-held : (mail : Mail) (k : Core) → held (turns.arrives by_priority system t mail k).core ≤ held k
   arrives-held mail k = posts-held mail.note mail.badge k
@@ -254,10 +294,10 @@ module _ (system : System) (t y : ℕ) where
       by true i = omega (arith, i, dated-cons y x xs, dated-cons y x (filter p xs))
       by false i = omega (arith, i, dated-cons y x xs, dated-cons y x (filter (λ x. not (p x)) xs))
 
-  released-held : (xs : List Dated) (k : Core) → held (each (turns.released by_priority system) xs k).core ≡ held k + times_dated y xs
+  released-held : (xs : List Dated) (k : Core) → held (each (turns.released by_priority) xs k).core ≡ held k + times_dated y xs
   released-held [] k = omega arith
   released-held (x ∷ xs) k =
-      released-held xs (turns.enters_back by_priority system x.thread None k)
+      released-held xs (turns.enters_back by_priority x.thread None k)
       ∙ omega (arith, enters_back-held x.thread None k, dated-cons y x xs)
 
   pub releases-held : (k : Core) → held (turns.releases by_priority system t k).core ≤ held k
@@ -270,7 +310,7 @@ module _ (system : System) (t y : ℕ) where
 
   pub preempts_by-held : (o : Option Chosen) (best : Option Queued) (k : Core) → k.running ≡ o → held (turns.preempts_by by_priority system t o best k).core ≤ held k
   preempts_by-held (Some chosen) (Some best) k e =
-      by_test (nat_lt (turns.part_of system chosen.thread).priority best.priority) k
+      by_test (nat_lt (thread_of k chosen.thread).place.priority best.priority) k
       (turns.stops_to_front by_priority system t chosen.thread why.Preempt chosen.using (turns.charged system chosen.thread chosen.using k)) (silent k)
       (stops_to_front-held chosen.thread chosen.using chosen.using why.Preempt (turns.charged system chosen.thread chosen.using k) e)
       (omega arith)
@@ -287,12 +327,17 @@ module _ (system : System) (t y : ℕ) where
 module _ (system : System) (c t y : ℕ) where
   pub waits_as-got : (x note word : ℕ) (k : Core) → held system t y (turns.waits_as system t x note (Got word) k).core ≤ held system t y k
   waits_as-got x note word k =
-      let given = turns.given t x (with_note note (after_wait (Got word) (turns.queued system x) (note_of k note)) k) in
-      omega (arith, moves-held system t y x (turns.move_of system x given) given, set-waiting y k.notes note (after_wait (Got word) (turns.queued system x) (note_of k note)))
+      let given = turns.given system t x word (with_note note (after_wait (Got word) (turns.queued x k) (note_of k note)) k) in
+      omega (arith, moves-held system t y x (turns.move_of system x given) given, set-waiting y k.notes note (after_wait (Got word) (turns.queued x k) (note_of k note)))
+
+  pub enters_as-got : (x server word : ℕ) (k : Core) → held system t y (turns.enters_as system t x server (Got word) k).core ≤ held system t y k
+  enters_as-got x server word k =
+      let taken = with_note server (after_wait (Got word) (turns.queued x k) (note_of k server)) k in
+      omega (arith, moves-held system t y x (turns.move_of system x taken) taken, set-waiting y k.notes server (after_wait (Got word) (turns.queued x k) (note_of k server)))
 
   waits_as-blocks : (x note : ℕ) (k : Core) → held system t y (turns.waits_as system t x note Blocks k).core ≤ held system t y k + one y x
   waits_as-blocks x note k =
-      omega (arith, set-waiting y k.notes note (after_wait Blocks (turns.queued system x) (note_of k note)), queued-push y (note_of k note).waiters (turns.queued system x))
+      omega (arith, set-waiting y k.notes note (after_wait Blocks (turns.queued x k) (note_of k note)), queued-push y (note_of k note).waiters (turns.queued x k))
 
   pub signals-held : (x note badge : ℕ) (k : Core) → held system t y (turns.signals by_priority system c t x note badge k).core ≤ held system t y k
   signals-held x note badge k =
@@ -320,6 +365,7 @@ module _ (system : System) (c t y : ℕ) where
   may_stop-held : (x using : ℕ) (cause : AfterItem) (k : Core) → k.running ≡ Some (record { thread = x; using = using }) → held system t y (turns.may_stop by_priority system t x using cause k).core ≤ held system t y k
   may_stop-held x using after.Ends k e = omega (arith, stops-held x using why.Done Done k e)
   may_stop-held x using after.Blocks k e = omega (arith, stops-held x using why.Wait Blocked k e)
+  may_stop-held x using after.Calls k e = omega (arith, stops-held x using why.Call Blocked k e)
   may_stop-held x using after.Yields k e = stops_to_back-held system t y x using (head_amount (turns.its_context system x k)) why.Yield k e
   may_stop-held x using after.GoesOn k e = spent-held x using k e
 
@@ -335,9 +381,20 @@ module _ (system : System) (c t y : ℕ) where
       (moves-running system t y x (turns.move_of system x given) given) (waits_as-got x note word k)
     where
       given : Core
-      given = turns.given t x (with_note note (after_wait (Got word) (turns.queued system x) (note_of k note)) k)
+      given = turns.given system t x word (with_note note (after_wait (Got word) (turns.queued x k) (note_of k note)) k)
   finishes-wait x using note Blocks k e =
       omega (arith, waits_as-blocks x note k, stops-held x using why.Wait Blocked (turns.waits_as system t x note Blocks k).core e)
+
+  finishes-enter : (x using server : ℕ) (w : Waited) (k : Core) → k.running ≡ Some (record { thread = x; using = using }) →
+      held system t y (turns.enters_as system t x server w k followed_by turns.may_stop by_priority system t x using (turns.after_entered w)).core ≤ held system t y k
+  finishes-enter x using server (Got word) k e =
+      then_stops x using after.GoesOn k (turns.enters_as system t x server (Got word) k) e
+      (moves-running system t y x (turns.move_of system x taken) taken) (enters_as-got x server word k)
+    where
+      taken : Core
+      taken = with_note server (after_wait (Got word) (turns.queued x k) (note_of k server)) k
+  finishes-enter x using server Blocks k e =
+      omega (arith, waits_as-blocks x server k, stops-held x using why.Call Blocked (turns.enters_as system t x server Blocks k).core e)
 
   pub moves_on-held : (x : ℕ) (k : Core) → held system t y (turns.moves_on system t x k).core ≤ held system t y k
   moves_on-held x k = omega (arith, moves-held system t y x (turns.move_of system x k) k)
@@ -354,6 +411,16 @@ module _ (system : System) (c t y : ℕ) where
       then_stops x using (turns.after_item system x (Some (Compute ticks)) k) k (turns.moves_on system t x k) e (moves-running system t y x (turns.move_of system x k) k) (moves_on-held x k)
   finishes-held x using (Some Yield) k e =
       then_stops x using (turns.after_item system x (Some Yield) k) k (turns.moves_on system t x k) e (moves-running system t y x (turns.move_of system x k) k) (moves_on-held x k)
+  finishes-held x using (Some (On badges)) k e =
+      then_stops x using (turns.after_item system x (Some (On badges)) k) k (turns.moves_on system t x k) e (moves-running system t y x (turns.move_of system x k) k) (moves_on-held x k)
+  finishes-held x using (Some Spin) k e =
+      then_stops x using (turns.after_item system x (Some Spin) k) k (turns.moves_on system t x k) e (moves-running system t y x (turns.move_of system x k) k) (moves_on-held x k)
+  finishes-held x using (Some (Enter server priority)) k e = finishes-enter x using server (waited (note_of k server)) k e
+  finishes-held x using (Some (Leave server priority)) k e =
+      let freed = turns.frees by_priority system t x server k in
+      then_stops x using (turns.after_item system x (Some (Leave server priority)) k) k (turns.takes_effect by_priority system c t x (Some (Leave server priority)) k) e
+      (moves-running system t y x (turns.move_of system x freed.core) freed.core ∙ frees-running system t y x server k)
+      (omega (arith, moves_on-held x freed.core, frees-held system t y x server k))
   finishes-held x using None k e = then_stops x using after.GoesOn k (silent k) e refl (omega arith)
 
   after_count-held : (x using : ℕ) (k : Core) → k.running ≡ Some (record { thread = x; using = using }) → held system t y (turns.after_count by_priority system c t x using k).core ≤ held system t y k
@@ -371,9 +438,10 @@ module _ (system : System) (c t y : ℕ) where
 
   -- a whole turn
   pub turn-held : (mails : List Mail) (k : Core) → held system t y (turns.turn_with by_priority system c t mails k).core ≤ held system t y k
-  turn-held mails k = chain _ _ _ _ _ _ _
+  turn-held mails k = chain _ _ _ _ _ _ _ _
       (tick_of-held k.running k refl)
-      (each-held system t y (turns.arrives by_priority system t) (arrives-held system t y) mails first.core)
+      (each-held system t y (turns.interrupts by_priority system t) (interrupts-held system t y) (ringing t (alarms_at system c t)) first.core)
+      (each-held system t y (turns.arrives by_priority system t) (arrives-held system t y) mails rang.core)
       (each-held system t y (turns.obeys by_priority system t) (obeys-held system t y) (filter (is_for_now system c t) system.orders) second.core)
       (releases-held system t y third.core)
       (preempts_by-held system t y fourth.core.running (first_of fourth.core.ready) fourth.core refl)
@@ -382,8 +450,11 @@ module _ (system : System) (c t y : ℕ) where
       first : Turn
       first = turns.tick by_priority system c t k
 
+      rang : Turn
+      rang = each (turns.interrupts by_priority system t) (ringing t (alarms_at system c t)) first.core
+
       second : Turn
-      second = each (turns.arrives by_priority system t) mails first.core
+      second = each (turns.arrives by_priority system t) mails rang.core
 
       third : Turn
       third = each (turns.obeys by_priority system t) (filter (is_for_now system c t) system.orders) second.core
@@ -394,8 +465,8 @@ module _ (system : System) (c t y : ℕ) where
       fifth : Turn
       fifth = turns.preempts by_priority system t fourth.core
 
-      chain : (a b d e f g h : ℕ) → b ≤ a → d ≤ b → e ≤ d → f ≤ e → g ≤ f → h ≤ g → h ≤ a
-      chain a b d e f g h p q r s u v = omega arith
+      chain : (a b z d e f g h : ℕ) → b ≤ a → z ≤ b → d ≤ z → e ≤ d → f ≤ e → g ≤ f → h ≤ g → h ≤ a
+      chain a b z d e f g h p o q r s u v = omega arith
 
 -- at first a thread has a place where it starts
 opening-dated : (system : System) (c y number : ℕ) (threads : List ThreadPart) → times_dated y (opening_releases system c number threads) ≤ cond (nat_lt y number) 0 1
@@ -413,7 +484,7 @@ opening-dated system c y number (part ∷ parts) = by (core_of system part == c)
     by true i = rw (dated-cons y (record { thread = number; date = part.start }) (opening_releases system c (number + 1) parts)) (with_one _ number y i)
     by false i = next _ number y i
 
-pub quiet-waiting : {A : Type 0} (y : ℕ) (xs : List A) → times_waiting y (map (λ _. quiet_note) xs) ≡ 0
+pub quiet-waiting : (y : ℕ) (xs : List NotePart) → times_waiting y (map opening_note xs) ≡ 0
 quiet-waiting y [] = refl
 quiet-waiting y (x ∷ xs) = omega (arith, quiet-waiting y xs)
 

@@ -16,10 +16,12 @@ use Rattle.mcs_notify.specs.declared.posted.Waited.TheVariants.{Got, Blocks}
 use Rattle.mcs_control.specs.declared.config.Order.{Order}
 use Rattle.mcs_control.specs.Context.{head_amount}
 use Rattle.mcs_script.specs.declared.item.Item.{Item}
-use Rattle.mcs_script.specs.declared.item.Item.TheVariants.{Compute, Signal, Wait, Yield}
+use Rattle.mcs_script.specs.declared.item.Item.TheVariants.{Compute, Signal, Wait, Yield, On, Spin, Enter, Leave}
 use Rattle.mcs_script.specs.declared.moved.Moved.{Moved}
 use Rattle.mcs_script.specs.declared.moved.Moved.TheVariants.{Next, RoundEnds, AllDone}
 use Rattle.mcs_mail.specs.declared.mail.Mail.{Mail}
+use Rattle.mcs_core.specs.Alarms.{ringing, alarms_at}
+use Rattle.mcs_core.specs.declared.alarm.Alarm.{Alarm}
 use Rattle.mcs_core.specs.declared.standing.AfterItem.{AfterItem}
 use Rattle.mcs_core.specs.declared.standing.AfterItem.TheVariants as after
 use Rattle.mcs_core.specs.declared.standing.Chosen.{Chosen}
@@ -95,6 +97,10 @@ module _ (system : System) (c t x : ℕ) where
   arrives-spends mail k =
       quiet k.running (turns.arrives by_priority system t mail k) (placed.posts_as-running system t x mail.note (posted mail.badge (note_of k mail.note)) k)
 
+  interrupts-spends : (alarm : Alarm) (k : Core) → Spends k.running (turns.interrupts by_priority system t alarm k)
+  interrupts-spends alarm k =
+      quiet k.running (turns.interrupts by_priority system t alarm k) (placed.posts_as-running system t x alarm.note (posted alarm.badge (note_of k alarm.note)) k)
+
   orders_running-spends : (order : Order) (o : Option Chosen) (k : Core) → k.running ≡ o → Spends k.running (turns.orders_running by_priority system t order o k)
   orders_running-spends order None k e = quiet k.running (silent (turns.applied t order k)) refl
   orders_running-spends order (Some chosen) k e =
@@ -111,14 +117,14 @@ module _ (system : System) (c t x : ℕ) where
 
   releases-spends : (k : Core) → Spends k.running (turns.releases by_priority system t k)
   releases-spends k =
-      each-spends (turns.released by_priority system) (λ due core. quiet core.running (turns.released by_priority system due core) refl)
+      each-spends (turns.released by_priority) (λ due core. quiet core.running (turns.released by_priority due core) refl)
       (filter (is_due t) k.releases) (record k { releases = filter (λ dated. not (is_due t dated)) k.releases })
 
   preempts_by-spends : (o : Option Chosen) (best : Option Queued) (k : Core) → k.running ≡ o → Spends k.running (turns.preempts_by by_priority system t o best k)
   preempts_by-spends (Some chosen) (Some best) k e =
       let after = turns.charged system chosen.thread chosen.using k in
       let stopped = turns.stops_to_front by_priority system t chosen.thread why.Preempt chosen.using after in
-      by_test k.running (nat_lt (turns.part_of system chosen.thread).priority best.priority) stopped (silent k)
+      by_test k.running (nat_lt (thread_of k chosen.thread).place.priority best.priority) stopped (silent k)
       (stop chosen.thread chosen.using chosen.using why.Preempt (turns.date_of system t chosen.thread after) k.running stopped e refl (λ own. omega arith))
       (quiet k.running (silent k) refl)
   preempts_by-spends (Some chosen) None k e = quiet k.running (silent k) refl
@@ -138,11 +144,23 @@ module _ (system : System) (c t x : ℕ) where
     where
       by : (w : Waited) → (turns.waits_as system t y note w k).core.running ≡ k.running
       by (Got word) =
-          let given = turns.given t y (with_note note (after_wait (Got word) (turns.queued system y) (note_of k note)) k) in
+          let given = turns.given system t y word (with_note note (after_wait (Got word) (turns.queued y k) (note_of k note)) k) in
           placed.moves-running system t x y (turns.move_of system y given) given
       by Blocks = refl
   effect-running y (Some (Compute ticks)) k = placed.moves-running system t x y (turns.move_of system y k) k
   effect-running y (Some Yield) k = placed.moves-running system t x y (turns.move_of system y k) k
+  effect-running y (Some (On badges)) k = placed.moves-running system t x y (turns.move_of system y k) k
+  effect-running y (Some Spin) k = placed.moves-running system t x y (turns.move_of system y k) k
+  effect-running y (Some (Enter server priority)) k = by (waited (note_of k server))
+    where
+      by : (w : Waited) → (turns.enters_as system t y server w k).core.running ≡ k.running
+      by (Got word) =
+          let taken = with_note server (after_wait (Got word) (turns.queued y k) (note_of k server)) k in
+          placed.moves-running system t x y (turns.move_of system y taken) taken
+      by Blocks = refl
+  effect-running y (Some (Leave server priority)) k =
+      let freed = (turns.frees by_priority system t y server k).core in
+      placed.moves-running system t x y (turns.move_of system y freed) freed ∙ placed.frees-running system t x y server k
   effect-running y None k = refl
 
   moves-contexts : (y : ℕ) (m : Moved) (k : Core) → (turns.moves system t y m k).core.contexts ≡ k.contexts
@@ -162,6 +180,7 @@ module _ (system : System) (c t x : ℕ) where
       (cause ≡ after.Yields → y ≡ x → using ≤ head_amount (turns.its_context system y k)) → Spends k.running (turns.may_stop by_priority system t y using cause k)
   may_stop-spends y using after.Ends k e l = stop y using using why.Done None k.running (turns.may_stop by_priority system t y using after.Ends k) e refl (λ own. omega arith)
   may_stop-spends y using after.Blocks k e l = stop y using using why.Wait None k.running (turns.may_stop by_priority system t y using after.Blocks k) e refl (λ own. omega arith)
+  may_stop-spends y using after.Calls k e l = stop y using using why.Call None k.running (turns.may_stop by_priority system t y using after.Calls k) e refl (λ own. omega arith)
   may_stop-spends y using after.Yields k e l =
       let whole = head_amount (turns.its_context system y k) in
       stop y using whole why.Yield (turns.date_of system t y (turns.charged system y whole k)) k.running (turns.stops_to_back by_priority system t y why.Yield whole k) e refl (l refl)
@@ -175,6 +194,10 @@ module _ (system : System) (c t x : ℕ) where
   waited-yields : (w : Waited) → turns.after_waited w ≡ after.Yields → ⊥
   waited-yields (Got word) e = cc
   waited-yields Blocks e = cc
+
+  entered-yields : (w : Waited) → turns.after_entered w ≡ after.Yields → ⊥
+  entered-yields (Got word) e = cc
+  entered-yields Blocks e = cc
 
   no_yield : after.GoesOn ≡ after.Yields → ⊥
   no_yield e = cc
@@ -193,6 +216,10 @@ module _ (system : System) (c t x : ℕ) where
       by (Some (Wait note)) f own = absurd (waited-yields (waited (note_of k note)) f)
       by (Some (Compute ticks)) f own = absurd (moved-yields (turns.move_of system y k) f)
       by (Some Yield) f own = omega (arith, l own, ap (λ contexts. head_amount (held (thread_part system y).context contexts)) (moves-contexts y (turns.move_of system y k) k))
+      by (Some (On badges)) f own = absurd (moved-yields (turns.move_of system y k) f)
+      by (Some Spin) f own = absurd (moved-yields (turns.move_of system y k) f)
+      by (Some (Enter server priority)) f own = absurd (entered-yields (waited (note_of k server)) f)
+      by (Some (Leave server priority)) f own = absurd (moved-yields (turns.move_of system y k) f)
       by None f own = absurd (no_yield f)
 
   after_count-spends : (y using : ℕ) (k : Core) → k.running ≡ Some (record { thread = y; using = using }) →
@@ -228,12 +255,14 @@ module _ (system : System) (c t x : ℕ) where
       omega (
         arith,
         tick_of-spends k.running k refl l,
-        each-spends (turns.arrives by_priority system t) arrives-spends mails first.core,
+        each-spends (turns.interrupts by_priority system t) interrupts-spends (ringing t (alarms_at system c t)) first.core,
+        each-spends (turns.arrives by_priority system t) arrives-spends mails rang.core,
         each-spends (turns.obeys by_priority system t) obeys-spends orders second.core,
         releases-spends third.core,
         preempts_by-spends fourth.core.running (first_of fourth.core.ready) fourth.core refl,
         chooses_of-spends fifth.core.running (first_of fifth.core.ready) fifth.core refl,
-        charged-append first.rows (each (turns.arrives by_priority system t) mails first.core).rows,
+        charged-append first.rows (each (turns.interrupts by_priority system t) (ringing t (alarms_at system c t)) first.core).rows,
+        charged-append rang.rows (each (turns.arrives by_priority system t) mails rang.core).rows,
         charged-append second.rows (each (turns.obeys by_priority system t) orders second.core).rows,
         charged-append third.rows (turns.releases by_priority system t third.core).rows,
         charged-append fourth.rows (turns.preempts by_priority system t fourth.core).rows,
@@ -246,8 +275,11 @@ module _ (system : System) (c t x : ℕ) where
       first : Turn
       first = turns.tick by_priority system c t k
 
+      rang : Turn
+      rang = first followed_by each (turns.interrupts by_priority system t) (ringing t (alarms_at system c t))
+
       second : Turn
-      second = first followed_by each (turns.arrives by_priority system t) mails
+      second = rang followed_by each (turns.arrives by_priority system t) mails
 
       third : Turn
       third = second followed_by each (turns.obeys by_priority system t) orders

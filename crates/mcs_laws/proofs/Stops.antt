@@ -15,11 +15,13 @@ use Rattle.mcs_notify.specs.declared.posted.Posted.TheVariants.{Woke, Held}
 use Rattle.mcs_notify.specs.declared.posted.Waited.{Waited}
 use Rattle.mcs_notify.specs.declared.posted.Waited.TheVariants.{Got, Blocks}
 use Rattle.mcs_script.specs.declared.item.Item.{Item}
-use Rattle.mcs_script.specs.declared.item.Item.TheVariants.{Compute, Signal, Wait, Yield}
+use Rattle.mcs_script.specs.declared.item.Item.TheVariants.{Compute, Signal, Wait, Yield, On, Spin, Enter, Leave}
 use Rattle.mcs_script.specs.declared.moved.Moved.{Moved}
 use Rattle.mcs_script.specs.declared.moved.Moved.TheVariants.{Next, RoundEnds, AllDone}
 use Rattle.mcs_mail.specs.declared.mail.Mail.{Mail}
 use Rattle.mcs_system.specs.System.{System, note_part, thread_part}
+use Rattle.mcs_core.specs.Alarms.{ringing, alarms_at}
+use Rattle.mcs_core.specs.declared.alarm.Alarm.{Alarm}
 use Rattle.mcs_core.specs.Core.{Core, thread_of, note_of, with_note, off}
 use Rattle.mcs_core.specs.declared.standing.AfterItem.{AfterItem}
 use Rattle.mcs_core.specs.declared.standing.AfterItem.TheVariants as after
@@ -40,6 +42,7 @@ stop_in (row.Hold note word) = 0
 stop_in (row.Got thread note word) = 0
 stop_in (row.Round thread number response) = 0
 stop_in (row.Order ordered) = 0
+stop_in (row.Interrupt source note badge) = 0
 
 -- how many threads these rows tell to have stopped
 abbrev stops : List What → ℕ
@@ -126,11 +129,11 @@ one_either true u v p q = p
 one_either false u v p q = q
 
 module _ (queue : Discipline) (system : System) (c t : ℕ) where
-  back-running : (y : ℕ) (o : Option ℕ) (core : Core) → (turns.enters_back queue system y o core).running ≡ core.running
+  back-running : (y : ℕ) (o : Option ℕ) (core : Core) → (turns.enters_back queue y o core).running ≡ core.running
   back-running y (Some date) core = refl
   back-running y None core = refl
 
-  front-running : (y : ℕ) (o : Option ℕ) (core : Core) → (turns.enters_front queue system y o core).running ≡ core.running
+  front-running : (y : ℕ) (o : Option ℕ) (core : Core) → (turns.enters_front queue y o core).running ≡ core.running
   front-running y (Some date) core = refl
   front-running y None core = refl
 
@@ -142,19 +145,25 @@ module _ (queue : Discipline) (system : System) (c t : ℕ) where
   moves_on-goes : (y : ℕ) (core : Core) → Goes core (turns.moves_on system t y core)
   moves_on-goes y core = moves-goes y (turns.move_of system y core) core
 
-  wakes-goes : (y : ℕ) (core : Core) → Goes core (turns.wakes queue system t y core)
-  wakes-goes y core =
-      goes-then core (turns.moves_on system t y given) (λ k. silent (turns.enters_back queue system y (turns.date_of system t y k) k))
+  resumes-goes : (y : ℕ) (before core : Core) → core.running ≡ before.running → Goes before (turns.resumes queue system t y core)
+  resumes-goes y before core e =
+      goes-then before (turns.moves_on system t y core) (λ k. silent (turns.enters_back queue y (turns.date_of system t y k) k))
+      (let h = moves_on-goes y core in record { none = h.none; same = h.same ∙ e })
+      (λ k. record { none = refl; same = back-running y (turns.date_of system t y k) k })
+
+  wakes-goes : (y word : ℕ) (core : Core) → Goes core (turns.wakes queue system t y word core)
+  wakes-goes y word core =
+      goes-then core (turns.moves_on system t y given) (λ k. silent (turns.enters_back queue y (turns.date_of system t y k) k))
       (let h = moves_on-goes y given in record { none = h.none; same = h.same })
       (λ k. record { none = refl; same = back-running y (turns.date_of system t y k) k })
     where
       given : Core
-      given = turns.given t y (turns.with_woken_context system t y core)
+      given = turns.given system t y word (turns.with_woken_context system t y core)
 
   posts_as-goes : (note : ℕ) (p : Posted) (core : Core) → Goes core (turns.posts_as queue system t note p core)
   posts_as-goes note (Woke y word) core =
-      goes-then core (says (row.Wake y note word) (with_note note (after_post (Woke y word) (note_of core note)) core)) (turns.wakes queue system t y)
-      (record { none = refl; same = refl }) (λ k. wakes-goes y k)
+      goes-then core (says (row.Wake y note word) (with_note note (after_post (Woke y word) (note_of core note)) core)) (turns.wakes queue system t y word)
+      (record { none = refl; same = refl }) (λ k. wakes-goes y word k)
   posts_as-goes note (Held word) core = record { none = refl; same = refl }
 
   posts-goes : (note badge : ℕ) (core : Core) → Goes core (turns.posts queue system t note badge core)
@@ -164,6 +173,37 @@ module _ (queue : Discipline) (system : System) (c t : ℕ) where
   arrives-goes mail core =
       goes-then core (says (row.Arrive mail.note mail.badge mail.maker) core) (turns.posts queue system t mail.note mail.badge)
       (record { none = refl; same = refl }) (λ k. posts-goes mail.note mail.badge k)
+
+  interrupts-goes : (alarm : Alarm) (core : Core) → Goes core (turns.interrupts queue system t alarm core)
+  interrupts-goes alarm core =
+      goes-then core (says (row.Interrupt alarm.source alarm.note alarm.badge) core) (turns.posts queue system t alarm.note alarm.badge)
+      (record { none = refl; same = refl }) (λ k. posts-goes alarm.note alarm.badge k)
+
+  let_in-goes : (y : ℕ) (core : Core) → Goes core (turns.let_in queue system t y core)
+  let_in-goes y core =
+      goes-then core (turns.moves_on system t y woken) (λ k. silent (turns.enters_front queue y (turns.date_of system t y k) k))
+      (let h = moves_on-goes y woken in record { none = h.none; same = h.same })
+      (λ k. record { none = refl; same = front-running y (turns.date_of system t y k) k })
+    where
+      woken : Core
+      woken = turns.with_woken_context system t y core
+
+  frees_as-goes : (server : ℕ) (p : Posted) (core : Core) → Goes core (turns.frees_as queue system t server p core)
+  frees_as-goes server (Woke y word) core =
+      goes-then core (says (row.Wake y server word) (with_note server (after_post (Woke y word) (note_of core server)) core)) (turns.let_in queue system t y)
+      (record { none = refl; same = refl }) (λ k. let_in-goes y k)
+  frees_as-goes server (Held word) core = record { none = refl; same = refl }
+
+  frees-goes : (y server : ℕ) (core : Core) → Goes core (turns.frees queue system t y server core)
+  frees-goes y server core =
+      goes-then core (says (row.Signal y server 1) core) (λ k. turns.frees_as queue system t server (posted 1 (note_of k server)) k)
+      (record { none = refl; same = refl }) (λ k. frees_as-goes server (posted 1 (note_of k server)) k)
+
+  enters_as-goes : (y server : ℕ) (w : Waited) (core : Core) → Goes core (turns.enters_as system t y server w core)
+  enters_as-goes y server (Got word) core =
+      goes-then core (says (row.Got y server word) (with_note server (after_wait (Got word) (turns.queued y core) (note_of core server)) core))
+      (turns.moves_on system t y) (record { none = refl; same = refl }) (λ k. moves_on-goes y k)
+  enters_as-goes y server Blocks core = record { none = refl; same = refl }
 
   signals-goes : (y note badge : ℕ) (core : Core) → Goes core (turns.signals queue system c t y note badge core)
   signals-goes y note badge core =
@@ -176,7 +216,7 @@ module _ (queue : Discipline) (system : System) (c t : ℕ) where
 
   waits_as-goes : (y note : ℕ) (w : Waited) (core : Core) → Goes core (turns.waits_as system t y note w core)
   waits_as-goes y note (Got word) core =
-      goes-then core (says (row.Got y note word) (turns.given t y (with_note note (after_wait (Got word) (turns.queued system y) (note_of core note)) core)))
+      goes-then core (says (row.Got y note word) (turns.given system t y word (with_note note (after_wait (Got word) (turns.queued y core) (note_of core note)) core)))
       (turns.moves_on system t y) (record { none = refl; same = refl }) (λ k. moves_on-goes y k)
   waits_as-goes y note Blocks core = record { none = refl; same = refl }
 
@@ -186,6 +226,11 @@ module _ (queue : Discipline) (system : System) (c t : ℕ) where
   takes_effect-goes y (Some (Wait note)) core = waits_as-goes y note (waited (note_of core note)) core
   takes_effect-goes y (Some (Compute ticks)) core = moves_on-goes y core
   takes_effect-goes y (Some Yield) core = moves_on-goes y core
+  takes_effect-goes y (Some (On badges)) core = moves_on-goes y core
+  takes_effect-goes y (Some Spin) core = moves_on-goes y core
+  takes_effect-goes y (Some (Enter server priority)) core = enters_as-goes y server (waited (note_of core server)) core
+  takes_effect-goes y (Some (Leave server priority)) core =
+      goes-then core (turns.frees queue system t y server core) (turns.moves_on system t y) (frees-goes y server core) (λ k. moves_on-goes y k)
   takes_effect-goes y None core = record { none = refl; same = refl }
 
   -- at most one stop at the end of the tick
@@ -196,6 +241,7 @@ module _ (queue : Discipline) (system : System) (c t : ℕ) where
   may_stop-one : (y using : ℕ) (cause : AfterItem) (core : Core) → AtMostOne (turns.may_stop queue system t y using cause core)
   may_stop-one y using after.Ends core = inr (refl, refl)
   may_stop-one y using after.Blocks core = inr (refl, refl)
+  may_stop-one y using after.Calls core = inr (refl, refl)
   may_stop-one y using after.Yields core = to_back-one y (head_amount (turns.its_context system y core)) why.Yield core
   may_stop-one y using after.GoesOn core =
       one_either (using == head_amount (turns.its_context system y core)) (turns.stops_to_back queue system t y why.Spent using core) (silent core)
@@ -240,15 +286,15 @@ module _ (queue : Discipline) (system : System) (c t : ℕ) where
 
   releases-rests : (core : Core) → Rests core (turns.releases queue system t core)
   releases-rests core =
-      then_part core (silent (record core { releases = filter (λ dated. not (is_due t dated)) core.releases })) (each (turns.released queue system) (filter (is_due t) core.releases))
+      then_part core (silent (record core { releases = filter (λ dated. not (is_due t dated)) core.releases })) (each (turns.released queue) (filter (is_due t) core.releases))
       (rests core _ (record { none = refl; same = refl }))
-      (λ k. each_part (turns.released queue system) (λ due k. rests k _ (record { none = refl; same = refl })) (filter (is_due t) core.releases) k)
+      (λ k. each_part (turns.released queue) (λ due k. rests k _ (record { none = refl; same = refl })) (filter (is_due t) core.releases) k)
 
   preempts_by-rests : (o : Option Chosen) (best : Option Queued) (core : Core) → core.running ≡ o → Rests core (turns.preempts_by queue system t o best core)
   preempts_by-rests (Some chosen) (Some best) core e =
       runs-one core _ chosen e
       (
-      one_either (nat_lt (turns.part_of system chosen.thread).priority best.priority)
+      one_either (nat_lt (thread_of core chosen.thread).place.priority best.priority)
       (turns.stops_to_front queue system t chosen.thread why.Preempt chosen.using made) (silent core)
       (inr (refl, front-running chosen.thread (turns.date_of system t chosen.thread made) (off made))) (inl refl)
       )
@@ -272,7 +318,7 @@ module _ (queue : Discipline) (system : System) (c t : ℕ) where
 
       parts : Turn
       parts =
-          turns.tick queue system c t core followed_by each (turns.arrives queue system t) mails followed_by each (turns.obeys queue system t) orders
+          turns.tick queue system c t core followed_by each (turns.interrupts queue system t) (ringing t (alarms_at system c t)) followed_by each (turns.arrives queue system t) mails followed_by each (turns.obeys queue system t) orders
           followed_by turns.releases queue system t followed_by turns.preempts queue system t
 
       before : Rests core parts
@@ -283,8 +329,12 @@ module _ (queue : Discipline) (system : System) (c t : ℕ) where
           (
           then_part core _ (each (turns.obeys queue system t) orders)
           (
-          then_part core (turns.tick queue system c t core) (each (turns.arrives queue system t) mails)
+          then_part core _ (each (turns.arrives queue system t) mails)
+          (
+          then_part core (turns.tick queue system c t core) (each (turns.interrupts queue system t) (ringing t (alarms_at system c t)))
           (tick_of-rests core.running core refl)
+          (λ k. each_part (turns.interrupts queue system t) (λ alarm k. rests k _ (interrupts-goes alarm k)) (ringing t (alarms_at system c t)) k)
+          )
           (λ k. each_part (turns.arrives queue system t) (λ mail k. rests k _ (arrives-goes mail k)) mails k)
           )
           (λ k. each_part (turns.obeys queue system t) obeys-rests orders k)
@@ -325,6 +375,7 @@ charges-few system x (what ∷ rows) = by what (charges-few system x rows)
     by (row.Got thread note word) i = omega (arith, i)
     by (row.Round thread number response) i = omega (arith, i)
     by (row.Order ordered) i = omega (arith, i)
+    by (row.Interrupt source note badge) i = omega (arith, i)
 
 pub one-charge : (queue : Discipline) (system : System) (c t x : ℕ) (mails : List Mail) (core : Core) →
     length (charges_told system x (turns.turn_with queue system c t mails core).rows) ≤ 1

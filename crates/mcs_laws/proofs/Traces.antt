@@ -25,11 +25,13 @@ use Rattle.mcs_notify.specs.declared.posted.Posted.TheVariants.{Woke, Held}
 use Rattle.mcs_notify.specs.declared.posted.Waited.{Waited}
 use Rattle.mcs_notify.specs.declared.posted.Waited.TheVariants.{Got, Blocks}
 use Rattle.mcs_script.specs.declared.item.Item.{Item}
-use Rattle.mcs_script.specs.declared.item.Item.TheVariants.{Compute, Signal, Wait, Yield}
+use Rattle.mcs_script.specs.declared.item.Item.TheVariants.{Compute, Signal, Wait, Yield, On, Spin, Enter, Leave}
 use Rattle.mcs_script.specs.declared.moved.Moved.{Moved}
 use Rattle.mcs_script.specs.declared.moved.Moved.TheVariants.{Next, RoundEnds, AllDone}
 use Rattle.mcs_mail.specs.declared.mail.Mail.{Mail}
 use Rattle.mcs_system.specs.System.{System, note_part, thread_part, context_part}
+use Rattle.mcs_core.specs.Alarms.{ringing, alarms_at}
+use Rattle.mcs_core.specs.declared.alarm.Alarm.{Alarm}
 use Rattle.mcs_core.specs.Core.{Core, context_of, note_of, thread_of, with_note, off}
 use Rattle.mcs_core.specs.Contexts.{no_server}
 use Rattle.mcs_core.specs.declared.standing.AfterItem.{AfterItem}
@@ -101,6 +103,7 @@ module _ (system : System) (t x : ℕ) where
   deed_told (row.Got thread note word) = []
   deed_told (row.Round thread number response) = []
   deed_told (row.Order ordered) = []
+  deed_told (row.Interrupt source note badge) = []
 
   abbrev pub deeds_told : List What → List Change
   deeds_told rows = flat_map deed_told rows
@@ -132,6 +135,7 @@ module _ (system : System) (t x : ℕ) where
       by (row.Got thread note word) i = i
       by (row.Round thread number response) i = i
       by (row.Order ordered) i = i
+      by (row.Interrupt source note badge) i = i
 
   wakes-told : (rows : List What) → wakes_told system x t rows ≡ wakes_of (deeds_told rows)
   wakes-told [] = refl
@@ -160,6 +164,7 @@ module _ (system : System) (t x : ℕ) where
       by (row.Got thread note word) i = i
       by (row.Round thread number response) i = i
       by (row.Order ordered) i = i
+      by (row.Interrupt source note badge) i = i
 
   choices-told : (rows : List What) → choices_told system x t rows ≡ choices_of (deeds_told rows)
   choices-told [] = refl
@@ -188,6 +193,7 @@ module _ (system : System) (t x : ℕ) where
       by (row.Got thread note word) i = i
       by (row.Round thread number response) i = i
       by (row.Order ordered) i = i
+      by (row.Interrupt source note badge) i = i
 
 charges-deeds : (changes : List Change) → charges_of (deeds_of changes) ≡ charges_of changes
 charges-deeds [] = refl
@@ -441,19 +447,19 @@ module _ (queue : Discipline) (system : System) (c t x : ℕ) where
         runs = λ l kept p. r;
       }
 
-  enters_back-same : (y : ℕ) (o : Option ℕ) (core : Core) → (turns.enters_back queue system y o core).contexts ≡ core.contexts
+  enters_back-same : (y : ℕ) (o : Option ℕ) (core : Core) → (turns.enters_back queue y o core).contexts ≡ core.contexts
   enters_back-same y (Some date) core = refl
   enters_back-same y None core = refl
 
-  enters_back-running : (y : ℕ) (o : Option ℕ) (core : Core) → (turns.enters_back queue system y o core).running ≡ core.running
+  enters_back-running : (y : ℕ) (o : Option ℕ) (core : Core) → (turns.enters_back queue y o core).running ≡ core.running
   enters_back-running y (Some date) core = refl
   enters_back-running y None core = refl
 
-  enters_front-same : (y : ℕ) (o : Option ℕ) (core : Core) → (turns.enters_front queue system y o core).contexts ≡ core.contexts
+  enters_front-same : (y : ℕ) (o : Option ℕ) (core : Core) → (turns.enters_front queue y o core).contexts ≡ core.contexts
   enters_front-same y (Some date) core = refl
   enters_front-same y None core = refl
 
-  enters_front-running : (y : ℕ) (o : Option ℕ) (core : Core) → (turns.enters_front queue system y o core).running ≡ core.running
+  enters_front-running : (y : ℕ) (o : Option ℕ) (core : Core) → (turns.enters_front queue y o core).running ≡ core.running
   enters_front-running y (Some date) core = refl
   enters_front-running y None core = refl
 
@@ -488,8 +494,8 @@ module _ (queue : Discipline) (system : System) (c t x : ℕ) where
 
     posts_as-traced : (note : ℕ) (p : Posted) (core : Core) → Traced P P [] core (turns.posts_as queue system t note p core)
     posts_as-traced note (Woke y word) core =
-        then_part P P P [] [] core (says (row.Wake y note word) noted followed_by λ k. turns.moves_on system t y (turns.given t y (turns.with_woken_context system t y k)))
-        (λ k. silent (turns.enters_back queue system y (turns.date_of system t y k) k))
+        then_part P P P [] [] core (says (row.Wake y note word) noted followed_by λ k. turns.moves_on system t y (turns.given system t y word (turns.with_woken_context system t y k)))
+        (λ k. silent (turns.enters_back queue y (turns.date_of system t y k) k))
         (moved (turns.move_of system y given))
         (λ k. still P k _ (enters_back-same y (turns.date_of system t y k) k) (enters_back-running y (turns.date_of system t y k) k) refl)
       where
@@ -497,9 +503,9 @@ module _ (queue : Discipline) (system : System) (c t x : ℕ) where
         noted = with_note note (after_post (Woke y word) (note_of core note)) core
 
         given : Core
-        given = turns.given t y (turns.with_woken_context system t y noted)
+        given = turns.given system t y word (turns.with_woken_context system t y noted)
 
-        moved : (m : Moved) → Traced P P [] core (says (row.Wake y note word) noted followed_by λ k. turns.moves system t y m (turns.given t y (turns.with_woken_context system t y k)))
+        moved : (m : Moved) → Traced P P [] core (says (row.Wake y note word) noted followed_by λ k. turns.moves system t y m (turns.given system t y word (turns.with_woken_context system t y k)))
         moved Next = waking core y _ refl refl refl
         moved RoundEnds = waking core y _ refl refl refl
         moved AllDone = waking core y _ refl refl refl
@@ -513,6 +519,41 @@ module _ (queue : Discipline) (system : System) (c t x : ℕ) where
         then_part P P P [] [] core (says (row.Arrive mail.note mail.badge mail.maker) core) (turns.posts queue system t mail.note mail.badge)
         (still P core _ refl refl refl) (λ k. posts-traced mail.note mail.badge k)
 
+    frees_as-traced : (server : ℕ) (p : Posted) (core : Core) → Traced P P [] core (turns.frees_as queue system t server p core)
+    frees_as-traced server (Woke y word) core =
+        then_part P P P [] [] core (says (row.Wake y server word) noted followed_by λ k. turns.moves_on system t y (turns.with_woken_context system t y k))
+        (λ k. silent (turns.enters_front queue y (turns.date_of system t y k) k))
+        (moved (turns.move_of system y woken))
+        (λ k. still P k _ (enters_front-same y (turns.date_of system t y k) k) (enters_front-running y (turns.date_of system t y k) k) refl)
+      where
+        noted : Core
+        noted = with_note server (after_post (Woke y word) (note_of core server)) core
+
+        woken : Core
+        woken = turns.with_woken_context system t y noted
+
+        moved : (m : Moved) → Traced P P [] core (says (row.Wake y server word) noted followed_by λ k. turns.moves system t y m (turns.with_woken_context system t y k))
+        moved Next = waking core y _ refl refl refl
+        moved RoundEnds = waking core y _ refl refl refl
+        moved AllDone = waking core y _ refl refl refl
+    frees_as-traced server (Held word) core = still P core _ refl refl refl
+
+    frees-traced : (y server : ℕ) (core : Core) → Traced P P [] core (turns.frees queue system t y server core)
+    frees-traced y server core =
+        then_part P P P [] [] core (says (row.Signal y server 1) core) (λ k. turns.frees_as queue system t server (posted 1 (note_of k server)) k)
+        (still P core _ refl refl refl) (λ k. frees_as-traced server (posted 1 (note_of k server)) k)
+
+    enters_as-traced : (y server : ℕ) (w : Waited) (core : Core) → Traced P P [] core (turns.enters_as system t y server w core)
+    enters_as-traced y server (Got word) core =
+        let first = says (row.Got y server word) (with_note server (after_wait (Got word) (turns.queued y core) (note_of core server)) core) in
+        then_part P P P [] [] core first (turns.moves_on system t y) (still P core first refl refl refl) (λ k. moves_on-traced y k)
+    enters_as-traced y server Blocks core = still P core _ refl refl refl
+
+    interrupts-traced : (alarm : Alarm) (core : Core) → Traced P P [] core (turns.interrupts queue system t alarm core)
+    interrupts-traced alarm core =
+        then_part P P P [] [] core (says (row.Interrupt alarm.source alarm.note alarm.badge) core) (turns.posts queue system t alarm.note alarm.badge)
+        (still P core _ refl refl refl) (λ k. posts-traced alarm.note alarm.badge k)
+
     signals-traced : (y note badge : ℕ) (core : Core) → Traced P P [] core (turns.signals queue system c t y note badge core)
     signals-traced y note badge core =
         then_part P P P [] [] core (says (row.Signal y note badge) core) (λ k. cond ((note_part system note).core == c) (turns.posts queue system t note badge k) (sent k))
@@ -524,7 +565,7 @@ module _ (queue : Discipline) (system : System) (c t x : ℕ) where
 
     waits_as-traced : (y note : ℕ) (w : Waited) (core : Core) → Traced P P [] core (turns.waits_as system t y note w core)
     waits_as-traced y note (Got word) core =
-        let first = says (row.Got y note word) (turns.given t y (with_note note (after_wait (Got word) (turns.queued system y) (note_of core note)) core)) in
+        let first = says (row.Got y note word) (turns.given system t y word (with_note note (after_wait (Got word) (turns.queued y core) (note_of core note)) core)) in
         then_part P P P [] [] core first (turns.moves_on system t y) (still P core first refl refl refl) (λ k. moves_on-traced y k)
     waits_as-traced y note Blocks core = still P core _ refl refl refl
 
@@ -534,6 +575,11 @@ module _ (queue : Discipline) (system : System) (c t x : ℕ) where
     takes_effect-traced y (Some (Wait note)) core = waits_as-traced y note (waited (note_of core note)) core
     takes_effect-traced y (Some (Compute ticks)) core = moves_on-traced y core
     takes_effect-traced y (Some Yield) core = moves_on-traced y core
+    takes_effect-traced y (Some (On badges)) core = moves_on-traced y core
+    takes_effect-traced y (Some Spin) core = moves_on-traced y core
+    takes_effect-traced y (Some (Enter server priority)) core = enters_as-traced y server (waited (note_of core server)) core
+    takes_effect-traced y (Some (Leave server priority)) core =
+        then_part P P P [] [] core (turns.frees queue system t y server core) (turns.moves_on system t y) (frees-traced y server core) (λ k. moves_on-traced y k)
     takes_effect-traced y None core = still P core _ refl refl refl
 
   -- a wake does nothing in bandwidth mode
@@ -608,6 +654,7 @@ module _ (queue : Discipline) (system : System) (c t x : ℕ) where
   may_stop-traced : (y using : ℕ) (cause : AfterItem) (core : Core) → Traced (Counts y using) (Uses 1 1 0) [] core (turns.may_stop queue system t y using cause core)
   may_stop-traced y using after.Ends core = stops-traced y using _ _ core
   may_stop-traced y using after.Blocks core = stops-traced y using _ _ core
+  may_stop-traced y using after.Calls core = stops-traced y using _ _ core
   may_stop-traced y using after.Yields core =
       stops_to_back-traced (Counts y using) y (head_amount (turns.its_context system y core)) why.Yield core (λ own kept p. whole own kept)
     where
@@ -734,19 +781,19 @@ module _ (queue : Discipline) (system : System) (c t x : ℕ) where
           )
       by false e i = i core
 
-  released-traced : (due : Dated) (core : Core) → Traced (Uses 1 1 0) (Uses 1 1 0) [] core (turns.released queue system due core)
+  released-traced : (due : Dated) (core : Core) → Traced (Uses 1 1 0) (Uses 1 1 0) [] core (turns.released queue due core)
   released-traced due core = still (Uses 1 1 0) core _ refl refl refl
 
   releases-traced : (core : Core) → Traced (Uses 1 1 0) (Uses 1 1 0) [] core (turns.releases queue system t core)
   releases-traced core =
       then_part (Uses 1 1 0) (Uses 1 1 0) (Uses 1 1 0) [] [] core (silent (record core { releases = filter (λ dated. not (is_due t dated)) core.releases }))
-      (each (turns.released queue system) (filter (is_due t) core.releases))
+      (each (turns.released queue) (filter (is_due t) core.releases))
       (still (Uses 1 1 0) core _ refl refl refl)
-      (λ k. each_part (Uses 1 1 0) (turns.released queue system) released-traced (filter (is_due t) core.releases) k)
+      (λ k. each_part (Uses 1 1 0) (turns.released queue) released-traced (filter (is_due t) core.releases) k)
 
   preempts_by-traced : (o : Option Chosen) (best : Option Queued) (core : Core) → core.running ≡ o → Traced (Uses 1 1 0) (Uses 1 1 0) [] core (turns.preempts_by queue system t o best core)
   preempts_by-traced (Some chosen) (Some best) core e =
-      by_test (Uses 1 1 0) (Uses 1 1 0) [] (nat_lt (turns.part_of system chosen.thread).priority best.priority) core stopped (silent core)
+      by_test (Uses 1 1 0) (Uses 1 1 0) [] (nat_lt (thread_of core chosen.thread).place.priority best.priority) core stopped (silent core)
       (charging (Uses 1 1 0) (Uses 1 1 0) chosen.thread chosen.using why.Preempt (turns.date_of system t chosen.thread (turns.charged system chosen.thread chosen.using core)) core stopped
       (enters_front-same chosen.thread (turns.date_of system t chosen.thread (turns.charged system chosen.thread chosen.using core)) (off (turns.charged system chosen.thread chosen.using core)))
       refl (λ own kept p. uses core.running e p own)
@@ -781,7 +828,7 @@ module _ (queue : Discipline) (system : System) (c t x : ℕ) where
   turn-traced budgets mails core =
       told_as (Uses 0 1 1) (Uses 0 1 0) _ orders core _ (append-nil _ ∙ append-nil _ ∙ append-nil _)
       (
-      then_part (Uses 0 1 1) (Uses 1 1 0) (Uses 0 1 0) (([] ++ [] ++ orders) ++ [] ++ []) [] core _ (turns.chooses queue system t)
+      then_part (Uses 0 1 1) (Uses 1 1 0) (Uses 0 1 0) (([] ++ [] ++ [] ++ orders) ++ [] ++ []) [] core _ (turns.chooses queue system t)
       (
       then_part (Uses 0 1 1) (Uses 1 1 0) (Uses 1 1 0) _ [] core _ (turns.preempts queue system t)
       (
@@ -789,8 +836,12 @@ module _ (queue : Discipline) (system : System) (c t x : ℕ) where
       (
       then_part (Uses 0 1 1) (Uses 1 1 0) (Uses 1 1 0) _ orders core _ (each (turns.obeys queue system t) (filter (is_for_now system c t) system.orders))
       (
-      then_part (Uses 0 1 1) (Uses 1 1 0) (Uses 1 1 0) [] [] core (turns.tick queue system c t core) (each (turns.arrives queue system t) mails)
+      then_part (Uses 0 1 1) (Uses 1 1 0) (Uses 1 1 0) [] [] core _ (each (turns.arrives queue system t) mails)
+      (
+      then_part (Uses 0 1 1) (Uses 1 1 0) (Uses 1 1 0) [] [] core (turns.tick queue system c t core) (each (turns.interrupts queue system t) (ringing t (alarms_at system c t)))
       (tick_of-traced core.running core refl)
+      (λ k. each_part (Uses 1 1 0) (turns.interrupts queue system t) (interrupts-traced (Uses 1 1 0) (uses-steady 1 1 0)) (ringing t (alarms_at system c t)) k)
+      )
       (λ k. each_part (Uses 1 1 0) (turns.arrives queue system t) (arrives-traced (Uses 1 1 0) (uses-steady 1 1 0)) mails k)
       )
       (λ k. orders-traced system.orders budgets k)

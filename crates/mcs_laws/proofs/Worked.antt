@@ -46,7 +46,7 @@ thread context priority script = record { name = []; context = context; priority
 
 abbrev one_core : List ContextPart → List ThreadPart → System
 one_core contexts threads =
-    record { cores = 1; delay = 1; call = 1; min_budget = 1; contexts = contexts; notes = record { name = []; core = 0 } ∷ []; threads = threads; orders = []; links = [] }
+    record { cores = 1; delay = 1; call = 1; min_budget = 1; contexts = contexts; notes = record { name = []; core = 0; word = 0 } ∷ []; threads = threads; orders = []; links = []; servers = 0; sources = []; beats = []; chains = [] }
 
 -- budget 2 of 5 for five ticks of work
 abbrev depletes : System
@@ -123,6 +123,10 @@ ordered =
       threads = [];
       orders = order 9 0 (config 4 20) ∷ order 4 0 (config 6 50) ∷ order 2 1 (config 3 30) ∷ order 4 0 (config 8 40) ∷ [];
       links = [];
+      servers = 0;
+      sources = [];
+      beats = [];
+      chains = [];
     }
 
 -- up to the moment of an order its turn is still to come
@@ -166,10 +170,14 @@ signals_away =
       call = 1;
       min_budget = 1;
       contexts = context 9 50 ∷ record { name = []; core = 1; config = config 9 50; mode = mode.Sporadic } ∷ [];
-      notes = record { name = []; core = 1 } ∷ record { name = []; core = 1 } ∷ [];
+      notes = record { name = []; core = 1; word = 0 } ∷ record { name = []; core = 1; word = 0 } ∷ [];
       threads = thread 0 5 (Signal 1 7 ∷ Compute 1 ∷ Signal 0 4 ∷ []) ∷ thread 1 5 (Signal 0 2 ∷ []) ∷ [];
       orders = [];
       links = [];
+      servers = 0;
+      sources = [];
+      beats = [];
+      chains = [];
     }
 
 -- the badges of the signals that a core makes for the other one at moments 0 to 3

@@ -31,6 +31,7 @@ module _ (system : System) where
   charge_told context (row.Got thread note word) = []
   charge_told context (row.Round thread number response) = []
   charge_told context (row.Order ordered) = []
+  charge_told context (row.Interrupt source note badge) = []
 
   abbrev pub charges_told : ℕ → List What → List ℕ
   charges_told context rows = flat_map (charge_told context) rows
@@ -48,6 +49,7 @@ module _ (system : System) where
   wake_told context t (row.Got thread note word) = []
   wake_told context t (row.Round thread number response) = []
   wake_told context t (row.Order ordered) = []
+  wake_told context t (row.Interrupt source note badge) = []
 
   abbrev pub wakes_told : ℕ → ℕ → List What → List ℕ
   wakes_told context t rows = flat_map (wake_told context t) rows
@@ -64,6 +66,7 @@ module _ (system : System) where
   choice_told context t (row.Got thread note word) = []
   choice_told context t (row.Round thread number response) = []
   choice_told context t (row.Order ordered) = []
+  choice_told context t (row.Interrupt source note badge) = []
 
   abbrev pub choices_told : ℕ → ℕ → List What → List ℕ
   choices_told context t rows = flat_map (choice_told context t) rows

@@ -44,6 +44,10 @@ two =
       threads = computes 0 9 0 4 ∷ computes 1 1 1 1 ∷ computes 2 5 2 1 ∷ computes 3 5 6 1 ∷ [];
       orders = [];
       links = [];
+      servers = 0;
+      sources = [];
+      beats = [];
+      chains = [];
     }
 
 abbrev clocks : List ℕ
@@ -53,8 +57,9 @@ abbrev queued : ℕ → ℕ → Queued
 queued thread priority = record { thread = thread; priority = priority }
 
 -- a thread in its first round, which began then
-abbrev stands_so : Standing → ℕ → ℕ → Thread
-stands_so standing left since = record { standing = standing; place = record { round = 1; item = 0; left = left }; since = since }
+abbrev stands_so : Standing → ℕ → ℕ → ℕ → Thread
+stands_so standing left since priority =
+    record { standing = standing; place = record { round = 1; item = 0; left = left; word = 0; priority = priority }; since = since }
 
 -- Before moment 3 the first thread has run for 2 ticks, and the other two stand in order of entering; their core's state shows them by
 -- priority, the other way round.
@@ -62,7 +67,7 @@ abbrev first : Core
 first =
     record (opening_core two 0) {
       running = Some (record { thread = 0; using = 2 });
-      threads = stands_so Running 2 0 ∷ stands_so Ready 1 1 ∷ stands_so Ready 1 2 ∷ stands_so Elsewhere 1 6 ∷ [];
+      threads = stands_so Running 2 0 9 ∷ stands_so Ready 1 1 1 ∷ stands_so Ready 1 2 5 ∷ stands_so Elsewhere 1 6 5 ∷ [];
       ready = queued 1 1 ∷ queued 2 5 ∷ [];
       releases = [];
     }

@@ -16,7 +16,7 @@ use Rattle.mcs_stretch.proofs.Reaches.{by-delays}
 -- two cores without a thread
 abbrev two : ℕ → System
 two delay =
-    record { cores = 2; delay = delay; call = 1; min_budget = 1; contexts = []; notes = []; threads = []; orders = []; links = [] }
+    record { cores = 2; delay = delay; call = 1; min_budget = 1; contexts = []; notes = []; threads = []; orders = []; links = []; servers = 0; sources = []; beats = []; chains = [] }
 
 no_signals : (b c : ℕ) → Signals (two 1) b c → ⊥
 no_signals b c s = omega (arith, s.known)
@@ -41,10 +41,14 @@ bell =
       call = 1;
       min_budget = 1;
       contexts = record { name = []; core = 1; config = record { budget = 2; period = 4; extra = 0 }; mode = mode.Sporadic } ∷ [];
-      notes = record { name = []; core = 0 } ∷ [];
+      notes = record { name = []; core = 0; word = 0 } ∷ [];
       threads = record { name = []; context = 0; priority = 5; start = 3; rounds = 1; deadline = 0; script = Signal 0 1 ∷ [] } ∷ [];
       orders = [];
       links = [];
+      servers = 0;
+      sources = [];
+      beats = [];
+      chains = [];
     }
 
 -- at moment 0 no signal is made, and one that is made later arrives at 2 or later
