@@ -2,7 +2,7 @@
 use Rattle.std.proofs.Common.{◌≡◌, ℕ, ◌-◌, ◌^◌, ◌<◌, ◌≤◌, nat_le, Bool, true, false, cond, ◌&&◌, List, [], ◌∷◌, Some, None, Ok, Err, refl, subst, arith}
 use Rattle.std.proofs.lemmas.Bool.{and_parts, leb-true}
 use Rattle.mcs_script.specs.declared.fault.ItemFault.TheVariants.{UnknownWord}
-use Rattle.mcs_script.specs.Raw.{Raw, Compute, Signal, Wait, Yield, parts, is_numeral, value_of, number_up_to, with_number, compute_of, signal_of, wait_of, yield_of, item_of, read_as}
+use Rattle.mcs_script.specs.Raw.{Raw, Compute, Signal, Wait, Yield, On, Call, Spin, parts, is_numeral, value_of, number_up_to, with_number, compute_of, signal_of, wait_of, yield_of, item_of, read_as}
 
 -- the numbers of an item are within their limits
 abbrev pub IsRaw : Raw → Type 0
@@ -10,6 +10,9 @@ IsRaw (Compute ticks) = (1 ≤ ticks) × (ticks ≤ 2 ^ 40)
 IsRaw (Signal name badge) = (1 ≤ badge) × (badge < 2 ^ 32)
 IsRaw (Wait name) = Unit {0}
 IsRaw Yield = Unit {0}
+IsRaw (On badges) = ⊥
+IsRaw (Call name badge) = ⊥
+IsRaw Spin = ⊥
 
 same_raw : (a b : Raw) → a ≡ b → IsRaw a → IsRaw b
 same_raw a b e h = let P : Raw → Type 0 = λ r. IsRaw r in subst P e h

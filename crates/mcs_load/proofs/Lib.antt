@@ -6,6 +6,7 @@ pub mod Members
 pub mod Items
 pub mod Passed
 pub mod Pairs
+pub mod Old
 pub mod Scripts
 pub mod WellFormed
 mod OnLiterals

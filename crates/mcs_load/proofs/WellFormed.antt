@@ -1,8 +1,8 @@
 -- Where no test fails, what is read is a well-formed system.
-use Rattle.std.proofs.Common.{◌≡◌, ◌≢◌, ℕ, zero, suc, ◌-◌, ◌^◌, ◌<◌, ◌≤◌, ◌==◌, ◌&&◌, nat_eq, Bool, true, false, true≢false, not, get_or, sym, ◌∙◌, List, [], ◌∷◌, ◌++◌, length, map, None, is_some, Result, Ok, Err, IsOk, All, AllPairs, refl, arith}
+use Rattle.std.proofs.Common.{◌≡◌, ◌≢◌, ℕ, zero, suc, ◌-◌, ◌^◌, ◌<◌, ◌≤◌, ◌==◌, ◌&&◌, nat_eq, Bool, true, false, true≢false, not, get_or, sym, ◌∙◌, List, [], ◌∷◌, ◌++◌, length, map, None, is_some, Result, Ok, Err, IsOk, IsTrue, All, AllPairs, ap, drop, refl, arith}
 use Rattle.std.specs.List.{list_any}
 use Rattle.std.proofs.lemmas.Bool.{eq-eqb, eqb-false, or_parts}
-use Rattle.std.proofs.lemmas.List.{length-map}
+use Rattle.std.proofs.lemmas.List.{drop_all, length-map}
 use Rattle.std.proofs.lemmas.List.Elements.{All-push, All-nil}
 use Rattle.std.proofs.lemmas.List.Quantifiers.{all_pairs_push}
 use Rattle.toml.specs.Data.{Data, Members}
@@ -17,7 +17,7 @@ use Rattle.mcs_system.specs.declared.part.NotePart.{NotePart}
 use Rattle.mcs_system.specs.declared.part.ThreadPart.{ThreadPart}
 use Rattle.mcs_system.specs.System.{System}
 use Rattle.mcs_system.specs.Names.{is_name}
-use Rattle.mcs_system.specs.WellFormed.{AreNamed, IsContext, IsNote, IsThread, IsOrder, IsLink, DifferInCores, IsWellFormed}
+use Rattle.mcs_system.specs.WellFormed.{AreNamed, IsContext, IsNote, IsThread, IsOrder, IsLink, IsSource, IsBeat, IsChain, AreServers, AreSources, AreChains, DifferInCores, IsWellFormed}
 use Rattle.mcs_load.specs.declared.at.At.{At}
 use Rattle.mcs_load.specs.declared.spot.Key.TheVariants as key
 use Rattle.mcs_load.specs.declared.spot.Section.TheVariants as section
@@ -185,7 +185,7 @@ times_passed at row h =
       (number_with_default_passed at key.Deadline 0 max_ticks 0 row (omega arith) (omega arith) latest.0).1,
     )
 
-module _ (system : System) where
+module _ (system : System) (none : system.servers ≡ 0) where
   abbrev one_thread : At → List ThreadPart → Members → Checked ThreadPart
   one_thread = thread system.contexts system.notes
 
@@ -208,7 +208,7 @@ module _ (system : System) where
       let named = new_name_passed at (map (λ t. t.name) earlier) row name.0 in
       let bound = own_context_passed names at (map (λ t. t.context) earlier) row context.0 in
       let limits = times_passed at row timing.0 in
-      let does = script_passed system core at row last.0 in (
+      let does = script_passed system core none at row last.0 in (
         record {
           bound = omega (arith, bound.0, length-map system.contexts (λ c. c.name));
           priority = (whole_number_passed at key.Priority 0 255 row (omega arith) priority.0).1;
@@ -402,6 +402,38 @@ numbers_passed file h =
       min_budget = number_with_default_passed top key.MinBudget 1 (2 ^ 20) 1 file (omega arith) (omega arith) least.0;
     }
 
+-- a file of version 1 or 2 has no servers, no sources and no chains
+all_none : {A : Type 0} (P : A → Type 0) (xs : List A) → xs ≡ [] → All P xs
+all_none P xs e = λ k d within. absurd (omega (arith, ap length e))
+
+named_none : {A : Type 0} (name : A → List ℕ) (xs : List A) → xs ≡ [] → AreNamed name xs
+named_none name xs e = record {
+  few = omega (arith, ap length e);
+  each = all_none (λ x. IsTrue (is_name (name x))) xs e;
+  distinct = λ i j d less within. absurd (omega (arith, ap length e));
+}
+
+no_servers : (system : System) → system.servers ≡ 0 → AreServers system
+no_servers system e = record {
+  few = omega arith;
+  free = all_none (λ (n : NotePart). n.word ≡ 1) (drop (length system.notes - system.servers) system.notes) (drop_all (length system.notes - system.servers) system.notes (omega arith));
+}
+
+no_sources : (system : System) → system.sources ≡ [] → system.beats ≡ [] → AreSources system
+no_sources system sources beats = record {
+  names = named_none (λ s. s.name) system.sources sources;
+  sources = all_none (IsSource system) system.sources sources;
+  few_beats = omega (arith, ap length beats);
+  beats = all_none (IsBeat system) system.beats beats;
+  order = record { each = λ i j d less within. absurd (omega (arith, ap length beats)) };
+}
+
+no_chains : (system : System) → system.chains ≡ [] → AreChains system
+no_chains system chains = record {
+  names = named_none (λ c. c.name) system.chains chains;
+  chains = all_none (IsChain system) system.chains chains;
+}
+
 pub walk_passed : (file : Members) → first_failed (walk file).tests ≡ None → IsWellFormed (walk file).value
 unfolding walk
 walk_passed file h =
@@ -416,7 +448,7 @@ walk_passed file h =
     let of_links = links_passed system limits.cores.0 file in_links.0 in
     let of_contexts = contexts_passed system limits.cores.0 (is_version_2 file) file in_contexts.0 in
     let of_notes = notes_passed system limits.cores.0 file in_notes.0 in
-    let of_threads = threads_passed system file in_threads.0 in
+    let of_threads = threads_passed system refl file in_threads.0 in
     let of_orders = orders_passed system file in_orders.0 in
     record {
       limits = record { cores = limits.cores; delay = limits.delay; call = limits.call; min_budget = limits.min_budget };
@@ -432,6 +464,9 @@ walk_passed file h =
       few_links = of_links.0;
       links = of_links.1;
       one_link = of_links.2;
+      servers = no_servers system refl;
+      sources = no_sources system refl refl;
+      chains = no_chains system refl;
     }
 
 -- a system that is read is well formed

@@ -52,9 +52,13 @@ system_of_a_file : answer (file (codes "version = 1\ncores = 1\ndelay = 1\n\n[[c
       min_budget = 1;
       contexts = record { name = codes "a"; core = 0; config = record { budget = 2; period = 5; extra = 0 }; mode = modes.Sporadic } ∷ [];
       notes = [];
+      servers = 0;
       threads = record { name = codes "A"; context = 0; priority = 5; start = 0; rounds = 1; deadline = 0; script = items.Compute 5 ∷ [] } ∷ [];
       orders = record { moment = 7; context = 0; config = record { budget = 3; period = 6; extra = 1 } } ∷ [];
       links = [];
+      sources = [];
+      beats = [];
+      chains = [];
     })
 unfolding load_on_literals
 system_of_a_file = refl
@@ -73,9 +77,13 @@ link_in_version_2 : answer (file (codes "version = 2\ncores = 2\ndelay = 1\n[[li
       min_budget = 1;
       contexts = [];
       notes = [];
+      servers = 0;
       threads = [];
       orders = [];
       links = record { maker = 0; home = 1; delay = 3 } ∷ [];
+      sources = [];
+      beats = [];
+      chains = [];
     })
 unfolding load_on_literals
 link_in_version_2 = refl
@@ -127,9 +135,13 @@ mode_in_version_2 : answer (file (codes "version = 2\ncores = 1\ndelay = 1\n[[co
       min_budget = 1;
       contexts = record { name = codes "a"; core = 0; config = record { budget = 4; period = 10; extra = 0 }; mode = modes.Bandwidth } ∷ [];
       notes = [];
+      servers = 0;
       threads = [];
       orders = [];
       links = [];
+      sources = [];
+      beats = [];
+      chains = [];
     })
 unfolding load_on_literals
 mode_in_version_2 = refl

@@ -1,11 +1,13 @@
 -- The tests of a script's items.
-use Rattle.std.specs.Prelude.{ℕ, suc, Bool, false, not, ◌==◌, nat_le, List, [], length, get_or, map, Option, Some, None, is_some, option_and_then, Result, Ok, Err}
+use Rattle.std.specs.Prelude.{ℕ, suc, ◌-◌, Bool, false, not, ◌==◌, nat_le, List, [], length, get_or, map, Option, Some, None, is_some, option_and_then, Result, Ok, Err, All, ◌≡◌, true}
+use Rattle.std.specs.List.{slice_get}
 use Rattle.toml.specs.Data.{Data, Items, Members, get_member, as_str, as_array}
 use Rattle.mcs_script.specs.declared.fault.ItemFault.{ItemFault}
+use Rattle.mcs_script.specs.declared.fault.ItemFault.TheVariants.{UnknownWord}
 use Rattle.mcs_script.specs.declared.item.Item.{Item}
 use Rattle.mcs_script.specs.declared.item.Item.TheVariants as items
-use Rattle.mcs_script.specs.Raw.{Raw, Compute, Signal, Wait, Yield, read_as}
-use Rattle.mcs_script.specs.Script.{waits_last}
+use Rattle.mcs_script.specs.Raw.{Raw, Compute, Signal, Wait, Yield, On, Call, Spin, read_as}
+use Rattle.mcs_script.specs.Script.{is_wait}
 use Rattle.mcs_system.specs.declared.part.NotePart.{NotePart}
 use Rattle.mcs_system.specs.System.{no_note}
 use Rattle.mcs_load.specs.declared.at.At.{At}
@@ -27,6 +29,12 @@ said at number (Ok raw) = reads raw
 said at number (Err fault) = do
   _ ← must_item at number (BadItem fault) false
   reads Yield
+
+-- an item of a later version
+abbrev pub unknown_word : At → ℕ → Checked Item
+unknown_word at number = do
+  _ ← must_item at number (BadItem UnknownWord) false
+  reads items.Yield
 
 abbrev pub place_or_first : Option ℕ → ℕ
 place_or_first None = 0
@@ -56,6 +64,9 @@ module _ (notes : List NotePart) (core : ℕ) where
     _ ← must_item at number OtherCore (core_of notes place == core)
     reads (items.Wait place)
   named at number Yield = reads items.Yield
+  named at number (On badges) = unknown_word at number
+  named at number (Call name badge) = unknown_word at number
+  named at number Spin = unknown_word at number
 
   unfoldable pub script_item : At → ℕ → Data → Checked Item
   script_item at number data_of_item = do
@@ -65,6 +76,19 @@ module _ (notes : List NotePart) (core : ℕ) where
 
   abbrev pub next_item : At → List Item → Data → Checked Item
   next_item at earlier d = script_item at (suc (length earlier)) d
+
+-- items of versions 1 and 2: none begins a handler or enters a server
+abbrev pub is_new : Item → Bool
+is_new (items.On badges) = true
+is_new (items.Enter server priority) = true
+is_new _ = false
+
+abbrev pub AreOld : List Item → Type 0
+AreOld items = All (λ item. is_new item ≡ false) items
+
+-- whether the last item is a wait
+abbrev pub waits_last : List Item → Bool
+waits_last items = is_wait (slice_get items (length items - 1))
 
 -- a script's last item is no wait
 unfoldable pub ends_without_wait : At → List Item → Checked (List Item)

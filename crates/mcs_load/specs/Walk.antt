@@ -111,7 +111,7 @@ note cores at earlier row = do
   _ ← only_keys at (key.Name ∷ key.Core ∷ []) row
   name ← new_name at (map (λ n. n.name) earlier) row
   core ← whole_number at key.Core 0 (cores - 1) row
-  reads (record { name = name; core = core })
+  reads (record { name = name; core = core; word = 0 })
 
 -- whether the version of the file is the integer 2
 abbrev pub is_two : Option ℤ → Bool
@@ -273,9 +273,13 @@ walk file = do
     min_budget = top.min_budget;
     contexts = contexts;
     notes = notes;
+    servers = 0;
     threads = threads;
     orders = orders;
     links = links;
+    sources = [];
+    beats = [];
+    chains = [];
   })
 
 -- the table that the text is

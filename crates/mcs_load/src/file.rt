@@ -135,9 +135,13 @@ fn walk(alloc: Global, file: &Table) -> Result<SystemParts, LoadFault>
         min_budget,
         contexts: Sequence::new(contexts),
         notes: Sequence::new(notes),
+        servers: 0,
         threads: Sequence::new(threads),
         orders: Sequence::new(orders),
         links: Sequence::new(links),
+        sources: Sequence::new(Vec::new(alloc)),
+        beats: Sequence::new(Vec::new(alloc)),
+        chains: Sequence::new(Vec::new(alloc)),
     })
 }
 

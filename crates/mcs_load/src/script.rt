@@ -1,18 +1,18 @@
 #![tactic(auto, using(crate::proofs::Steps::steps), unfolding(crate::specs::Script::note_named, crate::specs::Script::named, crate::specs::Script::said, crate::specs::Script::script_item, crate::specs::Script::ends_without_wait, crate::specs::Script::script))]
 
-ghost use Rattle.std.specs.Prelude.{◌≡◌, ◌+◌, ◌<◌, ◌≤◌, IfOk, length, map, []};
+ghost use Rattle.std.specs.Prelude.{◌≡◌, false, ◌+◌, ◌<◌, ◌≤◌, IfOk, length, map, []};
 ghost use Rattle.toml.specs.View.{view, table_view, items_view};
 ghost use Rattle.mcs_script.specs.Raw.{raw_view, read_as};
 ghost use Rattle.mcs_load.specs.Checks.{Gives, Tells};
 ghost use Rattle.mcs_load.specs.Words.{each};
-ghost use Rattle.mcs_load.specs.Script.{core_of, note_named, named, script_item, next_item, script, ends_without_wait, texts, said};
+ghost use Rattle.mcs_load.specs.Script.{core_of, note_named, named, script_item, next_item, is_new, AreOld, script, ends_without_wait, texts, said};
 
 use crate::at::At;
 use crate::fault::{FaultKind, LoadFault};
 use crate::names::Names;
 use crate::spot::Key;
 use crate::values::find;
-use mcs_script::{Item, RawItem, Script, read_item};
+use mcs_script::{Item, ItemFault, RawItem, Script, read_item};
 use mcs_system::NotePart;
 use mcs_ticks::{CoreId, Limits, NoteId};
 use std::alloc::Global;
@@ -52,7 +52,8 @@ fn named<'a>(
     raw: RawItem<'a>,
 ) -> Result<Item, LoadFault>
     requires { names.now ≡ map (λ n. n.name) notes.now }
-    ensures { Tells (λ x. x) result (named notes.now core at number (raw_view raw.entry)) }
+    ensures gives { Tells (λ x. x) result (named notes.now core at number (raw_view raw.entry)) }
+    ensures old { IfOk result (λ item. is_new item ≡ false) }
 {
     match raw {
         RawItem::Compute(ticks) => Ok(Item::Compute(ticks)),
@@ -68,6 +69,10 @@ fn named<'a>(
             Ok(Item::Wait(note))
         }
         RawItem::Yield => Ok(Item::Yield),
+        RawItem::On(_) | RawItem::Call(..) | RawItem::Spin => {
+            let unknown = FaultKind::BadItem(ItemFault::UnknownWord);
+            Err(at.item_fault(Key::Script, number, unknown))
+        }
     }
 }
 
@@ -91,7 +96,8 @@ fn script_item<'a>(
     core: CoreId,
 ) -> Result<Item, LoadFault>
     requires { names.now ≡ map (λ n. n.name) notes.now }
-    ensures { Tells (λ x. x) result (script_item notes.now core at number (view value.now)) }
+    ensures gives { Tells (λ x. x) result (script_item notes.now core at number (view value.now)) }
+    ensures old { IfOk result (λ item. is_new item ≡ false) }
 {
     let text = value
         .as_str()
@@ -112,6 +118,7 @@ fn script_items<'a>(
     requires { names.now ≡ map (λ n. n.name) notes.now }
     ensures gives { Gives (λ v. v.items) result (each (next_item notes.now core at) [] (items_view values.now)) }
     ensures count { IfOk result (λ v. length v.items ≡ length values.now) }
+    ensures old { IfOk result (λ v. AreOld v.items) }
 {
     let mut items = Vec::new(alloc);
     for (i, value) in values.iter().enumerate() {
@@ -122,7 +129,8 @@ fn script_items<'a>(
 
 /// The script of these items, whose last is to be no wait.
 fn ends_without_wait(at: At, items: Vec<Item>) -> Result<Script, LoadFault>
-    requires { (1 ≤ length items.items) × (length items.items ≤ 1024) }
+    requires count { (1 ≤ length items.items) × (length items.items ≤ 1024) }
+    requires old { AreOld items.items }
     ensures { Tells (λ s. s) result (ends_without_wait at items.items) }
 {
     match Script::new(items) {
