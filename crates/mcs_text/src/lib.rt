@@ -25,7 +25,7 @@ pub use line::{append_number, append_word};
 pub use lines::Lines;
 pub use lines_part::LinesPart;
 pub use mark::Mark;
-pub use names::{Names, context_name, note_name, thread_name};
+pub use names::{Names, context_name, is_server, note_name, source_name, thread_name};
 pub use page::Page;
 pub use pour::pour_lines;
 pub use report::{append_counts, put_reports};

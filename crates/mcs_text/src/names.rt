@@ -1,11 +1,12 @@
-ghost use Rattle.std.specs.Prelude.{◌≡◌, ◌≤◌, ◌+◌, ◌++◌, ◌∷◌, take, length, IfOk};
-ghost use Rattle.mcs_text.specs.Text.{context_name as context_name_of, note_name as note_name_of, thread_name as thread_name_of};
+ghost use Rattle.std.specs.Prelude.{◌≡◌, ◌≤◌, ◌+◌, ◌-◌, ◌++◌, ◌∷◌, take, length, IfOk};
+ghost use Rattle.mcs_system.specs.System.{is_server};
+ghost use Rattle.mcs_text.specs.Text.{context_name as context_name_of, note_name as note_name_of, source_name as source_name_of, thread_name as thread_name_of};
 ghost use Rattle.mcs_text.specs.stored.Names.{name_at, AreNames};
 
 use crate::bytes::{write_name, write_word};
 use crate::name::Name;
 use mcs_system::System;
-use mcs_ticks::{ContextId, NoMemory, NoteId, ThreadId};
+use mcs_ticks::{ContextId, NoMemory, NoteId, SourceId, ThreadId};
 use std::alloc::Global;
 use std::marker::Model;
 
@@ -27,6 +28,16 @@ pub(crate) trait Naming {
         ensures short { result ≤ at + 33 }
         ensures written { take result bytes.new ≡ take at bytes.old ++ 32 ∷ note_name_of (system self.now) note };
 
+    /// Writes the name of a source, or the empty text where the system has no such source.
+    fn write_source(&self, bytes: &mut [u8], at: usize, source: SourceId) -> usize
+        requires { at + 33 ≤ length bytes.old }
+        ensures short { result ≤ at + 33 }
+        ensures written { take result bytes.new ≡ take at bytes.old ++ 32 ∷ source_name_of (system self.now) source };
+
+    /// Whether a note is a server.
+    fn is_server(&self, note: NoteId) -> bool
+        ensures { result ≡ is_server (system self.now) note };
+
     /// Writes the name of a scheduling context, or the empty text where the system has no such context.
     fn write_context(&self, bytes: &mut [u8], at: usize, context: ContextId) -> usize
         requires { at + 33 ≤ length bytes.old }
@@ -45,6 +56,14 @@ impl Naming for System {
         write_word(bytes, at, note_name(self, note))
     }
 
+    fn write_source(&self, bytes: &mut [u8], at: usize, source: SourceId) -> usize {
+        write_word(bytes, at, source_name(self, source))
+    }
+
+    fn is_server(&self, note: NoteId) -> bool {
+        is_server(self, note)
+    }
+
     fn write_context(&self, bytes: &mut [u8], at: usize, context: ContextId) -> usize {
         write_word(bytes, at, context_name(self, context))
     }
@@ -57,10 +76,12 @@ pub struct Names<'a> {
     threads: Vec<Name>,
     notes: Vec<Name>,
     contexts: Vec<Name>,
+    first_server: usize,
 }
 
 impl<'a> Model for Names<'a> {
     ghost use Rattle.mcs_system.specs.System.{System};
+    ghost use Rattle.std.specs.Prelude.{◌≡◌, ◌-◌, length};
     ghost use Rattle.mcs_text.specs.Text.{context_name, note_name, thread_name};
     ghost use Rattle.mcs_text.specs.stored.Names.{AreNames};
 
@@ -70,7 +91,8 @@ impl<'a> Model for Names<'a> {
 
     ghost invariant = { λ a. AreNames (thread_name a.system.now) a.threads.items
         × AreNames (note_name a.system.now) a.notes.items
-        × AreNames (context_name a.system.now) a.contexts.items };
+        × AreNames (context_name a.system.now) a.contexts.items
+        × (a.first_server ≡ length a.system.now.notes - a.system.now.servers) };
 }
 
 impl<'a> Names<'a> {
@@ -96,6 +118,7 @@ impl<'a> Names<'a> {
             threads,
             notes,
             contexts,
+            first_server: first_server(system),
         })
     }
 }
@@ -122,6 +145,15 @@ impl Naming for Names<'_> {
         write_listed(bytes, at, self.notes.as_slice(), note.0)
     }
 
+    fn write_source(&self, bytes: &mut [u8], at: usize, source: SourceId) -> usize {
+        write_word(bytes, at, source_name(self.system, source))
+    }
+
+    #[inline(always)]
+    fn is_server(&self, note: NoteId) -> bool {
+        self.first_server <= note.0
+    }
+
     #[inline(always)]
     fn write_context(&self, bytes: &mut [u8], at: usize, context: ContextId) -> usize {
         write_listed(bytes, at, self.contexts.as_slice(), context.0)
@@ -138,6 +170,32 @@ fn write_listed(bytes: &mut [u8], at: usize, names: &[Name], place: usize) -> us
     match names.get(place) {
         Some(name) => write_name(bytes, at, name),
         None => write_word(bytes, at, ""),
+    }
+}
+
+/// The number of the first server, or how many notes there are where none is a server.
+fn first_server(system: &System) -> usize
+    ensures { result ≡ length system.now.notes - system.now.servers }
+{
+    let parts = system.parts();
+    parts.notes.len().saturating_sub(parts.servers)
+}
+
+/// Whether a note is a server: the servers are the last of all notes.
+pub fn is_server(system: &System, note: NoteId) -> bool
+    ensures { result ≡ is_server system.now note }
+{
+    first_server(system) <= note.0
+}
+
+/// The name of a source, or the empty text where the system has no such source.
+pub fn source_name(system: &System, source: SourceId) -> &str
+    ensures name { result.now ≡ source_name_of system.now source }
+    ensures short { length result.now ≤ 32 }
+{
+    match system.parts().sources.as_slice().get(source.0) {
+        Some(part) => part.name.as_str(),
+        None => "",
     }
 }
 

@@ -1,10 +1,10 @@
 ghost use Rattle.std.specs.Prelude.{◌≡◌, ◌+◌, ◌≤◌, ◌++◌, ◌∷◌, [], OnOk, OnErr, take, length, decimal};
-ghost use Rattle.mcs_text.specs.Text.{after, row_text, until_words, why_word, words_of, note_name, thread_name};
+ghost use Rattle.mcs_text.specs.Text.{after, at_note, row_text, until_words, why_word, words_of, note_name, source_name, thread_name};
 
-use crate::bytes::{LINE, write_decimal, write_number, write_short};
+use crate::bytes::{LINE, write_decimal, write_number, write_short, write_word};
 use crate::names::Naming;
 use mcs_system::System;
-use mcs_ticks::{NoMemory, NoteId, Row, ThreadId, Tick, What, Why};
+use mcs_ticks::{NoMemory, NoteId, Row, SourceId, ThreadId, Tick, What, Why};
 
 /// Appends the line of a row: `<moment> <core> ` and what happened, with the names that the system has. After a refusal the text is
 /// as it was.
@@ -56,18 +56,18 @@ fn write_what<N: Naming>(bytes: &mut [u8], at: usize, names: &N, what: &What) ->
             thread,
             note,
             badge,
-        } => write_noted(bytes, at, "signal", names, thread, note, badge),
+        } => write_at_note(bytes, at, names, "leave", "signal", thread, note, badge),
         What::Arrive { note, badge, maker } => {
             let name = write_held(bytes, at, "arrive", names, note, badge);
             let from = write_short(bytes, name, "from");
             write_number(bytes, from, maker.0 as u64)
         }
         What::Wake { thread, note, word } => {
-            write_noted(bytes, at, "wake", names, thread, note, word)
+            write_at_note(bytes, at, names, "enter", "wake", thread, note, word)
         }
         What::Hold { note, word } => write_held(bytes, at, "hold", names, note, word),
         What::Got { thread, note, word } => {
-            write_noted(bytes, at, "got", names, thread, note, word)
+            write_at_note(bytes, at, names, "enter", "got", thread, note, word)
         }
         What::Round {
             thread,
@@ -82,6 +82,11 @@ fn write_what<N: Naming>(bytes: &mut [u8], at: usize, names: &N, what: &What) ->
             let word = write_short(bytes, at, "order");
             names.write_context(bytes, word, context)
         }
+        What::Interrupt {
+            source,
+            note,
+            badge,
+        } => write_interrupt(bytes, at, "interrupt", names, source, note, badge),
     }
 }
 
@@ -123,6 +128,93 @@ fn write_held<N: Naming>(
     let name = write_short(bytes, at, word);
     let number = names.write_note(bytes, name, note);
     write_number(bytes, number, u64::from(bits))
+}
+
+/// Writes what a thread did at a note: in one word where it is a server, else in another one, with the bits that it set or got.
+#[inline(always)]
+fn write_at_note<N: Naming>(
+    bytes: &mut [u8],
+    at: usize,
+    names: &N,
+    server_word: &str,
+    note_word: &str,
+    thread: ThreadId,
+    note: NoteId,
+    bits: u32,
+) -> usize
+    requires server_word { length server_word.now ≤ 7 }
+    requires note_word { length note_word.now ≤ 7 }
+    requires room { at + 95 ≤ length bytes.old }
+    ensures short { result ≤ at + 95 }
+    ensures written { take result bytes.new ≡ take at bytes.old
+        ++ after (at_note (N.system names.now) server_word.now note_word.now thread note bits) }
+{
+    if names.is_server(note) {
+        write_at_server(bytes, at, server_word, names, thread, note)
+    } else {
+        write_noted(bytes, at, note_word, names, thread, note, bits)
+    }
+}
+
+/// Writes what a thread did at a server.
+#[inline(never)]
+fn write_at_server<N: Naming>(
+    bytes: &mut [u8],
+    at: usize,
+    what: &str,
+    names: &N,
+    thread: ThreadId,
+    server: NoteId,
+) -> usize
+    requires word { length what.now ≤ 7 }
+    requires room { at + 74 ≤ length bytes.old }
+    ensures short { result ≤ at + 74 }
+    ensures written { take result bytes.new ≡ take at bytes.old
+        ++ after (what.now ∷ thread_name (N.system names.now) thread ∷ note_name (N.system names.now) server ∷ []) }
+{
+    let name = write_named(bytes, at, what, names, thread);
+    names.write_note(bytes, name, server)
+}
+
+/// Writes a word, the names of a source and of its notification, and the badge that the source posts, each after a space.
+#[inline(never)]
+fn write_interrupt<N: Naming>(
+    bytes: &mut [u8],
+    at: usize,
+    what: &str,
+    names: &N,
+    source: SourceId,
+    note: NoteId,
+    badge: u32,
+) -> usize
+    requires word { length what.now ≤ 9 }
+    requires room { at + 97 ≤ length bytes.old }
+    ensures short { result ≤ at + 97 }
+    ensures written { take result bytes.new ≡ take at bytes.old
+        ++ after (what.now ∷ source_name (N.system names.now) source ∷ note_name (N.system names.now) note ∷ decimal badge ∷ []) }
+{
+    let name = write_sourced(bytes, at, what, names, source);
+    let number = names.write_note(bytes, name, note);
+    write_number(bytes, number, u64::from(badge))
+}
+
+/// Writes a word and the name of a source, each after a space.
+#[inline(always)]
+fn write_sourced<N: Naming>(
+    bytes: &mut [u8],
+    at: usize,
+    word: &str,
+    names: &N,
+    source: SourceId,
+) -> usize
+    requires word { length word.now ≤ 9 }
+    requires room { at + 43 ≤ length bytes.old }
+    ensures short { result ≤ at + 43 }
+    ensures written { take result bytes.new
+        ≡ take at bytes.old ++ after (word.now ∷ source_name (N.system names.now) source ∷ []) }
+{
+    let name = write_word(bytes, at, word);
+    names.write_source(bytes, name, source)
 }
 
 /// Writes what a thread did at a notification, and the bits that it set or got.
@@ -188,6 +280,7 @@ fn write_why(bytes: &mut [u8], at: usize, why: Why) -> usize
         Why::Spent => write_short(bytes, at, "spent"),
         Why::Yield => write_short(bytes, at, "yield"),
         Why::Wait => write_short(bytes, at, "wait"),
+        Why::Call => write_short(bytes, at, "call"),
         Why::Done => write_short(bytes, at, "done"),
         Why::Preempt => write_short(bytes, at, "preempt"),
         Why::Order => write_short(bytes, at, "order"),
