@@ -11,10 +11,12 @@ use Rattle.mcs_notify.specs.Note.{quiet_note, posted, after_post}
 use Rattle.mcs_notify.specs.declared.posted.Posted.{Posted}
 use Rattle.mcs_notify.specs.declared.posted.Posted.TheVariants.{Woke, Held}
 use Rattle.mcs_script.specs.declared.item.Item.{Item}
-use Rattle.mcs_script.specs.declared.item.Item.TheVariants.{Compute, Signal, Wait, Yield}
+use Rattle.mcs_script.specs.declared.item.Item.TheVariants.{Compute, Signal, Wait, Yield, On, Spin, Enter, Leave}
 use Rattle.mcs_script.specs.declared.moved.Moved.{Moved}
 use Rattle.mcs_release.specs.Release.{is_due}
 use Rattle.mcs_mail.specs.declared.mail.Mail.{Mail}
+use Rattle.mcs_core.specs.Alarms.{ringing, alarms_at}
+use Rattle.mcs_core.specs.declared.alarm.Alarm.{Alarm}
 use Rattle.mcs_core.specs.declared.standing.AfterItem.{AfterItem}
 use Rattle.mcs_core.specs.declared.standing.AfterItem.TheVariants as after
 use Rattle.mcs_core.specs.declared.standing.Chosen.{Chosen}
@@ -23,7 +25,7 @@ use Rattle.mcs_core.specs.Core.{Core, note_of, with_note}
 use Rattle.mcs_core.specs.Turn as turns
 use Rattle.mcs_core.specs.Turn.{Turn, each, ◌followed_by◌, is_for_now}
 use Rattle.mcs_laws.specs.Places.{places}
-use Rattle.mcs_laws.proofs.Places.{woke, set-waiting, arrives-held, tick_of-held}
+use Rattle.mcs_laws.proofs.Places.{woke, set-waiting, arrives-held, interrupts-held, each-held, tick_of-held}
 use Rattle.mcs_report.proofs.Walks.{is_open}
 use Rattle.mcs_report.proofs.Schedules.{absent}
 
@@ -62,10 +64,25 @@ module _ (system : System) (t x : ℕ) where
   posts_as-roundless : (note badge : ℕ) (post : Posted) (k : Core) → places x k ≡ 0 → posted badge (note_of k note) ≡ post
       → roundless x (turns.posts_as by_priority system t note post k).rows ≡ true
   posts_as-roundless note badge (Woke y word) k none e =
-      let woken = turns.given t y (turns.with_woken_context system t y (with_note note (after_post (Woke y word) (note_of k note)) k)) in
+      let woken = turns.given system t y word (turns.with_woken_context system t y (with_note note (after_post (Woke y word) (note_of k note)) k)) in
       roundless-append x (turns.moves_on system t y woken).rows []
       ∙ rw (moves-roundless y (turns.move_of system y woken) woken (another x y word badge note k none e)) refl
   posts_as-roundless note badge (Held word) k none e = refl
+
+  frees_as-roundless : (server : ℕ) (post : Posted) (k : Core) → places x k ≡ 0 → posted 1 (note_of k server) ≡ post
+      → roundless x (turns.frees_as by_priority system t server post k).rows ≡ true
+  frees_as-roundless server (Woke y word) k none e =
+      let woken = turns.with_woken_context system t y (with_note server (after_post (Woke y word) (note_of k server)) k) in
+      roundless-append x (turns.moves_on system t y woken).rows []
+      ∙ rw (moves-roundless y (turns.move_of system y woken) woken (another x y word 1 server k none e)) refl
+  frees_as-roundless server (Held word) k none e = refl
+
+  interrupts-roundless : (alarms : List Alarm) (k : Core) → places x k ≡ 0 → roundless x (each (turns.interrupts by_priority system t) alarms k).rows ≡ true
+  interrupts-roundless [] k none = refl
+  interrupts-roundless (alarm ∷ alarms) k none =
+      let first = turns.interrupts by_priority system t alarm k in
+      rw (roundless-append x first.rows (each (turns.interrupts by_priority system t) alarms first.core).rows, posts_as-roundless alarm.note alarm.badge (posted alarm.badge (note_of k alarm.note)) k none refl)
+      (interrupts-roundless alarms first.core (omega (arith, interrupts-held system t x alarm k)))
 
   arrivals-roundless : (mails : List Mail) (k : Core) → places x k ≡ 0 → roundless x (each (turns.arrives by_priority system t) mails k).rows ≡ true
   arrivals-roundless [] k none = refl
@@ -99,6 +116,14 @@ module _ (system : System) (c t x : ℕ) where
   effect-roundless y (Some (Wait note)) k e none = grind (arith, e)
   effect-roundless y (Some (Compute ticks)) k e none = grind (arith, e)
   effect-roundless y (Some Yield) k e none = grind (arith, e)
+  effect-roundless y (Some (On badges)) k e none = grind (arith, e)
+  effect-roundless y (Some Spin) k e none = grind (arith, e)
+  effect-roundless y (Some (Enter server priority)) k e none = grind (arith, e)
+  effect-roundless y (Some (Leave server priority)) k e none =
+      let first = turns.frees by_priority system t y server k in
+      let freed : roundless x first.rows ≡ true = frees_as-roundless system t x server (posted 1 (note_of k server)) k none refl in
+      rw (roundless-append x first.rows (turns.moves_on system t y first.core).rows, freed)
+      (moves-roundless system t x y (turns.move_of system y first.core) first.core e)
   effect-roundless y None k e none = refl
 
   tick_of-roundless : (o : Option Chosen) (k : Core) → k.running ≡ o → places x k ≡ 0 → roundless x (turns.tick_of by_priority system c t o k).rows ≡ true
@@ -120,17 +145,20 @@ module _ (system : System) (c t x : ℕ) where
   pub turn-roundless : (mails : List Mail) (k : Core) → places x k ≡ 0 → roundless x (turns.turn_with by_priority system c t mails k).rows ≡ true
   turn-roundless mails k none =
       let first = turns.tick by_priority system c t k in
-      let second = first followed_by each (turns.arrives by_priority system t) mails in
+      let rung = first followed_by each (turns.interrupts by_priority system t) (ringing t (alarms_at system c t)) in
+      let second = rung followed_by each (turns.arrives by_priority system t) mails in
       let third = second followed_by each (turns.obeys by_priority system t) (filter (is_for_now system c t) system.orders) in
       let fourth = third followed_by turns.releases by_priority system t in
       let fifth = fourth followed_by turns.preempts by_priority system t in
       let left = record third.core { releases = filter (λ dated. not (is_due t dated)) third.core.releases } in
+      let ticked = tick_of-held system c t x k.running k refl in
       simp (
         roundless-append x,
         tick_of-roundless k.running k refl none,
-        arrivals-roundless system t x mails first.core (omega (arith, tick_of-held system c t x k.running k refl)),
+        interrupts-roundless system t x (ringing t (alarms_at system c t)) first.core (omega (arith, ticked)),
+        arrivals-roundless system t x mails rung.core (omega (arith, ticked, each-held system t x (turns.interrupts by_priority system t) (interrupts-held system t x) (ringing t (alarms_at system c t)) first.core)),
         each-roundless x (turns.obeys by_priority system t) (obeys-roundless system t x) (filter (is_for_now system c t) system.orders) second.core,
-        each-roundless x (turns.released by_priority system) (λ due core. refl) (filter (is_due t) third.core.releases) left,
+        each-roundless x (turns.released by_priority) (λ due core. refl) (filter (is_due t) third.core.releases) left,
         preempts-roundless system t x fourth.core.running (first_of fourth.core.ready) fourth.core,
         chooses-roundless system t x fifth.core.running (first_of fifth.core.ready) fifth.core,
       )

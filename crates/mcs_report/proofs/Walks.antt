@@ -16,10 +16,12 @@ use Rattle.mcs_notify.specs.declared.posted.Posted.TheVariants.{Woke, Held}
 use Rattle.mcs_notify.specs.declared.posted.Waited.{Waited}
 use Rattle.mcs_notify.specs.declared.posted.Waited.TheVariants.{Got, Blocks}
 use Rattle.mcs_script.specs.declared.item.Item.{Item}
-use Rattle.mcs_script.specs.declared.item.Item.TheVariants.{Compute, Signal, Wait, Yield}
+use Rattle.mcs_script.specs.declared.item.Item.TheVariants.{Compute, Signal, Wait, Yield, On, Spin, Enter, Leave}
 use Rattle.mcs_script.specs.declared.moved.Moved.{Moved}
 use Rattle.mcs_release.specs.declared.dated.Dated.{Dated}
 use Rattle.mcs_mail.specs.declared.mail.Mail.{Mail}
+use Rattle.mcs_core.specs.Alarms.{ringing, alarms_at}
+use Rattle.mcs_core.specs.declared.alarm.Alarm.{Alarm}
 use Rattle.mcs_core.specs.declared.standing.AfterItem.{AfterItem}
 use Rattle.mcs_core.specs.declared.standing.AfterItem.TheVariants as after
 use Rattle.mcs_core.specs.declared.standing.Chosen.{Chosen}
@@ -111,10 +113,10 @@ module _ (x : ℕ) where
 
 -- the parts of a turn
 module _ (system : System) (t x : ℕ) where
-  enters_back-running : (y : ℕ) (date : Option ℕ) (k : Core) → (turns.enters_back by_priority system y date k).running ≡ k.running
+  enters_back-running : (y : ℕ) (date : Option ℕ) (k : Core) → (turns.enters_back by_priority y date k).running ≡ k.running
   enters_back-running y date k = grind arith
 
-  enters_front-running : (y : ℕ) (date : Option ℕ) (k : Core) → (turns.enters_front by_priority system y date k).running ≡ k.running
+  enters_front-running : (y : ℕ) (date : Option ℕ) (k : Core) → (turns.enters_front by_priority y date k).running ≡ k.running
   enters_front-running y date k = grind arith
 
   moves-plain : (y : ℕ) (move : Moved) (k : Core) → Plain x k (turns.moves system t y move k)
@@ -122,11 +124,27 @@ module _ (system : System) (t x : ℕ) where
 
   posts_as-plain : (note : ℕ) (post : Posted) (k : Core) → Plain x k (turns.posts_as by_priority system t note post k)
   posts_as-plain note (Woke y word) k =
-      let woken = turns.given t y (turns.with_woken_context system t y (with_note note (after_post (Woke y word) (note_of k note)) k)) in
+      let woken = turns.given system t y word (turns.with_woken_context system t y (with_note note (after_post (Woke y word) (note_of k note)) k)) in
       let first = turns.moves_on system t y woken in
       let p = moves-plain y (turns.move_of system y woken) woken in
       record { running = enters_back-running y (turns.date_of system t y first.core) first.core ∙ p.running; rows = plain-both x first.rows [] p.rows refl }
   posts_as-plain note (Held word) k = record { running = refl; rows = refl }
+
+  frees_as-plain : (server : ℕ) (post : Posted) (k : Core) → Plain x k (turns.frees_as by_priority system t server post k)
+  frees_as-plain server (Woke y word) k =
+      let woken = turns.with_woken_context system t y (with_note server (after_post (Woke y word) (note_of k server)) k) in
+      let first = turns.moves_on system t y woken in
+      let p = moves-plain y (turns.move_of system y woken) woken in
+      record { running = enters_front-running y (turns.date_of system t y first.core) first.core ∙ p.running; rows = plain-both x first.rows [] p.rows refl }
+  frees_as-plain server (Held word) k = record { running = refl; rows = refl }
+
+  frees-plain : (y server : ℕ) (k : Core) → Plain x k (turns.frees by_priority system t y server k)
+  frees-plain y server k = let p = frees_as-plain server (posted 1 (note_of k server)) k in record { running = p.running; rows = p.rows }
+
+  interrupts-quits : (alarm : Alarm) (k : Core) → Quits x k (turns.interrupts by_priority system t alarm k)
+  interrupts-quits alarm k =
+      let p = posts_as-plain alarm.note (posted alarm.badge (note_of k alarm.note)) k in
+      plain-quits x k (turns.interrupts by_priority system t alarm k) record { running = p.running; rows = p.rows }
 
   arrives-quits : (mail : Mail) (k : Core) → Quits x k (turns.arrives by_priority system t mail k)
   arrives-quits mail k =
@@ -153,19 +171,19 @@ module _ (system : System) (t x : ℕ) where
   obeys-quits : (order : Order) (k : Core) → Quits x k (turns.obeys by_priority system t order k)
   obeys-quits order k = let q = orders_running-quits order k.running k refl in record { walks = (λ e. cc, q.walks); plain = q.plain }
 
-  released-quits : (due : Dated) (k : Core) → Quits x k (turns.released by_priority system due k)
-  released-quits due k = plain-quits x k (turns.released by_priority system due k) record { running = refl; rows = refl }
+  released-quits : (due : Dated) (k : Core) → Quits x k (turns.released by_priority due k)
+  released-quits due k = plain-quits x k (turns.released by_priority due k) record { running = refl; rows = refl }
 
   releases-quits : (k : Core) → Quits x k (turns.releases by_priority system t k)
   releases-quits k =
       let left = record k { releases = filter (λ dated. not (is_due t dated)) k.releases } in
-      let q = quits-each x (turns.released by_priority system) released-quits (filter (is_due t) k.releases) left in
+      let q = quits-each x (turns.released by_priority) released-quits (filter (is_due t) k.releases) left in
       record { walks = q.walks; plain = q.plain }
 
   preempts_by-quits : (o : Option Chosen) (best : Option Queued) (k : Core) → k.running ≡ o → Quits x k (turns.preempts_by by_priority system t o best k)
   preempts_by-quits (Some chosen) (Some best) k e =
       let core = turns.charged system chosen.thread chosen.using k in
-      cond_both (nat_lt (turns.part_of system chosen.thread).priority best.priority) _ (silent k) (Quits x k)
+      cond_both (nat_lt (thread_of k chosen.thread).place.priority best.priority) _ (silent k) (Quits x k)
       (λ i. stops_to_front-quits chosen.thread chosen.using chosen.using why.Preempt k core e)
       (λ i. silent-quits k k refl)
   preempts_by-quits (Some chosen) None k e = silent-quits k k refl
@@ -184,6 +202,7 @@ module _ (system : System) (c t x : ℕ) where
       → Quits x k (turns.may_stop by_priority system t y using cause k)
   may_stop-quits y using after.Ends k e = quits-stop x y using using why.Done None k (turns.stops system y why.Done using Done k) e refl refl
   may_stop-quits y using after.Blocks k e = quits-stop x y using using why.Wait None k (turns.stops system y why.Wait using Blocked k) e refl refl
+  may_stop-quits y using after.Calls k e = quits-stop x y using using why.Call None k (turns.stops system y why.Call using Blocked k) e refl refl
   may_stop-quits y using after.Yields k e = stops_to_back-quits y using (head_amount (turns.its_context system y k)) why.Yield k e
   may_stop-quits y using after.GoesOn k e =
       cond_both (using == head_amount (turns.its_context system y k)) _ (silent k) (Quits x k)
@@ -195,10 +214,17 @@ module _ (system : System) (c t x : ℕ) where
 
   waits_as-plain : (y note : ℕ) (w : Waited) (k : Core) → Plain x k (turns.waits_as system t y note w k)
   waits_as-plain y note (Got word) k =
-      let given = turns.given t y (with_note note (after_wait (Got word) (turns.queued system y) (note_of k note)) k) in
+      let given = turns.given system t y word (with_note note (after_wait (Got word) (turns.queued y k) (note_of k note)) k) in
       let p = moves-plain system t x y (turns.move_of system y given) given in
       record { running = p.running; rows = p.rows }
   waits_as-plain y note Blocks k = record { running = refl; rows = refl }
+
+  enters_as-plain : (y server : ℕ) (w : Waited) (k : Core) → Plain x k (turns.enters_as system t y server w k)
+  enters_as-plain y server (Got word) k =
+      let taken = with_note server (after_wait (Got word) (turns.queued y k) (note_of k server)) k in
+      let p = moves-plain system t x y (turns.move_of system y taken) taken in
+      record { running = p.running; rows = p.rows }
+  enters_as-plain y server Blocks k = record { running = refl; rows = refl }
 
   effect-plain : (y : ℕ) (item : Option Item) (k : Core) → Plain x k (turns.takes_effect by_priority system c t y item k)
   effect-plain y (Some (Signal note badge)) k =
@@ -207,6 +233,12 @@ module _ (system : System) (c t x : ℕ) where
   effect-plain y (Some (Wait note)) k = waits_as-plain y note (waited (note_of k note)) k
   effect-plain y (Some (Compute ticks)) k = moves-plain system t x y (turns.move_of system y k) k
   effect-plain y (Some Yield) k = moves-plain system t x y (turns.move_of system y k) k
+  effect-plain y (Some (On badges)) k = moves-plain system t x y (turns.move_of system y k) k
+  effect-plain y (Some Spin) k = moves-plain system t x y (turns.move_of system y k) k
+  effect-plain y (Some (Enter server priority)) k = enters_as-plain y server (waited (note_of k server)) k
+  effect-plain y (Some (Leave server priority)) k =
+      let first = turns.frees by_priority system t y server k in
+      plain-then x k first (turns.moves_on system t y) (frees-plain system t x y server k) (moves-plain system t x y (turns.move_of system y first.core) first.core)
   effect-plain y None k = record { running = refl; rows = refl }
 
   finishes-quits : (y using : ℕ) (item : Option Item) (k : Core) → k.running ≡ Some (record { thread = y; using = using })
@@ -255,12 +287,16 @@ module _ (system : System) (c t x : ℕ) where
   pub turn-turns : (mails : List Mail) (k : Core) → Turns k (turns.turn_with by_priority system c t mails k)
   turn-turns mails k =
       let first = turns.tick by_priority system c t k in
-      let second = first followed_by each (turns.arrives by_priority system t) mails in
+      let rung = first followed_by each (turns.interrupts by_priority system t) (ringing t (alarms_at system c t)) in
+      let second = rung followed_by each (turns.arrives by_priority system t) mails in
       let third = second followed_by each (turns.obeys by_priority system t) (filter (is_for_now system c t) system.orders) in
       let fourth = third followed_by turns.releases by_priority system t in
       let fifth = fourth followed_by turns.preempts by_priority system t in
-      let one = tick_of-quits k.running k refl in
-      let two = quits-then x k first (each (turns.arrives by_priority system t) mails) one (quits-each x (turns.arrives by_priority system t) (arrives-quits system t x) mails first.core) in
+      let one =
+      quits-then x k first (each (turns.interrupts by_priority system t) (ringing t (alarms_at system c t))) (tick_of-quits k.running k refl)
+      (quits-each x (turns.interrupts by_priority system t) (interrupts-quits system t x) (ringing t (alarms_at system c t)) first.core)
+      in
+      let two = quits-then x k rung (each (turns.arrives by_priority system t) mails) one (quits-each x (turns.arrives by_priority system t) (arrives-quits system t x) mails rung.core) in
       let three =
       quits-then x k second (each (turns.obeys by_priority system t) (filter (is_for_now system c t) system.orders)) two
       (quits-each x (turns.obeys by_priority system t) (obeys-quits system t x) (filter (is_for_now system c t) system.orders) second.core)
