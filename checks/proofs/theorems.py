@@ -43,7 +43,11 @@ DEFAULT_HORIZON = 1000
 # Computing goes over each moment, so runs past this horizon are left out.
 LONGEST = 10_000
 
-CAUSES = {'spent': 'Spent', 'yield': 'Yield', 'wait': 'Wait', 'done': 'Done', 'preempt': 'Preempt', 'order': 'Order'}
+CAUSES = {
+    'spent': 'Spent', 'yield': 'Yield', 'wait': 'Wait', 'call': 'Call', 'done': 'Done', 'preempt': 'Preempt', 'order': 'Order',
+}
+ITEMS = ['Compute', 'Signal', 'Wait', 'Yield', 'On', 'Spin', 'Enter', 'Leave']
+WORDS = ['context', 'bandwidth_context', 'note', 'note_with', 'server', 'thread', 'order', 'link', 'source', 'beat', 'chain', 'at']
 
 
 def sequence(terms: Sequence[str]) -> str:
@@ -55,41 +59,78 @@ def applied(term: str) -> str:
 
 
 class Numbers:
-    """The number of each name."""
+    """The number of each name. Servers go on from the notifications."""
 
     def __init__(self, system: Table) -> None:
-        def places(kind: str) -> dict[str, int]:
-            return {part['name']: place for place, part in enumerate(system.get(kind, []))}
+        def places(kind: str, first: int = 0) -> dict[str, int]:
+            return {part['name']: first + place for place, part in enumerate(system.get(kind, []))}
 
-        self.contexts, self.notes, self.threads = places('context'), places('note'), places('thread')
+        self.contexts, self.threads, self.sources = places('context'), places('thread'), places('source')
+        notes = places('note')
+        self.notes = notes | places('server', len(notes))
+        self.servers = {part['name']: part for part in system.get('server', [])}
+        # threads that stopped since the server that they call was taken
+        self.calling: set[str] = set()
 
 
-def item_term(text: str, numbers: Numbers) -> str:
+def called_items(script: Sequence[str], badge: int) -> list[str]:
+    """The items of a server's script that stand before its first `on`, or in a handler that has a bit of the badge."""
+    items, taken = [], True
+    for text in script:
+        word, *rest = text.split()
+        if word == 'on':
+            taken = int(rest[0]) & badge != 0
+        elif taken:
+            items.append(text)
+    return items
+
+
+def item_terms(text: str, priority: int, numbers: Numbers) -> list[str]:
+    """The items of a step: of a call, `Enter`, what the server does for this badge, and `Leave`. This priority is in force before it."""
     word, *rest = text.split()
     if word == 'compute':
-        return f'Compute {rest[0]}'
+        return [f'Compute {rest[0]}']
     if word == 'signal':
-        return f'Signal {numbers.notes[rest[0]]} {rest[1]}'
+        return [f'Signal {numbers.notes[rest[0]]} {rest[1]}']
     if word == 'wait':
-        return f'Wait {numbers.notes[rest[0]]}'
-    return 'Yield'
+        return [f'Wait {numbers.notes[rest[0]]}']
+    if word == 'on':
+        return [f'On {rest[0]}']
+    if word == 'call':
+        server = numbers.servers[rest[0]]
+        inside = script_terms(called_items(server['script'], int(rest[1])), server['priority'], numbers)
+        number = numbers.notes[rest[0]]
+        return [f'Enter {number} {server["priority"]}', *inside, f'Leave {number} {priority}']
+    return [word.capitalize()]
+
+
+def script_terms(script: Sequence[str], priority: int, numbers: Numbers) -> list[str]:
+    return [term for text in script for term in item_terms(text, priority, numbers)]
 
 
 def name_term(part: Table) -> str:
     return f'(codes "{part["name"]}")'
 
 
-def context_term(part: Table) -> str:
-    word = 'bandwidth_context' if part.get('mode') == 'bandwidth' else 'context'
+def context_term(part: Table, version: int) -> str:
+    # round robin has no mode
+    default = 'bandwidth' if version == 3 and part['budget'] < part['period'] else 'sporadic'
+    word = 'bandwidth_context' if part.get('mode', default) == 'bandwidth' else 'context'
     return f'{word} {name_term(part)} {part["core"]} {part["budget"]} {part["period"]} {part.get("extra_refills", 0)}'
 
 
 def note_term(part: Table) -> str:
+    if part.get('word', 0):
+        return f'note_with {name_term(part)} {part["core"]} {part["word"]}'
     return f'note {name_term(part)} {part["core"]}'
 
 
+def server_term(part: Table) -> str:
+    return f'server {name_term(part)} {part["core"]}'
+
+
 def thread_term(part: Table, numbers: Numbers) -> str:
-    script = sequence([applied(item_term(text, numbers)) for text in part['script']])
+    script = sequence([applied(term) for term in script_terms(part['script'], part['priority'], numbers)])
     return (
         f'thread {name_term(part)} {numbers.contexts[part["context"]]} {part["priority"]} {part.get("start", 0)} '
         f'{part.get("rounds", 0)} {part.get("deadline", 0)} {script}'
@@ -104,6 +145,29 @@ def link_term(part: Table) -> str:
     return f'link {part["maker"]} {part["home"]} {part["delay"]}'
 
 
+def source_term(part: Table, numbers: Numbers) -> str:
+    return f'source {name_term(part)} {numbers.notes[part["note"]]} {part["badge"]}'
+
+
+def beat_terms(number: int, part: Table) -> list[str]:
+    """Those of the source with this number, one for each number of `at` that has a date."""
+    places, count = part.get('at', [0]), part.get('count', 0)
+    terms = []
+    for place, after in enumerate(places):
+        if count and count <= place:
+            break
+        dates = (count - place - 1) // len(places) + 1 if count else 0
+        terms.append(f'beat {number} {part.get("start", 0) + after} {part["period"]} {dates}')
+    return terms
+
+
+def chain_term(part: Table, numbers: Numbers) -> str:
+    return (
+        f'chain {name_term(part)} {numbers.sources[part["source"]]} {numbers.threads[part["thread"]]} {part.get("badges", 0)} '
+        f'{part.get("deadline", 0)}'
+    )
+
+
 def field(name: str, terms: Sequence[str]) -> str:
     """A field of the system, a part on a line of its own."""
     if not terms:
@@ -112,17 +176,22 @@ def field(name: str, terms: Sequence[str]) -> str:
 
 
 def system_definition(name: str, system: Table, numbers: Numbers) -> str:
-    contexts = [context_term(part) for part in system.get('context', [])]
-    notes = [note_term(part) for part in system.get('note', [])]
+    contexts = [context_term(part, system['version']) for part in system.get('context', [])]
+    servers = [server_term(part) for part in system.get('server', [])]
+    notes = [note_term(part) for part in system.get('note', [])] + servers
     threads = [thread_term(part, numbers) for part in system.get('thread', [])]
     orders = [order_term(part, numbers) for part in system.get('order', [])]
     links = [link_term(part) for part in system.get('link', [])]
+    sources = [source_term(part, numbers) for part in system.get('source', [])]
+    beats = [term for number, part in enumerate(system.get('source', [])) for term in beat_terms(number, part)]
+    chains = [chain_term(part, numbers) for part in system.get('chain', [])]
     return (
         f'abbrev pub {name}_system : System\n{name}_system = record {{\n'
         f'  cores = {system["cores"]};\n  delay = {system["delay"]};\n'
         f'  call = {system.get("call", 1)};\n  min_budget = {system.get("min_budget", 1)};\n'
         + field('contexts', contexts) + field('notes', notes) + field('threads', threads) + field('orders', orders)
-        + field('links', links) + '}\n'
+        + field('links', links) + f'  servers = {len(servers)};\n' + field('sources', sources) + field('beats', beats)
+        + field('chains', chains) + '}\n'
     )
 
 
@@ -130,6 +199,8 @@ def what_term(word: str, rest: Sequence[str], numbers: Numbers) -> str:
     if word in ('release', 'run'):
         return f'row.{word.capitalize()} {numbers.threads[rest[0]]}'
     if word == 'stop':
+        if rest[1] == 'call':
+            numbers.calling.add(rest[0])
         until = f'(Some {rest[4]})' if len(rest) > 3 else 'None'
         return f'row.Stop {numbers.threads[rest[0]]} why.{CAUSES[rest[1]]} {rest[2]} {until}'
     if word == 'signal':
@@ -144,6 +215,15 @@ def what_term(word: str, rest: Sequence[str], numbers: Numbers) -> str:
         return f'row.Round {numbers.threads[rest[0]]} {rest[1]} {rest[2]}'
     if word == 'order':
         return f'row.Order {numbers.contexts[rest[0]]}'
+    if word == 'interrupt':
+        return f'row.Interrupt {numbers.sources[rest[0]]} {numbers.notes[rest[1]]} {rest[2]}'
+    # as values, a server's rows are those of a notification
+    if word == 'enter':
+        is_let_in = rest[0] in numbers.calling
+        numbers.calling.discard(rest[0])
+        return f'row.{"Wake" if is_let_in else "Got"} {numbers.threads[rest[0]]} {numbers.notes[rest[1]]} 1'
+    if word == 'leave':
+        return f'row.Signal {numbers.threads[rest[0]]} {numbers.notes[rest[1]]} 1'
     raise ValueError(word)
 
 
@@ -187,7 +267,8 @@ def theorem(path: pathlib.Path) -> str:
 
 
 def imports(names: Iterable[str], text: str) -> str:
-    """Those of the names that stand in the text."""
+    """Those of the names that stand in the text, but for what stands in quotes."""
+    text = re.sub(r'"[^"]*"', '', text)
     return ', '.join(name for name in names if re.search(rf'(?<![.\w]){re.escape(name)}(?!\w)', text))
 
 
@@ -203,8 +284,8 @@ def text_of(parts: Sequence[str], theorems: Sequence[str]) -> str:
     head = HEAD.format(
         parts=' and '.join(str((DATA / part).relative_to(TOP)) for part in parts),
         prelude='◌≡◌, ' + imports(['List', '[]'], body) + ', ◌∷◌, ' + imports(['Some', 'None', 'refl', 'codes'], body),
-        items=imports(['Compute', 'Signal', 'Wait', 'Yield'], body),
-        words=imports(['context', 'bandwidth_context', 'note', 'thread', 'order', 'link', 'at'], body),
+        items=imports(ITEMS, body),
+        words=imports(WORDS, body),
     )
     return head + '\n' + body
 

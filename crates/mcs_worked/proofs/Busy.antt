@@ -14,6 +14,7 @@ use Rattle.mcs_core.specs.declared.standing.Chosen.{Chosen}
 use Rattle.mcs_core.specs.declared.standing.Standing.{Standing}
 use Rattle.mcs_core.specs.declared.standing.Standing.TheVariants.{Blocked, Pending, Running, Done}
 use Rattle.mcs_core.specs.declared.standing.Thread.{Thread}
+use Rattle.mcs_core.specs.Alarms.{past, before_moment}
 use Rattle.mcs_core.specs.Core.{Core, opening_core, thread_of}
 use Rattle.mcs_core.specs.Turn.{Turn, silent}
 use Rattle.mcs_core.specs.Clock.{world, core_at}
@@ -33,7 +34,7 @@ tells made after what others told quiet =
 -- a thread in its first round, which began at 0
 abbrev stands_so : Standing → ℕ → ℕ → Thread
 stands_so standing item left =
-    record { standing = standing; place = record { round = 1; item = item; left = left }; since = 0 }
+    record { standing = standing; place = record { round = 1; item = item; left = left; word = 0; priority = 5 }; since = 0 }
 
 abbrev runs_with : ℕ → Option Chosen
 runs_with using = Some (record { thread = 0; using = using })
@@ -98,8 +99,12 @@ before_12_is = refl
 
 done_is_never_busy : IsNextBusy depletes_and_refills_system 0 12 [] before_12 None
 done_is_never_busy n l =
-    let P : Core → Type 0 = λ core. IsQuiet depletes_and_refills_system 0 (12 + n) [] core in subst P (sym (still n)) refl
+    let P : Core → Type 0 = λ core. IsQuiet depletes_and_refills_system 0 (12 + n) [] core in subst P (sym (still n)) (rw (none_rings (12 + n)) refl)
   where
+    none_rings : (t : ℕ) → before_moment t [] ≡ []
+    none_rings zero = refl
+    none_rings (suc t) = ap (past t) (none_rings t)
+
     still : (n : ℕ) → counted_times depletes_and_refills_system 0 n before_12 ≡ before_12
     still zero = refl
     still (suc n) = ap (counted depletes_and_refills_system 0) (still n)
@@ -158,7 +163,7 @@ waiting =
       running = None;
       threads =
           stands_so Blocked 0 0
-          ∷ record { standing = Pending; place = record { round = 1; item = 0; left = 1 }; since = 6 }
+          ∷ record { standing = Pending; place = record { round = 1; item = 0; left = 1; word = 0; priority = 5 }; since = 6 }
           ∷ [];
       ready = [];
       releases = record { thread = 1; date = 6 } ∷ [];

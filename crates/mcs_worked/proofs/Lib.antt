@@ -2,6 +2,7 @@ pub mod Schedules
 mod Contexts
 mod Turns
 mod Orders
+mod Handlers
 mod Random
 pub mod Busy
 mod OneList

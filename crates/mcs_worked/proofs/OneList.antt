@@ -29,16 +29,17 @@ low = record { thread = 1; priority = 1 }
 abbrev middle : Queued
 middle = record { thread = 2; priority = 5 }
 
--- a thread in its first round, which began then
-abbrev stands_so : Standing → ℕ → ℕ → Thread
-stands_so standing left since = record { standing = standing; place = record { round = 1; item = 0; left = left }; since = since }
+-- a thread of this priority in its first round, which began then
+abbrev stands_so : Standing → ℕ → ℕ → ℕ → Thread
+stands_so standing priority left since =
+    record { standing = standing; place = record { round = 1; item = 0; left = left; word = 0; priority = priority }; since = since }
 
 -- Before moment 3 High has run for 2 ticks, and in the clock's list the others stand as they entered ..
 abbrev before_3 : Core
 before_3 =
     record (opening_core system 0) {
       running = Some (record { thread = 0; using = 2 });
-      threads = stands_so Running 2 0 ∷ stands_so Ready 1 1 ∷ stands_so Ready 1 2 ∷ [];
+      threads = stands_so Running 9 2 0 ∷ stands_so Ready 1 1 1 ∷ stands_so Ready 5 1 2 ∷ [];
       ready = low ∷ middle ∷ [];
       releases = [];
     }

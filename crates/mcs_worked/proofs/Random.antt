@@ -27,6 +27,10 @@ random_one_01_system = record {
       ∷ [];
   orders = [];
   links = [];
+  servers = 0;
+  sources = [];
+  beats = [];
+  chains = [];
 }
 
 abbrev pub random_one_01_rows : List Row
@@ -110,6 +114,10 @@ random_one_02_system = record {
       ∷ [];
   orders = [];
   links = [];
+  servers = 0;
+  sources = [];
+  beats = [];
+  chains = [];
 }
 
 abbrev pub random_one_02_rows : List Row
@@ -199,6 +207,10 @@ random_one_03_system = record {
       ∷ [];
   orders = [];
   links = [];
+  servers = 0;
+  sources = [];
+  beats = [];
+  chains = [];
 }
 
 abbrev pub random_one_03_rows : List Row
@@ -274,6 +286,10 @@ random_one_04_system = record {
       ∷ [];
   orders = [];
   links = [];
+  servers = 0;
+  sources = [];
+  beats = [];
+  chains = [];
 }
 
 abbrev pub random_one_04_rows : List Row
@@ -374,6 +390,10 @@ random_one_05_system = record {
       ∷ order 79 0 10 14 0
       ∷ [];
   links = [];
+  servers = 0;
+  sources = [];
+  beats = [];
+  chains = [];
 }
 
 abbrev pub random_one_05_rows : List Row
@@ -485,6 +505,10 @@ random_one_06_system = record {
       ∷ order 4 2 2 3 0
       ∷ [];
   links = [];
+  servers = 0;
+  sources = [];
+  beats = [];
+  chains = [];
 }
 
 abbrev pub random_one_06_rows : List Row
@@ -538,6 +562,10 @@ random_one_07_system = record {
       ∷ order 19 3 5 6 0
       ∷ [];
   links = [];
+  servers = 0;
+  sources = [];
+  beats = [];
+  chains = [];
 }
 
 abbrev pub random_one_07_rows : List Row
@@ -611,6 +639,10 @@ random_one_08_system = record {
       order 44 0 7 32 0
       ∷ [];
   links = [];
+  servers = 0;
+  sources = [];
+  beats = [];
+  chains = [];
 }
 
 abbrev pub random_one_08_rows : List Row
@@ -694,6 +726,10 @@ random_one_09_system = record {
       ∷ order 1 2 4 4 0
       ∷ [];
   links = [];
+  servers = 0;
+  sources = [];
+  beats = [];
+  chains = [];
 }
 
 abbrev pub random_one_09_rows : List Row
@@ -780,6 +816,10 @@ random_one_10_system = record {
       ∷ order 19 0 2 9 0
       ∷ [];
   links = [];
+  servers = 0;
+  sources = [];
+  beats = [];
+  chains = [];
 }
 
 abbrev pub random_one_10_rows : List Row
@@ -910,6 +950,10 @@ random_one_11_system = record {
       ∷ order 1 1 6 29 0
       ∷ [];
   links = [];
+  servers = 0;
+  sources = [];
+  beats = [];
+  chains = [];
 }
 
 abbrev pub random_one_11_rows : List Row
@@ -959,6 +1003,10 @@ random_one_12_system = record {
       ∷ [];
   orders = [];
   links = [];
+  servers = 0;
+  sources = [];
+  beats = [];
+  chains = [];
 }
 
 abbrev pub random_one_12_rows : List Row
@@ -1037,6 +1085,10 @@ random_one_13_system = record {
       ∷ [];
   orders = [];
   links = [];
+  servers = 0;
+  sources = [];
+  beats = [];
+  chains = [];
 }
 
 abbrev pub random_one_13_rows : List Row
@@ -1103,6 +1155,10 @@ random_one_14_system = record {
       ∷ [];
   orders = [];
   links = [];
+  servers = 0;
+  sources = [];
+  beats = [];
+  chains = [];
 }
 
 abbrev pub random_one_14_rows : List Row
@@ -1207,6 +1263,10 @@ random_one_15_system = record {
       ∷ [];
   orders = [];
   links = [];
+  servers = 0;
+  sources = [];
+  beats = [];
+  chains = [];
 }
 
 abbrev pub random_one_15_rows : List Row
@@ -1259,6 +1319,10 @@ random_one_16_system = record {
       order 7 3 3 5 0
       ∷ [];
   links = [];
+  servers = 0;
+  sources = [];
+  beats = [];
+  chains = [];
 }
 
 abbrev pub random_one_16_rows : List Row
@@ -1351,6 +1415,10 @@ random_one_17_system = record {
       ∷ [];
   orders = [];
   links = [];
+  servers = 0;
+  sources = [];
+  beats = [];
+  chains = [];
 }
 
 abbrev pub random_one_17_rows : List Row
@@ -1455,6 +1523,10 @@ random_one_18_system = record {
       ∷ [];
   orders = [];
   links = [];
+  servers = 0;
+  sources = [];
+  beats = [];
+  chains = [];
 }
 
 abbrev pub random_one_18_rows : List Row
@@ -1571,6 +1643,10 @@ random_one_19_system = record {
       ∷ [];
   orders = [];
   links = [];
+  servers = 0;
+  sources = [];
+  beats = [];
+  chains = [];
 }
 
 abbrev pub random_one_19_rows : List Row
@@ -1621,6 +1697,10 @@ random_one_20_system = record {
       ∷ order 118 2 9 10 0
       ∷ [];
   links = [];
+  servers = 0;
+  sources = [];
+  beats = [];
+  chains = [];
 }
 
 abbrev pub random_one_20_rows : List Row
@@ -1682,6 +1762,10 @@ random_one_21_system = record {
       order 2 0 7 14 0
       ∷ [];
   links = [];
+  servers = 0;
+  sources = [];
+  beats = [];
+  chains = [];
 }
 
 abbrev pub random_one_21_rows : List Row
@@ -1743,6 +1827,10 @@ random_one_22_system = record {
       ∷ [];
   orders = [];
   links = [];
+  servers = 0;
+  sources = [];
+  beats = [];
+  chains = [];
 }
 
 abbrev pub random_one_22_rows : List Row
@@ -1788,6 +1876,10 @@ random_one_23_system = record {
       ∷ [];
   orders = [];
   links = [];
+  servers = 0;
+  sources = [];
+  beats = [];
+  chains = [];
 }
 
 abbrev pub random_one_23_rows : List Row
@@ -1852,6 +1944,10 @@ random_one_24_system = record {
       order 54 0 5 7 0
       ∷ [];
   links = [];
+  servers = 0;
+  sources = [];
+  beats = [];
+  chains = [];
 }
 
 abbrev pub random_one_24_rows : List Row
@@ -1895,6 +1991,10 @@ random_one_25_system = record {
       ∷ [];
   orders = [];
   links = [];
+  servers = 0;
+  sources = [];
+  beats = [];
+  chains = [];
 }
 
 abbrev pub random_one_25_rows : List Row
@@ -1991,6 +2091,10 @@ random_one_26_system = record {
       order 182 0 3 7 0
       ∷ [];
   links = [];
+  servers = 0;
+  sources = [];
+  beats = [];
+  chains = [];
 }
 
 abbrev pub random_one_26_rows : List Row
@@ -2090,6 +2194,10 @@ random_one_27_system = record {
       ∷ order 37 0 2 24 0
       ∷ [];
   links = [];
+  servers = 0;
+  sources = [];
+  beats = [];
+  chains = [];
 }
 
 abbrev pub random_one_27_rows : List Row
@@ -2158,6 +2266,10 @@ random_one_28_system = record {
       ∷ order 0 1 6 21 0
       ∷ [];
   links = [];
+  servers = 0;
+  sources = [];
+  beats = [];
+  chains = [];
 }
 
 abbrev pub random_one_28_rows : List Row
@@ -2262,6 +2374,10 @@ random_one_29_system = record {
       ∷ order 0 1 3 9 0
       ∷ [];
   links = [];
+  servers = 0;
+  sources = [];
+  beats = [];
+  chains = [];
 }
 
 abbrev pub random_one_29_rows : List Row
@@ -2354,6 +2470,10 @@ random_one_30_system = record {
       ∷ [];
   orders = [];
   links = [];
+  servers = 0;
+  sources = [];
+  beats = [];
+  chains = [];
 }
 
 abbrev pub random_one_30_rows : List Row
@@ -2474,6 +2594,10 @@ random_several_01_system = record {
       ∷ [];
   orders = [];
   links = [];
+  servers = 0;
+  sources = [];
+  beats = [];
+  chains = [];
 }
 
 abbrev pub random_several_01_rows : List Row
@@ -2619,6 +2743,10 @@ random_several_02_system = record {
       order 15 0 8 18 3
       ∷ [];
   links = [];
+  servers = 0;
+  sources = [];
+  beats = [];
+  chains = [];
 }
 
 abbrev pub random_several_02_rows : List Row
@@ -2741,6 +2869,10 @@ random_several_03_system = record {
       ∷ order 3 3 5 14 1
       ∷ [];
   links = [];
+  servers = 0;
+  sources = [];
+  beats = [];
+  chains = [];
 }
 
 abbrev pub random_several_03_rows : List Row
@@ -2895,6 +3027,10 @@ random_several_04_system = record {
       ∷ [];
   orders = [];
   links = [];
+  servers = 0;
+  sources = [];
+  beats = [];
+  chains = [];
 }
 
 abbrev pub random_several_04_rows : List Row
@@ -3065,6 +3201,10 @@ random_several_05_system = record {
       ∷ [];
   orders = [];
   links = [];
+  servers = 0;
+  sources = [];
+  beats = [];
+  chains = [];
 }
 
 abbrev pub random_several_05_rows : List Row
@@ -3224,6 +3364,10 @@ random_several_06_system = record {
       ∷ [];
   orders = [];
   links = [];
+  servers = 0;
+  sources = [];
+  beats = [];
+  chains = [];
 }
 
 abbrev pub random_several_06_rows : List Row
@@ -3295,6 +3439,10 @@ random_several_07_system = record {
       ∷ [];
   orders = [];
   links = [];
+  servers = 0;
+  sources = [];
+  beats = [];
+  chains = [];
 }
 
 abbrev pub random_several_07_rows : List Row
@@ -3373,6 +3521,10 @@ random_several_08_system = record {
       ∷ [];
   orders = [];
   links = [];
+  servers = 0;
+  sources = [];
+  beats = [];
+  chains = [];
 }
 
 abbrev pub random_several_08_rows : List Row
@@ -3476,6 +3628,10 @@ random_several_09_system = record {
       order 2 6 1 1 0
       ∷ [];
   links = [];
+  servers = 0;
+  sources = [];
+  beats = [];
+  chains = [];
 }
 
 abbrev pub random_several_09_rows : List Row
@@ -3649,6 +3805,10 @@ random_several_10_system = record {
       ∷ order 1 3 5 25 0
       ∷ [];
   links = [];
+  servers = 0;
+  sources = [];
+  beats = [];
+  chains = [];
 }
 
 abbrev pub random_several_10_rows : List Row
@@ -3789,6 +3949,10 @@ random_several_11_system = record {
       order 0 1 6 26 0
       ∷ [];
   links = [];
+  servers = 0;
+  sources = [];
+  beats = [];
+  chains = [];
 }
 
 abbrev pub random_several_11_rows : List Row
@@ -3880,6 +4044,10 @@ random_several_12_system = record {
       ∷ [];
   orders = [];
   links = [];
+  servers = 0;
+  sources = [];
+  beats = [];
+  chains = [];
 }
 
 abbrev pub random_several_12_rows : List Row
@@ -3960,6 +4128,10 @@ random_several_13_system = record {
       ∷ [];
   orders = [];
   links = [];
+  servers = 0;
+  sources = [];
+  beats = [];
+  chains = [];
 }
 
 abbrev pub random_several_13_rows : List Row
@@ -4094,6 +4266,10 @@ random_several_14_system = record {
       order 3 2 6 11 0
       ∷ [];
   links = [];
+  servers = 0;
+  sources = [];
+  beats = [];
+  chains = [];
 }
 
 abbrev pub random_several_14_rows : List Row
@@ -4215,6 +4391,10 @@ random_several_15_system = record {
       ∷ order 2 0 3 5 0
       ∷ [];
   links = [];
+  servers = 0;
+  sources = [];
+  beats = [];
+  chains = [];
 }
 
 abbrev pub random_several_15_rows : List Row
@@ -4353,6 +4533,10 @@ random_several_16_system = record {
       ∷ [];
   orders = [];
   links = [];
+  servers = 0;
+  sources = [];
+  beats = [];
+  chains = [];
 }
 
 abbrev pub random_several_16_rows : List Row
@@ -4406,6 +4590,10 @@ random_several_17_system = record {
       ∷ [];
   orders = [];
   links = [];
+  servers = 0;
+  sources = [];
+  beats = [];
+  chains = [];
 }
 
 abbrev pub random_several_17_rows : List Row
@@ -4472,6 +4660,10 @@ random_several_18_system = record {
       ∷ order 14 4 4 13 0
       ∷ [];
   links = [];
+  servers = 0;
+  sources = [];
+  beats = [];
+  chains = [];
 }
 
 abbrev pub random_several_18_rows : List Row
@@ -4564,6 +4756,10 @@ random_several_19_system = record {
       order 1 7 6 18 0
       ∷ [];
   links = [];
+  servers = 0;
+  sources = [];
+  beats = [];
+  chains = [];
 }
 
 abbrev pub random_several_19_rows : List Row
@@ -4722,6 +4918,10 @@ random_several_20_system = record {
       ∷ [];
   orders = [];
   links = [];
+  servers = 0;
+  sources = [];
+  beats = [];
+  chains = [];
 }
 
 abbrev pub random_several_20_rows : List Row
@@ -4846,6 +5046,10 @@ random_several_21_system = record {
       ∷ [];
   orders = [];
   links = [];
+  servers = 0;
+  sources = [];
+  beats = [];
+  chains = [];
 }
 
 abbrev pub random_several_21_rows : List Row
@@ -4934,6 +5138,10 @@ random_several_22_system = record {
       ∷ order 0 0 8 17 0
       ∷ [];
   links = [];
+  servers = 0;
+  sources = [];
+  beats = [];
+  chains = [];
 }
 
 abbrev pub random_several_22_rows : List Row
@@ -5006,6 +5214,10 @@ random_several_23_system = record {
       ∷ [];
   orders = [];
   links = [];
+  servers = 0;
+  sources = [];
+  beats = [];
+  chains = [];
 }
 
 abbrev pub random_several_23_rows : List Row
@@ -5185,6 +5397,10 @@ random_several_24_system = record {
       order 36 5 7 8 0
       ∷ [];
   links = [];
+  servers = 0;
+  sources = [];
+  beats = [];
+  chains = [];
 }
 
 abbrev pub random_several_24_rows : List Row
@@ -5325,6 +5541,10 @@ random_several_25_system = record {
       ∷ order 93 5 13 13 0
       ∷ [];
   links = [];
+  servers = 0;
+  sources = [];
+  beats = [];
+  chains = [];
 }
 
 abbrev pub random_several_25_rows : List Row
@@ -5490,6 +5710,10 @@ random_several_26_system = record {
       ∷ [];
   orders = [];
   links = [];
+  servers = 0;
+  sources = [];
+  beats = [];
+  chains = [];
 }
 
 abbrev pub random_several_26_rows : List Row
@@ -5582,6 +5806,10 @@ random_several_27_system = record {
       ∷ [];
   orders = [];
   links = [];
+  servers = 0;
+  sources = [];
+  beats = [];
+  chains = [];
 }
 
 abbrev pub random_several_27_rows : List Row
@@ -5662,6 +5890,10 @@ random_several_28_system = record {
       ∷ [];
   orders = [];
   links = [];
+  servers = 0;
+  sources = [];
+  beats = [];
+  chains = [];
 }
 
 abbrev pub random_several_28_rows : List Row
@@ -5715,6 +5947,10 @@ random_several_29_system = record {
       ∷ [];
   orders = [];
   links = [];
+  servers = 0;
+  sources = [];
+  beats = [];
+  chains = [];
 }
 
 abbrev pub random_several_29_rows : List Row
@@ -5795,6 +6031,10 @@ random_several_30_system = record {
       ∷ [];
   orders = [];
   links = [];
+  servers = 0;
+  sources = [];
+  beats = [];
+  chains = [];
 }
 
 abbrev pub random_several_30_rows : List Row

@@ -33,6 +33,10 @@ arrival_before_order_before_release_system = record {
       order 4 1 2 8 0
       ∷ [];
   links = [];
+  servers = 0;
+  sources = [];
+  beats = [];
+  chains = [];
 }
 
 abbrev pub arrival_before_order_before_release_rows : List Row
@@ -75,6 +79,10 @@ bandwidth_keeps_to_one_budget_system = record {
       ∷ [];
   orders = [];
   links = [];
+  servers = 0;
+  sources = [];
+  beats = [];
+  chains = [];
 }
 
 abbrev pub bandwidth_keeps_to_one_budget_rows : List Row
@@ -111,6 +119,10 @@ bandwidth_unblocks_when_chosen_system = record {
       ∷ [];
   orders = [];
   links = [];
+  servers = 0;
+  sources = [];
+  beats = [];
+  chains = [];
 }
 
 abbrev pub bandwidth_unblocks_when_chosen_rows : List Row
@@ -146,6 +158,10 @@ call_costs_ticks_system = record {
       ∷ [];
   orders = [];
   links = [];
+  servers = 0;
+  sources = [];
+  beats = [];
+  chains = [];
 }
 
 abbrev pub call_costs_ticks_rows : List Row
@@ -182,6 +198,10 @@ delivery_in_order_of_cores_system = record {
       ∷ [];
   orders = [];
   links = [];
+  servers = 0;
+  sources = [];
+  beats = [];
+  chains = [];
 }
 
 abbrev pub delivery_in_order_of_cores_rows : List Row
@@ -226,6 +246,10 @@ delivery_in_order_of_making_system = record {
       ∷ [];
   orders = [];
   links = [];
+  servers = 0;
+  sources = [];
+  beats = [];
+  chains = [];
 }
 
 abbrev pub delivery_in_order_of_making_rows : List Row
@@ -263,6 +287,10 @@ depletes_and_refills_system = record {
       ∷ [];
   orders = [];
   links = [];
+  servers = 0;
+  sources = [];
+  beats = [];
+  chains = [];
 }
 
 abbrev pub depletes_and_refills_rows : List Row
@@ -303,6 +331,10 @@ driver_beside_a_loop_system = record {
       ∷ [];
   orders = [];
   links = [];
+  servers = 0;
+  sources = [];
+  beats = [];
+  chains = [];
 }
 
 abbrev pub driver_beside_a_loop_rows : List Row
@@ -351,6 +383,10 @@ idle_cores_system = record {
   threads = [];
   orders = [];
   links = [];
+  servers = 0;
+  sources = [];
+  beats = [];
+  chains = [];
 }
 
 abbrev pub idle_cores_rows : List Row
@@ -383,6 +419,10 @@ made_before_maker_system = record {
   links =
       link 1 2 3
       ∷ [];
+  servers = 0;
+  sources = [];
+  beats = [];
+  chains = [];
 }
 
 abbrev pub made_before_maker_rows : List Row
@@ -430,6 +470,10 @@ mode_change_by_orders_system = record {
       ∷ order 20 1 8 10 0
       ∷ [];
   links = [];
+  servers = 0;
+  sources = [];
+  beats = [];
+  chains = [];
 }
 
 abbrev pub mode_change_by_orders_rows : List Row
@@ -503,6 +547,10 @@ one_fast_link_and_two_slow_ones_system = record {
       ∷ link 0 2 10
       ∷ link 1 2 8
       ∷ [];
+  servers = 0;
+  sources = [];
+  beats = [];
+  chains = [];
 }
 
 abbrev pub one_fast_link_and_two_slow_ones_rows : List Row
@@ -556,6 +604,10 @@ order_stops_the_runner_system = record {
       order 4 0 6 50 0
       ∷ [];
   links = [];
+  servers = 0;
+  sources = [];
+  beats = [];
+  chains = [];
 }
 
 abbrev pub order_stops_the_runner_rows : List Row
@@ -590,6 +642,10 @@ overload_is_counted_system = record {
       ∷ [];
   orders = [];
   links = [];
+  servers = 0;
+  sources = [];
+  beats = [];
+  chains = [];
 }
 
 abbrev pub overload_is_counted_rows : List Row
@@ -653,6 +709,10 @@ overload_throttles_the_stream_system = record {
       ∷ [];
   orders = [];
   links = [];
+  servers = 0;
+  sources = [];
+  beats = [];
+  chains = [];
 }
 
 abbrev pub overload_throttles_the_stream_rows : List Row
@@ -693,6 +753,10 @@ overrun_within_a_budget_system = record {
       ∷ [];
   orders = [];
   links = [];
+  servers = 0;
+  sources = [];
+  beats = [];
+  chains = [];
 }
 
 abbrev pub overrun_within_a_budget_rows : List Row
@@ -740,6 +804,10 @@ overrun_without_a_budget_system = record {
       ∷ [];
   orders = [];
   links = [];
+  servers = 0;
+  sources = [];
+  beats = [];
+  chains = [];
 }
 
 abbrev pub overrun_without_a_budget_rows : List Row
@@ -785,6 +853,10 @@ pipeline_over_four_cores_system = record {
   links =
       link 1 2 8
       ∷ [];
+  servers = 0;
+  sources = [];
+  beats = [];
+  chains = [];
 }
 
 abbrev pub pipeline_over_four_cores_rows : List Row
@@ -862,6 +934,10 @@ refills_enough_system = record {
       ∷ [];
   orders = [];
   links = [];
+  servers = 0;
+  sources = [];
+  beats = [];
+  chains = [];
 }
 
 abbrev pub refills_enough_rows : List Row
@@ -938,6 +1014,10 @@ refills_too_few_system = record {
       ∷ [];
   orders = [];
   links = [];
+  servers = 0;
+  sources = [];
+  beats = [];
+  chains = [];
 }
 
 abbrev pub refills_too_few_rows : List Row
@@ -1020,6 +1100,10 @@ ring_of_three_cores_system = record {
       ∷ [];
   orders = [];
   links = [];
+  servers = 0;
+  sources = [];
+  beats = [];
+  chains = [];
 }
 
 abbrev pub ring_of_three_cores_rows : List Row
@@ -1075,6 +1159,10 @@ round_robin_takes_turns_system = record {
       ∷ [];
   orders = [];
   links = [];
+  servers = 0;
+  sources = [];
+  beats = [];
+  chains = [];
 }
 
 abbrev pub round_robin_takes_turns_rows : List Row
@@ -1120,6 +1208,10 @@ server_core_of_three_clients_system = record {
       ∷ [];
   orders = [];
   links = [];
+  servers = 0;
+  sources = [];
+  beats = [];
+  chains = [];
 }
 
 abbrev pub server_core_of_three_clients_rows : List Row
@@ -1179,6 +1271,10 @@ signals_beyond_the_horizon_system = record {
       ∷ [];
   orders = [];
   links = [];
+  servers = 0;
+  sources = [];
+  beats = [];
+  chains = [];
 }
 
 abbrev pub signals_beyond_the_horizon_rows : List Row
@@ -1216,6 +1312,10 @@ slice_refills_at_once_system = record {
       ∷ [];
   orders = [];
   links = [];
+  servers = 0;
+  sources = [];
+  beats = [];
+  chains = [];
 }
 
 abbrev pub slice_refills_at_once_rows : List Row
@@ -1250,6 +1350,10 @@ small_head_joins_system = record {
       ∷ [];
   orders = [];
   links = [];
+  servers = 0;
+  sources = [];
+  beats = [];
+  chains = [];
 }
 
 abbrev pub small_head_joins_rows : List Row
@@ -1283,6 +1387,10 @@ sporadic_does_not_unblock_when_chosen_system = record {
       ∷ [];
   orders = [];
   links = [];
+  servers = 0;
+  sources = [];
+  beats = [];
+  chains = [];
 }
 
 abbrev pub sporadic_does_not_unblock_when_chosen_rows : List Row
@@ -1318,6 +1426,10 @@ sporadic_uses_two_budgets_back_to_back_system = record {
       ∷ [];
   orders = [];
   links = [];
+  servers = 0;
+  sources = [];
+  beats = [];
+  chains = [];
 }
 
 abbrev pub sporadic_uses_two_budgets_back_to_back_rows : List Row
@@ -1353,6 +1465,10 @@ starts_late_system = record {
       ∷ [];
   orders = [];
   links = [];
+  servers = 0;
+  sources = [];
+  beats = [];
+  chains = [];
 }
 
 abbrev pub starts_late_rows : List Row
@@ -1387,6 +1503,10 @@ storm_of_interrupts_system = record {
       ∷ [];
   orders = [];
   links = [];
+  servers = 0;
+  sources = [];
+  beats = [];
+  chains = [];
 }
 
 abbrev pub storm_of_interrupts_rows : List Row
@@ -1464,6 +1584,10 @@ two_cores_signal_each_other_system = record {
       ∷ [];
   orders = [];
   links = [];
+  servers = 0;
+  sources = [];
+  beats = [];
+  chains = [];
 }
 
 abbrev pub two_cores_signal_each_other_rows : List Row
@@ -1507,6 +1631,10 @@ two_orders_at_one_moment_system = record {
       ∷ order 4 0 8 40 0
       ∷ [];
   links = [];
+  servers = 0;
+  sources = [];
+  beats = [];
+  chains = [];
 }
 
 abbrev pub two_orders_at_one_moment_rows : List Row
@@ -1537,6 +1665,10 @@ wait_takes_a_held_word_system = record {
       ∷ [];
   orders = [];
   links = [];
+  servers = 0;
+  sources = [];
+  beats = [];
+  chains = [];
 }
 
 abbrev pub wait_takes_a_held_word_rows : List Row
@@ -1580,6 +1712,10 @@ wake_preempts_system = record {
       ∷ [];
   orders = [];
   links = [];
+  servers = 0;
+  sources = [];
+  beats = [];
+  chains = [];
 }
 
 abbrev pub wake_preempts_rows : List Row
@@ -1626,6 +1762,10 @@ woken_but_not_ready_system = record {
       ∷ [];
   orders = [];
   links = [];
+  servers = 0;
+  sources = [];
+  beats = [];
+  chains = [];
 }
 
 abbrev pub woken_but_not_ready_rows : List Row
@@ -1665,6 +1805,10 @@ yield_ends_a_round_system = record {
       ∷ [];
   orders = [];
   links = [];
+  servers = 0;
+  sources = [];
+  beats = [];
+  chains = [];
 }
 
 abbrev pub yield_ends_a_round_rows : List Row
@@ -1707,6 +1851,10 @@ yield_gives_the_head_away_system = record {
       ∷ [];
   orders = [];
   links = [];
+  servers = 0;
+  sources = [];
+  beats = [];
+  chains = [];
 }
 
 abbrev pub yield_gives_the_head_away_rows : List Row

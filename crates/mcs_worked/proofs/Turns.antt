@@ -131,10 +131,10 @@ item_ends_without_a_row : schedule item_ends_without_a_row_system 5 ≡
     ∷ []
 item_ends_without_a_row = refl
 
-place_in_the_item : place_before 2 ≡ record { round = 1; item = 0; left = 1 }
+place_in_the_item : place_before 2 ≡ record { round = 1; item = 0; left = 1; word = 0; priority = 5 }
 place_in_the_item = refl
 
-place_after_the_item : place_before 3 ≡ record { round = 1; item = 1; left = 3 }
+place_after_the_item : place_before 3 ≡ record { round = 1; item = 1; left = 3; word = 0; priority = 5 }
 place_after_the_item = refl
 
 turn_within_the_item : IsQuiet item_ends_without_a_row_system 0 1 [] (core_before 1)

@@ -5,9 +5,12 @@ use Rattle.mcs_ticks.specs.declared.row.What.{What}
 use Rattle.mcs_control.specs.declared.config.Mode.TheVariants.{Sporadic, Bandwidth}
 use Rattle.mcs_control.specs.declared.config.Order.{Order}
 use Rattle.mcs_script.specs.declared.item.Item.{Item}
+use Rattle.mcs_system.specs.declared.part.Beat.{Beat}
+use Rattle.mcs_system.specs.declared.part.ChainPart.{ChainPart}
 use Rattle.mcs_system.specs.declared.part.ContextPart.{ContextPart}
 use Rattle.mcs_system.specs.declared.part.Link.{Link}
 use Rattle.mcs_system.specs.declared.part.NotePart.{NotePart}
+use Rattle.mcs_system.specs.declared.part.SourcePart.{SourcePart}
 use Rattle.mcs_system.specs.declared.part.ThreadPart.{ThreadPart}
 use Rattle.mcs_system.specs.System.{System}
 
@@ -23,7 +26,15 @@ bandwidth_context name core budget period extra =
 
 -- a notification: its name and its home
 abbrev pub note : List ℕ → ℕ → NotePart
-note name core = record { name = name; core = core }
+note name core = record { name = name; core = core; word = 0 }
+
+-- the same with a word that it holds at first
+abbrev pub note_with : List ℕ → ℕ → ℕ → NotePart
+note_with name core word = record { name = name; core = core; word = word }
+
+-- a server, which is free: its name and its home
+abbrev pub server : List ℕ → ℕ → NotePart
+server name core = note_with name core 1
 
 -- a thread: its name, context, priority, start, rounds, deadline, and script
 abbrev pub thread : List ℕ → ℕ → ℕ → ℕ → ℕ → ℕ → List Item → ThreadPart
@@ -47,6 +58,18 @@ order moment context budget period extra =
 abbrev pub link : ℕ → ℕ → ℕ → Link
 link maker home delay = record { maker = maker; home = home; delay = delay }
 
+-- a source: its name, the notification on which it posts, and the badge
+abbrev pub source : List ℕ → ℕ → ℕ → SourcePart
+source name note badge = record { name = name; note = note; badge = badge }
+
+-- dates of a source: its number, the first one, the period, and how many there are, 0 for no end
+abbrev pub beat : ℕ → ℕ → ℕ → ℕ → Beat
+beat source first period count = record { source = source; first = first; period = period; count = count }
+
+-- a chain: its name, source and thread, and the badges and deadline of its answers
+abbrev pub chain : List ℕ → ℕ → ℕ → ℕ → ℕ → ChainPart
+chain name source thread badges deadline = record { name = name; source = source; thread = thread; badges = badges; deadline = deadline }
+
 -- a row: its moment, its core, and what happens
 abbrev pub at : ℕ → ℕ → What → Row
 at moment core what = record { moment = moment; core = core; what = what }
@@ -64,6 +87,10 @@ one_core contexts notes threads orders =
       threads = threads;
       orders = orders;
       links = [];
+      servers = 0;
+      sources = [];
+      beats = [];
+      chains = [];
     }
 
 -- a system of two cores, with signals under way for two ticks
