@@ -34,6 +34,12 @@ before-then a b c xs waits rest p q =
 pub before-all : (a b c : Option (List ℕ)) (xs rest : List ℕ) → AppendsBefore a b xs rest → Appends b c rest → Appends a c xs
 before-all a b c xs rest p q = subst (Appends a c) (sym p.2) (Appends-trans a b c p.0 rest p.1 q)
 
+-- all are written, where nothing failed
+pub ok-then : {U E : Type 0} (a b c : Option (List ℕ)) (xs rest : List ℕ) (r : Result U E) → AppendsBefore a b xs rest → OnOk r (Appends b c rest)
+    → OnOk r (Appends a c xs)
+ok-then a b c xs rest (Ok u) p q = before-all a b c xs rest p q
+ok-then a b c xs rest (Err f) p q = tt
+
 pub prefix-before : (a b : Option (List ℕ)) (xs rest : List ℕ) → AppendsBefore a b xs rest → AppendsPrefix a b xs
 prefix-before a b xs rest p =
     (length p.0, subst (Appends a b) (sym (ap (take (length p.0)) p.2 ∙ take-front p.0 rest)) p.1)

@@ -27,6 +27,10 @@ two =
       threads = computes 0 ∷ computes 1 ∷ [];
       orders = [];
       links = [];
+      servers = 0;
+      sources = [];
+      beats = [];
+      chains = [];
     }
 
 clocks_are : clocks_at two 3 ≡ 3 ∷ 3 ∷ []

@@ -7,7 +7,7 @@ use Rattle.std.proofs.lemmas.Bool.Decides.{eqb_tells, nat_tests}
 use Rattle.std.proofs.lemmas.List.{get_or-set_same, get_or-set_other, get_or_append_left, get_or_push, length_push, length-set}
 use Rattle.mcs_ticks.specs.declared.row.Row.{Row}
 use Rattle.mcs_script.specs.declared.item.Item.{Item}
-use Rattle.mcs_script.specs.declared.item.Item.TheVariants.{Compute, Signal, Wait, Yield}
+use Rattle.mcs_script.specs.declared.item.Item.TheVariants.{Compute, Signal, Wait, Yield, On, Spin, Enter, Leave}
 use Rattle.mcs_system.specs.System.{System, note_part, thread_part, core_of, delay_between}
 use Rattle.mcs_system.specs.WellFormed.{IsWellFormed}
 use Rattle.mcs_laws.specs.Links.{Signals}
@@ -89,6 +89,22 @@ a_home system (Some (Wait note)) home e = absurd (none e)
     none : None ≡ Some home → ⊥
     none f = cc
 a_home system (Some Yield) home e = absurd (none e)
+  where
+    none : None ≡ Some home → ⊥
+    none f = cc
+a_home system (Some (On badges)) home e = absurd (none e)
+  where
+    none : None ≡ Some home → ⊥
+    none f = cc
+a_home system (Some Spin) home e = absurd (none e)
+  where
+    none : None ≡ Some home → ⊥
+    none f = cc
+a_home system (Some (Enter server priority)) home e = absurd (none e)
+  where
+    none : None ≡ Some home → ⊥
+    none f = cc
+a_home system (Some (Leave server priority)) home e = absurd (none e)
   where
     none : None ≡ Some home → ⊥
     none f = cc

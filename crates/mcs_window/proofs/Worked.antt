@@ -25,6 +25,10 @@ mixed =
       threads = [];
       orders = record { moment = 3; context = 2; config = config 6 30 } ∷ [];
       links = [];
+      servers = 0;
+      sources = [];
+      beats = [];
+      chains = [];
     }
 
 -- each context once, in file order, whichever its core

@@ -8,7 +8,7 @@ use Rattle.mcs_stretch.proofs.Reaches.{by-delays}
 
 -- two cores without a thread, two ticks apart
 abbrev two : System
-two = record { cores = 2; delay = 2; call = 1; min_budget = 1; contexts = []; notes = []; threads = []; orders = []; links = [] }
+two = record { cores = 2; delay = 2; call = 1; min_budget = 1; contexts = []; notes = []; threads = []; orders = []; links = []; servers = 0; sources = []; beats = []; chains = [] }
 
 -- core 0 steps, core 1 goes on to 3, its rows are taken, idle time is skipped to moment 4, core 1 steps, and then memory is refused
 abbrev six : List Move

@@ -7,7 +7,7 @@ use Rattle.mcs_window.specs.laws.Steps.{Lend, Settle, Forfeit, TakeRows, Skip, G
 -- two cores without a thread
 abbrev two : ℕ → System
 two delay =
-    record { cores = 2; delay = delay; call = 1; min_budget = 1; contexts = []; notes = []; threads = []; orders = []; links = [] }
+    record { cores = 2; delay = delay; call = 1; min_budget = 1; contexts = []; notes = []; threads = []; orders = []; links = []; servers = 0; sources = []; beats = []; chains = [] }
 
 -- both are lent, core 1 comes back first, idle time is skipped to moment 4, and core 1 goes on by itself
 turns_by_settling :

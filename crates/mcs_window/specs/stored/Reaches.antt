@@ -1,7 +1,7 @@
 -- How soon after a core's clock a signal of it may reach another core.
 use Rattle.std.specs.Prelude.{◌≡◌, ℕ, ◌<◌, ◌≤◌, ◌^◌, ◌⊎◌, Option, Some, None, List, length, slice_index, slice_index_or}
 use Rattle.mcs_script.specs.declared.item.Item.{Item}
-use Rattle.mcs_script.specs.declared.item.Item.TheVariants.{Compute, Signal, Wait, Yield}
+use Rattle.mcs_script.specs.declared.item.Item.TheVariants.{Compute, Signal, Wait, Yield, On, Spin, Enter, Leave}
 use Rattle.mcs_system.specs.System.{System, note_part, delay_between}
 use Rattle.mcs_laws.specs.Links.{Signals}
 
@@ -11,6 +11,10 @@ home_signalled system (Some (Signal note badge)) = Some (note_part system note).
 home_signalled system (Some (Compute ticks)) = None
 home_signalled system (Some (Wait note)) = None
 home_signalled system (Some Yield) = None
+home_signalled system (Some (On badges)) = None
+home_signalled system (Some Spin) = None
+home_signalled system (Some (Enter server priority)) = None
+home_signalled system (Some (Leave server priority)) = None
 home_signalled system None = None
 
 -- ticks that are no less than the delay, and that are the delay where the maker's threads signal the home by their scripts

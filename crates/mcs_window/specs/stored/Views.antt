@@ -19,6 +19,7 @@ no_state =
       clock = 0;
       core = record { running = None; threads = []; ready = []; releases = []; contexts = []; notes = [] };
       orders = [];
+      alarms = [];
       delays = [];
       failed = true;
     }
