@@ -117,6 +117,7 @@ whose-spent : (x : ℕ) (what : What) → is_some_of (spent_by what) x ≡ is_sp
 whose-spent x (row.Stop y why.Spent k until) = refl
 whose-spent x (row.Stop y why.Yield k until) = refl
 whose-spent x (row.Stop y why.Wait k until) = refl
+whose-spent x (row.Stop y why.Call k until) = refl
 whose-spent x (row.Stop y why.Done k until) = refl
 whose-spent x (row.Stop y why.Preempt k until) = refl
 whose-spent x (row.Stop y why.Order k until) = refl
@@ -129,6 +130,7 @@ whose-spent x (row.Wake y note word) = refl
 whose-spent x (row.Hold note word) = refl
 whose-spent x (row.Got y note word) = refl
 whose-spent x (row.Order context) = refl
+whose-spent x (row.Interrupt source at_note badge) = refl
 
 -- what is kept, of these lists
 abbrev pub course : List ℕ → List (Option ℕ) → List Bool → List ℕ → Course

@@ -26,10 +26,14 @@ system =
       min_budget = 1;
       contexts = record { name = []; core = 0; config = record { budget = 2; period = 4; extra = 0 }; mode = mode.Sporadic }
           ∷ record { name = []; core = 0; config = record { budget = 20; period = 20; extra = 0 }; mode = mode.Sporadic } ∷ [];
-      notes = record { name = []; core = 0 } ∷ [];
+      notes = record { name = []; core = 0; word = 0 } ∷ [];
       threads = thread 0 3 (Compute 2 ∷ []) ∷ thread 1 0 (Compute 4 ∷ Signal 0 1 ∷ []) ∷ [];
       orders = [];
       links = [];
+      servers = 0;
+      sources = [];
+      beats = [];
+      chains = [];
     }
 
 abbrev at : ℕ → What → Row

@@ -103,6 +103,8 @@ same_row system horizon k m core (row.Got x note word) past differs =
 same_row system horizon k m core (row.Round x number response) past differs = absurd (differs x number response refl)
 same_row system horizon k m core (row.Order context) past differs =
     same_with system horizon k (row_at m core (row.Order context)) past refl (λ d. refl)
+same_row system horizon k m core (row.Interrupt source at_note badge) past differs =
+    same_with system horizon k (row_at m core (row.Interrupt source at_note badge)) past refl (λ d. refl)
 
 -- a round of this thread
 own : (system : System) (horizon deadline k m core number response : ℕ) (past : List Row) → k < length system.threads
@@ -258,6 +260,7 @@ no_job system m past (row.Hold note word) differs = refl
 no_job system m past (row.Got x note word) differs = refl
 no_job system m past (row.Round x number response) differs = absurd (differs x number response refl)
 no_job system m past (row.Order context) differs = refl
+no_job system m past (row.Interrupt source at_note badge) differs = refl
 
 -- a round that ended is told by a row that ends one
 pub is_round : (system : System) (m : ℕ) (past : List Row) (what : What) (found : Job) → Some found ≡ job_of system past m what
@@ -278,6 +281,7 @@ none_told system horizon m core (row.Wake x note word) past e k has = same_row s
 none_told system horizon m core (row.Hold note word) past e k has = same_row system horizon k m core (row.Hold note word) past (λ a b c e. cc)
 none_told system horizon m core (row.Got x note word) past e k has = same_row system horizon k m core (row.Got x note word) past (λ a b c e. cc)
 none_told system horizon m core (row.Order context) past e k has = same_row system horizon k m core (row.Order context) past (λ a b c e. cc)
+none_told system horizon m core (row.Interrupt source at_note badge) past e k has = same_row system horizon k m core (row.Interrupt source at_note badge) past (λ a b c e. cc)
 none_told system horizon m core (row.Round x number response) past e k has =
     let past_all : length system.threads ≤ x =
     not_below x (length system.threads) (unknown_job (ltb x (length system.threads)) (job system past m x number) e)

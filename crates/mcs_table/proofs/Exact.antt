@@ -30,6 +30,7 @@ within system m past (row.Wake x note word) found e = absurd (cc)
 within system m past (row.Hold note word) found e = absurd (cc)
 within system m past (row.Got x note word) found e = absurd (cc)
 within system m past (row.Order context) found e = absurd (cc)
+within system m past (row.Interrupt source at_note badge) found e = absurd (cc)
 within system m past (row.Round x number response) found e =
     let both = known_job (ltb x (length system.threads)) found (job system past m x number) e in
     let is : found.response ≡ (job system past m x number).response = ap (λ (job : Job). job.response) both.1 in

@@ -25,6 +25,7 @@ none_lost system past m (row.Hold note word) hold round = absurd (hold note word
 none_lost system past m (row.Got x note word) hold round = refl
 none_lost system past m (row.Round x number response) hold round = absurd (round x number response refl)
 none_lost system past m (row.Order context) hold round = refl
+none_lost system past m (row.Interrupt source at_note badge) hold round = refl
 
 none_merged : (system : System) (past : List Row) (what : What) → ((n w : ℕ) → what ≡ row.Hold n w → ⊥)
     → merged_note (merges system past what) what ≡ None
@@ -38,6 +39,7 @@ none_merged system past (row.Hold note word) hold = absurd (hold note word refl)
 none_merged system past (row.Got x note word) hold = refl
 none_merged system past (row.Round x number response) hold = refl
 none_merged system past (row.Order context) hold = refl
+none_merged system past (row.Interrupt source at_note badge) hold = refl
 
 -- what is kept stays as it was
 pub quiet_row : (system : System) (horizon : ℕ) (r : Row) (past : List Row) → ((n w : ℕ) → r.what ≡ row.Hold n w → ⊥)

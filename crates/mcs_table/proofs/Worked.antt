@@ -38,10 +38,14 @@ two orders a b =
       min_budget = 1;
       contexts = record { name = []; core = 0; config = config 3 10; mode = mode.Sporadic }
           ∷ record { name = []; core = 0; config = config 20 20; mode = mode.Sporadic } ∷ [];
-      notes = record { name = []; core = 0 } ∷ [];
+      notes = record { name = []; core = 0; word = 0 } ∷ [];
       threads = a ∷ b ∷ [];
       orders = orders;
       links = [];
+      servers = 0;
+      sources = [];
+      beats = [];
+      chains = [];
     }
 
 abbrev at : ℕ → What → Row

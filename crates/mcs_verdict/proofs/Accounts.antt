@@ -4,10 +4,12 @@ use Rattle.std.proofs.lemmas.Bool.Decides.{nat_tests}
 use Rattle.mcs_ticks.specs.declared.row.Row.{Row}
 use Rattle.mcs_ticks.specs.declared.row.What.{What}
 use Rattle.mcs_system.specs.declared.part.ThreadPart.{ThreadPart}
+use Rattle.mcs_verdict.specs.declared.held.Held.{Held}
 use Rattle.mcs_verdict.specs.declared.standing.Standing.{Standing}
 use Rattle.mcs_verdict.specs.Activation.{first_for}
 use Rattle.mcs_verdict.specs.Standing.{telling, settled}
 use Rattle.mcs_verdict.specs.Stood.{no_ticks, stood_for}
+use Rattle.mcs_verdict.specs.Calls.{bits_of}
 use Rattle.mcs_verdict.specs.Rounds.{first_wait, begun_at, begun_by_word, begun, called_by, called}
 use Rattle.mcs_verdict.specs.Jobs.{preemptions, or_now}
 use Rattle.mcs_verdict.specs.Account.{standing_of, since_of, stood_of, active_of, kept, account_of, stood_since, active_since, total_at, told, ends, given, seen_own, set_for, is_about}
@@ -26,82 +28,84 @@ none_yet [] m h = (refl, refl)
 none_yet (r ∷ rows) m h = (none_passed (Some r.what) rows m (r.moment - m) (omega arith), none_active (Some r.what) rows m (r.moment - m) (omega arith))
 
 -- what is kept is enough to tell how the thread stood up to some moment
-pub since-kept : (deadline : ℕ) (waits : Option ℕ) (from : ℕ) (word : Option ℕ) (k m : ℕ) (next : Option What) (rows : List Row) → since_of rows ≤ m
-    → stood_since (Some from) m (settled next (standing_of rows)) (kept deadline waits (Some from) word k rows) ≡ stood_for next rows from (m - from)
-since-kept deadline waits from word k m next [] h = grind (arith, stretch_pending next from (m - from))
-since-kept deadline waits from word k m next (r ∷ rows) h = sym (stretch next r rows from m h)
+pub since-kept : (deadline : ℕ) (waits bits : Option ℕ) (from : ℕ) (word : Option ℕ) (k m : ℕ) (next : Option What) (rows : List Row) → since_of rows ≤ m
+    → stood_since (Some from) m (settled next (standing_of rows)) (kept deadline waits bits (Some from) word k rows) ≡ stood_for next rows from (m - from)
+since-kept deadline waits bits from word k m next [] h = grind (arith, stretch_pending next from (m - from))
+since-kept deadline waits bits from word k m next (r ∷ rows) h = sym (stretch next r rows from m h)
 
 -- and when it was first ready or running
-pub active-kept : (deadline : ℕ) (waits : Option ℕ) (from : ℕ) (word : Option ℕ) (k m : ℕ) (next : Option What) (rows : List Row) → since_of rows ≤ m
-    → active_since (Some from) m (settled next (standing_of rows)) (kept deadline waits (Some from) word k rows) ≡ first_for next rows from (m - from)
-active-kept deadline waits from word k m next [] h = sym (first_pending next from (m - from))
-active-kept deadline waits from word k m next (r ∷ rows) h = sym (stretch_first next r rows from m h)
+pub active-kept : (deadline : ℕ) (waits bits : Option ℕ) (from : ℕ) (word : Option ℕ) (k m : ℕ) (next : Option What) (rows : List Row) → since_of rows ≤ m
+    → active_since (Some from) m (settled next (standing_of rows)) (kept deadline waits bits (Some from) word k rows) ≡ first_for next rows from (m - from)
+active-kept deadline waits bits from word k m next [] h = sym (first_pending next from (m - from))
+active-kept deadline waits bits from word k m next (r ∷ rows) h = sym (stretch_first next r rows from m h)
 
 -- and how it stood from moment 0 on
-pub total-kept : (deadline : ℕ) (waits began word : Option ℕ) (k m : ℕ) (next : Option What) (rows : List Row) → since_of rows ≤ m
-    → total_at m (settled next (standing_of rows)) (kept deadline waits began word k rows) ≡ stood_for next rows 0 (m - 0)
-total-kept deadline waits began word k m next [] h = grind (arith, stretch_pending next 0 m)
-total-kept deadline waits began word k m next (r ∷ rows) h = grind (arith, stretch next r rows 0 m h)
+pub total-kept : (deadline : ℕ) (waits bits began word : Option ℕ) (k m : ℕ) (next : Option What) (rows : List Row) → since_of rows ≤ m
+    → total_at m (settled next (standing_of rows)) (kept deadline waits bits began word k rows) ≡ stood_for next rows 0 (m - 0)
+total-kept deadline waits bits began word k m next [] h = grind (arith, stretch_pending next 0 m)
+total-kept deadline waits bits began word k m next (r ∷ rows) h = grind (arith, stretch next r rows 0 m h)
 
 -- where no row follows, a standing is as it was told
 pub unsettled : (s : Standing) → settled None s ≡ s
 unsettled s = grind arith
 
 -- in the round that is under way, if one is
-pub since-now : (deadline : ℕ) (waits began word : Option ℕ) (k m : ℕ) (rows : List Row) → since_of rows ≤ m
-    → stood_since began m (standing_of rows) (kept deadline waits began word k rows) ≡ stood_for None rows (or_now m began) (m - or_now m began)
-since-now deadline waits None word k m rows h = sym (none_passed None rows m (m - m) (omega arith))
-since-now deadline waits (Some from) word k m rows h = cc (unsettled (standing_of rows), since-kept deadline waits from word k m None rows h)
+pub since-now : (deadline : ℕ) (waits bits began word : Option ℕ) (k m : ℕ) (rows : List Row) → since_of rows ≤ m
+    → stood_since began m (standing_of rows) (kept deadline waits bits began word k rows) ≡ stood_for None rows (or_now m began) (m - or_now m began)
+since-now deadline waits bits None word k m rows h = sym (none_passed None rows m (m - m) (omega arith))
+since-now deadline waits bits (Some from) word k m rows h = cc (unsettled (standing_of rows), since-kept deadline waits bits from word k m None rows h)
 
-pub active-now : (deadline : ℕ) (waits began word : Option ℕ) (k m : ℕ) (rows : List Row) → since_of rows ≤ m
-    → active_since began m (standing_of rows) (kept deadline waits began word k rows) ≡ first_for None rows (or_now m began) (m - or_now m began)
-active-now deadline waits None word k m rows h = sym (none_active None rows m (m - m) (omega arith))
-active-now deadline waits (Some from) word k m rows h = cc (unsettled (standing_of rows), active-kept deadline waits from word k m None rows h)
+pub active-now : (deadline : ℕ) (waits bits began word : Option ℕ) (k m : ℕ) (rows : List Row) → since_of rows ≤ m
+    → active_since began m (standing_of rows) (kept deadline waits bits began word k rows) ≡ first_for None rows (or_now m began) (m - or_now m began)
+active-now deadline waits bits None word k m rows h = sym (none_active None rows m (m - m) (omega arith))
+active-now deadline waits bits (Some from) word k m rows h = cc (unsettled (standing_of rows), active-kept deadline waits bits from word k m None rows h)
 
-pub total-now : (deadline : ℕ) (waits began word : Option ℕ) (k m : ℕ) (rows : List Row) → since_of rows ≤ m
-    → total_at m (standing_of rows) (kept deadline waits began word k rows) ≡ stood_for None rows 0 (m - 0)
-total-now deadline waits began word k m rows h = cc (unsettled (standing_of rows), total-kept deadline waits began word k m None rows h)
+pub total-now : (deadline : ℕ) (waits bits began word : Option ℕ) (k m : ℕ) (rows : List Row) → since_of rows ≤ m
+    → total_at m (standing_of rows) (kept deadline waits bits began word k rows) ≡ stood_for None rows 0 (m - 0)
+total-now deadline waits bits began word k m rows h = cc (unsettled (standing_of rows), total-kept deadline waits bits began word k m None rows h)
 
 -- a telling row
-told-kept : (deadline : ℕ) (waits began word : Option ℕ) (k : ℕ) (r : Row) (rows : List Row) → since_of rows ≤ r.moment
-    → told r.moment r.what (kept deadline waits began word k rows) ≡ kept deadline waits began word k (r ∷ rows)
-told-kept deadline waits None word k r rows h = cc (total-kept deadline waits None word k r.moment (Some r.what) rows h)
-told-kept deadline waits (Some from) word k r rows h =
+told-kept : (deadline : ℕ) (waits bits began word : Option ℕ) (k : ℕ) (r : Row) (rows : List Row) → since_of rows ≤ r.moment
+    → told r.moment r.what (kept deadline waits bits began word k rows) ≡ kept deadline waits bits began word k (r ∷ rows)
+told-kept deadline waits bits None word k r rows h = cc (total-kept deadline waits bits None word k r.moment (Some r.what) rows h)
+told-kept deadline waits bits (Some from) word k r rows h =
     cc (
-      since-kept deadline waits from word k r.moment (Some r.what) rows h,
-      active-kept deadline waits from word k r.moment (Some r.what) rows h,
-      total-kept deadline waits (Some from) word k r.moment (Some r.what) rows h,
+      since-kept deadline waits bits from word k r.moment (Some r.what) rows h,
+      active-kept deadline waits bits from word k r.moment (Some r.what) rows h,
+      total-kept deadline waits bits (Some from) word k r.moment (Some r.what) rows h,
     )
 
 -- an end at the moment of a row, and a word that is given then
-ends-kept : (deadline : ℕ) (waits began word : Option ℕ) (k m : ℕ) (rows : List Row) → since_of rows ≤ m
-    → ends (begun_at waits m) (kept deadline waits began word k rows) ≡ kept deadline waits (begun_at waits m) word 0 rows
-ends-kept deadline waits began word k m rows h = grind (arith, none_yet rows m h)
+ends-kept : (deadline : ℕ) (waits bits began word : Option ℕ) (k m : ℕ) (rows : List Row) → since_of rows ≤ m
+    → ends (begun_at waits m) (kept deadline waits bits began word k rows) ≡ kept deadline waits bits (begun_at waits m) word 0 rows
+ends-kept deadline waits bits began word k m rows h = grind (arith, none_yet rows m h)
 
-given-kept : (deadline : ℕ) (waits began word : Option ℕ) (k m set : ℕ) (rows : List Row) → since_of rows ≤ m
-    → given m set (kept deadline waits began word k rows) ≡ kept deadline waits (begun_by_word waits m began) (called_by waits set began word) k rows
-given-kept deadline waits began word k m set rows h = grind (arith, none_yet rows m h)
+given-kept : (deadline : ℕ) (waits bits began word : Option ℕ) (k m set given_word : ℕ) (rows : List Row) → since_of rows ≤ m
+    → given m set given_word (kept deadline waits bits began word k rows)
+    ≡ kept deadline waits bits (begun_by_word waits bits given_word m began) (called_by waits bits given_word set began word) k rows
+given-kept deadline waits bits began word k m set given_word rows h = grind (arith, none_yet rows m h)
 
 -- where the row is about another thread
-pub same : (notes : ℕ) (part : ThreadPart) (thread : ℕ) (past : List Row) (m core : ℕ) (what : What) → is_about thread what ≡ false
-    → account_of notes part thread (record { moment = m; core = core; what = what } ∷ past) ≡ account_of notes part thread past
-same notes part thread past m core what e = grind (arith, nat_tests)
+pub same : (firsts : List Held) (part : ThreadPart) (thread : ℕ) (past : List Row) (m core : ℕ) (what : What) → is_about thread what ≡ false
+    → account_of firsts part thread (record { moment = m; core = core; what = what } ∷ past) ≡ account_of firsts part thread past
+same firsts part thread past m core what e = grind (arith, nat_tests)
 
 -- a row of the thread
-pub own : (notes : ℕ) (part : ThreadPart) (thread : ℕ) (past : List Row) (m core set : ℕ) (what : What) → is_about thread what ≡ true
-    → set ≡ set_for notes past what → since_of (telling thread past) ≤ m
-    → seen_own set m what (account_of notes part thread past) ≡ account_of notes part thread (record { moment = m; core = core; what = what } ∷ past)
-own notes part thread past m core set what e is h =
+pub own : (firsts : List Held) (part : ThreadPart) (thread : ℕ) (past : List Row) (m core set : ℕ) (what : What) → is_about thread what ≡ true
+    → set ≡ set_for firsts past what → since_of (telling thread past) ≤ m
+    → seen_own set m what (account_of firsts part thread past) ≡ account_of firsts part thread (record { moment = m; core = core; what = what } ∷ past)
+own firsts part thread past m core set what e is h =
     let waits = first_wait part in
-    let began = begun waits part.start thread past in
-    let word = called notes waits part.start thread past in
-    let breaks = preemptions waits part.start thread past in
+    let bits = bits_of part in
+    let began = begun waits bits part.start thread past in
+    let word = called firsts waits bits part.start thread past in
+    let breaks = preemptions waits bits part.start thread past in
     let rows = telling thread past in
     let r : Row = record { moment = m; core = core; what = what } in
     grind (
       arith,
-      told-kept part.deadline waits began word breaks r rows h,
-      given-kept part.deadline waits began word breaks m m (r ∷ rows) (omega arith),
-      given-kept part.deadline waits began word breaks m set rows h,
-      ends-kept part.deadline waits began word breaks m rows h,
+      told-kept part.deadline waits bits began word breaks r rows h,
+      λ (given_word : ℕ). given-kept part.deadline waits bits began word breaks m m given_word (r ∷ rows) (omega arith),
+      λ (given_word : ℕ). given-kept part.deadline waits bits began word breaks m set given_word rows h,
+      ends-kept part.deadline waits bits began word breaks m rows h,
     )

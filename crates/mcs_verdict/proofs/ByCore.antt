@@ -1,5 +1,5 @@
 -- What is kept of a thread or a notification is that of the rows of its own core.
-use Rattle.std.proofs.Common.{◌≡◌, ℕ, Bool, true, false, cond, eqb, nat_lt, List, [], ◌∷◌, length, Option, Some, None, refl, sym, ap, ◌∙◌, arith}
+use Rattle.std.proofs.Common.{◌≡◌, ℕ, Bool, true, false, cond, eqb, nat_lt, List, [], ◌∷◌, length, get_or, Option, Some, None, refl, sym, ap, ◌∙◌, arith}
 use Rattle.std.proofs.lemmas.Bool.{cond_both, eqb-true, eq-eqb}
 use Rattle.std.proofs.lemmas.Bool.Decides.{nat_tests}
 use Rattle.std.proofs.lemmas.List.Elements.{filter-append}
@@ -14,7 +14,7 @@ use Rattle.mcs_verdict.specs.declared.finding.Found.{Found}
 use Rattle.mcs_verdict.specs.declared.held.Held.{Held}
 use Rattle.mcs_verdict.specs.Rounds.{first_wait}
 use Rattle.mcs_verdict.specs.Jobs.{job}
-use Rattle.mcs_verdict.specs.Words.{no_word, held, held_after, leaves}
+use Rattle.mcs_verdict.specs.Words.{no_word, held, held_after, leaves, firsts_of}
 use Rattle.mcs_verdict.specs.Misses.{missed, unended, word_for}
 use Rattle.mcs_verdict.specs.Findings.{UpTo, past_of, found_at, finding, found_in}
 use Rattle.mcs_verdict.specs.Account.{account_of, seen_own, set_for, subject, is_some_of, is_about, job_by}
@@ -34,17 +34,17 @@ held_after-other : (note m : ℕ) (what : What) (before : Held) → (word_told w
 held_after-other note m what before other = grind (arith, nat_tests, other)
 
 -- when the word was set that is taken
-set-same : (notes : ℕ) (some all : List Row) (what : What) → ((n : ℕ) → word_told what ≡ Some n → held n some ≡ held n all)
-    → set_for notes some what ≡ set_for notes all what
-set-same notes some all what same = grind (arith, same)
+set-same : (firsts : List Held) (some all : List Row) (what : What) → ((n : ℕ) → word_told what ≡ Some n → held (get_or firsts n no_word) n some ≡ held (get_or firsts n no_word) n all)
+    → set_for firsts some what ≡ set_for firsts all what
+set-same firsts some all what same = grind (arith, same)
 
 about-some : (s : Option ℕ) (thread : ℕ) → is_some_of s thread ≡ true → s ≡ Some thread
 about-some None thread e = cc
 about-some (Some x) thread e = ap Some (eqb-true x thread e)
 
 module _ (system : System) where
-  abbrev notes : ℕ
-  notes = length system.notes
+  abbrev firsts : List Held
+  firsts = firsts_of system
 
   -- rows at home, the latest first
   abbrev AreHome : List Row → Type 0
@@ -52,37 +52,38 @@ module _ (system : System) where
   AreHome (r ∷ past) = IsAtHome system r × UpTo r.moment past × AreHome past
 
   -- the word of a notification of the core
-  held-on : (c note : ℕ) (past : List Row) → note_home_of system note ≡ c → AreHome past → held note (rows_on c past) ≡ held note past
-  held-on c note [] home h = refl
-  held-on c note (r ∷ past) home h =
-      let before = held-on c note past home h.2 in
-      cond_both (eqb r.core c) (r ∷ rows_on c past) (rows_on c past) (λ rows. held note rows ≡ held note (r ∷ past))
+  held-on : (first : Held) (c note : ℕ) (past : List Row) → note_home_of system note ≡ c → AreHome past
+      → held first note (rows_on c past) ≡ held first note past
+  held-on first c note [] home h = refl
+  held-on first c note (r ∷ past) home h =
+      let before = held-on first c note past home h.2 in
+      cond_both (eqb r.core c) (r ∷ rows_on c past) (rows_on c past) (λ rows. held first note rows ≡ held first note (r ∷ past))
       (λ e. ap (held_after note r.moment r.what) before)
-      (λ e. before ∙ sym (held_after-other note r.moment r.what (held note past) (λ t. grind (arith, nat_tests, h.0.note note t))))
+      (λ e. before ∙ sym (held_after-other note r.moment r.what (held first note past) (λ t. grind (arith, nat_tests, h.0.note note t))))
 
   -- the account of a thread of the core
   account-on : (c thread : ℕ) (part : ThreadPart) (past : List Row) → home_of system thread ≡ c → AreHome past
-      → account_of notes part thread (rows_on c past) ≡ account_of notes part thread past
+      → account_of firsts part thread (rows_on c past) ≡ account_of firsts part thread past
   account-on c thread part [] home h = refl
   account-on c thread part (r ∷ past) home h = by (is_about thread r.what) refl (account-on c thread part past home h.2)
     where
       some : List Row
       some = rows_on c past
 
-      by : (a : Bool) → is_about thread r.what ≡ a → account_of notes part thread some ≡ account_of notes part thread past
-          → account_of notes part thread (rows_on c (r ∷ past)) ≡ account_of notes part thread (r ∷ past)
+      by : (a : Bool) → is_about thread r.what ≡ a → account_of firsts part thread some ≡ account_of firsts part thread past
+          → account_of firsts part thread (rows_on c (r ∷ past)) ≡ account_of firsts part thread (r ∷ past)
       by true a before =
           let at : r.core ≡ c = sym (h.0.thread thread (about-some (subject r.what) thread a)) ∙ home in
-          let put = set_for notes past r.what in
-          let set : put ≡ set_for notes some r.what = sym (set-same notes some past r.what (λ n t. held-on c n past (h.0.note n t ∙ at) h.2)) in
+          let put = set_for firsts past r.what in
+          let set : put ≡ set_for firsts some r.what = sym (set-same firsts some past r.what (λ n t. held-on (get_or firsts n no_word) c n past (h.0.note n t ∙ at) h.2)) in
           rw (eq-eqb r.core c at)
-          (sym (own notes part thread some r.moment r.core put r.what a set (since-up_to thread r.moment some (up_to-on c r.moment past h.1)))
+          (sym (own firsts part thread some r.moment r.core put r.what a set (since-up_to thread r.moment some (up_to-on c r.moment past h.1)))
           ∙ ap (seen_own put r.moment r.what) before
-          ∙ own notes part thread past r.moment r.core put r.what a refl (since-up_to thread r.moment past h.1))
+          ∙ own firsts part thread past r.moment r.core put r.what a refl (since-up_to thread r.moment past h.1))
       by false a before =
-          cond_both (eqb r.core c) (r ∷ some) some (λ rows. account_of notes part thread rows ≡ account_of notes part thread past)
-          (λ e. same notes part thread some r.moment r.core r.what a ∙ before) (λ e. before)
-          ∙ sym (same notes part thread past r.moment r.core r.what a)
+          cond_both (eqb r.core c) (r ∷ some) some (λ rows. account_of firsts part thread rows ≡ account_of firsts part thread past)
+          (λ e. same firsts part thread some r.moment r.core r.what a ∙ before) (λ e. before)
+          ∙ sym (same firsts part thread past r.moment r.core r.what a)
 
   job-on : (c thread moment number : ℕ) (past : List Row) → home_of system thread ≡ c → AreHome past → UpTo moment past
       → job system (rows_on c past) moment thread number ≡ job system past moment thread number
@@ -102,11 +103,12 @@ module _ (system : System) where
   finding-on c moment past (row.Arrive n badge maker) thread note h up = refl
   finding-on c moment past (row.Wake x n word) thread note h up = refl
   finding-on c moment past (row.Hold n word) thread note h up =
-      ap (λ (held : Held). cond (leaves (cond (nat_lt n notes) held no_word).word word) (Some (Lost n word)) None) (held-on c n past (note n refl) h)
+      ap (λ (held : Held). cond (leaves (cond (nat_lt n (length firsts)) held no_word).word word) (Some (Lost n word)) None) (held-on (get_or firsts n no_word) c n past (note n refl) h)
   finding-on c moment past (row.Got x n word) thread note h up = refl
   finding-on c moment past (row.Round x number response) thread note h up =
       ap (missed (thread_part system x).deadline) (job-on c x moment number past (thread x refl) h up)
   finding-on c moment past (row.Order context) thread note h up = refl
+  finding-on c moment past (row.Interrupt source n badge) thread note h up = refl
 
   found_at-on : (c moment core : ℕ) (finding : Option Finding)
       → found_on c (found_at moment core finding) ≡ cond (eqb core c) (found_at moment core finding) []
@@ -135,9 +137,9 @@ module _ (system : System) where
   come-home past (r ∷ rows) h come = come-home (r ∷ past) rows (come.0, come.1, h) come.2
 
   word-on : (c : ℕ) (waits : Option ℕ) (past : List Row) → ((n : ℕ) → waits ≡ Some n → note_home_of system n ≡ c) → AreHome past
-      → word_for notes waits (rows_on c past) ≡ word_for notes waits past
+      → word_for firsts waits (rows_on c past) ≡ word_for firsts waits past
   word-on c None past home h = refl
-  word-on c (Some n) past home h = ap (λ (held : Held). cond (nat_lt n notes) held no_word) (held-on c n past (home n refl) h)
+  word-on c (Some n) past home h = ap (λ (held : Held). cond (nat_lt n (length firsts)) held no_word) (held-on (get_or firsts n no_word) c n past (home n refl) h)
 
   unended-on : (thread horizon : ℕ) (past : List Row) → WaitsAtHome system thread → AreHome past → UpTo horizon past
       → unended system (rows_on (home_of system thread) past) horizon thread ≡ unended system past horizon thread

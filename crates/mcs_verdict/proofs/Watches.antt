@@ -12,7 +12,7 @@ use Rattle.mcs_verdict.specs.declared.held.Held.{Held}
 use Rattle.mcs_verdict.specs.Standing.{telling}
 use Rattle.mcs_verdict.specs.Stood.{all_ticks}
 use Rattle.mcs_verdict.specs.Findings.{UpTo}
-use Rattle.mcs_verdict.specs.Words.{no_word}
+use Rattle.mcs_verdict.specs.Words.{firsts_of}
 use Rattle.mcs_verdict.specs.Account.{since_of, stood_of, all_kept, account_of, seen_own, set_for, subject, is_some_of, is_about}
 use Rattle.mcs_verdict.specs.Watch.{accounts_of, words_of, watch_of}
 use Rattle.mcs_verdict.proofs.Counts.{all-stood_for}
@@ -30,13 +30,13 @@ all-stood_of None rows = omega arith
 all-stood_of (Some from) [] = omega arith
 all-stood_of (Some from) (r ∷ rows) = omega (arith, all-stood_for (Some r.what) rows from (r.moment - from))
 
-accounts_same : (notes n : ℕ) (parts : List ThreadPart) (r : Row) (past : List Row) → ((k : ℕ) → n ≤ k → k < n + length parts → is_about k r.what ≡ false)
-    → accounts_of notes n parts (r ∷ past) ≡ accounts_of notes n parts past
-accounts_same notes n [] r past h = refl
-accounts_same notes n (part ∷ parts) r past h =
+accounts_same : (firsts : List Held) (n : ℕ) (parts : List ThreadPart) (r : Row) (past : List Row) → ((k : ℕ) → n ≤ k → k < n + length parts → is_about k r.what ≡ false)
+    → accounts_of firsts n parts (r ∷ past) ≡ accounts_of firsts n parts past
+accounts_same firsts n [] r past h = refl
+accounts_same firsts n (part ∷ parts) r past h =
     cc (
-      same notes part n past r.moment r.core r.what (h n (omega arith) (omega arith)),
-      accounts_same notes (suc n) parts r past (λ k g l. h k (omega arith) (omega arith)),
+      same firsts part n past r.moment r.core r.what (h n (omega arith) (omega arith)),
+      accounts_same firsts (suc n) parts r past (λ k g l. h k (omega arith) (omega arith)),
     )
 
 about : (what : What) (x k : ℕ) → subject what ≡ Some x → is_about k what ≡ eqb x k
@@ -45,92 +45,92 @@ about what x k e = ap (λ s. is_some_of s k) e
 about_other : (what : What) (x k : ℕ) → subject what ≡ Some x → x ≢ k → is_about k what ≡ false
 about_other what x k e h = about what x k e ∙ grind (arith, nat_tests)
 
-accounts_at : (notes x n y put : ℕ) (parts : List ThreadPart) (r : Row) (past : List Row) (new : Account) → subject r.what ≡ Some x → x ≡ n + y
-    → put ≡ set_for notes past r.what → UpTo r.moment past
-    → (y < length parts → new ≡ seen_own put r.moment r.what (account_of notes (get_or parts y no_thread) x past))
-    → set (accounts_of notes n parts past) y new ≡ accounts_of notes n parts (r ∷ past)
-accounts_at notes x n y put [] r past new on e put_is h is = refl
-accounts_at notes x n zero put (part ∷ parts) r past new on e put_is h is =
+accounts_at : (firsts : List Held) (x n y put : ℕ) (parts : List ThreadPart) (r : Row) (past : List Row) (new : Account) → subject r.what ≡ Some x → x ≡ n + y
+    → put ≡ set_for firsts past r.what → UpTo r.moment past
+    → (y < length parts → new ≡ seen_own put r.moment r.what (account_of firsts (get_or parts y no_thread) x past))
+    → set (accounts_of firsts n parts past) y new ≡ accounts_of firsts n parts (r ∷ past)
+accounts_at firsts x n y put [] r past new on e put_is h is = refl
+accounts_at firsts x n zero put (part ∷ parts) r past new on e put_is h is =
     let here : x ≡ n = omega arith in
     cc (
       here,
       is (omega arith),
-      own notes part x past r.moment r.core put r.what (about r.what x x on ∙ eq-eqb x x refl) put_is (since-up_to x r.moment past h),
-      accounts_same notes (suc n) parts r past (λ k g l. about_other r.what x k on (omega arith)),
+      own firsts part x past r.moment r.core put r.what (about r.what x x on ∙ eq-eqb x x refl) put_is (since-up_to x r.moment past h),
+      accounts_same firsts (suc n) parts r past (λ k g l. about_other r.what x k on (omega arith)),
     )
-accounts_at notes x n (suc y) put (part ∷ parts) r past new on e put_is h is =
+accounts_at firsts x n (suc y) put (part ∷ parts) r past new on e put_is h is =
     cc (
-      same notes part n past r.moment r.core r.what (about_other r.what x n on (omega arith)),
-      accounts_at notes x (suc n) y put parts r past new on (omega arith) put_is h (λ g. is (omega arith)),
+      same firsts part n past r.moment r.core r.what (about_other r.what x n on (omega arith)),
+      accounts_at firsts x (suc n) y put parts r past new on (omega arith) put_is h (λ g. is (omega arith)),
     )
 
-pub length-accounts : (notes n : ℕ) (parts : List ThreadPart) (past : List Row) → length (accounts_of notes n parts past) ≡ length parts
-length-accounts notes n [] past = refl
-length-accounts notes n (part ∷ parts) past = ap suc (length-accounts notes (suc n) parts past)
+pub length-accounts : (firsts : List Held) (n : ℕ) (parts : List ThreadPart) (past : List Row) → length (accounts_of firsts n parts past) ≡ length parts
+length-accounts firsts n [] past = refl
+length-accounts firsts n (part ∷ parts) past = ap suc (length-accounts firsts (suc n) parts past)
 
-account_from : (notes n y x : ℕ) (parts : List ThreadPart) (past : List Row) (d : Account) → x ≡ n + y → y < length parts
-    → get_or (accounts_of notes n parts past) y d ≡ account_of notes (get_or parts y no_thread) x past
-account_from notes n y x [] past d e h = absurd (omega arith)
-account_from notes n zero x (part ∷ parts) past d e h = ap (λ k. account_of notes part k past) (omega arith)
-account_from notes n (suc y) x (part ∷ parts) past d e h = account_from notes (suc n) y x parts past d (omega arith) (omega arith)
+account_from : (firsts : List Held) (n y x : ℕ) (parts : List ThreadPart) (past : List Row) (d : Account) → x ≡ n + y → y < length parts
+    → get_or (accounts_of firsts n parts past) y d ≡ account_of firsts (get_or parts y no_thread) x past
+account_from firsts n y x [] past d e h = absurd (omega arith)
+account_from firsts n zero x (part ∷ parts) past d e h = ap (λ k. account_of firsts part k past) (omega arith)
+account_from firsts n (suc y) x (part ∷ parts) past d e h = account_from firsts (suc n) y x parts past d (omega arith) (omega arith)
 
 -- the account that is kept
-pub account_kept : (notes x : ℕ) (parts : List ThreadPart) (past : List Row) (d : Account) → x < length parts
-    → get_or (accounts_of notes 0 parts past) x d ≡ account_of notes (get_or parts x no_thread) x past
-account_kept notes x parts past d h = account_from notes 0 x x parts past d (omega arith) h
+pub account_kept : (firsts : List Held) (x : ℕ) (parts : List ThreadPart) (past : List Row) (d : Account) → x < length parts
+    → get_or (accounts_of firsts 0 parts past) x d ≡ account_of firsts (get_or parts x no_thread) x past
+account_kept firsts x parts past d h = account_from firsts 0 x x parts past d (omega arith) h
 
 -- a sum of what is kept and the moment of the next row is small
-pub kept_small : (notes x m : ℕ) (part : ThreadPart) (past : List Row) → UpTo m past → m ≤ 2 ^ 42 → all_kept (account_of notes part x past) + m < 2 ^ 64
-kept_small notes x m part past up small =
+pub kept_small : (firsts : List Held) (x m : ℕ) (part : ThreadPart) (past : List Row) → UpTo m past → m ≤ 2 ^ 42 → all_kept (account_of firsts part x past) + m < 2 ^ 64
+kept_small firsts x m part past up small =
     omega (
       arith,
-      all-stood_of (account_of notes part x past).begun (telling x past),
+      all-stood_of (account_of firsts part x past).begun (telling x past),
       all-stood_of (Some 0) (telling x past),
       since-up_to x m past up,
     )
 
 -- a row of no thread
-pub accounts_unseen : (notes : ℕ) (parts : List ThreadPart) (r : Row) (past : List Row) → subject r.what ≡ None
-    → accounts_of notes 0 parts (r ∷ past) ≡ accounts_of notes 0 parts past
-accounts_unseen notes parts r past e = accounts_same notes 0 parts r past (λ k h l. ap (λ s. is_some_of s k) e)
+pub accounts_unseen : (firsts : List Held) (parts : List ThreadPart) (r : Row) (past : List Row) → subject r.what ≡ None
+    → accounts_of firsts 0 parts (r ∷ past) ≡ accounts_of firsts 0 parts past
+accounts_unseen firsts parts r past e = accounts_same firsts 0 parts r past (λ k h l. ap (λ s. is_some_of s k) e)
 
 -- a row of this thread
-pub accounts_told : (notes x put : ℕ) (parts : List ThreadPart) (r : Row) (past : List Row) (accounts : List Account) (new d : Account)
-    → accounts ≡ accounts_of notes 0 parts past → subject r.what ≡ Some x → put ≡ set_for notes past r.what → UpTo r.moment past → r.moment ≤ 2 ^ 42
+pub accounts_told : (firsts : List Held) (x put : ℕ) (parts : List ThreadPart) (r : Row) (past : List Row) (accounts : List Account) (new d : Account)
+    → accounts ≡ accounts_of firsts 0 parts past → subject r.what ≡ Some x → put ≡ set_for firsts past r.what → UpTo r.moment past → r.moment ≤ 2 ^ 42
     → (all_kept (get_or accounts x d) + r.moment < 2 ^ 64 → new ≡ seen_own put r.moment r.what (get_or accounts x d))
-    → set accounts x new ≡ accounts_of notes 0 parts (r ∷ past)
-accounts_told notes x put parts r past accounts new d e on put_is up small is =
-    rw e (accounts_at notes x 0 x put parts r past new on (omega arith) put_is up (λ h.
-    let lies : get_or accounts x d ≡ account_of notes (get_or parts x no_thread) x past = rw e (account_kept notes x parts past d h) in
-    is (rw lies (kept_small notes x r.moment (get_or parts x no_thread) past up small)) ∙ ap (seen_own put r.moment r.what) lies))
+    → set accounts x new ≡ accounts_of firsts 0 parts (r ∷ past)
+accounts_told firsts x put parts r past accounts new d e on put_is up small is =
+    rw e (accounts_at firsts x 0 x put parts r past new on (omega arith) put_is up (λ h.
+    let lies : get_or accounts x d ≡ account_of firsts (get_or parts x no_thread) x past = rw e (account_kept firsts x parts past d h) in
+    is (rw lies (kept_small firsts x r.moment (get_or parts x no_thread) past up small)) ∙ ap (seen_own put r.moment r.what) lies))
 
 -- a row of a thread that the system does not have
-pub accounts_untold : (notes x : ℕ) (parts : List ThreadPart) (r : Row) (past : List Row) (accounts : List Account)
-    → accounts ≡ accounts_of notes 0 parts past → subject r.what ≡ Some x → UpTo r.moment past → length accounts ≤ x
-    → accounts ≡ accounts_of notes 0 parts (r ∷ past)
-accounts_untold notes x parts r past accounts e on up h =
-    e ∙ sym (accounts_same notes 0 parts r past (λ k g l. about_other r.what x k on (omega (arith, ap length e, length-accounts notes 0 parts past))))
+pub accounts_untold : (firsts : List Held) (x : ℕ) (parts : List ThreadPart) (r : Row) (past : List Row) (accounts : List Account)
+    → accounts ≡ accounts_of firsts 0 parts past → subject r.what ≡ Some x → UpTo r.moment past → length accounts ≤ x
+    → accounts ≡ accounts_of firsts 0 parts (r ∷ past)
+accounts_untold firsts x parts r past accounts e on up h =
+    e ∙ sym (accounts_same firsts 0 parts r past (λ k g l. about_other r.what x k on (omega (arith, ap length e, length-accounts firsts 0 parts past))))
 
 -- the accounts at first
-pub accounts_opened : (notes n : ℕ) (parts : List ThreadPart) → map (λ part. account_of 0 part 0 []) parts ≡ accounts_of notes n parts []
-accounts_opened notes n [] = refl
-accounts_opened notes n (part ∷ parts) = ap (λ accounts. account_of notes part n [] ∷ accounts) (accounts_opened notes (suc n) parts)
+pub accounts_opened : (firsts : List Held) (n : ℕ) (parts : List ThreadPart) → map (λ part. account_of [] part 0 []) parts ≡ accounts_of firsts n parts []
+accounts_opened firsts n [] = refl
+accounts_opened firsts n (part ∷ parts) = ap (λ accounts. account_of firsts part n [] ∷ accounts) (accounts_opened firsts (suc n) parts)
 
 -- what is kept at first
 pub watch_opened : (system parts : System) (accounts : List Account) (words : List Held) → parts ≡ system
-    → accounts ≡ map (λ part. account_of 0 part 0 []) parts.threads → words ≡ map (λ part. no_word) parts.notes
+    → accounts ≡ map (λ part. account_of [] part 0 []) parts.threads → words ≡ firsts_of parts
     → record { accounts = accounts; words = words } ≡ watch_of system []
 watch_opened system parts accounts words same a w =
-    cc (accounts_opened (length system.notes) 0 parts.threads, words_opened 0 parts.notes)
+    cc (accounts_opened (firsts_of system) 0 parts.threads, words_opened 0 (firsts_of parts))
 
 -- a row by which no word is taken
-pub sets_none : (notes : ℕ) (past : List Row) (what : What) → ((t n w : ℕ) → what ≡ row.Got t n w → ⊥) → 0 ≡ set_for notes past what
-sets_none notes past what got = grind (arith, got)
+pub sets_none : (firsts : List Held) (past : List Row) (what : What) → ((t n w : ℕ) → what ≡ row.Got t n w → ⊥) → 0 ≡ set_for firsts past what
+sets_none firsts past what got = grind (arith, got)
 
 -- what is kept after a row that is about no word
 pub watch_told : (system : System) (r : Row) (past : List Row) (accounts : List Account) (words : List Held)
     → ((n w : ℕ) → r.what ≡ row.Hold n w → ⊥) → ((t n w : ℕ) → r.what ≡ row.Got t n w → ⊥)
-    → accounts ≡ accounts_of (length system.notes) 0 system.threads (r ∷ past) → words ≡ words_of 0 system.notes past
+    → accounts ≡ accounts_of (firsts_of system) 0 system.threads (r ∷ past) → words ≡ words_of 0 (firsts_of system) past
     → record { accounts = accounts; words = words } ≡ watch_of system (r ∷ past)
 watch_told system r past accounts words hold got a w =
-    cc (words_unsaid 0 system.notes r past (λ k before h. says_none r.what hold got r.moment k before))
+    cc (words_unsaid 0 (firsts_of system) r past (λ k before h. says_none r.what hold got r.moment k before))

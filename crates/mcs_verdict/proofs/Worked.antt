@@ -6,7 +6,7 @@ use Rattle.mcs_ticks.specs.declared.row.What.{What}
 use Rattle.mcs_ticks.specs.declared.row.What.TheVariants as row
 use Rattle.mcs_ticks.specs.declared.row.Why.TheVariants as why
 use Rattle.mcs_script.specs.declared.item.Item.{Item}
-use Rattle.mcs_script.specs.declared.item.Item.TheVariants.{Compute, Signal, Wait}
+use Rattle.mcs_script.specs.declared.item.Item.TheVariants.{Compute, Signal, Wait, On, Enter, Leave}
 use Rattle.mcs_control.specs.declared.config.Mode.TheVariants as mode
 use Rattle.mcs_system.specs.declared.part.ThreadPart.{ThreadPart}
 use Rattle.mcs_system.specs.System.{System}
@@ -21,6 +21,7 @@ use Rattle.mcs_verdict.specs.Findings.{findings, found_in, past_of}
 use Rattle.mcs_verdict.specs.laws.ByCore.{rows_on, found_on}
 use Rattle.mcs_verdict.specs.Words.{merges}
 use Rattle.mcs_verdict.specs.Account.{account_of}
+use Rattle.mcs_verdict.specs.Calls.{called_for}
 use Rattle.mcs_verdict.specs.Watch.{Watch, watch_of}
 use Rattle.mcs_verdict.specs.Later.{IsLaterThread, IsSameWord, IsLaterWord, IsSetWord}
 
@@ -39,10 +40,14 @@ two a b =
       min_budget = 1;
       contexts = record { name = []; core = 0; config = record { budget = 1; period = 10; extra = 0 }; mode = mode.Sporadic }
           ∷ record { name = []; core = 0; config = record { budget = 20; period = 20; extra = 0 }; mode = mode.Sporadic } ∷ [];
-      notes = record { name = []; core = 0 } ∷ [];
+      notes = record { name = []; core = 0; word = 0 } ∷ [];
       threads = a ∷ b ∷ [];
       orders = [];
       links = [];
+      servers = 0;
+      sources = [];
+      beats = [];
+      chains = [];
     }
 
 abbrev at : ℕ → What → Row
@@ -217,7 +222,7 @@ not_later_thread : IsLaterThread 10 first second 0 → ⊥
 not_later_thread h = no (ap (λ (account : Account). account.begun) (h.later no_account))
   where
     no_account : Account
-    no_account = account_of 0 (thread 0 0 []) 0 []
+    no_account = account_of [] (thread 0 0 []) 0 []
 
     no : ◌≡◌ {A = Option ℕ} (Some 0) (Some 10) → ⊥
     no e = cc
@@ -248,10 +253,14 @@ across =
       call = 1;
       min_budget = 1;
       contexts = record { name = []; core = 0; config = record { budget = 20; period = 20; extra = 0 }; mode = mode.Sporadic } ∷ [];
-      notes = record { name = []; core = 1 } ∷ [];
+      notes = record { name = []; core = 1; word = 0 } ∷ [];
       threads = thread 0 0 (Signal 0 1 ∷ Signal 0 1 ∷ []) ∷ [];
       orders = [];
       links = [];
+      servers = 0;
+      sources = [];
+      beats = [];
+      chains = [];
     }
 
 abbrev on : ℕ → ℕ → What → Row
@@ -273,3 +282,71 @@ lost_on_its_core = refl
 
 none_on_the_other : found_in across [] (rows_on 0 crossed) ≡ []
 none_on_the_other = refl
+
+-- Words with one of these bits leave something to do: those of handlers that have an item. Where an item stands before all handlers, or there
+-- is none, each word does.
+of_handlers : called_for (Wait 0 ∷ On 1 ∷ Compute 2 ∷ On 2 ∷ On 12 ∷ Compute 1 ∷ On 16 ∷ []) ≡ Some 13
+of_handlers = refl
+
+before_handlers : called_for (Wait 0 ∷ Compute 1 ∷ On 1 ∷ Compute 2 ∷ []) ≡ None
+before_handlers = refl
+
+of_no_handler : called_for (Wait 0 ∷ Compute 2 ∷ []) ≡ None
+of_no_handler = refl
+
+-- A loop with one handler, for badge 1. A word that nobody takes begins no round, and the one after it does.
+abbrev handles : ℕ → System
+handles deadline = two (thread 0 0 (Signal 0 4 ∷ Signal 0 1 ∷ [])) (thread 1 deadline (Wait 0 ∷ On 1 ∷ Compute 2 ∷ []))
+
+abbrev woken_for_nothing : List Row → List Row
+woken_for_nothing rest =
+    at 0 (row.Release 1) ∷ at 0 (row.Run 1) ∷ at 1 (row.Stop 1 why.Wait 1 None) ∷ at 2 (row.Wake 1 0 4) ∷ at 2 (row.Run 1)
+    ∷ at 3 (row.Stop 1 why.Wait 1 None) ∷ rest
+
+woken_for_something : jobs_in (handles 0) [] (woken_for_nothing (at 6 (row.Wake 1 0 5) ∷ at 6 (row.Run 1) ∷ at 8 (row.Round 1 1 2) ∷ []))
+    ≡ job 1 1 6 6 8 2 0 0 (parts 0 2 0 0) ∷ []
+woken_for_something = refl
+
+never_for_something : findings (handles 3) 9 (woken_for_nothing []) ≡ found 9 (finding.Never 1 3) ∷ []
+never_for_something = refl
+
+-- Of a word that is held, the first bit for which there is something to do counts, since it was last taken.
+abbrev held_for_nothing : List Row → List Row
+held_for_nothing rest =
+    at 0 (row.Release 0) ∷ at 0 (row.Release 1) ∷ at 0 (row.Run 0) ∷ at 1 (row.Signal 0 0 4) ∷ at 1 (row.Hold 0 4)
+    ∷ at 5 (row.Signal 0 0 1) ∷ at 5 (row.Hold 0 5) ∷ at 6 (row.Signal 0 0 2) ∷ at 6 (row.Hold 0 7) ∷ rest
+
+held_for_something :
+    jobs_in (handles 0) [] (held_for_nothing (at 7 (row.Run 1) ∷ at 8 (row.Got 1 0 7) ∷ at 10 (row.Round 1 1 2) ∷ []))
+    ≡ job 1 1 5 8 10 5 3 0 (parts 0 2 0 0) ∷ []
+held_for_something = refl
+
+overdue_for_something : findings (handles 4) 9 (held_for_nothing []) ≡ found 9 (finding.Overdue 1 4 5 4 (parts 0 0 0 0)) ∷ []
+overdue_for_something = refl
+
+in_time_for_something : findings (handles 5) 9 (held_for_nothing []) ≡ []
+in_time_for_something = refl
+
+-- and so of the word that a notification holds at first
+abbrev holds_at_first : ℕ → ℕ → System
+holds_at_first word deadline = record (handles deadline) { notes = record { name = []; core = 0; word = word } ∷ [] }
+
+activated_at_first : findings (holds_at_first 1 4) 4 [] ≡ found 4 (finding.Overdue 1 4 0 4 (parts 0 0 0 0)) ∷ []
+activated_at_first = refl
+
+not_activated_at_first : findings (holds_at_first 4 4) 4 [] ≡ found 4 (finding.Never 1 4) ∷ []
+not_activated_at_first = refl
+
+-- a signal that adds nothing to the first word is lost
+lost_in_the_first : findings (holds_at_first 4 0) 4 (at 1 (row.Hold 0 4) ∷ []) ≡ found 1 (finding.Lost 0 4) ∷ []
+lost_in_the_first = refl
+
+-- an interrupt that adds nothing to what is held is lost, and a thread that calls a server which is taken is blocked
+abbrev interrupted : List Row
+interrupted =
+    at 0 (row.Release 1) ∷ at 0 (row.Run 1) ∷ at 1 (row.Interrupt 0 0 1) ∷ at 1 (row.Hold 0 1) ∷ at 2 (row.Stop 1 why.Call 2 None)
+    ∷ at 3 (row.Interrupt 0 0 1) ∷ at 3 (row.Hold 0 1) ∷ at 5 (row.Wake 1 1 1) ∷ at 5 (row.Run 1) ∷ at 6 (row.Signal 1 1 1) ∷ at 6 (row.Round 1 1 6) ∷ []
+
+lost_and_blocked : findings (two (thread 0 0 (Compute 1 ∷ [])) (thread 1 5 (Enter 1 9 ∷ Leave 1 5 ∷ []))) 6 interrupted
+    ≡ found 3 (finding.Lost 0 1) ∷ found 6 (finding.Miss 1 1 6 5 0 0 (parts 0 3 0 3)) ∷ []
+lost_and_blocked = refl

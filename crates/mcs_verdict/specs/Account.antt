@@ -1,5 +1,5 @@
 -- What is kept of a thread: a few numbers, by which the rows so far need not be kept.
-use Rattle.std.specs.Prelude.{ℕ, ◌+◌, ◌-◌, max, Bool, false, ◌==◌, ◌&&◌, nat_lt, if◌then◌else◌, List, [], ◌∷◌, Option, Some, None}
+use Rattle.std.specs.Prelude.{ℕ, ◌+◌, ◌-◌, max, Bool, true, false, ◌==◌, ◌&&◌, nat_lt, if◌then◌else◌, List, [], ◌∷◌, Option, Some, None}
 use Rattle.mcs_ticks.specs.declared.row.Row.{Row}
 use Rattle.mcs_ticks.specs.declared.row.What.{What}
 use Rattle.mcs_ticks.specs.declared.row.What.TheVariants as row
@@ -15,6 +15,7 @@ use Rattle.mcs_verdict.specs.declared.standing.Stood.{Stood}
 use Rattle.mcs_verdict.specs.Activation.{is_active, first_for}
 use Rattle.mcs_verdict.specs.Standing.{telling, standing_after, settled}
 use Rattle.mcs_verdict.specs.Stood.{no_ticks, counted, all_ticks, stood_for}
+use Rattle.mcs_verdict.specs.Calls.{calls, bits_of}
 use Rattle.mcs_verdict.specs.Rounds.{first_wait, begun_at, begun, called, activated_by}
 use Rattle.mcs_verdict.specs.Words.{held_of}
 use Rattle.mcs_verdict.specs.Jobs.{with_preemption, preemptions, or_now, ended}
@@ -41,11 +42,12 @@ active_of (Some from) [] = None
 active_of (Some from) (r ∷ rows) = first_for (Some r.what) rows from (r.moment - from)
 
 -- what is kept of a thread whose round began at this moment, by its telling rows
-abbrev pub kept : ℕ → Option ℕ → Option ℕ → Option ℕ → ℕ → List Row → Account
-kept deadline waits began word preemptions rows =
+abbrev pub kept : ℕ → Option ℕ → Option ℕ → Option ℕ → Option ℕ → ℕ → List Row → Account
+kept deadline waits bits began word preemptions rows =
     record {
       deadline = deadline;
       waits = waits;
+      bits = bits;
       standing = standing_of rows;
       since = since_of rows;
       begun = began;
@@ -56,11 +58,12 @@ kept deadline waits began word preemptions rows =
       total = stood_of (Some 0) rows;
     }
 
--- the account of a thread after these rows, in a system with so many notifications
-abbrev pub account_of : ℕ → ThreadPart → ℕ → List Row → Account
-account_of notes part thread past =
-    kept part.deadline (first_wait part) (begun (first_wait part) part.start thread past)
-    (called notes (first_wait part) part.start thread past) (preemptions (first_wait part) part.start thread past)
+-- the account of a thread after these rows, in a system where the words at first are these
+abbrev pub account_of : List Held → ThreadPart → ℕ → List Row → Account
+account_of firsts part thread past =
+    kept part.deadline (first_wait part) (bits_of part) (begun (first_wait part) (bits_of part) part.start thread past)
+    (called firsts (first_wait part) (bits_of part) part.start thread past)
+    (preemptions (first_wait part) (bits_of part) part.start thread past)
     (telling thread past)
 
 -- all ticks that are counted
@@ -118,31 +121,31 @@ ends began account = record (begins began account) { preemptions = 0 }
 abbrev pub preempted : Account → Account
 preempted account = record account { preemptions = with_preemption account.begun account.preemptions }
 
--- the thread has a word, which was set at some moment
-abbrev pub given_by : ℕ → ℕ → Option ℕ → Option ℕ → Account → Account
-given_by moment set (Some note) None account = begins (Some moment) (record account { called = Some set })
-given_by moment set _ _ account = account
+-- the thread has a word, which was set at some moment, and leaves something to do or not
+abbrev pub given_by : ℕ → ℕ → Bool → Option ℕ → Option ℕ → Account → Account
+given_by moment set true (Some note) None account = begins (Some moment) (record account { called = Some set })
+given_by moment set _ _ _ account = account
 
-abbrev pub given : ℕ → ℕ → Account → Account
-given moment set account = given_by moment set account.waits account.begun account
+abbrev pub given : ℕ → ℕ → ℕ → Account → Account
+given moment set word account = given_by moment set (calls account.bits word) account.waits account.begun account
 
 -- what a telling row begins or ends
 abbrev pub turned : ℕ → What → Account → Account
 turned moment (row.Stop x why.Done charged until) account = ends None account
 turned moment (row.Stop x why.Preempt charged until) account = preempted account
-turned moment (row.Wake x note word) account = given moment moment account
+turned moment (row.Wake x note word) account = given moment moment word account
 turned moment _ account = account
 
 -- one row of this thread more; a word that is taken was set at some moment
 abbrev pub seen_own : ℕ → ℕ → What → Account → Account
-seen_own set moment (row.Got x note word) account = given moment set account
+seen_own set moment (row.Got x note word) account = given moment set word account
 seen_own set moment (row.Round x number response) account = ends (begun_at account.waits moment) account
 seen_own set moment what account = turned moment what (told moment what account)
 
 -- when the word was set that a row says is taken
-abbrev pub set_for : ℕ → List Row → What → ℕ
-set_for notes past (row.Got x note word) = (held_of notes note past).since
-set_for notes past _ = 0
+abbrev pub set_for : List Held → List Row → What → ℕ
+set_for firsts past (row.Got x note word) = (held_of firsts note past).since
+set_for firsts past _ = 0
 
 -- the thread of a row that changes what is kept of it
 abbrev pub subject : What → Option ℕ
@@ -179,7 +182,7 @@ miss_by moment thread number account = missed account.deadline (job_by moment th
 -- and what is overdue
 abbrev pub overdue_from : ℕ → ℕ → Held → Option ℕ → Account → Option Finding
 overdue_from horizon thread held None account =
-    overdue_at horizon thread account.deadline horizon no_ticks (yet_to_begin account.standing held)
+    overdue_at horizon thread account.deadline horizon no_ticks (yet_to_begin account.standing account.bits held)
 overdue_from horizon thread held (Some from) account =
     overdue_at horizon thread account.deadline from (stood_since (Some from) horizon account.standing account)
     (activated_by account.waits account.called (active_since (Some from) horizon account.standing account))
@@ -189,7 +192,7 @@ overdue_by horizon thread held account = overdue_from horizon thread held accoun
 
 abbrev pub never_by : ℕ → ℕ → Held → Account → Option Finding
 never_by horizon thread held account =
-    never_at thread account.deadline (was_activated account.waits account.called held (total_at horizon account.standing account))
+    never_at thread account.deadline (was_activated account.waits account.bits account.called held (total_at horizon account.standing account))
 
 abbrev pub unended_by : ℕ → ℕ → Held → Account → Option Finding
 unended_by horizon thread held account = first_of (overdue_by horizon thread held account) (never_by horizon thread held account)

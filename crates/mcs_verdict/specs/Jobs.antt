@@ -9,6 +9,7 @@ use Rattle.mcs_system.specs.System.{System, thread_part}
 use Rattle.mcs_verdict.specs.declared.job.Job.{Job}
 use Rattle.mcs_verdict.specs.declared.standing.Stood.{Stood}
 use Rattle.mcs_verdict.specs.Stood.{stood_in}
+use Rattle.mcs_verdict.specs.Calls.{bits_of}
 use Rattle.mcs_verdict.specs.Rounds.{first_wait, begun, begun_of, activated}
 
 -- a preemption counts where a round is under way
@@ -24,15 +25,15 @@ preemptions_after thread begun (row.Stop x why.Preempt charged until) n = if x =
 preemptions_after thread begun _ n = n
 
 -- how often the round of the thread that is under way was preempted, 0 where none is
-abbrev pub preemptions : Option ℕ → ℕ → ℕ → List Row → ℕ
-preemptions waits start thread [] = 0
-preemptions waits start thread (r ∷ past) =
-    preemptions_after thread (begun waits start thread past) r.what (preemptions waits start thread past)
+abbrev pub preemptions : Option ℕ → Option ℕ → ℕ → ℕ → List Row → ℕ
+preemptions waits bits start thread [] = 0
+preemptions waits bits start thread (r ∷ past) =
+    preemptions_after thread (begun waits bits start thread past) r.what (preemptions waits bits start thread past)
 
 abbrev pub preemptions_of : System → ℕ → List Row → ℕ
 preemptions_of system thread past =
     let part = thread_part system thread in
-    preemptions (first_wait part) part.start thread past
+    preemptions (first_wait part) (bits_of part) part.start thread past
 
 -- a moment of which no row tells is taken to be this one
 abbrev pub or_now : ℕ → Option ℕ → ℕ

@@ -1,6 +1,7 @@
 pub mod Standing
 pub mod Stood
 pub mod Activation
+pub mod Calls
 pub mod Words
 pub mod Rounds
 pub mod Jobs

@@ -1,5 +1,5 @@
 -- Rounds that missed their deadline or can only end so, and threads that were not activated once.
-use Rattle.std.specs.Prelude.{ℕ, ◌+◌, ◌-◌, Bool, ◌==◌, ◌&&◌, ◌||◌, not, nat_lt, nat_le, if◌then◌else◌, List, length, Option, Some, None, is_some}
+use Rattle.std.specs.Prelude.{ℕ, ◌+◌, ◌-◌, Bool, ◌==◌, ◌&&◌, ◌||◌, not, nat_lt, nat_le, if◌then◌else◌, List, Option, Some, None, is_some}
 use Rattle.mcs_ticks.specs.declared.row.Row.{Row}
 use Rattle.mcs_system.specs.System.{System, thread_part}
 use Rattle.mcs_verdict.specs.declared.finding.Finding.{Finding}
@@ -11,9 +11,10 @@ use Rattle.mcs_verdict.specs.declared.standing.Standing.TheVariants.{Done}
 use Rattle.mcs_verdict.specs.declared.standing.Stood.{Stood}
 use Rattle.mcs_verdict.specs.Standing.{standing_at, telling}
 use Rattle.mcs_verdict.specs.Stood.{stood_in}
+use Rattle.mcs_verdict.specs.Calls.{is_set, bits_of}
 use Rattle.mcs_verdict.specs.Rounds.{first_wait, begun_of, called_of, activated}
 use Rattle.mcs_verdict.specs.Jobs.{job}
-use Rattle.mcs_verdict.specs.Words.{no_word, held_of}
+use Rattle.mcs_verdict.specs.Words.{no_word, held_of, firsts_of}
 
 -- the deadline 0 is none
 abbrev pub is_above : ℕ → ℕ → Bool
@@ -41,21 +42,25 @@ overdue_at horizon thread deadline begun stood (Some activated) =
     else None
 
 -- a word that is held is the activation of the next round that it will begin
-abbrev pub set_at : Held → Option ℕ
-set_at held = if held.word == 0 then None else Some held.since
+abbrev pub set_at : Option ℕ → Held → Option ℕ
+set_at bits held = if is_set bits held.word then Some held.since else None
 
 -- the word for which the thread's script waits first
-abbrev pub word_for : ℕ → Option ℕ → List Row → Held
-word_for notes (Some note) past = held_of notes note past
-word_for notes None past = no_word
+abbrev pub word_for : List Held → Option ℕ → List Row → Held
+word_for firsts (Some note) past = held_of firsts note past
+word_for firsts None past = no_word
 
 abbrev pub first_word : System → ℕ → List Row → Held
-first_word system thread past = word_for (length system.notes) (first_wait (thread_part system thread)) past
+first_word system thread past = word_for (firsts_of system) (first_wait (thread_part system thread)) past
+
+-- when the word was set for which the thread's script waits first, where it leaves the thread something to do
+abbrev pub word_set : System → List Row → ℕ → Option ℕ
+word_set system past thread = set_at (bits_of (thread_part system thread)) (first_word system thread past)
 
 -- when a round was activated that is yet to begin: there is none after the last one
-abbrev pub yet_to_begin : Standing → Held → Option ℕ
-yet_to_begin Done held = None
-yet_to_begin _ held = set_at held
+abbrev pub yet_to_begin : Standing → Option ℕ → Held → Option ℕ
+yet_to_begin Done bits held = None
+yet_to_begin _ bits held = set_at bits held
 
 -- of a round that is under way, or of one that is yet to begin
 abbrev pub overdue_since : System → List Row → ℕ → ℕ → Option ℕ → Option Finding
@@ -64,15 +69,15 @@ overdue_since system past horizon thread (Some begun) =
     (activated system thread past begun horizon)
 overdue_since system past horizon thread None =
     overdue_at horizon thread (thread_part system thread).deadline horizon (stood_in thread past horizon horizon)
-    (yet_to_begin (standing_at horizon None (telling thread past)) (first_word system thread past))
+    (yet_to_begin (standing_at horizon None (telling thread past)) (bits_of (thread_part system thread)) (first_word system thread past))
 
 abbrev pub overdue : System → List Row → ℕ → ℕ → Option Finding
 overdue system past horizon thread = overdue_since system past horizon thread (begun_of system thread past)
 
 -- whether a round was activated: by a word where the script begins with a wait, else in a tick in which the thread was ready or running
-abbrev pub was_activated : Option ℕ → Option ℕ → Held → Stood → Bool
-was_activated (Some note) called held stood = is_some called || not (held.word == 0)
-was_activated None called held stood = not (stood.ready + stood.running == 0)
+abbrev pub was_activated : Option ℕ → Option ℕ → Option ℕ → Held → Stood → Bool
+was_activated (Some note) bits called held stood = is_some called || is_set bits held.word
+was_activated None bits called held stood = not (stood.ready + stood.running == 0)
 
 -- a thread with a deadline that was not activated once up to the horizon
 abbrev pub never_at : ℕ → ℕ → Bool → Option Finding
@@ -81,8 +86,8 @@ never_at thread deadline once = if not (deadline == 0) && not once then Some (Ne
 abbrev pub never : System → List Row → ℕ → ℕ → Option Finding
 never system past horizon thread =
     never_at thread (thread_part system thread).deadline
-    (was_activated (first_wait (thread_part system thread)) (called_of system thread past) (first_word system thread past)
-    (stood_in thread past 0 horizon))
+    (was_activated (first_wait (thread_part system thread)) (bits_of (thread_part system thread)) (called_of system thread past)
+    (first_word system thread past) (stood_in thread past 0 horizon))
 
 abbrev pub first_of : Option Finding → Option Finding → Option Finding
 first_of (Some found) other = Some found

@@ -1,23 +1,28 @@
 -- The words of notifications, and signals that are lost or merged, by the rows so far, the latest first.
-use Rattle.std.specs.Prelude.{ℕ, Bool, false, ◌==◌, ◌&&◌, not, nat_lt, if◌then◌else◌, List, [], ◌∷◌, length, Option, Some, None}
+use Rattle.std.specs.Prelude.{ℕ, suc, Bool, false, ◌==◌, ◌&&◌, not, nat_lt, if◌then◌else◌, List, [], ◌∷◌, length, get_or, fold, Option, Some, None}
 use Rattle.mcs_ticks.specs.declared.row.Row.{Row}
 use Rattle.mcs_ticks.specs.declared.row.What.{What}
 use Rattle.mcs_ticks.specs.declared.row.What.TheVariants as row
+use Rattle.mcs_system.specs.declared.part.NotePart.{NotePart}
+use Rattle.mcs_system.specs.declared.part.ThreadPart.{ThreadPart}
 use Rattle.mcs_system.specs.System.{System}
 use Rattle.mcs_verdict.specs.declared.finding.Finding.{Finding}
 use Rattle.mcs_verdict.specs.declared.finding.Finding.TheVariants.{Lost}
 use Rattle.mcs_verdict.specs.declared.held.Held.{Held}
+use Rattle.mcs_verdict.specs.Calls.{first_wait, is_set, bits_of, either}
 
+-- of a notification that the system does not have
 abbrev pub no_word : Held
-no_word = record { word = 0; since = 0 }
+no_word = record { word = 0; since = 0; bits = Some 0 }
 
--- a word after a signal; where it was 0, it is set from this moment on
+-- a word after a signal; where it left nothing to do before, it is set from this moment on
 abbrev pub held_with : ℕ → ℕ → Held → Held
-held_with moment word before = record { word = word; since = if before.word == 0 then moment else before.since }
+held_with moment word before =
+    record before { word = word; since = if is_set before.bits before.word then before.since else moment }
 
 -- a word after a thread took it
 abbrev pub taken : Held → Held
-taken before = record { word = 0; since = before.since }
+taken before = record before { word = 0 }
 
 -- what a row says of a notification: `hold` tells its word, and who got it left 0
 abbrev pub held_after : ℕ → ℕ → What → Held → Held
@@ -25,14 +30,35 @@ held_after note moment (row.Hold x word) before = if x == note then held_with mo
 held_after note moment (row.Got thread x word) before = if x == note then taken before else before
 held_after note moment _ before = before
 
--- the notification's word, at first 0, and when it was first set since it was last 0
-abbrev pub held : ℕ → List Row → Held
-held note [] = no_word
-held note (r ∷ past) = held_after note r.moment r.what (held note past)
+-- the notification's word, at first this, and when it was first set since it was last taken
+abbrev pub held : Held → ℕ → List Row → Held
+held first note [] = first
+held first note (r ∷ past) = held_after note r.moment r.what (held first note past)
 
--- of so many notifications
-abbrev pub held_of : ℕ → ℕ → List Row → Held
-held_of notes note past = if nat_lt note notes then held note past else no_word
+-- of notifications whose words at first are these
+abbrev pub held_of : List Held → ℕ → List Row → Held
+held_of firsts note past = if nat_lt note (length firsts) then held (get_or firsts note no_word) note past else no_word
+
+-- whether this is the notification for which a thread waits first
+abbrev pub waits_for : ℕ → Option ℕ → Bool
+waits_for note None = false
+waits_for note (Some first) = first == note
+
+-- the words that leave something to do to a thread that waits first for the notification, where this is one more
+abbrev pub hears : ℕ → Option ℕ → ThreadPart → Option ℕ
+hears note bits part = if waits_for note (first_wait part) then either bits (bits_of part) else bits
+
+abbrev pub heard_at : ℕ → List ThreadPart → Option ℕ
+heard_at note threads = fold (hears note) (Some 0) threads
+
+-- the words at first, of the notifications from this number on
+abbrev pub firsts_from : ℕ → List ThreadPart → List NotePart → List Held
+firsts_from n threads [] = []
+firsts_from n threads (part ∷ parts) =
+    record { word = part.word; since = 0; bits = heard_at n threads } ∷ firsts_from (suc n) threads parts
+
+abbrev pub firsts_of : System → List Held
+firsts_of system = firsts_from 0 system.threads system.notes
 
 -- a signal that leaves the word as it was is lost
 abbrev pub leaves : ℕ → ℕ → Bool
@@ -44,8 +70,8 @@ adds before word = not (before == 0) && not (before == word)
 
 abbrev pub lost : System → List Row → ℕ → ℕ → Option Finding
 lost system past note word =
-    if leaves (held_of (length system.notes) note past).word word then Some (Lost note word) else None
+    if leaves (held_of (firsts_of system) note past).word word then Some (Lost note word) else None
 
 abbrev pub merges : System → List Row → What → Bool
-merges system past (row.Hold note word) = adds (held_of (length system.notes) note past).word word
+merges system past (row.Hold note word) = adds (held_of (firsts_of system) note past).word word
 merges system past _ = false

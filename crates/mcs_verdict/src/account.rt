@@ -2,11 +2,10 @@
 ghost use Rattle.std.specs.Prelude.{◌≡◌, ℕ, ◌+◌, ◌<◌, ◌^◌, [], Some, None, max};
 ghost use Rattle.mcs_verdict.specs.Account.{all_kept, account_of, stood_since, total_at, active_since, or_first, passed, told_from, begins, ends, preempted, given, turned, seen_own, activated_since};
 ghost use Rattle.mcs_verdict.specs.Activation.{is_active};
-ghost use Rattle.mcs_verdict.specs.Rounds.{first_wait};
 
+use crate::heard::{bits_of, calls, first_wait};
 use crate::standing::{settled, standing_after};
 use crate::{Standing, Stood};
-use mcs_script::Item;
 use mcs_system::ThreadPart;
 use mcs_ticks::{NoteId, Tick, What, Why};
 
@@ -17,6 +16,8 @@ pub(crate) struct Account {
     pub deadline: u64,
     /// The notification on which its script waits first, where it begins with a wait.
     pub waits: Option<NoteId>,
+    /// The bits of which a word of that wait must have one to begin a round; None where each word does.
+    pub bits: Option<u32>,
     pub standing: Standing,
     pub since: Tick,
     pub begun: Option<Tick>,
@@ -28,16 +29,6 @@ pub(crate) struct Account {
     pub preemptions: u64,
     pub stood: Stood,
     pub total: Stood,
-}
-
-/// The notification on which the thread's script waits first, where it begins with a wait.
-pub fn first_wait(part: &ThreadPart) -> Option<NoteId>
-    ensures { result ≡ first_wait part.now }
-{
-    match part.script.get(0) {
-        Some(Item::Wait(NoteId(note))) => Some(NoteId(note)),
-        _ => None,
-    }
 }
 
 #[inline(always)]
@@ -77,12 +68,13 @@ fn note_first(earlier: &mut Option<Tick>, active: bool, from: Tick, to: Tick)
 impl Account {
     /// Before the first row, whatever the number of the thread and of notifications.
     pub(crate) fn new(part: &ThreadPart) -> Self
-        ensures { result ≡ account_of 0 part.now 0 [] }
+        ensures { result ≡ account_of [] part.now 0 [] }
     {
         let waits = first_wait(part);
         Account {
             deadline: part.deadline,
             waits,
+            bits: bits_of(part),
             standing: Standing::Pending,
             since: Tick::ZERO,
             begun: match waits {
@@ -182,10 +174,10 @@ impl Account {
 
     /// A word that was set at some moment.
     #[inline(always)]
-    fn give(&mut self, moment: Tick, set: Tick)
-        ensures { self.new ≡ given moment set self.old }
+    fn give(&mut self, moment: Tick, set: Tick, word: u32)
+        ensures { self.new ≡ given moment set word self.old }
     {
-        if self.waits.is_some() && self.begun.is_none() {
+        if self.waits.is_some() && self.begun.is_none() && calls(self.bits, word) {
             self.called = Some(set);
             self.begin(Some(moment));
         }
@@ -220,7 +212,7 @@ impl Account {
                 why: Why::Preempt,
                 ..
             } => self.preempt(),
-            What::Wake { .. } => self.give(moment, moment),
+            What::Wake { word, .. } => self.give(moment, moment, word),
             _ => {}
         }
     }
@@ -231,7 +223,7 @@ impl Account {
         ensures { all_kept self.old + moment < 2 ^ 64 → self.new ≡ seen_own set moment what.now self.old }
     {
         match *what {
-            What::Got { .. } => self.give(moment, set),
+            What::Got { word, .. } => self.give(moment, set, word),
             What::Round { .. } => {
                 let begun = match self.waits {
                     Some(_) => None,

@@ -41,12 +41,14 @@ fn are_moments_later(after: &Account, before: &Account, by: u64) -> bool
 fn stands_so(after: &Account, before: &Account) -> bool
     ensures { IsTrue result ↔ ((after.now.deadline ≡ before.now.deadline)
         × (after.now.waits ≡ before.now.waits)
+        × (after.now.bits ≡ before.now.bits)
         × (after.now.standing ≡ before.now.standing)
         × (after.now.preemptions ≡ before.now.preemptions)
         × (after.now.stood ≡ before.now.stood)) }
 {
     after.deadline == before.deadline
         && after.waits == before.waits
+        && after.bits == before.bits
         && after.standing == before.standing
         && after.preemptions == before.preemptions
         && after.stood == before.stood

@@ -1,22 +1,27 @@
 ghost use Rattle.std.specs.Prelude.{◌≡◌};
 ghost use Rattle.mcs_verdict.specs.Words.{no_word, held_with, taken};
 
+use crate::heard::is_set;
 use mcs_ticks::Tick;
 
-/// The word of a notification, and when it was first set since it was last 0.
+/// The word of a notification, and when it first left something to do since it was last taken.
 #[derive(Clone, Copy, Debug, PartialEq, Eq)]
 pub(crate) struct Held {
     pub word: u32,
     pub since: Tick,
+    /// The bits of which a word must have one to leave something to do to a thread that waits for it first; None where each word does.
+    pub bits: Option<u32>,
 }
 
 impl Held {
-    pub(crate) fn new() -> Self
+    /// Of a notification that the system does not have.
+    pub(crate) fn none() -> Self
         ensures { result ≡ no_word }
     {
         Held {
             word: 0,
             since: Tick::ZERO,
+            bits: Some(0),
         }
     }
 
@@ -24,7 +29,7 @@ impl Held {
     pub(crate) fn hold(&mut self, moment: Tick, word: u32)
         ensures { self.new ≡ held_with moment word self.old }
     {
-        if self.word == 0 {
+        if !is_set(self.bits, self.word) {
             self.since = moment;
         }
         self.word = word;

@@ -1,9 +1,10 @@
 //! What is found of a thread by its account: of the round that ends, and of what has not ended at the horizon.
 ghost use Rattle.std.specs.Prelude.{◌≡◌, ◌+◌, ◌<◌, ◌^◌};
 ghost use Rattle.mcs_verdict.specs.Account.{all_kept, job_by, miss_by, overdue_by, never_by, unended_by};
-ghost use Rattle.mcs_verdict.specs.Misses.{is_above, missed, is_reached, overdue_at, yet_to_begin, was_activated};
+ghost use Rattle.mcs_verdict.specs.Misses.{is_above, missed, is_reached, overdue_at, set_at, yet_to_begin, was_activated};
 
 use crate::account::Account;
+use crate::heard::is_set;
 use crate::held::Held;
 use crate::{Finding, Job, Standing, Stood};
 use mcs_ticks::{NoteId, ThreadId, Tick};
@@ -20,21 +21,38 @@ fn is_reached(deadline: u64, ticks: u64) -> bool
     deadline != 0 && deadline <= ticks
 }
 
-fn yet_to_begin(standing: Standing, held: &Held) -> Option<Tick>
-    ensures { result ≡ yet_to_begin standing held.now }
+/// When a word was set that leaves something to do.
+pub(crate) fn set_at(bits: Option<u32>, held: &Held) -> Option<Tick>
+    ensures { result ≡ set_at bits held.now }
 {
-    if standing == Standing::Done || held.word == 0 {
-        None
-    } else {
+    if is_set(bits, held.word) {
         Some(held.since)
+    } else {
+        None
     }
 }
 
-fn was_activated(waits: Option<NoteId>, called: Option<Tick>, held: &Held, stood: &Stood) -> bool
-    ensures { result ≡ was_activated waits called held.now stood.now }
+fn yet_to_begin(standing: Standing, bits: Option<u32>, held: &Held) -> Option<Tick>
+    ensures { result ≡ yet_to_begin standing bits held.now }
+{
+    if standing == Standing::Done {
+        None
+    } else {
+        set_at(bits, held)
+    }
+}
+
+fn was_activated(
+    waits: Option<NoteId>,
+    bits: Option<u32>,
+    called: Option<Tick>,
+    held: &Held,
+    stood: &Stood,
+) -> bool
+    ensures { result ≡ was_activated waits bits called held.now stood.now }
 {
     match waits {
-        Some(_) => called.is_some() || held.word != 0,
+        Some(_) => called.is_some() || is_set(bits, held.word),
         None => stood.ready != 0 || stood.running != 0,
     }
 }
@@ -136,7 +154,7 @@ impl Account {
                 self.deadline,
                 horizon,
                 Stood::new(),
-                yet_to_begin(self.standing, held),
+                yet_to_begin(self.standing, self.bits, held),
             ),
         }
     }
@@ -145,7 +163,7 @@ impl Account {
         ensures { all_kept self.now + horizon < 2 ^ 64 → result ≡ never_by horizon thread held.now self.now }
     {
         let stood = self.total_at(horizon);
-        if self.deadline != 0 && !was_activated(self.waits, self.called, held, &stood) {
+        if self.deadline != 0 && !was_activated(self.waits, self.bits, self.called, held, &stood) {
             Some(Finding::Never {
                 thread,
                 deadline: self.deadline,

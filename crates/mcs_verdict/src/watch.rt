@@ -1,20 +1,22 @@
-ghost use Rattle.std.specs.Prelude.{◌≡◌, ℕ, ◌+◌, ◌<◌, ◌^◌, List, [], ◌∷◌, length, map, Some, IfOk};
+ghost use Rattle.std.specs.Prelude.{◌≡◌, ◌+◌, ◌<◌, ◌^◌, List, [], ◌∷◌, length, map, Some, IfOk};
 ghost use Rattle.mcs_ticks.specs.declared.row.Row.{Row as TheRow};
 ghost use Rattle.mcs_system.specs.System.{System as TheSystem};
 ghost use Rattle.mcs_system.specs.declared.part.ThreadPart.{ThreadPart as TheThread};
-ghost use Rattle.mcs_system.specs.declared.part.NotePart.{NotePart as TheNote};
+ghost use Rattle.mcs_verdict.specs.declared.held.Held.{Held as TheHeld};
 ghost use Rattle.mcs_verdict.specs.Stood.{stood_in};
 ghost use Rattle.mcs_verdict.specs.Jobs.{job_known, job_of};
-ghost use Rattle.mcs_verdict.specs.Misses.{miss, unended, word_for};
-ghost use Rattle.mcs_verdict.specs.Words.{no_word, held_of, leaves, adds, merges};
+ghost use Rattle.mcs_verdict.specs.Misses.{miss, unended, word_for, word_set};
+ghost use Rattle.mcs_verdict.specs.Words.{held_of, leaves, adds, merges, heard_at, firsts_of};
 ghost use Rattle.mcs_verdict.specs.Findings.{finding, UpTo};
 ghost use Rattle.mcs_verdict.specs.Account.{account_of, set_for, subject};
 ghost use Rattle.mcs_verdict.specs.Watch.{accounts_of, words_of, watch_of};
 
 use crate::account::Account;
+use crate::heard::{bits_of, either, first_wait};
 use crate::held::Held;
+use crate::outcome::set_at;
 use crate::{Finding, Job, Stood};
-use mcs_system::{System, SystemParts};
+use mcs_system::{System, SystemParts, ThreadPart};
 use mcs_ticks::{Limits, NoMemory, NoteId, Row, ThreadId, Tick, What};
 use std::alloc::Global;
 use std::marker::Model;
@@ -51,8 +53,8 @@ fn subject(what: &What) -> Option<ThreadId>
 
 /// When the word was set that this row says is taken.
 fn set_for(words: &[Held], what: &What) -> Tick
-    ensures { (parts : List TheNote) (past : List TheRow) → words.now ≡ words_of 0 parts past →
-        result ≡ set_for (length parts) past what.now }
+    ensures { (firsts : List TheHeld) (past : List TheRow) → words.now ≡ words_of 0 firsts past →
+        result ≡ set_for firsts past what.now }
 {
     match *what {
         What::Got { note, .. } => word_at(words, note).since,
@@ -62,33 +64,33 @@ fn set_for(words: &[Held], what: &What) -> Tick
 
 /// The word of a notification, 0 where there is none.
 fn word_at(words: &[Held], note: NoteId) -> Held
-    ensures { (parts : List TheNote) (past : List TheRow) → words.now ≡ words_of 0 parts past →
-        result ≡ held_of (length parts) note past }
+    ensures { (firsts : List TheHeld) (past : List TheRow) → words.now ≡ words_of 0 firsts past →
+        result ≡ held_of firsts note past }
 {
     if note.0 < words.len() {
         words[note.0]
     } else {
-        Held::new()
+        Held::none()
     }
 }
 
 /// The word for which a script waits first.
 fn word_for(words: &[Held], waits: Option<NoteId>) -> Held
-    ensures { (parts : List TheNote) (past : List TheRow) → words.now ≡ words_of 0 parts past →
-        result ≡ word_for (length parts) waits past }
+    ensures { (firsts : List TheHeld) (past : List TheRow) → words.now ≡ words_of 0 firsts past →
+        result ≡ word_for firsts waits past }
 {
     match waits {
         Some(note) => word_at(words, note),
-        None => Held::new(),
+        None => Held::none(),
     }
 }
 
 /// `set` is when the word was set that the row says is taken.
 #[inline(always)]
 fn tell_accounts(accounts: &mut [Account], set: Tick, row: &Row)
-    ensures { (notes : ℕ) (parts : List TheThread) (past : List TheRow) → accounts.old ≡ accounts_of notes 0 parts past →
-        set ≡ set_for notes past row.now.what → UpTo row.now.moment past →
-        accounts.new ≡ accounts_of notes 0 parts (row.now ∷ past) }
+    ensures { (firsts : List TheHeld) (parts : List TheThread) (past : List TheRow) → accounts.old ≡ accounts_of firsts 0 parts past →
+        set ≡ set_for firsts past row.now.what → UpTo row.now.moment past →
+        accounts.new ≡ accounts_of firsts 0 parts (row.now ∷ past) }
 {
     if let Some(thread) = subject(&row.what) {
         if thread.0 < accounts.len() {
@@ -100,8 +102,8 @@ fn tell_accounts(accounts: &mut [Account], set: Tick, row: &Row)
 }
 
 fn tell_words(words: &mut [Held], row: &Row)
-    ensures { (parts : List TheNote) (past : List TheRow) → words.old ≡ words_of 0 parts past →
-        words.new ≡ words_of 0 parts (row.now ∷ past) }
+    ensures { (firsts : List TheHeld) (past : List TheRow) → words.old ≡ words_of 0 firsts past →
+        words.new ≡ words_of 0 firsts (row.now ∷ past) }
 {
     match row.what {
         What::Hold { note, word } => {
@@ -119,8 +121,8 @@ fn tell_words(words: &mut [Held], row: &Row)
 }
 
 fn is_lost(words: &[Held], note: NoteId, word: u32) -> bool
-    ensures { (parts : List TheNote) (past : List TheRow) → words.now ≡ words_of 0 parts past →
-        result ≡ leaves (held_of (length parts) note past).word word }
+    ensures { (firsts : List TheHeld) (past : List TheRow) → words.now ≡ words_of 0 firsts past →
+        result ≡ leaves (held_of firsts note past).word word }
 {
     word_at(words, note).word == word
 }
@@ -132,14 +134,14 @@ fn adds(before: u32, word: u32) -> bool
 }
 
 fn is_merged(words: &[Held], note: NoteId, word: u32) -> bool
-    ensures { (parts : List TheNote) (past : List TheRow) → words.now ≡ words_of 0 parts past →
-        result ≡ adds (held_of (length parts) note past).word word }
+    ensures { (firsts : List TheHeld) (past : List TheRow) → words.now ≡ words_of 0 firsts past →
+        result ≡ adds (held_of firsts note past).word word }
 {
     adds(word_at(words, note).word, word)
 }
 
 fn miss(accounts: &[Account], moment: Tick, thread: ThreadId, number: u64) -> Option<Finding>
-    ensures { (system : TheSystem) (past : List TheRow) → accounts.now ≡ accounts_of (length system.notes) 0 system.threads past →
+    ensures { (system : TheSystem) (past : List TheRow) → accounts.now ≡ accounts_of (firsts_of system) 0 system.threads past →
         UpTo moment past → result ≡ miss system past moment thread number }
 {
     if thread.0 < accounts.len() {
@@ -152,7 +154,7 @@ fn miss(accounts: &[Account], moment: Tick, thread: ThreadId, number: u64) -> Op
 }
 
 fn job(accounts: &[Account], moment: Tick, thread: ThreadId, number: u64) -> Option<Job>
-    ensures { (system : TheSystem) (past : List TheRow) → accounts.now ≡ accounts_of (length system.notes) 0 system.threads past →
+    ensures { (system : TheSystem) (past : List TheRow) → accounts.now ≡ accounts_of (firsts_of system) 0 system.threads past →
         UpTo moment past → result ≡ job_known system past moment thread number }
 {
     if thread.0 < accounts.len() {
@@ -165,7 +167,7 @@ fn job(accounts: &[Account], moment: Tick, thread: ThreadId, number: u64) -> Opt
 }
 
 fn opened_accounts(alloc: Global, parts: &SystemParts) -> Result<Vec<Account>, NoMemory>
-    ensures { IfOk result (λ accounts. accounts.items ≡ map (λ part. account_of 0 part 0 []) parts.now.threads) }
+    ensures { IfOk result (λ accounts. accounts.items ≡ map (λ part. account_of [] part 0 []) parts.now.threads) }
 {
     let accounts = parts
         .threads
@@ -176,15 +178,32 @@ fn opened_accounts(alloc: Global, parts: &SystemParts) -> Result<Vec<Account>, N
     Ok(accounts)
 }
 
-fn opened_words(alloc: Global, parts: &SystemParts) -> Result<Vec<Held>, NoMemory>
-    ensures { IfOk result (λ words. words.items ≡ map (λ part. no_word) parts.now.notes) }
+/// The words that leave something to do to a thread that waits first for the notification.
+fn heard_at(note: usize, threads: &[ThreadPart]) -> Option<u32>
+    ensures { result ≡ heard_at note threads.now }
 {
-    let words = parts
-        .notes
-        .as_slice()
-        .iter()
-        .map(|_| Held::new())
-        .collect(alloc)?;
+    let mut bits = Some(0);
+    for part in threads {
+        if let Some(NoteId(first)) = first_wait(part) {
+            if first == note {
+                bits = either(bits, bits_of(part));
+            }
+        }
+    }
+    bits
+}
+
+fn opened_words(alloc: Global, parts: &SystemParts) -> Result<Vec<Held>, NoMemory>
+    ensures { IfOk result (λ words. words.items ≡ firsts_of parts.now) }
+{
+    let mut words = Vec::new(alloc);
+    for (number, part) in parts.notes.as_slice().iter().enumerate() {
+        words.push(Held {
+            word: part.word,
+            since: Tick::ZERO,
+            bits: heard_at(number, parts.threads.as_slice()),
+        })?;
+    }
     Ok(words)
 }
 
@@ -281,6 +300,20 @@ impl Watch {
             let account = &self.accounts[thread.0];
             let held = word_for(self.words.as_slice(), account.waits);
             account.unended(horizon, thread, &held)
+        } else {
+            None
+        }
+    }
+
+    /// When the word was set for which the thread's script waits first, where it leaves the thread something to do. None where there is no
+    /// such thread.
+    pub fn word_set(&self, thread: ThreadId) -> Option<Tick>
+        ensures { (system : TheSystem) (past : List TheRow) → self.now ≡ watch_of system past → result ≡ word_set system past thread }
+    {
+        if thread.0 < self.accounts.len() {
+            let account = &self.accounts[thread.0];
+            let held = word_for(self.words.as_slice(), account.waits);
+            set_at(account.bits, &held)
         } else {
             None
         }

@@ -5,31 +5,31 @@ use Rattle.mcs_verdict.proofs.Words.{words_told, words_untold, words_unsaid, say
 use Rattle.mcs_verdict.proofs.watch.tell_words.Goals as goal
 
 pub returns-then-note-words : goal.returns-then-note-words
-returns-then-note-words c parts past e =
-    words_told c.note.inside.0 (held_with c.args.row.now.moment c.in-Hold.word) parts c.args.row.now past c.args.words.now c.hold.new.self c.index-words-note.result e
+returns-then-note-words c firsts past e =
+    words_told c.note.inside.0 (held_with c.args.row.now.moment c.in-Hold.word) firsts c.args.row.now past c.args.words.now c.hold.new.self c.index-words-note.result e
     (makes_held c.args.row.now c.note.inside.0 c.in-Hold.word (c.in-Hold.is ∙ ap (λ n. row.Hold n c.in-Hold.word) (sym c.note.view_is)))
     c.hold.ensures
 
 pub returns-else-note-words : goal.returns-else-note-words
-returns-else-note-words c parts past e =
-    words_untold c.note.inside.0 (held_with c.args.row.now.moment c.in-Hold.word) parts c.args.row.now past c.args.words.now e
+returns-else-note-words c firsts past e =
+    words_untold c.note.inside.0 (held_with c.args.row.now.moment c.in-Hold.word) firsts c.args.row.now past c.args.words.now e
     (makes_held c.args.row.now c.note.inside.0 c.in-Hold.word (c.in-Hold.is ∙ ap (λ n. row.Hold n c.in-Hold.word) (sym c.note.view_is)))
     c.if-note-words.false
 
 pub returns-then-note-words-2 : goal.returns-then-note-words-2
-returns-then-note-words-2 c parts past e =
-    words_told c.note-in-Got.inside.0 taken parts c.args.row.now past c.args.words.now c.take.new.self c.index-words-note-then-note-words-2.result e
+returns-then-note-words-2 c firsts past e =
+    words_told c.note-in-Got.inside.0 taken firsts c.args.row.now past c.args.words.now c.take.new.self c.index-words-note-then-note-words-2.result e
     (makes_taken c.args.row.now c.in-Got.thread c.note-in-Got.inside.0 c.in-Got.word
     (c.in-Got.is ∙ ap (λ n. row.Got c.in-Got.thread n c.in-Got.word) (sym c.note-in-Got.view_is)))
     c.take.ensures
 
 pub returns-else-note-words-2 : goal.returns-else-note-words-2
-returns-else-note-words-2 c parts past e =
-    words_untold c.note-in-Got.inside.0 taken parts c.args.row.now past c.args.words.now e
+returns-else-note-words-2 c firsts past e =
+    words_untold c.note-in-Got.inside.0 taken firsts c.args.row.now past c.args.words.now e
     (makes_taken c.args.row.now c.in-Got.thread c.note-in-Got.inside.0 c.in-Got.word
     (c.in-Got.is ∙ ap (λ n. row.Got c.in-Got.thread n c.in-Got.word) (sym c.note-in-Got.view_is)))
     c.if-note-words-2.false
 
 pub returns-in_default : goal.returns-in_default
-returns-in_default c parts past e =
-    e ∙ sym (words_unsaid 0 parts c.args.row.now past (λ k before h. says_none c.args.row.now.what c.in_default.not-Hold c.in_default.not-Got c.args.row.now.moment k before))
+returns-in_default c firsts past e =
+    e ∙ sym (words_unsaid 0 firsts c.args.row.now past (λ k before h. says_none c.args.row.now.what c.in_default.not-Hold c.in_default.not-Got c.args.row.now.moment k before))

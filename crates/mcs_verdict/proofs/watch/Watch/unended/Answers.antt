@@ -1,4 +1,5 @@
 use Rattle.std.proofs.Common.{◌<◌, length, arith, ap, ◌∙◌}
+use Rattle.mcs_verdict.specs.Words.{firsts_of}
 use Rattle.mcs_verdict.specs.Watch.{Watch}
 use Rattle.mcs_verdict.proofs.Kept.{unended_found, unended_unknown}
 use Rattle.mcs_verdict.proofs.watch.Watch.unended.Goals as goal
@@ -10,7 +11,7 @@ returns-then-thread-len c system past e up =
     let has : c.thread.inside.0 < length c.self.inside.accounts.items = omega (arith, c.if-thread-len.true, c.len.ensures) in
     unended_found system past c.self.inside.accounts.items c.args.horizon c.thread.inside.0 c.args.thread
     c.index-account.result.now c.word_for-held.result c.unended.result c.thread.view_is a up (omega (arith, c.get.ensures.value, c.get.ensures.in_range))
-    has c.index-account.ensures (c.word_for-held.ensures system.notes past (c.as_slice.ensures.value ∙ w)) c.unended.ensures
+    has c.index-account.ensures (c.word_for-held.ensures (firsts_of system) past (c.as_slice.ensures.value ∙ w)) c.unended.ensures
 
 pub returns-else-thread-len : goal.returns-else-thread-len
 returns-else-thread-len c system past e up =
