@@ -7,10 +7,11 @@ use Rattle.std.proofs.lemmas.List.{set_past, take_more}
 use Rattle.std.proofs.lemmas.List.Folds.{list_any-append}
 use Rattle.std.proofs.lemmas.Option.{get_or_from_slice_get, slice_get-get_or}
 use Rattle.mcs_script.specs.declared.item.Item.{Item}
-use Rattle.mcs_script.specs.declared.item.Item.TheVariants.{Compute, Signal, Wait, Yield}
+use Rattle.mcs_script.specs.declared.item.Item.TheVariants.{Compute, Signal, Wait, Yield, On, Spin, Enter, Leave}
+use Rattle.mcs_system.specs.declared.part.SourcePart.{SourcePart}
 use Rattle.mcs_hints.specs.declared.notes.Mark.{Mark}
-use Rattle.mcs_hints.specs.Notes.{waits_on, signals}
-use Rattle.mcs_hints.specs.stored.Marks.{mark_of, marks_of, waits_with, signals_with}
+use Rattle.mcs_hints.specs.Notes.{waits_on, signals, interrupts}
+use Rattle.mcs_hints.specs.stored.Marks.{mark_of, marks_of, marked_of, all_marks_of, waits_with, signals_with}
 use Rattle.mcs_hints.proofs.Numbers.{set_number, same_numbers, at_number, length-numbers}
 
 pub any_push : {X : Type 0} (p : X → Bool) (xs : List X) (x : X) (b : Bool) → p x ≡ b → list_any p (xs ++ x ∷ []) ≡ (list_any p xs || b)
@@ -87,6 +88,10 @@ marks_unsaid notes items (Compute ticks) w s = same_numbers (mark_of items) (mar
 marks_unsaid notes items (Wait note) w s = absurd (w note refl)
 marks_unsaid notes items (Signal note badge) w s = absurd (s note badge refl)
 marks_unsaid notes items Yield w s = same_numbers (mark_of items) (mark_of (items ++ Yield ∷ [])) notes (made true true) (λ k. unsaid items Yield k refl refl)
+marks_unsaid notes items (On badges) w s = same_numbers (mark_of items) (mark_of (items ++ On badges ∷ [])) notes (made true true) (λ k. unsaid items (On badges) k refl refl)
+marks_unsaid notes items Spin w s = same_numbers (mark_of items) (mark_of (items ++ Spin ∷ [])) notes (made true true) (λ k. unsaid items Spin k refl refl)
+marks_unsaid notes items (Enter server priority) w s = same_numbers (mark_of items) (mark_of (items ++ Enter server priority ∷ [])) notes (made true true) (λ k. unsaid items (Enter server priority) k refl refl)
+marks_unsaid notes items (Leave server priority) w s = same_numbers (mark_of items) (mark_of (items ++ Leave server priority ∷ [])) notes (made true true) (λ k. unsaid items (Leave server priority) k refl refl)
 
 -- the next item of a script
 pub item_taken : (items script : List Item) (n : ℕ) (item : Item) → n < length script → slice_get script n ≡ Some item
@@ -98,3 +103,37 @@ item_taken items script n item h e =
 
 pub none_left : (script : List Item) (n : ℕ) → n < length script → slice_get script n ≡ None → ⊥
 none_left script n h e = let known = slice_get-get_or script n (Wait 0) h in cc
+
+-- no source yet
+pub marks_by_scripts : (notes : ℕ) (items : List Item) → marks_of notes items ≡ all_marks_of notes items []
+marks_by_scripts notes items =
+    same_numbers (mark_of items) (marked_of items []) notes (made true true)
+    (λ k. same_marks (list_any (waits_on k) items) (list_any (waits_on k) items) (list_any (signals k) items) (list_any (signals k) items || false) refl
+    (sym (or-false (list_any (signals k) items))))
+
+-- a source more
+pub marks_posted : (note notes : ℕ) (items : List Item) (sources : List SourcePart) (source : SourcePart) (marks : List Mark) (new d : Mark)
+    → marks ≡ all_marks_of notes items sources → source.note ≡ note → (note < length marks → new ≡ signals_with (get_or marks note d))
+    → set marks note new ≡ all_marks_of notes items (sources ++ source ∷ [])
+marks_posted note notes items sources source marks new d e same is =
+    ap (λ marks. set marks note new) e
+    ∙ set_number (marked_of items sources) (marked_of items (sources ++ source ∷ [])) notes note new here
+    (λ k differ. ap (λ b. made (list_any (waits_on k) items) (list_any (signals k) items || b))
+    (sym (any_push_no (interrupts k) sources source (ne_eqb source.note k (λ at. differ (sym at ∙ same))))))
+  where
+    here : note < notes → new ≡ marked_of items (sources ++ source ∷ []) note
+    here h =
+        let l : length marks ≡ notes = ap length e ∙ length-numbers (marked_of items sources) notes in
+        let at : get_or marks note d ≡ marked_of items sources note = ap (λ marks. get_or marks note d) e ∙ at_number (marked_of items sources) notes note d h in
+        is (omega (arith, l))
+        ∙ ap signals_with at
+        ∙ ap (λ b. made (list_any (waits_on note) items) b)
+        (sym (ap (λ b. list_any (signals note) items || b) (any_push_yes (interrupts note) sources source (eq-eqb source.note note same))
+        ∙ or_right (list_any (signals note) items) true refl))
+
+pub marks_unposted : (note notes : ℕ) (items : List Item) (sources : List SourcePart) (source : SourcePart) (marks : List Mark)
+    → marks ≡ all_marks_of notes items sources → source.note ≡ note → length marks ≤ note
+    → marks ≡ all_marks_of notes items (sources ++ source ∷ [])
+marks_unposted note notes items sources source marks e same h =
+    sym (set_past marks note (made true true) h)
+    ∙ marks_posted note notes items sources source marks (made true true) (made true true) e same (λ less. absurd (omega arith))

@@ -1,7 +1,7 @@
 -- Hints that were worked by hand.
 use Rattle.std.specs.Prelude.{◌≡◌, ℕ, List, [], ◌∷◌, refl}
 use Rattle.mcs_script.specs.declared.item.Item.{Item}
-use Rattle.mcs_script.specs.declared.item.Item.TheVariants.{Compute, Signal, Wait}
+use Rattle.mcs_script.specs.declared.item.Item.TheVariants.{Compute, Signal, Wait, On}
 use Rattle.mcs_control.specs.declared.config.Mode.TheVariants as mode
 use Rattle.mcs_system.specs.declared.part.ContextPart.{ContextPart}
 use Rattle.mcs_system.specs.declared.part.ThreadPart.{ThreadPart}
@@ -27,10 +27,14 @@ system contexts threads =
       call = 1;
       min_budget = 1;
       contexts = contexts;
-      notes = record { name = []; core = 0 } ∷ record { name = []; core = 0 } ∷ [];
+      notes = record { name = []; core = 0; word = 0 } ∷ record { name = []; core = 0; word = 0 } ∷ [];
       threads = threads;
       orders = [];
       links = [];
+      servers = 0;
+      sources = [];
+      beats = [];
+      chains = [];
     }
 
 abbrev one : List ContextPart
@@ -90,3 +94,41 @@ rounded_down = refl
 all_kinds : hints_of (system (context 0 1 10 ∷ context 1 8 10 ∷ context 1 3 10 ∷ context 0 1 1 ∷ []) (thread 1 (Wait 0 ∷ Wait 1 ∷ Compute 1 ∷ []) ∷ thread 2 (Signal 1 1 ∷ []) ∷ []))
     ≡ Unsignalled 0 ∷ Unbound 0 ∷ Unbound 3 ∷ Overcommitted 1 1100000 ∷ []
 all_kinds = refl
+
+-- a source signals as a script does
+abbrev with_source : System → System
+with_source parts = record parts { sources = record { name = []; note = 1; badge = 1 } ∷ [] }
+
+interrupted : hints_of (with_source (system one (thread 0 (Wait 1 ∷ On 1 ∷ Compute 1 ∷ []) ∷ []))) ≡ []
+interrupted = refl
+
+other_is_interrupted : hints_of (with_source (system one (thread 0 (Wait 0 ∷ Compute 1 ∷ []) ∷ []))) ≡ Unsignalled 0 ∷ []
+other_is_interrupted = refl
+
+-- Three thirds and two parts of which neither is a millionth are more than all of the time, though the shares that are rounded down sum to less.
+abbrev thirds : ℕ → ℕ → List ContextPart
+thirds budget period = context 0 1 3 ∷ context 0 1 3 ∷ context 0 1 3 ∷ context 0 budget period ∷ []
+
+abbrev on_each : List ThreadPart
+on_each = thread 0 (Compute 1 ∷ []) ∷ thread 1 (Compute 1 ∷ []) ∷ thread 2 (Compute 1 ∷ []) ∷ thread 3 (Compute 1 ∷ []) ∷ []
+
+above_by_less_than_a_millionth : hints_of (system (thirds 1 1000001) on_each) ≡ Overcommitted 0 999999 ∷ []
+above_by_less_than_a_millionth = refl
+
+-- all of the time, of which each share is rounded down or not
+three_thirds : hints_of (system (context 0 1 3 ∷ context 0 1 3 ∷ context 0 1 3 ∷ []) (thread 0 (Compute 1 ∷ []) ∷ thread 1 (Compute 1 ∷ []) ∷ thread 2 (Compute 1 ∷ []) ∷ [])) ≡ []
+three_thirds = refl
+
+-- 1/2 + 1/2, and 1/2 and one more than the half of the longest period
+abbrev longest : ℕ
+longest = 1099511627776
+
+abbrev halves : ℕ → List ContextPart
+halves budget = context 1 1 2 ∷ context 1 budget longest ∷ []
+
+two_halves : hints_of (system (halves 549755813888) (thread 0 (Compute 1 ∷ []) ∷ thread 1 (Compute 1 ∷ []) ∷ [])) ≡ []
+two_halves = refl
+
+one_more_than_two_halves :
+    hints_of (system (halves 549755813889) (thread 0 (Compute 1 ∷ []) ∷ thread 1 (Compute 1 ∷ []) ∷ [])) ≡ Overcommitted 1 1000000 ∷ []
+one_more_than_two_halves = refl

@@ -7,6 +7,7 @@ use Rattle.mcs_control.specs.declared.config.Kind.TheVariants.{Sporadic, RoundRo
 use Rattle.mcs_control.specs.Control.{kind_of}
 use Rattle.mcs_system.specs.declared.part.ThreadPart.{ThreadPart}
 use Rattle.mcs_system.specs.System.{System, context_part}
+use Rattle.mcs_hints.specs.declared.exact.Fraction.{Fraction}
 use Rattle.mcs_hints.specs.declared.hint.Hint.{Hint}
 use Rattle.mcs_hints.specs.declared.hint.Hint.TheVariants.{Unbound}
 
@@ -36,3 +37,11 @@ share_where bound config = if bound then share config else 0
 -- by the configuration of the file: orders do not count
 abbrev pub share_of : System → ℕ → ℕ
 share_of system context = share_where (is_bound system.threads context) (context_part system context).config
+
+-- and as it is, not rounded, where it is granted something
+abbrev pub part_by : Kind → Config → Option Fraction
+part_by RoundRobin config = None
+part_by Sporadic config = Some (record { numerator = config.budget; denominator = config.period })
+
+abbrev pub part_where : Bool → Config → Option Fraction
+part_where bound config = if bound then part_by (kind_of config) config else None

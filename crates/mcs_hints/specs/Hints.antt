@@ -11,6 +11,6 @@ use Rattle.mcs_hints.specs.Cores.{overcommitted}
 -- of notifications, then of contexts, then of cores, each by number
 abbrev pub hints_of : System → List Hint
 hints_of system =
-    filter_map (unsignalled (items_of system.threads)) (numbers (length system.notes))
+    filter_map (unsignalled (items_of system.threads) system.sources) (numbers (length system.notes))
     ++ filter_map (unbound system.threads) (numbers (length system.contexts))
     ++ filter_map (overcommitted system) (numbers system.cores)

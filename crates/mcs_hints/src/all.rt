@@ -22,6 +22,12 @@ pub fn hints(alloc: Global, system: &System) -> Result<Vec<Hint>, NoMemory>
     let mut hints = Vec::new(alloc);
     keep_unsignalled(&mut hints, marks.as_slice())?;
     keep_unbound(&mut hints, bounds.as_slice())?;
-    keep_overcommitted(&mut hints, system, shares.as_slice())?;
+    keep_overcommitted(
+        alloc,
+        &mut hints,
+        system,
+        bounds.as_slice(),
+        shares.as_slice(),
+    )?;
     Ok(hints)
 }

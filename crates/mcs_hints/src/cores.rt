@@ -1,14 +1,19 @@
-ghost use Rattle.std.specs.Prelude.{◌≡◌, ◌++◌, IfOk};
-ghost use Rattle.std.specs.List.{filter_map};
+ghost use Rattle.std.specs.Prelude.{◌≡◌, ◌≤◌, ◌++◌, length, IfOk, IfSome};
+ghost use Rattle.std.specs.List.{All, filter_map};
+ghost use Rattle.mcs_control.specs.Control.{IsConfig};
 ghost use Rattle.mcs_hints.specs.Numbers.{numbers};
-ghost use Rattle.mcs_hints.specs.Cores.{granted, overcommitted};
-ghost use Rattle.mcs_hints.specs.stored.Marks.{shares_of};
+ghost use Rattle.mcs_hints.specs.Contexts.{part_where};
+ghost use Rattle.mcs_hints.specs.Cores.{granted, parts_of, overcommitted};
+ghost use Rattle.mcs_hints.specs.Exact.{IsFraction};
+ghost use Rattle.mcs_hints.specs.stored.Marks.{bounds_of, shares_of};
 
 use crate::Hint;
+use crate::exact::{Fraction, is_above_one};
 use crate::keep::keep;
-use crate::shares::WHOLE;
+use mcs_control::{Config, Kind};
 use mcs_system::System;
 use mcs_ticks::{CoreId, NoMemory};
+use std::alloc::Global;
 
 fn granted(system: &System, shares: &[u64], core: CoreId) -> u64
     requires { shares.now ≡ shares_of system.now }
@@ -23,28 +28,79 @@ fn granted(system: &System, shares: &[u64], core: CoreId) -> u64
     granted
 }
 
-fn overcommitted(system: &System, shares: &[u64], core: CoreId) -> Option<Hint>
-    requires { shares.now ≡ shares_of system.now }
-    ensures { result ≡ overcommitted system.now core }
+fn part(config: Config, bound: bool) -> Option<Fraction>
+    requires { IsConfig config }
+    ensures part { result ≡ part_where bound config }
+    ensures fraction { IfSome result IsFraction }
 {
-    let millionths = granted(system, shares, core);
-    if millionths > WHOLE {
-        Some(Hint::Overcommitted { core, millionths })
+    if !bound {
+        return None;
+    }
+    match config.kind() {
+        Kind::RoundRobin => None,
+        Kind::Sporadic => Some(Fraction {
+            numerator: config.budget,
+            denominator: config.period,
+        }),
+    }
+}
+
+/// What each of the core's contexts is granted, as it is.
+fn parts_of(
+    alloc: Global,
+    system: &System,
+    bounds: &[bool],
+    core: CoreId,
+) -> Result<Vec<Fraction>, NoMemory>
+    requires { bounds.now ≡ bounds_of (length system.now.contexts) system.now.threads }
+    ensures parts { IfOk result (λ parts. parts.items ≡ parts_of system.now core) }
+    ensures fractions { IfOk result (λ parts. All IsFraction parts.items) }
+    ensures few { IfOk result (λ parts. length parts.items ≤ 4096) }
+{
+    let mut parts = Vec::new(alloc);
+    for (context, context_part) in system.parts().contexts.as_slice().iter().enumerate() {
+        let uses = context_part.core == core && bounds[context];
+        if let Some(part) = part(context_part.config, uses) {
+            parts.push(part)?;
+        }
+    }
+    Ok(parts)
+}
+
+fn overcommitted(
+    alloc: Global,
+    system: &System,
+    bounds: &[bool],
+    shares: &[u64],
+    core: CoreId,
+) -> Result<Option<Hint>, NoMemory>
+    requires bounds { bounds.now ≡ bounds_of (length system.now.contexts) system.now.threads }
+    requires shares { shares.now ≡ shares_of system.now }
+    ensures { IfOk result (λ hint. hint ≡ overcommitted system.now core) }
+{
+    let mut parts = parts_of(alloc, system, bounds, core)?;
+    if is_above_one(parts.as_mut_slice()) {
+        let millionths = granted(system, shares, core);
+        Ok(Some(Hint::Overcommitted { core, millionths }))
     } else {
-        None
+        Ok(None)
     }
 }
 
 pub(crate) fn keep_overcommitted(
+    alloc: Global,
     hints: &mut Vec<Hint>,
     system: &System,
+    bounds: &[bool],
     shares: &[u64],
 ) -> Result<(), NoMemory>
-    requires { shares.now ≡ shares_of system.now }
+    requires bounds { bounds.now ≡ bounds_of (length system.now.contexts) system.now.threads }
+    requires shares { shares.now ≡ shares_of system.now }
     ensures { IfOk result (λ _. hints.new.items ≡ hints.old.items ++ filter_map (overcommitted system.now) (numbers system.now.cores)) }
 {
     for core in 0..system.parts().cores {
-        keep(hints, overcommitted(system, shares, CoreId(core)))?;
+        let hint = overcommitted(alloc, system, bounds, shares, CoreId(core))?;
+        keep(hints, hint)?;
     }
     Ok(())
 }

@@ -5,6 +5,7 @@
 mod all;
 mod contexts;
 mod cores;
+mod exact;
 mod hint;
 mod keep;
 mod notes;

@@ -1,18 +1,19 @@
 ghost use Rattle.std.specs.Prelude.{◌≡◌, ℕ, ◌++◌, List, [], ◌∷◌, length, IfOk};
 ghost use Rattle.std.specs.List.{filter_map};
 ghost use Rattle.mcs_script.specs.declared.item.Item.{Item as TheItem};
+ghost use Rattle.mcs_system.specs.declared.part.SourcePart.{SourcePart as TheSource};
 ghost use Rattle.mcs_hints.specs.Numbers.{numbers};
 ghost use Rattle.mcs_hints.specs.Notes.{items_of, unsignalled};
-ghost use Rattle.mcs_hints.specs.stored.Marks.{waits_with, signals_with, unsignalled_by, marks_of};
+ghost use Rattle.mcs_hints.specs.stored.Marks.{waits_with, signals_with, unsignalled_by, marks_of, all_marks_of};
 
 use crate::Hint;
 use crate::keep::keep;
 use mcs_script::{Item, Script};
-use mcs_system::{SystemParts, ThreadPart};
+use mcs_system::{SourcePart, SystemParts, ThreadPart};
 use mcs_ticks::{NoMemory, NoteId};
 use std::alloc::Global;
 
-/// What scripts do with a notification.
+/// What scripts and sources do with a notification.
 #[derive(Clone, Copy)]
 pub(crate) struct Mark {
     waits: bool,
@@ -32,7 +33,7 @@ impl Mark {
         self.waits = true;
     }
 
-    /// A script signals it.
+    /// A script signals it, or a source interrupts on it.
     fn signal(&mut self)
         ensures { self.new ≡ signals_with self.old }
     {
@@ -86,18 +87,36 @@ fn mark_threads(marks: &mut [Mark], threads: &[ThreadPart])
     }
 }
 
-/// In one pass over all items.
+fn mark_source(marks: &mut [Mark], note: NoteId)
+    ensures { (notes : ℕ) (items : List TheItem) (sources : List TheSource) (source : TheSource) →
+        marks.old ≡ all_marks_of notes items sources → source.note ≡ note → marks.new ≡ all_marks_of notes items (sources ++ source ∷ []) }
+{
+    if note.0 < marks.len() {
+        marks[note.0].signal();
+    }
+}
+
+fn mark_sources(marks: &mut [Mark], sources: &[SourcePart])
+    ensures { (notes : ℕ) (items : List TheItem) → marks.old ≡ marks_of notes items → marks.new ≡ all_marks_of notes items sources.now }
+{
+    for source in sources {
+        mark_source(marks, source.note);
+    }
+}
+
+/// In one pass over all items, and one over the sources.
 pub(crate) fn mark_notes(alloc: Global, parts: &SystemParts) -> Result<Vec<Mark>, NoMemory>
-    ensures { IfOk result (λ marks. marks.items ≡ marks_of (length parts.now.notes) (items_of parts.now.threads)) }
+    ensures { IfOk result (λ marks. marks.items ≡ all_marks_of (length parts.now.notes) (items_of parts.now.threads) parts.now.sources) }
 {
     let mut marks = vec![in alloc; Mark::NONE; parts.notes.len()]?;
     mark_threads(marks.as_mut_slice(), parts.threads.as_slice());
+    mark_sources(marks.as_mut_slice(), parts.sources.as_slice());
     Ok(marks)
 }
 
 pub(crate) fn keep_unsignalled(hints: &mut Vec<Hint>, marks: &[Mark]) -> Result<(), NoMemory>
-    ensures { (notes : ℕ) (items : List TheItem) → marks.now ≡ marks_of notes items →
-        IfOk result (λ _. hints.new.items ≡ hints.old.items ++ filter_map (unsignalled items) (numbers notes)) }
+    ensures { (notes : ℕ) (items : List TheItem) (sources : List TheSource) → marks.now ≡ all_marks_of notes items sources →
+        IfOk result (λ _. hints.new.items ≡ hints.old.items ++ filter_map (unsignalled items sources) (numbers notes)) }
 {
     for (note, mark) in marks.iter().enumerate() {
         keep(hints, mark.unsignalled(NoteId(note)))?;

@@ -9,7 +9,7 @@ use mcs_ticks::NoMemory;
 use std::alloc::Global;
 
 /// All of a core's time, in millionths.
-pub(crate) const WHOLE: u64 = 1_000_000;
+const WHOLE: u64 = 1_000_000;
 
 fn share(config: Config) -> u64
     requires { IsConfig config }
