@@ -10,12 +10,15 @@ use Rattle.mcs_verdict.specs.declared.job.Job.{Job}
 use Rattle.mcs_verdict.specs.Activation.{is_active, or_tick, first_for, first_active}
 use Rattle.mcs_verdict.specs.Standing.{standing_at, telling}
 use Rattle.mcs_verdict.specs.Rounds.{first_wait, begun_by_word, begun_after, begun, begun_of, called_by, called_after, called, called_of, activated_by, activated}
-use Rattle.mcs_verdict.specs.Words.{held_of}
+use Rattle.mcs_verdict.specs.declared.held.Held.{Held}
+use Rattle.mcs_verdict.specs.Calls.{calls, bits_of}
+use Rattle.mcs_verdict.specs.Misses.{word_set}
+use Rattle.mcs_verdict.specs.Words.{held_of, firsts_of}
 use Rattle.mcs_verdict.specs.Jobs.{or_now, job, job_known}
 use Rattle.mcs_why.specs.declared.span.Span.{Span}
 use Rattle.mcs_why.specs.declared.trail.Trail.{Trail}
 use Rattle.mcs_why.specs.Search.{told_by, trail_of}
-use Rattle.mcs_why.specs.Spans.{span_in, ended, activated_of, to_begin, waits_since, open_by, open_of, open_if, sought_by, sought}
+use Rattle.mcs_why.specs.Spans.{span_in, ended, activated_of, to_begin, waits_since, comes_since, open_by, open_of, open_if, sought_by, sought}
 
 -- a moment of a round, if there is one, is so too of another
 abbrev IsSet : Option ℕ → Type 0
@@ -30,45 +33,53 @@ follows_none : (b : Option ℕ) → Follows None b
 follows_none b = tt
 
 -- a word that begins a round activates it
-by_word : (note moment set : ℕ) (began word : Option ℕ) → Follows began word
-    → Follows (begun_by_word (Some note) moment began) (called_by (Some note) set began word)
-by_word note moment set None word h = tt
-by_word note moment set (Some x) word h = h
+by_word : (note : ℕ) (bits : Option ℕ) (given moment set : ℕ) (began word : Option ℕ) → Follows began word
+    → Follows (begun_by_word (Some note) bits given moment began) (called_by (Some note) bits given set began word)
+by_word note bits given moment set None word h = by (calls bits given)
+  where
+    by : (b : Bool) → Follows (cond b (Some moment) None) (cond b (Some set) word)
+    by true = tt
+    by false = tt
+by_word note bits given moment set (Some x) word h = h
 
-word_row : (b : Bool) (note moment set : ℕ) (began word : Option ℕ) → Follows began word
-    → Follows (cond b (begun_by_word (Some note) moment began) began) (cond b (called_by (Some note) set began word) word)
-word_row true note moment set began word h = by_word note moment set began word h
-word_row false note moment set began word h = h
+word_row : (b : Bool) (note : ℕ) (bits : Option ℕ) (given moment set : ℕ) (began word : Option ℕ) → Follows began word
+    → Follows (cond b (begun_by_word (Some note) bits given moment began) began) (cond b (called_by (Some note) bits given set began word) word)
+word_row true note bits given moment set began word h = by_word note bits given moment set began word h
+word_row false note bits given moment set began word h = h
 
 end_row : (b : Bool) (began word : Option ℕ) → Follows began word → Follows (cond b None began) word
 end_row true began word h = tt
 end_row false began word h = h
 
-follows_after : (notes note thread : ℕ) (past : List Row) (moment : ℕ) (what : What) (began word : Option ℕ) → Follows began word
-    → Follows (begun_after (Some note) thread moment what began) (called_after notes (Some note) thread past moment what began word)
-follows_after notes note thread past moment (row.Release x) began word h = h
-follows_after notes note thread past moment (row.Run x) began word h = h
-follows_after notes note thread past moment (row.Stop x why.Spent charged until) began word h = h
-follows_after notes note thread past moment (row.Stop x why.Yield charged until) began word h = h
-follows_after notes note thread past moment (row.Stop x why.Wait charged until) began word h = h
-follows_after notes note thread past moment (row.Stop x why.Done charged until) began word h = end_row (eqb x thread) began word h
-follows_after notes note thread past moment (row.Stop x why.Preempt charged until) began word h = h
-follows_after notes note thread past moment (row.Stop x why.Order charged until) began word h = h
-follows_after notes note thread past moment (row.Signal x n badge) began word h = h
-follows_after notes note thread past moment (row.Arrive n badge maker) began word h = h
-follows_after notes note thread past moment (row.Wake x n bits) began word h = word_row (eqb x thread) note moment moment began word h
-follows_after notes note thread past moment (row.Hold n bits) began word h = h
-follows_after notes note thread past moment (row.Got x n bits) began word h =
-    word_row (eqb x thread) note moment (held_of notes n past).since began word h
-follows_after notes note thread past moment (row.Round x number response) began word h = end_row (eqb x thread) began word h
-follows_after notes note thread past moment (row.Order context) began word h = h
+follows_after : (firsts : List Held) (note : ℕ) (bits : Option ℕ) (thread : ℕ) (past : List Row) (moment : ℕ) (what : What) (began word : Option ℕ)
+    → Follows began word
+    → Follows (begun_after (Some note) bits thread moment what began) (called_after firsts (Some note) bits thread past moment what began word)
+follows_after firsts note bits thread past moment (row.Release x) began word h = h
+follows_after firsts note bits thread past moment (row.Run x) began word h = h
+follows_after firsts note bits thread past moment (row.Stop x why.Spent charged until) began word h = h
+follows_after firsts note bits thread past moment (row.Stop x why.Yield charged until) began word h = h
+follows_after firsts note bits thread past moment (row.Stop x why.Wait charged until) began word h = h
+follows_after firsts note bits thread past moment (row.Stop x why.Call charged until) began word h = h
+follows_after firsts note bits thread past moment (row.Stop x why.Done charged until) began word h = end_row (eqb x thread) began word h
+follows_after firsts note bits thread past moment (row.Stop x why.Preempt charged until) began word h = h
+follows_after firsts note bits thread past moment (row.Stop x why.Order charged until) began word h = h
+follows_after firsts note bits thread past moment (row.Signal x n badge) began word h = h
+follows_after firsts note bits thread past moment (row.Arrive n badge maker) began word h = h
+follows_after firsts note bits thread past moment (row.Wake x n given) began word h = word_row (eqb x thread) note bits given moment moment began word h
+follows_after firsts note bits thread past moment (row.Hold n given) began word h = h
+follows_after firsts note bits thread past moment (row.Got x n given) began word h =
+    word_row (eqb x thread) note bits given moment (held_of firsts n past).since began word h
+follows_after firsts note bits thread past moment (row.Round x number response) began word h = end_row (eqb x thread) began word h
+follows_after firsts note bits thread past moment (row.Order context) began word h = h
+follows_after firsts note bits thread past moment (row.Interrupt source n badge) began word h = h
 
 -- where a round is under way that a word began, the word was set
-follows : (notes note start thread : ℕ) (past : List Row) → Follows (begun (Some note) start thread past) (called notes (Some note) start thread past)
-follows notes note start thread [] = tt
-follows notes note start thread (r ∷ past) =
-    follows_after notes note thread past r.moment r.what (begun (Some note) start thread past) (called notes (Some note) start thread past)
-    (follows notes note start thread past)
+follows : (firsts : List Held) (note : ℕ) (bits : Option ℕ) (start thread : ℕ) (past : List Row)
+    → Follows (begun (Some note) bits start thread past) (called firsts (Some note) bits start thread past)
+follows firsts note bits start thread [] = tt
+follows firsts note bits start thread (r ∷ past) =
+    follows_after firsts note bits thread past r.moment r.what (begun (Some note) bits start thread past) (called firsts (Some note) bits start thread past)
+    (follows firsts note bits start thread past)
 
 -- the first active tick is one of those that were looked at
 within : (earlier : Option ℕ) (active : Bool) (t x n : ℕ) → ((s : ℕ) → earlier ≡ Some s → s < x) → x ≤ n → or_tick earlier active x ≡ Some t
@@ -109,12 +120,11 @@ set_where None word b e h = absurd (cc)
 set_where (Some x) word b e h = h
 
 -- of the round of a thread
-called_where : (notes : ℕ) (waits : Option ℕ) (start thread : ℕ) (past : List Row) (b note : ℕ) → begun waits start thread past ≡ Some b
-    → waits ≡ Some note
-    → IsSet (called notes waits start thread past)
-called_where notes (Some x) start thread past b note e is =
-    set_where (begun (Some x) start thread past) (called notes (Some x) start thread past) b e (follows notes x start thread past)
-called_where notes None start thread past b note e is = absurd (cc)
+called_where : (firsts : List Held) (waits bits : Option ℕ) (start thread : ℕ) (past : List Row) (b note : ℕ)
+    → begun waits bits start thread past ≡ Some b → waits ≡ Some note → IsSet (called firsts waits bits start thread past)
+called_where firsts (Some x) bits start thread past b note e is =
+    set_where (begun (Some x) bits start thread past) (called firsts (Some x) bits start thread past) b e (follows firsts x bits start thread past)
+called_where firsts None bits start thread past b note e is = absurd (cc)
 
 told_activated : (system : System) (thread : ℕ) (past : List Row) (horizon b : ℕ) → begun_of system thread past ≡ Some b
     → told_by (first_wait (thread_part system thread)) horizon (or_now horizon (activated system thread past b horizon))
@@ -122,7 +132,7 @@ told_activated : (system : System) (thread : ℕ) (past : List Row) (horizon b :
 told_activated system thread past horizon b e =
     let part = thread_part system thread in
     recovered (first_wait part) (called_of system thread past) (first_active thread past b horizon) horizon
-    (λ note is. called_where (length system.notes) (first_wait part) part.start thread past b note e is)
+    (λ note is. called_where (firsts_of system) (first_wait part) (bits_of part) part.start thread past b note e is)
     (λ t is.
     let below = first_within None (telling thread past) b (horizon - b) t is in
     let some = some_ticks None (telling thread past) b (horizon - b) t is in
@@ -166,22 +176,26 @@ pub none_under_way : (system : System) (thread : ℕ) (past : List Row) (horizon
 none_under_way system thread past horizon e = ap (activated_of system thread past horizon) (sym e)
 
 -- the round that has not ended, by what is kept
-pub told_open : (system : System) (thread number : ℕ) (past : List Row) (horizon : ℕ) (trail : Trail) (at : Option ℕ)
+pub told_open : (system : System) (thread number : ℕ) (past : List Row) (horizon : ℕ) (trail : Trail) (at set : Option ℕ)
     → trail ≡ trail_of system thread number past
-    → at ≡ activated_of system thread past horizon (begun_of system thread past)
-    → open_by trail.thread trail.core trail.ended horizon trail.begun at trail.waited (to_begin trail.standing trail.set)
-    (waits_since trail.standing trail.stopped)
+    → at ≡ activated_of system thread past horizon (begun_of system thread past) → set ≡ word_set system past thread
+    → open_by trail.thread trail.core trail.ended horizon trail.begun at trail.waited (to_begin trail.standing set)
+    (waits_since trail.standing trail.stopped) (comes_since trail.standing trail.free)
     ≡ open_of system horizon past thread
-told_open system thread number past horizon trail at e is =
+told_open system thread number past horizon trail at set e is word =
     let kept = trail_of system thread number past in
     ap
-    (λ (trail : Trail). open_by trail.thread trail.core trail.ended horizon trail.begun at trail.waited (to_begin trail.standing trail.set)
-    (waits_since trail.standing trail.stopped))
+    (λ (trail : Trail). open_by trail.thread trail.core trail.ended horizon trail.begun at trail.waited (to_begin trail.standing set)
+    (waits_since trail.standing trail.stopped) (comes_since trail.standing trail.free))
     e
     ∙ ap
-    (λ at. open_by thread kept.core kept.ended horizon kept.begun at kept.waited (to_begin kept.standing kept.set)
-    (waits_since kept.standing kept.stopped))
+    (λ at. open_by thread kept.core kept.ended horizon kept.begun at kept.waited (to_begin kept.standing set)
+    (waits_since kept.standing kept.stopped) (comes_since kept.standing kept.free))
     is
+    ∙ ap
+    (λ set. open_by thread kept.core kept.ended horizon kept.begun (activated_of system thread past horizon (begun_of system thread past)) kept.waited
+    (to_begin kept.standing set) (waits_since kept.standing kept.stopped) (comes_since kept.standing kept.free))
+    word
 
 -- what there is of the round that is sought, where it has not ended
 pub told_sought : (system : System) (thread number : ℕ) (past : List Row) (horizon : ℕ) (trail : Trail) (unended : Option Span)

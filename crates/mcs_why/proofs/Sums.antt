@@ -102,6 +102,7 @@ known_runner threads (row.Hold note bits) w h e = absurd (cc)
 known_runner threads (row.Got x note bits) w h e = absurd (cc)
 known_runner threads (row.Round x number response) w h e = absurd (cc)
 known_runner threads (row.Order context) w h e = absurd (cc)
+known_runner threads (row.Interrupt source n badge) w h e = absurd (cc)
 
 pub all_known : (threads : ℕ) (rows : List Row) → AreKnown threads rows → (t w : ℕ) → runner_at t rows ≡ Some w → w < threads
 all_known threads [] h t w e = absurd (cc)

@@ -6,7 +6,7 @@ use Rattle.mcs_ticks.specs.declared.row.What.{What}
 use Rattle.mcs_ticks.specs.declared.row.What.TheVariants as row
 use Rattle.mcs_ticks.specs.declared.row.Why.TheVariants as why
 use Rattle.mcs_script.specs.declared.item.Item.{Item}
-use Rattle.mcs_script.specs.declared.item.Item.TheVariants.{Compute, Signal, Wait}
+use Rattle.mcs_script.specs.declared.item.Item.TheVariants.{Compute, Signal, Wait, On}
 use Rattle.mcs_control.specs.declared.config.Mode.TheVariants as mode
 use Rattle.mcs_system.specs.declared.part.ContextPart.{ContextPart}
 use Rattle.mcs_system.specs.declared.part.ThreadPart.{ThreadPart}
@@ -34,10 +34,14 @@ system threads =
       call = 1;
       min_budget = 1;
       contexts = context 1 1000 ∷ context 50 100 ∷ context 50 100 ∷ context 50 100 ∷ [];
-      notes = record { name = []; core = 0 } ∷ [];
+      notes = record { name = []; core = 0; word = 0 } ∷ [];
       threads = threads;
       orders = [];
       links = [];
+      servers = 0;
+      sources = [];
+      beats = [];
+      chains = [];
     }
 
 abbrev at : ℕ → What → Row
@@ -166,6 +170,53 @@ held :
     (past_of [] (at 0 (row.Hold 0 1) ∷ at 0 (row.Run 0) ∷ at 1 (row.Got 0 0 1) ∷ at 4 (row.Hold 0 2) ∷ at 8 (row.Round 0 1 7) ∷ [])) 0 2
     ≡ There (span 0 2 4 9 false (Some 4) None)
 held = refl
+
+-- A thread that never reaches its first wait is on the way to it since it starts, and another one runs in its place.
+abbrev kept_away : System
+kept_away = system (thread 1 1 2 (Wait 0 ∷ Compute 1 ∷ []) ∷ thread 2 5 0 (Compute 300 ∷ []) ∷ [])
+
+abbrev another_runs : List Row
+another_runs = past_of [] (at 0 (row.Release 1) ∷ at 0 (row.Run 1) ∷ at 2 (row.Release 0) ∷ [])
+
+never_at_its_wait : sought kept_away 30 another_runs 0 1 ≡ There (span 0 1 2 30 false None None)
+never_at_its_wait = refl
+
+ran_in_its_place : map (λ thread. ran_in 0 thread another_runs 2 30) (range_with_len 0 2) ≡ 0 ∷ 28 ∷ []
+ran_in_its_place = refl
+
+only_its_first : sought kept_away 30 another_runs 0 2 ≡ Missing 1
+only_its_first = refl
+
+starts_at_the_horizon : sought kept_away 2 another_runs 0 1 ≡ There (span 0 1 2 2 false None None)
+starts_at_the_horizon = refl
+
+starts_after_the_horizon : sought kept_away 1 [] 0 1 ≡ Missing 0
+starts_after_the_horizon = refl
+
+-- after a round it is so since that ended, and no more after its last one
+abbrev on_the_way_again : List Row → List Row
+on_the_way_again rest = past_of [] (at 0 (row.Hold 0 1) ∷ at 0 (row.Run 0) ∷ at 1 (row.Got 0 0 1) ∷ at 8 (row.Round 0 1 7) ∷ rest)
+
+kept_away_again : sought late 12 (on_the_way_again (at 8 (row.Stop 0 why.Preempt 8 None) ∷ [])) 0 2 ≡ There (span 0 2 8 12 false None None)
+kept_away_again = refl
+
+after_its_last : sought late 12 (on_the_way_again (at 8 (row.Stop 0 why.Done 8 None) ∷ [])) 0 2 ≡ Missing 1
+after_its_last = refl
+
+-- A word for which there is nothing to do begins no round. The thread waits for the next one since it stopped for that.
+abbrev handles : System
+handles = system (thread 1 5 0 (Wait 0 ∷ On 1 ∷ Compute 9 ∷ []) ∷ [])
+
+abbrev woken_for_nothing : List Row → List Row
+woken_for_nothing rest =
+    past_of []
+    (at 0 (row.Run 0) ∷ at 1 (row.Stop 0 why.Wait 1 None) ∷ at 3 (row.Wake 0 0 4) ∷ at 3 (row.Run 0) ∷ at 4 (row.Stop 0 why.Wait 1 None) ∷ rest)
+
+waits_again : sought handles 9 (woken_for_nothing []) 0 1 ≡ There (span 0 1 4 9 false None None)
+waits_again = refl
+
+woken_for_something : sought handles 9 (woken_for_nothing (at 7 (row.Wake 0 0 1) ∷ [])) 0 1 ≡ There (span 0 1 4 9 false (Some 7) (Some 7))
+woken_for_something = refl
 
 -- rows at both ends of a span are shown
 first_shown : is_within 0 5 32 (at 5 (row.Run 1)) ≡ true

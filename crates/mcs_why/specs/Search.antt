@@ -3,10 +3,11 @@ use Rattle.std.specs.Prelude.{ℕ, nat_lt, if◌then◌else◌, List, Option, So
 use Rattle.mcs_ticks.specs.declared.row.Row.{Row}
 use Rattle.mcs_system.specs.System.{System, thread_part, core_of}
 use Rattle.mcs_verdict.specs.Standing.{telling}
-use Rattle.mcs_verdict.specs.Rounds.{first_wait, begun_of}
+use Rattle.mcs_verdict.specs.Calls.{first_wait, bits_of}
+use Rattle.mcs_verdict.specs.Rounds.{begun_of}
 use Rattle.mcs_verdict.specs.Account.{standing_of}
 use Rattle.mcs_why.specs.declared.trail.Trail.{Trail}
-use Rattle.mcs_why.specs.Waits.{stopped, waited_of, word_set}
+use Rattle.mcs_why.specs.Waits.{stopped, waited_of, free}
 use Rattle.mcs_why.specs.Spans.{span_in, ended}
 
 -- after these rows, of the round of the thread with this number
@@ -18,12 +19,13 @@ trail_of system thread number past =
       number = number;
       core = core_of system part;
       waits = first_wait part;
+      bits = bits_of part;
       ended = ended thread past;
       found = span_in system thread number past;
       begun = begun_of system thread past;
       waited = waited_of system thread past;
       stopped = stopped thread past;
-      set = word_set (first_wait part) past;
+      free = free part.start thread past;
       standing = standing_of (telling thread past);
     }
 

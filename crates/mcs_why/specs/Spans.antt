@@ -8,14 +8,15 @@ use Rattle.mcs_verdict.specs.declared.job.Job.{Job}
 use Rattle.mcs_verdict.specs.declared.standing.Standing.{Standing}
 use Rattle.mcs_verdict.specs.declared.standing.Standing.TheVariants.{Blocked, Done}
 use Rattle.mcs_verdict.specs.Standing.{telling}
-use Rattle.mcs_verdict.specs.Rounds.{first_wait, begun_of, activated}
+use Rattle.mcs_verdict.specs.Rounds.{begun_of, activated}
+use Rattle.mcs_verdict.specs.Misses.{word_set}
 use Rattle.mcs_ticks.specs.Capped.{one_more}
 use Rattle.mcs_verdict.specs.Jobs.{job_of}
 use Rattle.mcs_verdict.specs.Account.{standing_of}
 use Rattle.mcs_why.specs.declared.span.Span.{Span}
 use Rattle.mcs_why.specs.declared.span.Sought.{Sought}
 use Rattle.mcs_why.specs.declared.span.Sought.TheVariants.{There, Missing}
-use Rattle.mcs_why.specs.Waits.{stopped, waited_of, word_set}
+use Rattle.mcs_why.specs.Waits.{stopped, waited_of, free}
 
 -- from a round's activation on, or from where its thread began to wait for the word that began it, where that is earlier
 abbrev pub from_of : ℕ → Option ℕ → ℕ
@@ -84,6 +85,11 @@ abbrev pub waits_since : Standing → Option ℕ → Option ℕ
 waits_since Blocked stopped = stopped
 waits_since _ stopped = None
 
+-- since when the thread is on the way to its wait, where it is: there is nothing more to do for a thread whose last round ended
+abbrev pub comes_since : Standing → ℕ → Option ℕ
+comes_since Done free = None
+comes_since _ free = Some free
+
 -- a round of a thread that has not ended at the horizon, after so many that ended
 abbrev pub open_span : ℕ → ℕ → ℕ → ℕ → ℕ → Option ℕ → Option ℕ → Span
 open_span thread core before horizon from activated begun =
@@ -98,17 +104,19 @@ open_span thread core before horizon from activated begun =
       begun = begun;
     }
 
--- it is under way, or its word is held, or its thread waits for one
-abbrev pub open_by : ℕ → ℕ → ℕ → ℕ → Option ℕ → Option ℕ → Option ℕ → Option ℕ → Option ℕ → Option Span
-open_by thread core before horizon (Some begun) activated waited set since =
+-- it is under way, or its word is held, or its thread waits for one, or is on the way to its wait and was so before the horizon
+abbrev pub open_by : ℕ → ℕ → ℕ → ℕ → Option ℕ → Option ℕ → Option ℕ → Option ℕ → Option ℕ → Option ℕ → Option Span
+open_by thread core before horizon (Some begun) activated waited set since comes =
     if nat_le begun horizon
     then Some (open_span thread core before horizon (from_begun begun activated waited) activated (Some begun))
     else None
-open_by thread core before horizon None activated waited (Some set) since =
+open_by thread core before horizon None activated waited (Some set) since comes =
     Some (open_span thread core before horizon set (Some set) None)
-open_by thread core before horizon None activated waited None (Some since) =
+open_by thread core before horizon None activated waited None (Some since) comes =
     Some (open_span thread core before horizon since None None)
-open_by thread core before horizon None activated waited None None = None
+open_by thread core before horizon None activated waited None None (Some comes) =
+    if nat_le comes horizon then Some (open_span thread core before horizon comes None None) else None
+open_by thread core before horizon None activated waited None None None = None
 
 -- the span of the thread's round that has not ended at the horizon, if there is one
 abbrev pub open_of : System → ℕ → List Row → ℕ → Option Span
@@ -117,7 +125,7 @@ open_of system horizon past thread =
     let standing = standing_of (telling thread past) in
     open_by thread (core_of system part) (ended thread past) horizon (begun_of system thread past)
     (activated_of system thread past horizon (begun_of system thread past)) (waited_of system thread past)
-    (to_begin standing (word_set (first_wait part) past)) (waits_since standing (stopped thread past))
+    (to_begin standing (word_set system past thread)) (waits_since standing (stopped thread past)) (comes_since standing (free part.start thread past))
 
 -- a round that is there, or how many there are
 abbrev pub open_if : ℕ → ℕ → Option Span → Sought

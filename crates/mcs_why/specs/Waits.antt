@@ -4,9 +4,8 @@ use Rattle.mcs_ticks.specs.declared.row.Row.{Row}
 use Rattle.mcs_ticks.specs.declared.row.What.{What}
 use Rattle.mcs_ticks.specs.declared.row.What.TheVariants as row
 use Rattle.mcs_system.specs.System.{System, thread_part}
-use Rattle.mcs_verdict.specs.Rounds.{first_wait, begun}
-use Rattle.mcs_verdict.specs.Words.{held}
-use Rattle.mcs_verdict.specs.Misses.{set_at}
+use Rattle.mcs_verdict.specs.Calls.{first_wait, calls, bits_of}
+use Rattle.mcs_verdict.specs.Rounds.{begun}
 
 -- when the thread stopped last
 abbrev pub stopped_after : ℕ → ℕ → What → Option ℕ → Option ℕ
@@ -18,28 +17,34 @@ stopped thread [] = None
 stopped thread (r ∷ past) = stopped_after thread r.moment r.what (stopped thread past)
 
 -- where a word begins a round, this is since when the thread waited for it
-abbrev pub waited_by : Option ℕ → Option ℕ → Option ℕ → Option ℕ → Option ℕ
-waited_by (Some note) None since before = since
-waited_by waits begun since before = before
+abbrev pub waited_by : Option ℕ → Option ℕ → ℕ → Option ℕ → Option ℕ → Option ℕ → Option ℕ
+waited_by (Some note) bits word None since before = if calls bits word then since else before
+waited_by waits bits word begun since before = before
 
 -- a thread that is woken waited since it stopped; one that takes a word that is held did not wait
-abbrev pub waited_after : Option ℕ → ℕ → Option ℕ → Option ℕ → What → Option ℕ → Option ℕ
-waited_after waits thread begun stopped (row.Wake x note word) before = if x == thread then waited_by waits begun stopped before else before
-waited_after waits thread begun stopped (row.Got x note word) before = if x == thread then waited_by waits begun None before else before
-waited_after waits thread begun stopped _ before = before
+abbrev pub waited_after : Option ℕ → Option ℕ → ℕ → Option ℕ → Option ℕ → What → Option ℕ → Option ℕ
+waited_after waits bits thread begun stopped (row.Wake x note word) before =
+    if x == thread then waited_by waits bits word begun stopped before else before
+waited_after waits bits thread begun stopped (row.Got x note word) before =
+    if x == thread then waited_by waits bits word begun None before else before
+waited_after waits bits thread begun stopped _ before = before
 
 -- since when the thread waited for the word that began its latest round, if one did, and if it waited
-abbrev pub waited : Option ℕ → ℕ → ℕ → List Row → Option ℕ
-waited waits start thread [] = None
-waited waits start thread (r ∷ past) =
-    waited_after waits thread (begun waits start thread past) (stopped thread past) r.what (waited waits start thread past)
+abbrev pub waited : Option ℕ → Option ℕ → ℕ → ℕ → List Row → Option ℕ
+waited waits bits start thread [] = None
+waited waits bits start thread (r ∷ past) =
+    waited_after waits bits thread (begun waits bits start thread past) (stopped thread past) r.what (waited waits bits start thread past)
 
 abbrev pub waited_of : System → ℕ → List Row → Option ℕ
 waited_of system thread past =
     let part = thread_part system thread in
-    waited (first_wait part) part.start thread past
+    waited (first_wait part) (bits_of part) part.start thread past
 
--- when the word was set that the notification holds, where it holds one
-abbrev pub word_set : Option ℕ → List Row → Option ℕ
-word_set None past = None
-word_set (Some note) past = set_at (held note past)
+-- when the thread's latest round ended, or else when it starts: from there on it is on the way to its first item
+abbrev pub free_after : ℕ → ℕ → What → ℕ → ℕ
+free_after thread moment (row.Round x number response) before = if x == thread then moment else before
+free_after thread moment _ before = before
+
+abbrev pub free : ℕ → ℕ → List Row → ℕ
+free start thread [] = start
+free start thread (r ∷ past) = free_after thread r.moment r.what (free start thread past)

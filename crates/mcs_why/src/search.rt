@@ -63,6 +63,7 @@ impl Search {
                 response: 0,
             },
         };
-        self.trail.sought(horizon, watch.job(&end))
+        let set = watch.word_set(self.trail.thread);
+        self.trail.sought(horizon, watch.job(&end), set)
     }
 }

@@ -6,14 +6,14 @@ ghost use Rattle.mcs_verdict.specs.Jobs.{job_of};
 ghost use Rattle.mcs_verdict.specs.Rounds.{begun_after};
 ghost use Rattle.mcs_verdict.specs.Standing.{telling, standing_after};
 ghost use Rattle.mcs_verdict.specs.Account.{standing_of};
-ghost use Rattle.mcs_why.specs.Waits.{stopped_after, waited_after, word_set};
+ghost use Rattle.mcs_why.specs.Waits.{stopped_after, waited_after, free_after};
 ghost use Rattle.mcs_why.specs.Spans.{from_of, span_of, span_if, ended_after};
 ghost use Rattle.mcs_why.specs.Search.{trail_of};
 
 use crate::Span;
 use mcs_system::SystemParts;
 use mcs_ticks::{CoreId, NoteId, Row, ThreadId, Tick, What, Why};
-use mcs_verdict::{Job, Standing, first_wait};
+use mcs_verdict::{Job, Standing, bits_of, calls, first_wait};
 
 /// What is kept of the rows so far to find a round of a thread.
 #[derive(Clone, Copy, Debug, PartialEq, Eq)]
@@ -23,6 +23,8 @@ pub(crate) struct Trail {
     pub core: CoreId,
     /// The notification on which its script waits first, where it begins with a wait.
     pub waits: Option<NoteId>,
+    /// The bits of which a word of that wait must have one to begin a round; None where each word does.
+    pub bits: Option<u32>,
     /// The number of its latest round that ended, 0 where none did.
     pub ended: u64,
     pub found: Option<Span>,
@@ -31,8 +33,8 @@ pub(crate) struct Trail {
     /// Since when it waited for the word that began its latest round.
     pub waited: Option<Tick>,
     pub stopped: Option<Tick>,
-    /// When the word was set that the first notification holds.
-    pub set: Option<Tick>,
+    /// When its latest round ended, or else when it starts.
+    pub free: Tick,
     pub standing: Standing,
 }
 
@@ -61,20 +63,31 @@ fn stopped_after(thread: ThreadId, moment: Tick, what: &What, before: Option<Tic
 /// When the round began that is under way after this row.
 fn begun_after(
     waits: Option<NoteId>,
+    bits: Option<u32>,
     thread: ThreadId,
     moment: Tick,
     what: &What,
     begun: Option<Tick>,
 ) -> Option<Tick>
-    ensures { result ≡ begun_after waits thread moment what.now begun }
+    ensures { result ≡ begun_after waits bits thread moment what.now begun }
 {
     match *what {
         What::Round { thread: other, .. } if other.0 == thread.0 => match waits {
             Some(_) => None,
             None => Some(moment),
         },
-        What::Got { thread: other, .. } | What::Wake { thread: other, .. }
-            if other.0 == thread.0 && waits.is_some() && begun.is_none() => { Some(moment) }
+        What::Got {
+            thread: other,
+            word,
+            ..
+        }
+        | What::Wake {
+            thread: other,
+            word,
+            ..
+        } if other.0 == thread.0 && waits.is_some() && begun.is_none() && calls(bits, word) => {
+            Some(moment)
+        }
         What::Stop {
             thread: other,
             why: Why::Done,
@@ -87,40 +100,40 @@ fn begun_after(
 /// Since when the thread waited for the word that began its latest round.
 fn waited_after(
     waits: Option<NoteId>,
+    bits: Option<u32>,
     thread: ThreadId,
     begun: Option<Tick>,
     stopped: Option<Tick>,
     what: &What,
     before: Option<Tick>,
 ) -> Option<Tick>
-    ensures { result ≡ waited_after waits thread begun stopped what.now before }
+    ensures { result ≡ waited_after waits bits thread begun stopped what.now before }
 {
     if waits.is_none() || begun.is_some() {
         return before;
     }
     match *what {
-        What::Wake { thread: other, .. } if other.0 == thread.0 => stopped,
-        What::Got { thread: other, .. } if other.0 == thread.0 => None,
+        What::Wake {
+            thread: other,
+            word,
+            ..
+        } if other.0 == thread.0 && calls(bits, word) => stopped,
+        What::Got {
+            thread: other,
+            word,
+            ..
+        } if other.0 == thread.0 && calls(bits, word) => None,
         _ => before,
     }
 }
 
-/// When the word was set that the notification holds.
-fn set_after(waits: Option<NoteId>, moment: Tick, what: &What, set: Option<Tick>) -> Option<Tick>
-    ensures { (r : TheRow) (past : List TheRow) → r.moment ≡ moment → r.what ≡ what.now → set ≡ word_set waits past →
-        result ≡ word_set waits (r ∷ past) }
+/// When the thread's latest round ended, or else when it starts.
+fn free_after(thread: ThreadId, moment: Tick, what: &What, before: Tick) -> Tick
+    ensures { result ≡ free_after thread moment what.now before }
 {
-    let Some(note) = waits else { return None };
     match *what {
-        What::Hold { note: other, word } if other.0 == note.0 => {
-            if word == 0 {
-                None
-            } else {
-                Some(set.unwrap_or(moment))
-            }
-        }
-        What::Got { note: other, .. } if other.0 == note.0 => None,
-        _ => set,
+        What::Round { thread: other, .. } if other.0 == thread.0 => moment,
+        _ => before,
     }
 }
 
@@ -131,7 +144,10 @@ fn standing_after(what: &What) -> Standing
     match *what {
         What::Run { .. } => Standing::Running,
         What::Wake { .. } => Standing::Woken,
-        What::Stop { why: Why::Wait, .. } => Standing::Blocked,
+        What::Stop {
+            why: Why::Wait | Why::Call,
+            ..
+        } => Standing::Blocked,
         What::Stop { why: Why::Done, .. } => Standing::Done,
         What::Stop { until: Some(_), .. } => Standing::Throttled,
         _ => Standing::Ready,
@@ -191,6 +207,7 @@ impl Trail {
             number,
             core: parts.core_of_thread(part),
             waits,
+            bits: bits_of(part),
             ended: 0,
             found: None,
             begun: match waits {
@@ -199,7 +216,7 @@ impl Trail {
             },
             waited: None,
             stopped: None,
-            set: None,
+            free: part.start,
             standing: Standing::Pending,
         }
     }
@@ -227,16 +244,24 @@ impl Trail {
         let what = &row.what;
         self.waited = waited_after(
             self.waits,
+            self.bits,
             self.thread,
             self.begun,
             self.stopped,
             what,
             self.waited,
         );
-        self.begun = begun_after(self.waits, self.thread, row.moment, what, self.begun);
+        self.begun = begun_after(
+            self.waits,
+            self.bits,
+            self.thread,
+            row.moment,
+            what,
+            self.begun,
+        );
         self.ended = ended_after(self.thread, what, self.ended);
         self.stopped = stopped_after(self.thread, row.moment, what, self.stopped);
-        self.set = set_after(self.waits, row.moment, what, self.set);
+        self.free = free_after(self.thread, row.moment, what, self.free);
         self.standing = standing_now(self.thread, what, self.standing);
     }
 }

@@ -5,7 +5,8 @@ ghost use Rattle.mcs_ticks.specs.declared.row.What.TheVariants as row;
 ghost use Rattle.mcs_system.specs.System.{System as TheSystem};
 ghost use Rattle.mcs_verdict.specs.Jobs.{job_of};
 ghost use Rattle.mcs_verdict.specs.Rounds.{begun_of};
-ghost use Rattle.mcs_why.specs.Spans.{activated_of, to_begin, waits_since, open_span, open_by, open_if, sought};
+ghost use Rattle.mcs_verdict.specs.Misses.{word_set};
+ghost use Rattle.mcs_why.specs.Spans.{activated_of, to_begin, waits_since, comes_since, open_span, open_by, open_if, sought};
 ghost use Rattle.mcs_why.specs.Search.{told_by, trail_of};
 
 use crate::trail::{Trail, from_of};
@@ -28,6 +29,16 @@ fn waits_since(standing: Standing, stopped: Option<Tick>) -> Option<Tick>
     match standing {
         Standing::Blocked => stopped,
         _ => None,
+    }
+}
+
+fn comes_since(standing: Standing, free: Tick) -> Option<Tick>
+    ensures { result ≡ comes_since standing free }
+{
+    if standing == Standing::Done {
+        None
+    } else {
+        Some(free)
     }
 }
 
@@ -77,9 +88,15 @@ impl Trail {
     }
 
     /// The round that is under way since this moment, told by when it was activated.
-    fn under_way(&self, horizon: Tick, begun: Tick, activated: Option<Tick>) -> Option<Span>
+    fn under_way(
+        &self,
+        horizon: Tick,
+        begun: Tick,
+        activated: Option<Tick>,
+        set: Option<Tick>,
+    ) -> Option<Span>
         ensures { result ≡ open_by self.now.thread self.now.core self.now.ended horizon (Some begun) activated self.now.waited
-            (to_begin self.now.standing self.now.set) (waits_since self.now.standing self.now.stopped) }
+            (to_begin self.now.standing set) (waits_since self.now.standing self.now.stopped) (comes_since self.now.standing self.now.free) }
     {
         if horizon.get() < begun.get() {
             return None;
@@ -95,27 +112,32 @@ impl Trail {
     }
 
     /// The round that is yet to begin.
-    fn to_come(&self, horizon: Tick, activated: Option<Tick>) -> Option<Span>
+    fn to_come(&self, horizon: Tick, activated: Option<Tick>, set: Option<Tick>) -> Option<Span>
         ensures { result ≡ open_by self.now.thread self.now.core self.now.ended horizon None activated self.now.waited
-            (to_begin self.now.standing self.now.set) (waits_since self.now.standing self.now.stopped) }
+            (to_begin self.now.standing set) (waits_since self.now.standing self.now.stopped) (comes_since self.now.standing self.now.free) }
     {
-        match to_begin(self.standing, self.set) {
-            Some(set) => Some(self.open_span(horizon, set, Some(set), None)),
-            None => {
-                let since = waits_since(self.standing, self.stopped)?;
-                Some(self.open_span(horizon, since, None, None))
+        if let Some(set) = to_begin(self.standing, set) {
+            return Some(self.open_span(horizon, set, Some(set), None));
+        }
+        if let Some(since) = waits_since(self.standing, self.stopped) {
+            return Some(self.open_span(horizon, since, None, None));
+        }
+        match comes_since(self.standing, self.free) {
+            Some(comes) if comes.get() <= horizon.get() => {
+                Some(self.open_span(horizon, comes, None, None))
             }
+            _ => None,
         }
     }
 
     /// The round that has not ended at the horizon, if there is one, by when the one under way was activated.
-    fn open(&self, horizon: Tick, activated: Option<Tick>) -> Option<Span>
+    fn open(&self, horizon: Tick, activated: Option<Tick>, set: Option<Tick>) -> Option<Span>
         ensures { result ≡ open_by self.now.thread self.now.core self.now.ended horizon self.now.begun activated self.now.waited
-            (to_begin self.now.standing self.now.set) (waits_since self.now.standing self.now.stopped) }
+            (to_begin self.now.standing set) (waits_since self.now.standing self.now.stopped) (comes_since self.now.standing self.now.free) }
     {
         match self.begun {
-            Some(begun) => self.under_way(horizon, begun, activated),
-            None => self.to_come(horizon, activated),
+            Some(begun) => self.under_way(horizon, begun, activated, set),
+            None => self.to_come(horizon, activated, set),
         }
     }
 
@@ -134,16 +156,18 @@ impl Trail {
         }
     }
 
-    /// What there is of the round, where this is the one under way as if it ended at the horizon.
-    pub(crate) fn sought(&self, horizon: Tick, job: Option<Job>) -> Sought
+    /// What there is of the round, where this is the one under way as if it ended at the horizon, and this is when the word was set that is
+    /// held for its thread.
+    pub(crate) fn sought(&self, horizon: Tick, job: Option<Job>, set: Option<Tick>) -> Sought
         ensures { (system : TheSystem) (thread number response : ℕ) (past : List TheRow) → self.now ≡ trail_of system thread number past →
             thread < length system.threads → job ≡ job_of system past horizon (row.Round thread number response) →
+            set ≡ word_set system past thread →
             result ≡ sought system horizon past thread number }
     {
         match self.found {
             Some(span) => Sought::There(span),
             None => {
-                let unended = self.open(horizon, self.activated(horizon, job));
+                let unended = self.open(horizon, self.activated(horizon, job), set);
                 open_if(self.number, self.ended, unended)
             }
         }

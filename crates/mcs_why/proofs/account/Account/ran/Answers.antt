@@ -1,4 +1,4 @@
-use Rattle.std.proofs.Common.{◌≡◌, ◌-◌, ◌<◌, ◌≤◌, ◌^◌, cond, length, ap, ◌∙◌, arith}
+use Rattle.std.proofs.Common.{◌≡◌, ◌-◌, ◌<◌, ◌≤◌, cond, length, ap, ◌∙◌, arith}
 use Rattle.mcs_verdict.specs.Account.{since_of}
 use Rattle.mcs_why.specs.Running.{turns, is_thread}
 use Rattle.mcs_why.specs.Account.{Account, runner_now, passed_at}
