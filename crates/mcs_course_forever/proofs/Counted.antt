@@ -16,7 +16,7 @@ use Rattle.mcs_verdict.specs.declared.job.Job.{Job}
 use Rattle.mcs_verdict.specs.Findings.{finding, past_of, found_at, found_in}
 use Rattle.mcs_verdict.specs.Jobs.{job}
 use Rattle.mcs_verdict.specs.Misses.{is_above, missed}
-use Rattle.mcs_verdict.specs.Words.{held_of, leaves}
+use Rattle.mcs_verdict.specs.Words.{held_of, firsts_of, leaves}
 use Rattle.mcs_forever.specs.laws.Home.{IsOfOwn}
 use Rattle.mcs_forever.proofs.Home.{rows-of-own}
 use Rattle.mcs_forever.proofs.Schedules.{all-turns}
@@ -66,7 +66,7 @@ module _ (system : System) (group : ℕ → Bool) where
           Counts (finding system past m (row.Round x number response))
       by (inl none) = inl none
       by (inr is) = inr (inl (record { thread = x; known = own.known; own = ap group own.home ∙ mine; counts = is }))
-  what-counts past m c (row.Hold n word) mine own = by (lost-counts n word (leaves (held_of (length system.notes) n past).word word))
+  what-counts past m c (row.Hold n word) mine own = by (lost-counts n word (leaves (held_of (firsts_of system) n past).word word))
     where
       by : (finding system past m (row.Hold n word) ≡ None) ⊎ (is_loss n (finding system past m (row.Hold n word)) ≡ true) →
           Counts (finding system past m (row.Hold n word))
@@ -80,6 +80,7 @@ module _ (system : System) (group : ℕ → Bool) where
   what-counts past m c (row.Wake x note word) mine own = inl refl
   what-counts past m c (row.Got x note word) mine own = inl refl
   what-counts past m c (row.Order context) mine own = inl refl
+  what-counts past m c (row.Interrupt source at_note badge) mine own = inl refl
 
   -- a count only grows
   grows : (test : Option Finding → Bool) (past rows : List Row) → times system test past ≤ times system test (past_of past rows)

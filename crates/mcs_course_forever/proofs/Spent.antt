@@ -50,6 +50,7 @@ timeless : (shift : Shift) (x : ℕ) (what : What) → is_spent x what ≡ false
 timeless shift x (row.Stop y why.Spent k until) h = h
 timeless shift x (row.Stop y why.Yield k until) h = h
 timeless shift x (row.Stop y why.Wait k until) h = h
+timeless shift x (row.Stop y why.Call k until) h = h
 timeless shift x (row.Stop y why.Done k until) h = h
 timeless shift x (row.Stop y why.Preempt k until) h = h
 timeless shift x (row.Stop y why.Order k until) h = h
@@ -62,6 +63,7 @@ timeless shift x (row.Wake y note word) h = h
 timeless shift x (row.Hold note word) h = h
 timeless shift x (row.Got y note word) h = h
 timeless shift x (row.Order context) h = h
+timeless shift x (row.Interrupt source at_note badge) h = h
 
 -- on its own core alone
 at-home : (system : System) (x c : ℕ) (what : What) → IsOfOwn system c what → (core_of system (thread_part system x) ≡ c → ⊥) → is_spent x what ≡ false
@@ -75,6 +77,7 @@ at-home system x c (row.Stop y why.Spent k until) own away = by (y == x) refl
     by false e = refl
 at-home system x c (row.Stop y why.Yield k until) own away = refl
 at-home system x c (row.Stop y why.Wait k until) own away = refl
+at-home system x c (row.Stop y why.Call k until) own away = refl
 at-home system x c (row.Stop y why.Done k until) own away = refl
 at-home system x c (row.Stop y why.Preempt k until) own away = refl
 at-home system x c (row.Stop y why.Order k until) own away = refl
@@ -87,6 +90,7 @@ at-home system x c (row.Wake y note word) own away = refl
 at-home system x c (row.Hold note word) own away = refl
 at-home system x c (row.Got y note word) own away = refl
 at-home system x c (row.Order context) own away = refl
+at-home system x c (row.Interrupt source at_note badge) own away = refl
 
 pub never-spent : NeverSpent
 never-spent system group shifts from well recurs x own first t =

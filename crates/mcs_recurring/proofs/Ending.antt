@@ -7,7 +7,9 @@ use Rattle.mcs_verdict.specs.declared.standing.Standing.TheVariants.{Done}
 use Rattle.mcs_verdict.specs.Later.{IsLaterWord, IsDoneThread}
 use Rattle.mcs_verdict.specs.Rounds.{first_wait}
 use Rattle.mcs_verdict.specs.Watch.{Watch}
+use Rattle.mcs_verdict.specs.Words.{firsts_of}
 use Rattle.mcs_verdict.proofs.Words.{length-words}
+use Rattle.mcs_verdict_laws.proofs.Due.{length-firsts}
 use Rattle.mcs_forever.specs.Recurs.{Shifts, Recurs}
 use Rattle.mcs_verdict_forever.specs.Recurs.{past_before, watch_before, WordIsLater, WordIsNotSet, FirstWordRecurs, ThreadIsIdle, EndRecurs}
 use Rattle.mcs_verdict_forever.proofs.Findings.{waits-first}
@@ -29,8 +31,9 @@ module _ (system : System) (group : ℕ → Bool) (shifts : Shifts) (from : ℕ)
         within : n < length before.words
         within =
             let a : length before.words ≡ length (watch_before system from).words = ap (λ (watch : Watch). length watch.words) kept.earlier in
-            let b = length-words 0 system.notes (past_before system from) in
-            omega (arith, a, b, known)
+            let b = length-words 0 (firsts_of system) (past_before system from) in
+            let c = length-firsts 0 system.threads system.notes in
+            omega (arith, a, b, c, known)
 
     module _ (x : ℕ) (known : x < length system.threads) (own : group (core_of system (thread_part system x)) ≡ true) where
       -- the notification for which its script waits first

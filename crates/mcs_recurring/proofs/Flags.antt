@@ -96,6 +96,7 @@ whose-ended x (row.Wake y note word) = refl
 whose-ended x (row.Hold note word) = refl
 whose-ended x (row.Got y note word) = refl
 whose-ended x (row.Order context) = refl
+whose-ended x (row.Interrupt source at_note badge) = refl
 
 whose-taken : (x : ℕ) (what : What) → takes_word x what ≡ is_some_of (taken_by what) x
 whose-taken x (row.Round y number response) = refl
@@ -108,6 +109,7 @@ whose-taken x (row.Wake y note word) = refl
 whose-taken x (row.Hold note word) = refl
 whose-taken x (row.Got y note word) = refl
 whose-taken x (row.Order context) = refl
+whose-taken x (row.Interrupt source at_note badge) = refl
 
 whose-held : (x : ℕ) (what : What) → holds_word x what ≡ is_some_of (held_by what) x
 whose-held x (row.Round y number response) = refl
@@ -120,6 +122,7 @@ whose-held x (row.Wake y note word) = refl
 whose-held x (row.Hold note word) = refl
 whose-held x (row.Got y note word) = refl
 whose-held x (row.Order context) = refl
+whose-held x (row.Interrupt source at_note badge) = refl
 
 -- what is kept, of these lists
 abbrev pub doings : List Bool → List Bool → List Bool → List Bool → Doings

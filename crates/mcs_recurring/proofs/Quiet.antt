@@ -61,6 +61,7 @@ later-ends shift x (row.Wake y note word) = refl
 later-ends shift x (row.Hold note word) = refl
 later-ends shift x (row.Got y note word) = refl
 later-ends shift x (row.Order context) = refl
+later-ends shift x (row.Interrupt source at_note badge) = refl
 
 later-about : (shift : Shift) (x : ℕ) (what : What) → is_about x (later_what shift what) ≡ is_about x what
 later-about shift x (row.Round y number response) = refl
@@ -73,6 +74,7 @@ later-about shift x (row.Wake y note word) = refl
 later-about shift x (row.Hold note word) = refl
 later-about shift x (row.Got y note word) = refl
 later-about shift x (row.Order context) = refl
+later-about shift x (row.Interrupt source at_note badge) = refl
 
 later-takes : (shift : Shift) (n : ℕ) (what : What) → takes_word n (later_what shift what) ≡ takes_word n what
 later-takes shift n (row.Round y number response) = refl
@@ -85,6 +87,7 @@ later-takes shift n (row.Wake y note word) = refl
 later-takes shift n (row.Hold note word) = refl
 later-takes shift n (row.Got y note word) = refl
 later-takes shift n (row.Order context) = refl
+later-takes shift n (row.Interrupt source at_note badge) = refl
 
 later-holds : (shift : Shift) (n : ℕ) (what : What) → holds_word n (later_what shift what) ≡ holds_word n what
 later-holds shift n (row.Round y number response) = refl
@@ -97,6 +100,7 @@ later-holds shift n (row.Wake y note word) = refl
 later-holds shift n (row.Hold note word) = refl
 later-holds shift n (row.Got y note word) = refl
 later-holds shift n (row.Order context) = refl
+later-holds shift n (row.Interrupt source at_note badge) = refl
 
 module _ (system : System) (group : ℕ → Bool) where
   abbrev home : ℕ → ℕ
@@ -131,6 +135,7 @@ module _ (system : System) (group : ℕ → Bool) where
   away-about x c (row.Hold note word) own away is = refl
   away-about x c (row.Got y note word) own away is = apart home y x c own away is.0.home
   away-about x c (row.Order context) own away is = refl
+  away-about x c (row.Interrupt source at_note badge) own away is = refl
 
   away-ends : (x c : ℕ) (what : What) → group (home x) ≡ true → group c ≡ false → IsOfOwn system c what → ends_round x what ≡ false
   away-ends x c (row.Round y number response) own away is = apart home y x c own away is.home
@@ -143,6 +148,7 @@ module _ (system : System) (group : ℕ → Bool) where
   away-ends x c (row.Hold note word) own away is = refl
   away-ends x c (row.Got y note word) own away is = refl
   away-ends x c (row.Order context) own away is = refl
+  away-ends x c (row.Interrupt source at_note badge) own away is = refl
 
   away-takes : (n c : ℕ) (what : What) → group (note_home n) ≡ true → group c ≡ false → IsOfOwn system c what → takes_word n what ≡ false
   away-takes n c (row.Round y number response) own away is = refl
@@ -155,6 +161,7 @@ module _ (system : System) (group : ℕ → Bool) where
   away-takes n c (row.Hold note word) own away is = refl
   away-takes n c (row.Got y note word) own away is = apart note_home note n c own away is.1.home
   away-takes n c (row.Order context) own away is = refl
+  away-takes n c (row.Interrupt source at_note badge) own away is = refl
 
   away-holds : (n c : ℕ) (what : What) → group (note_home n) ≡ true → group c ≡ false → IsOfOwn system c what → holds_word n what ≡ false
   away-holds n c (row.Round y number response) own away is = refl
@@ -167,6 +174,7 @@ module _ (system : System) (group : ℕ → Bool) where
   away-holds n c (row.Hold note word) own away is = apart note_home note n c own away is.home
   away-holds n c (row.Got y note word) own away is = refl
   away-holds n c (row.Order context) own away is = refl
+  away-holds n c (row.Interrupt source at_note badge) own away is = refl
 
   module _ (shifts : Shifts) (from : ℕ) (well : IsWellFormed system) (recurs : Recurs system group shifts from) where
     -- the rows of the period

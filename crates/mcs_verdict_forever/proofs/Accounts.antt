@@ -17,6 +17,7 @@ use Rattle.mcs_verdict.specs.declared.standing.Stood.{Stood}
 use Rattle.mcs_verdict.specs.Activation.{is_active}
 use Rattle.mcs_verdict.specs.Standing.{standing_stopped, standing_after, woken_before, settled}
 use Rattle.mcs_verdict.specs.Stood.{no_ticks, counted}
+use Rattle.mcs_verdict.specs.Calls.{calls}
 use Rattle.mcs_verdict.specs.Rounds.{begun_at, activated_by}
 use Rattle.mcs_verdict.specs.Jobs.{with_preemption, or_now, ended}
 use Rattle.mcs_verdict.specs.Misses.{is_above, is_reached, missed, overdue_at, yet_to_begin}
@@ -83,6 +84,7 @@ module _ (shift : Shift) where
     where
       by : (cause : Why) (until : Option ℕ) → standing_stopped cause (option_map (λ date. date + d) until) ≡ standing_stopped cause until
       by why.Wait until = refl
+      by why.Call until = refl
       by why.Done until = refl
       by why.Spent None = refl
       by why.Spent (Some date) = refl
@@ -101,6 +103,7 @@ module _ (shift : Shift) where
   after-later (row.Got x note word) = refl
   after-later (row.Round x number response) = refl
   after-later (row.Order context) = refl
+  after-later (row.Interrupt source at_note badge) = refl
 
   woken-later : (what : What) → woken_before (Some (later_what shift what)) ≡ woken_before (Some what)
   woken-later (row.Stop x cause k until) = refl
@@ -113,6 +116,7 @@ module _ (shift : Shift) where
   woken-later (row.Got x note word) = refl
   woken-later (row.Round x number response) = refl
   woken-later (row.Order context) = refl
+  woken-later (row.Interrupt source at_note badge) = refl
 
   settled-later : (s : Standing) (what : What) → settled (Some (later_what shift what)) s ≡ settled (Some what) s
   settled-later Woken what = woken-later what
@@ -144,22 +148,24 @@ module _ (shift : Shift) where
       before = settled (Some what) a.standing
 
   -- a word that is given
-  bare-given : (m set : ℕ) (a : Account) → bare (given m set (bare a)) ≡ bare (given m set a)
-  bare-given m set a = by a.waits a.begun
+  bare-given : (m set word : ℕ) (a : Account) → bare (given m set word (bare a)) ≡ bare (given m set word a)
+  bare-given m set word a = by (calls a.bits word) a.waits a.begun
     where
-      by : (waits begun : Option ℕ) → bare (given_by m set waits begun (bare a)) ≡ bare (given_by m set waits begun a)
-      by (Some note) None = refl
-      by (Some note) (Some from) = refl
-      by None begun = refl
+      by : (c : Bool) (waits begun : Option ℕ) → bare (given_by m set c waits begun (bare a)) ≡ bare (given_by m set c waits begun a)
+      by true (Some note) None = refl
+      by true (Some note) (Some from) = refl
+      by true None begun = refl
+      by false waits begun = refl
 
-  given-later : (m set : ℕ) (a : Account) → bare (given (m + d) (set + d) (later a)) ≡ later (bare (given m set a))
-  given-later m set a = by a.waits a.begun
+  given-later : (m set word : ℕ) (a : Account) → bare (given (m + d) (set + d) word (later a)) ≡ later (bare (given m set word a))
+  given-later m set word a = by (calls a.bits word) a.waits a.begun
     where
-      by : (waits begun : Option ℕ) → bare (given_by (m + d) (set + d) waits (later_moment d begun) (later a)) ≡ later (bare (given_by m set waits begun a))
-      by (Some note) None = refl
-      by (Some note) (Some from) = refl
-      by None None = refl
-      by None (Some from) = refl
+      by : (c : Bool) (waits begun : Option ℕ) → bare (given_by (m + d) (set + d) c waits (later_moment d begun) (later a)) ≡ later (bare (given_by m set c waits begun a))
+      by true (Some note) None = refl
+      by true (Some note) (Some from) = refl
+      by true None None = refl
+      by true None (Some from) = refl
+      by false waits begun = refl
 
   -- a round that ends
   ends-later : (m : ℕ) (a : Account) → bare (ends (begun_at a.waits (m + d)) (later a)) ≡ later (bare (ends (begun_at a.waits m) a))
@@ -178,24 +184,26 @@ module _ (shift : Shift) where
 
   -- a row more: what it makes does not depend on the ticks from moment 0 on
   seen-bare : (set m : ℕ) (what : What) (a : Account) → bare (seen_own set m what (bare a)) ≡ bare (seen_own set m what a)
-  seen-bare set m (row.Got x note word) a = bare-given m set a
+  seen-bare set m (row.Got x note word) a = bare-given m set word a
   seen-bare set m (row.Round x number response) a = refl
   seen-bare set m (row.Stop x why.Done k until) a = ap (λ (b : Account). bare (ends None b)) (bare-told m (row.Stop x why.Done k until) a)
   seen-bare set m (row.Stop x why.Preempt k until) a = ap (λ (b : Account). bare (preempted b)) (bare-told m (row.Stop x why.Preempt k until) a)
   seen-bare set m (row.Stop x why.Spent k until) a = bare-told m (row.Stop x why.Spent k until) a
   seen-bare set m (row.Stop x why.Yield k until) a = bare-told m (row.Stop x why.Yield k until) a
   seen-bare set m (row.Stop x why.Wait k until) a = bare-told m (row.Stop x why.Wait k until) a
+  seen-bare set m (row.Stop x why.Call k until) a = bare-told m (row.Stop x why.Call k until) a
   seen-bare set m (row.Stop x why.Order k until) a = bare-told m (row.Stop x why.Order k until) a
   seen-bare set m (row.Wake x note word) a =
-      sym (bare-given m m (told m (row.Wake x note word) (bare a)))
-      ∙ ap (λ (b : Account). bare (given m m b)) (bare-told m (row.Wake x note word) a)
-      ∙ bare-given m m (told m (row.Wake x note word) a)
+      sym (bare-given m m word (told m (row.Wake x note word) (bare a)))
+      ∙ ap (λ (b : Account). bare (given m m word b)) (bare-told m (row.Wake x note word) a)
+      ∙ bare-given m m word (told m (row.Wake x note word) a)
   seen-bare set m (row.Release x) a = bare-told m (row.Release x) a
   seen-bare set m (row.Run x) a = bare-told m (row.Run x) a
   seen-bare set m (row.Signal x note badge) a = bare-told m (row.Signal x note badge) a
   seen-bare set m (row.Arrive note badge maker) a = bare-told m (row.Arrive note badge maker) a
   seen-bare set m (row.Hold note word) a = bare-told m (row.Hold note word) a
   seen-bare set m (row.Order context) a = bare-told m (row.Order context) a
+  seen-bare set m (row.Interrupt source at_note badge) a = bare-told m (row.Interrupt source at_note badge) a
 
   -- when the word was set that a row says is taken, later
   abbrev pub later_set : What → ℕ → ℕ
@@ -203,7 +211,7 @@ module _ (shift : Shift) where
   later_set _ set = set
 
   seen-later : (set m : ℕ) (what : What) (a : Account) → bare (seen_own (later_set what set) (m + d) (later_what shift what) (later a)) ≡ later (bare (seen_own set m what a))
-  seen-later set m (row.Got x note word) a = given-later m set a
+  seen-later set m (row.Got x note word) a = given-later m set word a
   seen-later set m (row.Round x number response) a = ends-later m a
   seen-later set m (row.Stop x why.Done k until) a = ap (λ (b : Account). bare (ends None b)) (told-later m (row.Stop x why.Done k until) a)
   seen-later set m (row.Stop x why.Preempt k until) a =
@@ -212,18 +220,20 @@ module _ (shift : Shift) where
   seen-later set m (row.Stop x why.Spent k until) a = told-later m (row.Stop x why.Spent k until) a
   seen-later set m (row.Stop x why.Yield k until) a = told-later m (row.Stop x why.Yield k until) a
   seen-later set m (row.Stop x why.Wait k until) a = told-later m (row.Stop x why.Wait k until) a
+  seen-later set m (row.Stop x why.Call k until) a = told-later m (row.Stop x why.Call k until) a
   seen-later set m (row.Stop x why.Order k until) a = told-later m (row.Stop x why.Order k until) a
   seen-later set m (row.Wake x note word) a =
-      sym (bare-given (m + d) (m + d) (told (m + d) (row.Wake x note word) (later a)))
-      ∙ ap (λ (b : Account). bare (given (m + d) (m + d) b)) (told-later m (row.Wake x note word) a)
-      ∙ given-later m m (bare (told m (row.Wake x note word) a))
-      ∙ ap later (bare-given m m (told m (row.Wake x note word) a))
+      sym (bare-given (m + d) (m + d) word (told (m + d) (row.Wake x note word) (later a)))
+      ∙ ap (λ (b : Account). bare (given (m + d) (m + d) word b)) (told-later m (row.Wake x note word) a)
+      ∙ given-later m m word (bare (told m (row.Wake x note word) a))
+      ∙ ap later (bare-given m m word (told m (row.Wake x note word) a))
   seen-later set m (row.Release x) a = told-later m (row.Release x) a
   seen-later set m (row.Run x) a = told-later m (row.Run x) a
   seen-later set m (row.Signal x note badge) a = told-later m (row.Signal x note badge) a
   seen-later set m (row.Arrive note badge maker) a = told-later m (row.Arrive note badge maker) a
   seen-later set m (row.Hold note word) a = told-later m (row.Hold note word) a
   seen-later set m (row.Order context) a = told-later m (row.Order context) a
+  seen-later set m (row.Interrupt source at_note badge) a = told-later m (row.Interrupt source at_note badge) a
 
   pub account-seen : (set m : ℕ) (what : What) (a b : Account) → IsLaterAccount d a b →
       IsLaterAccount d (seen_own set m what a) (seen_own (later_set what set) (m + d) (later_what shift what) b)
@@ -318,17 +328,17 @@ module _ (shift : Shift) where
   overdue-bare h x held None a = refl
   overdue-bare h x held (Some from) a = refl
 
-  overdue-later : (h x : ℕ) (held more : Held) (begun : Option ℕ) (a : Account) → yet_to_begin a.standing more ≡ later_moment d (yet_to_begin a.standing held) →
+  overdue-later : (h x : ℕ) (held more : Held) (begun : Option ℕ) (a : Account) → yet_to_begin a.standing a.bits more ≡ later_moment d (yet_to_begin a.standing a.bits held) →
       overdue_from (h + d) x more (later_moment d begun) (later a) ≡ option_map (later_finding shift) (overdue_from h x held begun a)
   overdue-later h x held more None a e =
-      ap (overdue_at (h + d) x a.deadline (h + d) no_ticks) e ∙ overdue_at-later h x a.deadline h no_ticks (yet_to_begin a.standing held)
+      ap (overdue_at (h + d) x a.deadline (h + d) no_ticks) e ∙ overdue_at-later h x a.deadline h no_ticks (yet_to_begin a.standing a.bits held)
   overdue-later h x held more (Some from) a e =
       ap (λ stood. overdue_at (h + d) x a.deadline (from + d) stood (activated_by a.waits (later_moment d a.called) (active_since (later_moment d (Some from)) (h + d) a.standing (later a)))) (stood-later (Some from) h a.standing a)
       ∙ ap (λ active. overdue_at (h + d) x a.deadline (from + d) (stood_since (Some from) h a.standing a) (activated_by a.waits (later_moment d a.called) active)) (active-later (Some from) h a.standing a)
       ∙ ap (overdue_at (h + d) x a.deadline (from + d) (stood_since (Some from) h a.standing a)) (activated-later a.waits a.called (active_since (Some from) h a.standing a))
       ∙ overdue_at-later h x a.deadline from (stood_since (Some from) h a.standing a) (activated_by a.waits a.called (active_since (Some from) h a.standing a))
 
-  pub account-overdue : (h x : ℕ) (held more : Held) (a b : Account) → ((s : Standing) → yet_to_begin s more ≡ later_moment d (yet_to_begin s held)) → IsLaterAccount d a b →
+  pub account-overdue : (h x : ℕ) (held more : Held) (a b : Account) → ((s : Standing) → yet_to_begin s a.bits more ≡ later_moment d (yet_to_begin s a.bits held)) → IsLaterAccount d a b →
       overdue_by (h + d) x more b ≡ option_map (later_finding shift) (overdue_by h x held a)
   account-overdue h x held more a b e is =
       sym (overdue-bare (h + d) x more b.begun b)

@@ -13,7 +13,8 @@ use Rattle.mcs_verdict.specs.declared.finding.Finding.{Finding}
 use Rattle.mcs_verdict.specs.declared.finding.Finding.TheVariants.{Lost}
 use Rattle.mcs_verdict.specs.declared.finding.Found.{Found}
 use Rattle.mcs_verdict.specs.declared.held.Held.{Held}
-use Rattle.mcs_verdict.specs.Words.{no_word, held_with, taken, held, held_of, leaves}
+use Rattle.mcs_verdict.specs.Calls.{is_set}
+use Rattle.mcs_verdict.specs.Words.{no_word, held_with, taken, held_of, firsts_of, leaves}
 use Rattle.mcs_verdict.specs.declared.job.Job.{Job}
 use Rattle.mcs_verdict.specs.Jobs.{job, job_of, jobs_in}
 use Rattle.mcs_verdict.specs.Misses.{missed}
@@ -23,6 +24,8 @@ use Rattle.mcs_verdict.specs.Later.{IsLaterAccount}
 use Rattle.mcs_verdict.proofs.Accounts.{same, own}
 use Rattle.mcs_verdict.proofs.Watches.{since-up_to}
 use Rattle.mcs_verdict.proofs.Kept.{account_at, job-kept}
+use Rattle.mcs_verdict_laws.proofs.Fits.{first_held, held_in}
+use Rattle.mcs_verdict_laws.proofs.Due.{length-firsts, bits-kept}
 use Rattle.mcs_forever.specs.Later.{Shift, later_what, more_rounds}
 use Rattle.mcs_forever.specs.Recurs.{Shifts, shift_of}
 use Rattle.mcs_forever.specs.laws.Home.{IsOwnThread, IsOfOwn}
@@ -37,10 +40,17 @@ abbrev pub at : ℕ → ℕ → What → Row
 at t core what = record { moment = t; core = core; what = what }
 
 -- the word of a notification that there is
-pub held-known : (n notes : ℕ) (past : List Row) → n < notes → held_of notes n past ≡ held n past
-held-known n notes past l =
-    let b : nat_lt n notes ≡ true = grind (arith, nat_tests) in
-    ap (λ b. cond b (held n past) no_word) b
+less : (a b : ℕ) → a < b → nat_lt a b ≡ true
+less a b l = grind (arith, nat_tests)
+
+pub held-known : (system : System) (n : ℕ) (past : List Row) → n < length system.notes → held_of (firsts_of system) n past ≡ held_in system n past
+held-known system n past l =
+    let e = length-firsts 0 system.threads system.notes in
+    ap (λ b. cond b (held_in system n past) no_word) (less n (length (firsts_of system)) (omega (arith, l, e)))
+
+-- the bits of which its word must have one are kept
+bits-same : (system : System) (n : ℕ) (past past' : List Row) → (held_in system n past').bits ≡ (held_in system n past).bits
+bits-same system n past past' = bits-kept (first_held system n) n past' ∙ sym (bits-kept (first_held system n) n past)
 
 module _ (system : System) (group : ℕ → Bool) (shifts : Shifts) where
   abbrev d : ℕ
@@ -54,16 +64,16 @@ module _ (system : System) (group : ℕ → Bool) (shifts : Shifts) where
   pub record Alike (Later Set : ℕ → Type 0) (t : ℕ) (past past' : List Row) : Type 0 where
     pub threads : (x : ℕ) → x < length system.threads → group (home x) ≡ true → Later x →
         IsLaterAccount shifts.by (account_at system x past) (account_at system x past')
-    pub words : (n : ℕ) → n < length system.notes → group (note_part system n).core ≡ true → (held n past').word ≡ (held n past).word
+    pub words : (n : ℕ) → n < length system.notes → group (note_part system n).core ≡ true → (held_in system n past').word ≡ (held_in system n past).word
     pub sets : (n : ℕ) → n < length system.notes → group (note_part system n).core ≡ true → Set n →
-        (held n past').since ≡ (held n past).since + shifts.by
+        (held_in system n past').since ≡ (held_in system n past).since + shifts.by
     pub before : UpTo t past
     pub after : UpTo (t + shifts.by) past'
 
   -- rows that leave all threads and words of the group as they were
   record AreForeign (past past' : List Row) : Type 0 where
     threads : (x : ℕ) → group (home x) ≡ true → account_at system x past' ≡ account_at system x past
-    words : (n : ℕ) → group (note_part system n).core ≡ true → held n past' ≡ held n past
+    words : (n : ℕ) → group (note_part system n).core ≡ true → held_in system n past' ≡ held_in system n past
 
   -- a row is about the thread that it names
   pub is_about-own : (c x : ℕ) (what : What) → IsOfOwn system c what → is_about x what ≡ true → home x ≡ c
@@ -77,6 +87,7 @@ module _ (system : System) (group : ℕ → Bool) (shifts : Shifts) where
   is_about-own c x (row.Arrive note badge maker) o e = cc
   is_about-own c x (row.Hold note word) o e = cc
   is_about-own c x (row.Order context) o e = cc
+  is_about-own c x (row.Interrupt source at_note badge) o e = cc
 
   outside : (a b : ℕ) → a ≡ b → group a ≡ true → group b ≡ false → ⊥
   outside a b e f g = no (sym f ∙ ap group e ∙ g)
@@ -92,7 +103,7 @@ module _ (system : System) (group : ℕ → Bool) (shifts : Shifts) where
         where
           by : (b : Bool) → is_about x what ≡ b → account_at system x (at t c what ∷ past) ≡ account_at system x past
           by true e = absurd (outside (home x) c (is_about-own c x what o e) h away)
-          by false e = same (length system.notes) (thread_part system x) x past t c what e
+          by false e = same (firsts_of system) (thread_part system x) x past t c what e
 
       other : (n y : ℕ) (a b : Held) → group (note_part system n).core ≡ true → (note_part system y).core ≡ c → cond (y == n) a b ≡ b
       other n y a b h f = by (y == n) refl
@@ -101,9 +112,9 @@ module _ (system : System) (group : ℕ → Bool) (shifts : Shifts) where
           by true e = absurd (outside (note_part system n).core c (ap (λ m. (note_part system m).core) (sym (equal y n e)) ∙ f) h away)
           by false e = refl
 
-      words : (n : ℕ) → group (note_part system n).core ≡ true → (what : What) → IsOfOwn system c what → held n (at t c what ∷ past) ≡ held n past
-      words n h (row.Hold y word) o = other n y (held_with t word (held n past)) (held n past) h o.home
-      words n h (row.Got x y word) o = other n y (taken (held n past)) (held n past) h o.1.home
+      words : (n : ℕ) → group (note_part system n).core ≡ true → (what : What) → IsOfOwn system c what → held_in system n (at t c what ∷ past) ≡ held_in system n past
+      words n h (row.Hold y word) o = other n y (held_with t word (held_in system n past)) (held_in system n past) h o.home
+      words n h (row.Got x y word) o = other n y (taken (held_in system n past)) (held_in system n past) h o.1.home
       words n h (row.Release x) o = refl
       words n h (row.Run x) o = refl
       words n h (row.Stop x cause k until) o = refl
@@ -112,6 +123,7 @@ module _ (system : System) (group : ℕ → Bool) (shifts : Shifts) where
       words n h (row.Wake x note word) o = refl
       words n h (row.Round x number response) o = refl
       words n h (row.Order context) o = refl
+      words n h (row.Interrupt source at_note badge) o = refl
 
   -- the rows of a turn of a core outside the group
   foreign-turn : (c t : ℕ) (whats : List What) (past : List Row) → group c ≡ false → AllByRecursion (IsOfOwn system c) whats → AreForeign past (past_of past (stamped c t whats))
@@ -173,6 +185,7 @@ module _ (system : System) (group : ℕ → Bool) (shifts : Shifts) where
   of-core c t (row.Hold note word) past o = tt
   of-core c t (row.Got x note word) past o = tt
   of-core c t (row.Order context) past o = tt
+  of-core c t (row.Interrupt source at_note badge) past o = tt
 
   abbrev is_own_job : Job → Bool
   is_own_job job = group (home job.thread)
@@ -214,6 +227,7 @@ module _ (system : System) (group : ℕ → Bool) (shifts : Shifts) where
     Counts (row.Wake x note word) = Unit {0}
     Counts (row.Hold note word) = Unit {0}
     Counts (row.Order context) = Unit {0}
+    Counts (row.Interrupt source at_note badge) = Unit {0}
 
     alike-foreign : (c t : ℕ) (whats whats' : List What) (past past' : List Row) → group c ≡ false → AllByRecursion (IsOfOwn system c) whats → AllByRecursion (IsOfOwn system c) whats' →
         Like t past past' → Like t (past_of past (stamped c t whats)) (past_of past' (stamped c (t + d) whats'))
@@ -246,17 +260,18 @@ module _ (system : System) (group : ℕ → Bool) (shifts : Shifts) where
       about-later x (row.Got y note word) = refl
       about-later x (row.Round y number response) = refl
       about-later x (row.Order context) = refl
+      about-later x (row.Interrupt source at_note badge) = refl
 
       own-note : (n : ℕ) → (note_part system n).core ≡ c → group (note_part system n).core ≡ true
       own-note n e = ap group e ∙ own_core
 
       -- when a word was set that is taken
       set-later : (what : What) (past past' : List Row) → IsOfOwn system c what → Counts what → Like t past past' →
-          later_set shift what (set_for (length system.notes) past what) ≡ set_for (length system.notes) past' (later_what shift what)
+          later_set shift what (set_for (firsts_of system) past what) ≡ set_for (firsts_of system) past' (later_what shift what)
       set-later (row.Got x n word) past past' o k l =
-          ap (λ (held : Held). held.since + d) (held-known n (length system.notes) past o.1.known)
+          ap (λ (held : Held). held.since + d) (held-known system n past o.1.known)
           ∙ sym (l.sets n o.1.known (own-note n o.1.home) k)
-          ∙ sym (ap (λ (held : Held). held.since) (held-known n (length system.notes) past' o.1.known))
+          ∙ sym (ap (λ (held : Held). held.since) (held-known system n past' o.1.known))
       set-later (row.Release x) past past' o k l = refl
       set-later (row.Run x) past past' o k l = refl
       set-later (row.Stop x cause j until) past past' o k l = refl
@@ -266,6 +281,7 @@ module _ (system : System) (group : ℕ → Bool) (shifts : Shifts) where
       set-later (row.Hold note word) past past' o k l = refl
       set-later (row.Round x number response) past past' o k l = refl
       set-later (row.Order context) past past' o k l = refl
+      set-later (row.Interrupt source at_note badge) past past' o k l = refl
 
       -- what is kept of a thread
       account-row : (what : What) (past past' : List Row) → IsOfOwn system c what → Counts what → Like t past past' →
@@ -273,8 +289,8 @@ module _ (system : System) (group : ℕ → Bool) (shifts : Shifts) where
           IsLaterAccount d (account_at system x (at t c what ∷ past)) (account_at system x (at (t + d) c (later_what shift what) ∷ past'))
       account-row what past past' o k l x known h later = by (is_about x what) refl
         where
-          notes : ℕ
-          notes = length system.notes
+          notes : List Held
+          notes = firsts_of system
 
           moved : (a b a' b' : Account) → a ≡ a' → b ≡ b' → IsLaterAccount d a b → IsLaterAccount d a' b'
           moved a b a' b' e f h = rw (sym e, sym f) h
@@ -292,16 +308,16 @@ module _ (system : System) (group : ℕ → Bool) (shifts : Shifts) where
               (account-seen shift (set_for notes past what) t what (account_at system x past) (account_at system x past') (l.threads x known h later))
 
       -- the word of a notification
-      word-row : (n : ℕ) (what : What) (past past' : List Row) → (held n past').word ≡ (held n past).word →
-          (held n (at (t + d) c (later_what shift what) ∷ past')).word ≡ (held n (at t c what ∷ past)).word
+      word-row : (n : ℕ) (what : What) (past past' : List Row) → (held_in system n past').word ≡ (held_in system n past).word →
+          (held_in system n (at (t + d) c (later_what shift what) ∷ past')).word ≡ (held_in system n (at t c what ∷ past)).word
       word-row n (row.Hold y word) past past' e = by (y == n)
         where
-          by : (b : Bool) → (cond b (held_with (t + d) word (held n past')) (held n past')).word ≡ (cond b (held_with t word (held n past)) (held n past)).word
+          by : (b : Bool) → (cond b (held_with (t + d) word (held_in system n past')) (held_in system n past')).word ≡ (cond b (held_with t word (held_in system n past)) (held_in system n past)).word
           by true = refl
           by false = e
       word-row n (row.Got x y word) past past' e = by (y == n)
         where
-          by : (b : Bool) → (cond b (taken (held n past')) (held n past')).word ≡ (cond b (taken (held n past)) (held n past)).word
+          by : (b : Bool) → (cond b (taken (held_in system n past')) (held_in system n past')).word ≡ (cond b (taken (held_in system n past)) (held_in system n past)).word
           by true = refl
           by false = e
       word-row n (row.Release x) past past' e = e
@@ -312,21 +328,25 @@ module _ (system : System) (group : ℕ → Bool) (shifts : Shifts) where
       word-row n (row.Wake x note word) past past' e = e
       word-row n (row.Round x number response) past past' e = e
       word-row n (row.Order context) past past' e = e
+      word-row n (row.Interrupt source at_note badge) past past' e = e
 
-      set-row : (n : ℕ) (what : What) (past past' : List Row) → (held n past').word ≡ (held n past).word → (held n past').since ≡ (held n past).since + d →
-          (held n (at (t + d) c (later_what shift what) ∷ past')).since ≡ (held n (at t c what ∷ past)).since + d
+      set-row : (n : ℕ) (what : What) (past past' : List Row) → (held_in system n past').word ≡ (held_in system n past).word → (held_in system n past').since ≡ (held_in system n past).since + d →
+          (held_in system n (at (t + d) c (later_what shift what) ∷ past')).since ≡ (held_in system n (at t c what ∷ past)).since + d
       set-row n (row.Hold y word) past past' e f = by (y == n)
         where
-          first : (b : Bool) → cond b (t + d) (held n past').since ≡ cond b t (held n past).since + d
-          first true = refl
-          first false = f
+          first : (b : Bool) → cond b (held_in system n past').since (t + d) ≡ cond b (held_in system n past).since t + d
+          first true = f
+          first false = refl
 
-          by : (b : Bool) → (cond b (held_with (t + d) word (held n past')) (held n past')).since ≡ (cond b (held_with t word (held n past)) (held n past)).since + d
-          by true = ap (λ word. cond (word == 0) (t + d) (held n past').since) e ∙ first ((held n past).word == 0)
+          by : (b : Bool) → (cond b (held_with (t + d) word (held_in system n past')) (held_in system n past')).since ≡ (cond b (held_with t word (held_in system n past)) (held_in system n past)).since + d
+          by true =
+              ap (λ bits. cond (is_set bits (held_in system n past').word) (held_in system n past').since (t + d)) (bits-same system n past past')
+              ∙ ap (λ word. cond (is_set (held_in system n past).bits word) (held_in system n past').since (t + d)) e
+              ∙ first (is_set (held_in system n past).bits (held_in system n past).word)
           by false = f
       set-row n (row.Got x y word) past past' e f = by (y == n)
         where
-          by : (b : Bool) → (cond b (taken (held n past')) (held n past')).since ≡ (cond b (taken (held n past)) (held n past)).since + d
+          by : (b : Bool) → (cond b (taken (held_in system n past')) (held_in system n past')).since ≡ (cond b (taken (held_in system n past)) (held_in system n past)).since + d
           by true = f
           by false = f
       set-row n (row.Release x) past past' e f = f
@@ -337,6 +357,7 @@ module _ (system : System) (group : ℕ → Bool) (shifts : Shifts) where
       set-row n (row.Wake x note word) past past' e f = f
       set-row n (row.Round x number response) past past' e f = f
       set-row n (row.Order context) past past' e f = f
+      set-row n (row.Interrupt source at_note badge) past past' e f = f
 
       alike-row : (what : What) (past past' : List Row) → IsOfOwn system c what → Counts what → Like t past past' → Like t (at t c what ∷ past) (at (t + d) c (later_what shift what) ∷ past')
       alike-row what past past' o k l =
@@ -370,6 +391,7 @@ module _ (system : System) (group : ℕ → Bool) (shifts : Shifts) where
       job-later (row.Hold note word) past past' o k l = refl
       job-later (row.Got x note word) past past' o k l = refl
       job-later (row.Order context) past past' o k l = refl
+      job-later (row.Interrupt source at_note badge) past past' o k l = refl
 
       -- what the row tells
       finding-later : (what : What) (past past' : List Row) → IsOfOwn system c what → Counts what → Like t past past' →
@@ -378,10 +400,10 @@ module _ (system : System) (group : ℕ → Bool) (shifts : Shifts) where
           ap (missed (thread_part system x).deadline) (round-later x number past past' o k l)
           ∙ missed-later shift (thread_part system x).deadline (job system past t x number)
       finding-later (row.Hold n word) past past' o k l =
-          ap (λ (held : Held). cond (leaves held.word word) (Some (Lost n word)) None) (held-known n (length system.notes) past' o.known)
+          ap (λ (held : Held). cond (leaves held.word word) (Some (Lost n word)) None) (held-known system n past' o.known)
           ∙ ap (λ w. cond (leaves w word) (Some (Lost n word)) None) (l.words n o.known (own-note n o.home))
-          ∙ ap (λ (held : Held). cond (leaves held.word word) (Some (Lost n word)) None) (sym (held-known n (length system.notes) past o.known))
-          ∙ by (leaves (held_of (length system.notes) n past).word word)
+          ∙ ap (λ (held : Held). cond (leaves held.word word) (Some (Lost n word)) None) (sym (held-known system n past o.known))
+          ∙ by (leaves (held_of (firsts_of system) n past).word word)
         where
           by : (b : Bool) → cond b (Some (Lost n word)) None ≡ option_map (later_finding shift) (cond b (Some (Lost n word)) None)
           by true = refl
@@ -394,6 +416,7 @@ module _ (system : System) (group : ℕ → Bool) (shifts : Shifts) where
       finding-later (row.Wake x note word) past past' o k l = refl
       finding-later (row.Got x note word) past past' o k l = refl
       finding-later (row.Order context) past past' o k l = refl
+      finding-later (row.Interrupt source at_note badge) past past' o k l = refl
 
       -- the rows of a turn of a core of the group
       alike-own : (whats : List What) (past past' : List Row) → AllByRecursion (IsOfOwn system c) whats → AllByRecursion Counts whats → Like t past past' →

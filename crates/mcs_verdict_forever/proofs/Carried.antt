@@ -18,7 +18,9 @@ use Rattle.mcs_verdict.specs.declared.standing.Standing.TheVariants.{Pending, Re
 use Rattle.mcs_verdict.specs.declared.standing.Stood.{Stood}
 use Rattle.mcs_verdict.specs.Standing.{woken_before, settled}
 use Rattle.mcs_verdict.specs.Stood.{counted}
-use Rattle.mcs_verdict.specs.Words.{held, held_with, taken}
+use Rattle.mcs_verdict.specs.declared.held.Held.{Held}
+use Rattle.mcs_verdict.specs.Calls.{calls}
+use Rattle.mcs_verdict.specs.Words.{held_with, taken, firsts_of}
 use Rattle.mcs_verdict.specs.Findings.{UpTo, past_of}
 use Rattle.mcs_verdict.specs.Account.{total_at, told, given, given_by, seen_own, set_for, is_about}
 use Rattle.mcs_verdict.proofs.Accounts.{same, own}
@@ -31,6 +33,7 @@ use Rattle.mcs_forever.specs.laws.Home.{IsOfOwn}
 use Rattle.mcs_forever.proofs.Home.{rows-of-own}
 use Rattle.mcs_forever.proofs.Schedules.{each-turn}
 use Rattle.mcs_forever.proofs.Repeats.{forever}
+use Rattle.mcs_verdict_laws.proofs.Fits.{held_in}
 use Rattle.mcs_verdict_laws.proofs.Standings.{past-append}
 use Rattle.mcs_verdict_forever.specs.Recurs.{past_before, holds_word, HoldsNoSignal, IsNotTold, FindingsRecur}
 use Rattle.mcs_verdict_forever.specs.laws.Repeats.{rows_at}
@@ -95,23 +98,25 @@ told-active m what a =
     none : (m : ℕ) → m - m ≡ 0
     none m = omega arith
 
-given-active : (m set : ℕ) (a : Account) → active_at m (given m set a) ≡ active_at m a
-given-active m set a = by a.waits a.begun
+given-active : (m set word : ℕ) (a : Account) → active_at m (given m set word a) ≡ active_at m a
+given-active m set word a = by (calls a.bits word) a.waits a.begun
   where
-    by : (waits begun : Option ℕ) → active_at m (given_by m set waits begun a) ≡ active_at m a
-    by (Some note) None = refl
-    by (Some note) (Some from) = refl
-    by None begun = refl
+    by : (c : Bool) (waits begun : Option ℕ) → active_at m (given_by m set c waits begun a) ≡ active_at m a
+    by true (Some note) None = refl
+    by true (Some note) (Some from) = refl
+    by true None begun = refl
+    by false waits begun = refl
 
 seen-active : (set m : ℕ) (what : What) (a : Account) → active_at m a ≤ active_at m (seen_own set m what a)
-seen-active set m (row.Got x note word) a = omega (arith, given-active m set a)
+seen-active set m (row.Got x note word) a = omega (arith, given-active m set word a)
 seen-active set m (row.Round x number response) a = omega arith
-seen-active set m (row.Wake x note word) a = omega (arith, told-active m (row.Wake x note word) a, given-active m m (told m (row.Wake x note word) a))
+seen-active set m (row.Wake x note word) a = omega (arith, told-active m (row.Wake x note word) a, given-active m m word (told m (row.Wake x note word) a))
 seen-active set m (row.Stop x why.Done k until) a = told-active m (row.Stop x why.Done k until) a
 seen-active set m (row.Stop x why.Preempt k until) a = told-active m (row.Stop x why.Preempt k until) a
 seen-active set m (row.Stop x why.Spent k until) a = told-active m (row.Stop x why.Spent k until) a
 seen-active set m (row.Stop x why.Yield k until) a = told-active m (row.Stop x why.Yield k until) a
 seen-active set m (row.Stop x why.Wait k until) a = told-active m (row.Stop x why.Wait k until) a
+seen-active set m (row.Stop x why.Call k until) a = told-active m (row.Stop x why.Call k until) a
 seen-active set m (row.Stop x why.Order k until) a = told-active m (row.Stop x why.Order k until) a
 seen-active set m (row.Release x) a = told-active m (row.Release x) a
 seen-active set m (row.Run x) a = told-active m (row.Run x) a
@@ -119,6 +124,7 @@ seen-active set m (row.Signal x note badge) a = told-active m (row.Signal x note
 seen-active set m (row.Arrive note badge maker) a = told-active m (row.Arrive note badge maker) a
 seen-active set m (row.Hold note word) a = told-active m (row.Hold note word) a
 seen-active set m (row.Order context) a = told-active m (row.Order context) a
+seen-active set m (row.Interrupt source at_note badge) a = told-active m (row.Interrupt source at_note badge) a
 
 module _ (system : System) (x : ℕ) where
   abbrev pub active_of_rows : ℕ → List Row → ℕ
@@ -127,8 +133,8 @@ module _ (system : System) (x : ℕ) where
   row-active : (c m : ℕ) (what : What) (past : List Row) → UpTo m past → active_of_rows m past ≤ active_of_rows m (at m c what ∷ past)
   row-active c m what past up = by (is_about x what) refl
     where
-      notes : ℕ
-      notes = length system.notes
+      notes : List Held
+      notes = firsts_of system
 
       moved : (a b : Account) (n : ℕ) → a ≡ b → n ≤ active_at m a → n ≤ active_at m b
       moved a b n e l = let P : Account → Type 0 = λ a. n ≤ active_at m a in subst P e l
@@ -240,6 +246,7 @@ module _ (system : System) (group : ℕ → Bool) (shifts : Shifts) (from : ℕ)
     holds-later c (row.Wake x note word) e = e
     holds-later c (row.Round x number response) e = e
     holds-later c (row.Order context) e = e
+    holds-later c (row.Interrupt source at_note badge) e = e
 
     holds-away : (c : ℕ) (what : What) → group c ≡ false → IsOfOwn system c what → holds_word n what ≡ false
     holds-away c (row.Hold y word) other o = by (y == n) refl
@@ -256,12 +263,13 @@ module _ (system : System) (group : ℕ → Bool) (shifts : Shifts) (from : ℕ)
     holds-away c (row.Wake x note word) other o = refl
     holds-away c (row.Round x number response) other o = refl
     holds-away c (row.Order context) other o = refl
+    holds-away c (row.Interrupt source at_note badge) other o = refl
 
-    keeps-none : (c t : ℕ) (what : What) (past : List Row) → holds_word n what ≡ false → (held n past).word ≡ 0 → (held n (at t c what ∷ past)).word ≡ 0
-    keeps-none c t (row.Hold y word) past e q = ap (λ b. (cond b (held_with t word (held n past)) (held n past)).word) e ∙ q
+    keeps-none : (c t : ℕ) (what : What) (past : List Row) → holds_word n what ≡ false → (held_in system n past).word ≡ 0 → (held_in system n (at t c what ∷ past)).word ≡ 0
+    keeps-none c t (row.Hold y word) past e q = ap (λ b. (cond b (held_with t word (held_in system n past)) (held_in system n past)).word) e ∙ q
     keeps-none c t (row.Got x y word) past e q = by (y == n)
       where
-        by : (b : Bool) → (cond b (taken (held n past)) (held n past)).word ≡ 0
+        by : (b : Bool) → (cond b (taken (held_in system n past)) (held_in system n past)).word ≡ 0
         by true = refl
         by false = q
     keeps-none c t (row.Release x) past e q = q
@@ -272,9 +280,10 @@ module _ (system : System) (group : ℕ → Bool) (shifts : Shifts) (from : ℕ)
     keeps-none c t (row.Wake x note word) past e q = q
     keeps-none c t (row.Round x number response) past e q = q
     keeps-none c t (row.Order context) past e q = q
+    keeps-none c t (row.Interrupt source at_note badge) past e q = q
 
-    pub not-set : (held n (past_before system from)).word ≡ 0 → (t : ℕ) → from ≤ t → (held n (past_before system t)).word ≡ 0
-    not-set q t l = carried (λ what. holds_word n what ≡ false) (λ past. (held n past).word ≡ 0) keeps-none (none-again (holds_word n) holds-later holds-away none) t l q
+    pub not-set : (held_in system n (past_before system from)).word ≡ 0 → (t : ℕ) → from ≤ t → (held_in system n (past_before system t)).word ≡ 0
+    not-set q t l = carried (λ what. holds_word n what ≡ false) (λ past. (held_in system n past).word ≡ 0) keeps-none (none-again (holds_word n) holds-later holds-away none) t l q
 
   -- what is kept of a thread of which no row tells stays
   module _ (x : ℕ) (mine : group (core_of system (thread_part system x)) ≡ true) (none : IsNotTold system x from (from + shifts.by)) where
@@ -289,6 +298,7 @@ module _ (system : System) (group : ℕ → Bool) (shifts : Shifts) (from : ℕ)
     about-later c (row.Wake y note word) e = e
     about-later c (row.Round y number response) e = e
     about-later c (row.Order context) e = e
+    about-later c (row.Interrupt source at_note badge) e = e
 
     about-away : (c : ℕ) (what : What) → group c ≡ false → IsOfOwn system c what → is_about x what ≡ false
     about-away c what other o = by (is_about x what) refl
@@ -300,4 +310,4 @@ module _ (system : System) (group : ℕ → Bool) (shifts : Shifts) (from : ℕ)
     pub stays : (t : ℕ) → from ≤ t → account_at system x (past_before system t) ≡ account_at system x (past_before system from)
     stays t l =
         carried (λ what. is_about x what ≡ false) (λ past. account_at system x past ≡ account_at system x (past_before system from))
-        (λ c t what past e q. same (length system.notes) (thread_part system x) x past t c what e ∙ q) (none-again (is_about x) about-later about-away none) t l refl
+        (λ c t what past e q. same (firsts_of system) (thread_part system x) x past t c what e ∙ q) (none-again (is_about x) about-later about-away none) t l refl

@@ -17,7 +17,8 @@ use Rattle.mcs_verdict.specs.declared.standing.Standing.TheVariants.{Done}
 use Rattle.mcs_verdict.specs.declared.standing.Stood.{Stood}
 use Rattle.mcs_verdict.specs.Standing.{standing_at, telling}
 use Rattle.mcs_verdict.specs.Stood.{no_ticks, stood_in}
-use Rattle.mcs_verdict.specs.Words.{held}
+use Rattle.mcs_verdict.specs.Calls.{is_set, bits_of}
+use Rattle.mcs_verdict.specs.Words.{firsts_of}
 use Rattle.mcs_verdict.specs.Rounds.{first_wait, begun_of, called_of, activated}
 use Rattle.mcs_verdict.specs.Misses.{overdue_at, yet_to_begin, word_for, first_word, overdue_since, overdue, was_activated, never_at, never, first_of, unended}
 use Rattle.mcs_verdict.specs.Findings.{UpTo, past_of, found_at, found_in, found_at_end}
@@ -46,10 +47,11 @@ never-none x deadline once again h e = by (deadline == 0) once again h e
     by false true again h e = ap (λ b. cond (not b) (Some (Never x deadline)) None) (h refl)
     by false false again h e = cc
 
-once-more : (waits called called' : Option ℕ) (held held' : Held) (stood stood' : Stood) → is_some called' ≡ is_some called → held'.word ≡ held.word →
-    stood.ready + stood.running ≤ stood'.ready + stood'.running → was_activated waits called held stood ≡ true → was_activated waits called' held' stood' ≡ true
-once-more (Some note) called called' held held' stood stood' e f l h = ap (λ b. b || not (held'.word == 0)) e ∙ ap (λ word. is_some called || not (word == 0)) f ∙ h
-once-more None called called' held held' stood stood' e f l h = more (stood.ready + stood.running) (stood'.ready + stood'.running) l h
+once-more : (waits bits called called' : Option ℕ) (held held' : Held) (stood stood' : Stood) → is_some called' ≡ is_some called → held'.word ≡ held.word →
+    stood.ready + stood.running ≤ stood'.ready + stood'.running → was_activated waits bits called held stood ≡ true → was_activated waits bits called' held' stood' ≡ true
+once-more (Some note) bits called called' held held' stood stood' e f l h =
+    ap (λ b. b || is_set bits held'.word) e ∙ ap (λ word. is_some called || is_set bits word) f ∙ h
+once-more None bits called called' held held' stood stood' e f l h = more (stood.ready + stood.running) (stood'.ready + stood'.running) l h
   where
     more : (a b : ℕ) → a ≤ b → not (a == 0) ≡ true → not (b == 0) ≡ true
     more a b l h = grind (arith, nat_tests)
@@ -85,25 +87,25 @@ module _ (system : System) (group : ℕ → Bool) (shifts : Shifts) (from : ℕ)
     first-same : (h : ℕ) → from ≤ h → (first_word system x (past (h + d))).word ≡ (first_word system x (past h)).word
     first-same h l = by (first_wait (thread_part system x)) refl
       where
-        by : (waits : Option ℕ) → first_wait (thread_part system x) ≡ waits → (word_for (length system.notes) waits (past (h + d))).word ≡ (word_for (length system.notes) waits (past h)).word
+        by : (waits : Option ℕ) → first_wait (thread_part system x) ≡ waits → (word_for (firsts_of system) waits (past (h + d))).word ≡ (word_for (firsts_of system) waits (past h)).word
         by None e = refl
         by (Some note) e =
             let there = waits-first system (home x) (thread_part system x).script note (well.threads x no_thread known).items e in
-            ap (λ (held : Held). held.word) (held-known note (length system.notes) (past (h + d)) there.0)
+            ap (λ (held : Held). held.word) (held-known system note (past (h + d)) there.0)
             ∙ (like h l).words note there.0 (ap group there.1 ∙ own)
-            ∙ sym (ap (λ (held : Held). held.word) (held-known note (length system.notes) (past h) there.0))
+            ∙ sym (ap (λ (held : Held). held.word) (held-known system note (past h) there.0))
 
     -- what was activated once is
     never-again : (h : ℕ) → from ≤ h → is_some (account (h + d)).called ≡ is_some (account h).called → never system (past h) h x ≡ None → never system (past (h + d)) (h + d) x ≡ None
     never-again h l e none =
         sym (never-kept system x (h + d) (past (h + d)) (up (h + d)))
         ∙ never-none x (thread_part system x).deadline (once h) (once (h + d))
-        (once-more (first_wait (thread_part system x)) (account h).called (account (h + d)).called (first_word system x (past h)) (first_word system x (past (h + d)))
+        (once-more (first_wait (thread_part system x)) (bits_of (thread_part system x)) (account h).called (account (h + d)).called (first_word system x (past h)) (first_word system x (past (h + d)))
         (total_at h (account h).standing (account h)) (total_at (h + d) (account (h + d)).standing (account (h + d))) e (first-same h l) (active-more system x well d h))
         (never-kept system x h (past h) (up h) ∙ none)
       where
         once : ℕ → Bool
-        once h = was_activated (first_wait (thread_part system x)) (account h).called (first_word system x (past h)) (total_at h (account h).standing (account h))
+        once h = was_activated (first_wait (thread_part system x)) (bits_of (thread_part system x)) (account h).called (first_word system x (past h)) (total_at h (account h).standing (account h))
 
     -- a thread that is later
     later-again : ThreadIsLater system d from x → FirstWordRecurs system d from x → (h : ℕ) → from ≤ h → unended system (past h) h x ≡ None → unended system (past (h + d)) (h + d) x ≡ None
@@ -135,31 +137,31 @@ module _ (system : System) (group : ℕ → Bool) (shifts : Shifts) (from : ℕ)
         still : (h : ℕ) → from ≤ h → account_at system x (past_before system (suc h)) ≡ first
         still h l = stays system group shifts from well recur x own idle.told (suc h) (omega (arith, l))
 
-        kept : get_or (accounts_of (length system.notes) 0 system.threads (past_before system from)) x first ≡ first
+        kept : get_or (accounts_of (firsts_of system) 0 system.threads (past_before system from)) x first ≡ first
         kept = account-kept system well from x first known
 
         begun : first.begun ≡ None
         begun = sym (ap (λ (a : Account). a.begun) kept) ∙ idle.begun first
 
-        yet : (h : ℕ) → from ≤ h → yet_to_begin first.standing (first_word system x (past_before system (suc h))) ≡ None
+        yet : (h : ℕ) → from ≤ h → yet_to_begin first.standing first.bits (first_word system x (past_before system (suc h))) ≡ None
         yet h l = by idle.waits
           where
-            done : first.standing ≡ Done → yet_to_begin first.standing (first_word system x (past_before system (suc h))) ≡ None
-            done e = ap (λ standing. yet_to_begin standing (first_word system x (past_before system (suc h)))) e
+            done : first.standing ≡ Done → yet_to_begin first.standing first.bits (first_word system x (past_before system (suc h))) ≡ None
+            done e = ap (λ standing. yet_to_begin standing first.bits (first_word system x (past_before system (suc h)))) e
 
             word : ((note : ℕ) → first_wait (thread_part system x) ≡ Some note → WordIsNotSet system shifts.by from note) → (waits : Option ℕ) → first_wait (thread_part system x) ≡ waits →
-                (word_for (length system.notes) waits (past_before system (suc h))).word ≡ 0
+                (word_for (firsts_of system) waits (past_before system (suc h))).word ≡ 0
             word none None e = refl
             word none (Some note) e =
                 let there = waits-first system (home x) (thread_part system x).script note (well.threads x no_thread known).items e in
-                ap (λ (held : Held). held.word) (held-known note (length system.notes) (past_before system (suc h)) there.0)
+                ap (λ (held : Held). held.word) (held-known system note (past_before system (suc h)) there.0)
                 ∙ word-none system group shifts from well recur note there.0 (ap group there.1 ∙ own) (none note e) (suc h) (omega (arith, l))
 
-            by : ((d : Account) → (get_or (accounts_of (length system.notes) 0 system.threads (past_before system from)) x d).standing ≡ Done)
+            by : ((d : Account) → (get_or (accounts_of (firsts_of system) 0 system.threads (past_before system from)) x d).standing ≡ Done)
                 ⊎ ((note : ℕ) → first_wait (thread_part system x) ≡ Some note → WordIsNotSet system shifts.by from note) →
-                yet_to_begin first.standing (first_word system x (past_before system (suc h))) ≡ None
+                yet_to_begin first.standing first.bits (first_word system x (past_before system (suc h))) ≡ None
             by (inl is) = done (sym (ap (λ (a : Account). a.standing) kept) ∙ is first)
-            by (inr none) = yet-none first.standing (first_word system x (past_before system (suc h))) (word none (first_wait (thread_part system x)) refl)
+            by (inr none) = yet-none first.standing first.bits (first_word system x (past_before system (suc h))) (word none (first_wait (thread_part system x)) refl)
 
         not-overdue : (h : ℕ) → from ≤ h → overdue system (past_before system (suc h)) h x ≡ None
         not-overdue h l =

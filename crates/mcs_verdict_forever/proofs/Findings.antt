@@ -5,7 +5,7 @@ use Rattle.std.specs.List.{AllByRecursion, slice_get}
 use Rattle.std.proofs.lemmas.Bool.Decides.{nat_tests}
 use Rattle.std.proofs.lemmas.List.Elements.{filter-append, All-head}
 use Rattle.mcs_script.specs.declared.item.Item.{Item}
-use Rattle.mcs_script.specs.declared.item.Item.TheVariants.{Compute, Signal, Wait, Yield}
+use Rattle.mcs_script.specs.declared.item.Item.TheVariants.{Compute, Signal, Wait, Yield, On, Spin, Enter, Leave}
 use Rattle.mcs_system.specs.System.{System, no_thread, thread_part, note_part, core_of}
 use Rattle.mcs_system.specs.WellFormed.{IsWellFormed, IsItem}
 use Rattle.mcs_core.specs.Clock.{clock}
@@ -15,7 +15,8 @@ use Rattle.mcs_verdict.specs.declared.finding.Found.{Found}
 use Rattle.mcs_verdict.specs.declared.held.Held.{Held}
 use Rattle.mcs_verdict.specs.declared.standing.Standing.{Standing}
 use Rattle.mcs_verdict.specs.declared.standing.Standing.TheVariants.{Pending, Ready, Running, Throttled, Blocked, Woken, Done}
-use Rattle.mcs_verdict.specs.Words.{no_word, held}
+use Rattle.mcs_verdict.specs.Calls.{is_set, bits_of}
+use Rattle.mcs_verdict.specs.Words.{no_word, firsts_of}
 use Rattle.mcs_verdict.specs.Misses.{yet_to_begin, set_at, word_for, first_word}
 use Rattle.mcs_verdict.specs.Rounds.{waited_on, first_wait}
 use Rattle.mcs_verdict.specs.declared.job.Job.{Job}
@@ -23,6 +24,7 @@ use Rattle.mcs_verdict.specs.Jobs.{jobs_in}
 use Rattle.mcs_verdict.specs.Findings.{found_in}
 use Rattle.mcs_verdict.specs.Later.{later_moment}
 use Rattle.mcs_verdict.proofs.Kept.{account_at, overdue-kept}
+use Rattle.mcs_verdict_laws.proofs.Fits.{held_in}
 use Rattle.mcs_verdict_laws.proofs.Order.{in_order}
 use Rattle.mcs_forever.specs.Recurs.{Shifts, shift_of}
 use Rattle.mcs_verdict_forever.specs.Later.{later_finding, later_found}
@@ -181,17 +183,20 @@ nothing-is-found system group shifts from well recur first horizon = none-before
             ∙ ap (map (later_found shifts)) (i (omega (arith, l, m, some))))
 
 -- a round that is yet to begin
-yet-later : (d : ℕ) (s : Standing) (held more : Held) → more.word ≡ held.word → more.since ≡ held.since + d → yet_to_begin s more ≡ later_moment d (yet_to_begin s held)
-yet-later d s held more e f = by s
+yet-later : (d : ℕ) (s : Standing) (bits : Option ℕ) (held more : Held) → more.word ≡ held.word → more.since ≡ held.since + d
+    → yet_to_begin s bits more ≡ later_moment d (yet_to_begin s bits held)
+yet-later d s bits held more e f = by s
   where
-    set : set_at more ≡ later_moment d (set_at held)
-    set = ap (λ word. cond (word == 0) None (Some more.since)) e ∙ ap (λ since. cond (held.word == 0) None (Some since)) f ∙ tests (held.word == 0)
+    set : set_at bits more ≡ later_moment d (set_at bits held)
+    set =
+        ap (λ word. cond (is_set bits word) (Some more.since) None) e ∙ ap (λ since. cond (is_set bits held.word) (Some since) None) f
+        ∙ tests (is_set bits held.word)
       where
-        tests : (b : Bool) → cond b None (Some (held.since + d)) ≡ later_moment d (cond b None (Some held.since))
+        tests : (b : Bool) → cond b (Some (held.since + d)) None ≡ later_moment d (cond b (Some held.since) None)
         tests true = refl
         tests false = refl
 
-    by : (s : Standing) → yet_to_begin s more ≡ later_moment d (yet_to_begin s held)
+    by : (s : Standing) → yet_to_begin s bits more ≡ later_moment d (yet_to_begin s bits held)
     by Done = refl
     by Pending = set
     by Ready = set
@@ -201,13 +206,13 @@ yet-later d s held more e f = by s
     by Woken = set
 
 -- at word 0 none is
-pub yet-none : (s : Standing) (held : Held) → held.word ≡ 0 → yet_to_begin s held ≡ None
-yet-none s held e = by s
+pub yet-none : (s : Standing) (bits : Option ℕ) (held : Held) → held.word ≡ 0 → yet_to_begin s bits held ≡ None
+yet-none s bits held e = by s
   where
-    set : set_at held ≡ None
-    set = ap (λ word. cond (word == 0) None (Some held.since)) e
+    set : set_at bits held ≡ None
+    set = ap (λ word. cond (is_set bits word) (Some held.since) None) e
 
-    by : (s : Standing) → yet_to_begin s held ≡ None
+    by : (s : Standing) → yet_to_begin s bits held ≡ None
     by Done = refl
     by Pending = set
     by Ready = set
@@ -216,14 +221,14 @@ yet-none s held e = by s
     by Blocked = set
     by Woken = set
 
-none-later : (d : ℕ) (s : Standing) → yet_to_begin s no_word ≡ later_moment d (yet_to_begin s no_word)
-none-later d Done = refl
-none-later d Pending = refl
-none-later d Ready = refl
-none-later d Running = refl
-none-later d Throttled = refl
-none-later d Blocked = refl
-none-later d Woken = refl
+none-later : (d : ℕ) (s : Standing) (bits : Option ℕ) → yet_to_begin s bits no_word ≡ later_moment d (yet_to_begin s bits no_word)
+none-later d Done bits = refl
+none-later d Pending bits = refl
+none-later d Ready bits = refl
+none-later d Running bits = refl
+none-later d Throttled bits = refl
+none-later d Blocked bits = refl
+none-later d Woken bits = refl
 
 -- the notification for which a script waits first is one of the thread's core
 module _ (system : System) where
@@ -232,14 +237,19 @@ module _ (system : System) where
   waits-first core (Compute ticks ∷ items) note h e = cc
   waits-first core (Signal other badge ∷ items) note h e = cc
   waits-first core (Yield ∷ items) note h e = cc
+  waits-first core (On badges ∷ items) note h e = cc
+  waits-first core (Spin ∷ items) note h e = cc
+  waits-first core (Enter server priority ∷ items) note h e = cc
+  waits-first core (Leave server priority ∷ items) note h e = cc
   waits-first core (Wait other ∷ items) note h e =
       let same : other ≡ note = cc in
       let P : ℕ → Type 0 = λ n. (n < length system.notes) × ((note_part system n).core ≡ core) in
-      subst P same (All-head (IsItem system core) (Wait other) items h)
+      let there = All-head (IsItem system core) (Wait other) items h in
+      subst P same (there.0, there.1)
 
 -- a word that is not set stays so
 module _ (system : System) (group : ℕ → Bool) (shifts : Shifts) (from : ℕ) (well : IsWellFormed system) (recur : FindingsRecur system group shifts from) where
-  pub word-none : (n : ℕ) → n < length system.notes → group (note_part system n).core ≡ true → WordIsNotSet system shifts.by from n → (t : ℕ) → from ≤ t → (held n (past_before system t)).word ≡ 0
+  pub word-none : (n : ℕ) → n < length system.notes → group (note_part system n).core ≡ true → WordIsNotSet system shifts.by from n → (t : ℕ) → from ≤ t → (held_in system n (past_before system t)).word ≡ 0
   word-none n known mine none t l =
       not-set system group shifts from well recur n mine none.holds (sym (ap (λ (held : Held). held.word) (word-kept system well from n no_word known)) ∙ none.none no_word) t l
 
@@ -255,6 +265,9 @@ overdue-repeats system group shifts from well recur thread known own later first
     home : ℕ
     home = core_of system (thread_part system thread)
 
+    bits : Option ℕ
+    bits = bits_of (thread_part system thread)
+
     Like : ℕ → Type 0
     Like n = Alike system group shifts (Later system group shifts from well recur) (Set system group shifts from well recur) (suc horizon) (past_before system (suc horizon)) (past_before system n)
 
@@ -264,23 +277,23 @@ overdue-repeats system group shifts from well recur thread known own later first
         subst Like e (alike system group shifts from well recur (suc horizon) (omega (arith, l)))
 
     yet : (waits : Option ℕ) → first_wait (thread_part system thread) ≡ waits → (s : Standing) →
-        yet_to_begin s (word_for (length system.notes) waits (past_before system (suc (horizon + shifts.by))))
-        ≡ later_moment shifts.by (yet_to_begin s (word_for (length system.notes) waits (past_before system (suc horizon))))
-    yet None e s = none-later shifts.by s
+        yet_to_begin s bits (word_for (firsts_of system) waits (past_before system (suc (horizon + shifts.by))))
+        ≡ later_moment shifts.by (yet_to_begin s bits (word_for (firsts_of system) waits (past_before system (suc horizon))))
+    yet None e s = none-later shifts.by s bits
     yet (Some note) e s =
         let there = waits-first system home (thread_part system thread).script note (well.threads thread no_thread known).items e in
         let mine : group (note_part system note).core ≡ true = ap group there.1 ∙ own in
         rw (
-          held-known note (length system.notes) (past_before system (suc (horizon + shifts.by))) there.0,
-          held-known note (length system.notes) (past_before system (suc horizon)) there.0,
+          held-known system note (past_before system (suc (horizon + shifts.by))) there.0,
+          held-known system note (past_before system (suc horizon)) there.0,
         )
         (by note there.0 mine (first note e))
       where
         by : (n : ℕ) → n < length system.notes → group (note_part system n).core ≡ true → WordIsLater system shifts.by from n ⊎ WordIsNotSet system shifts.by from n →
-            yet_to_begin s (held n (past_before system (suc (horizon + shifts.by)))) ≡ later_moment shifts.by (yet_to_begin s (held n (past_before system (suc horizon))))
+            yet_to_begin s bits (held_in system n (past_before system (suc (horizon + shifts.by)))) ≡ later_moment shifts.by (yet_to_begin s bits (held_in system n (past_before system (suc horizon))))
         by n known mine (inl set) =
-            yet-later shifts.by s (held n (past_before system (suc horizon))) (held n (past_before system (suc (horizon + shifts.by))))
+            yet-later shifts.by s bits (held_in system n (past_before system (suc horizon))) (held_in system n (past_before system (suc (horizon + shifts.by))))
             (like.words n known mine) (like.sets n known mine (later-word system group shifts from well recur n known set))
         by n known mine (inr none) =
-            yet-none s (held n (past_before system (suc (horizon + shifts.by)))) (word-none system group shifts from well recur n known mine none (suc (horizon + shifts.by)) (omega (arith, l)))
-            ∙ ap (later_moment shifts.by) (sym (yet-none s (held n (past_before system (suc horizon))) (word-none system group shifts from well recur n known mine none (suc horizon) (omega (arith, l)))))
+            yet-none s bits (held_in system n (past_before system (suc (horizon + shifts.by)))) (word-none system group shifts from well recur n known mine none (suc (horizon + shifts.by)) (omega (arith, l)))
+            ∙ ap (later_moment shifts.by) (sym (yet-none s bits (held_in system n (past_before system (suc horizon))) (word-none system group shifts from well recur n known mine none (suc horizon) (omega (arith, l)))))

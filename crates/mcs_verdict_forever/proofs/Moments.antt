@@ -16,7 +16,7 @@ use Rattle.mcs_laws.proofs.Histories.{takes-time}
 use Rattle.mcs_verdict.specs.declared.account.Account.{Account}
 use Rattle.mcs_verdict.specs.declared.held.Held.{Held}
 use Rattle.mcs_verdict.specs.declared.finding.Found.{Found}
-use Rattle.mcs_verdict.specs.Words.{no_word, held}
+use Rattle.mcs_verdict.specs.Words.{no_word, firsts_of}
 use Rattle.mcs_verdict.specs.declared.job.Job.{Job}
 use Rattle.mcs_verdict.specs.Jobs.{job_of, jobs_in}
 use Rattle.mcs_verdict.specs.Findings.{UpTo, past_of, found_at, found_in, finding}
@@ -25,6 +25,8 @@ use Rattle.mcs_verdict.specs.Later.{IsLaterAccount}
 use Rattle.mcs_verdict.proofs.Kept.{account_at}
 use Rattle.mcs_verdict.proofs.Watches.{account_kept}
 use Rattle.mcs_verdict.proofs.Words.{length-words, word_kept}
+use Rattle.mcs_verdict_laws.proofs.Fits.{held_in}
+use Rattle.mcs_verdict_laws.proofs.Due.{length-firsts}
 use Rattle.mcs_verdict_laws.proofs.Order.{in_order}
 use Rattle.mcs_forever.specs.Later.{later_what}
 use Rattle.mcs_forever.specs.Recurs.{Shifts, shift_of}
@@ -64,13 +66,14 @@ module _ (system : System) (well : IsWellFormed system) where
   up_to (suc t) = up_to-later t (suc t) (past_before system (suc t)) (omega arith) (in_order system well t).1
 
   -- what is kept of a thread and of a word
-  pub account-kept : (t x : ℕ) (d : Account) → x < length system.threads → get_or (accounts_of (length system.notes) 0 system.threads (past_before system t)) x d ≡ account_at system x (past_before system t)
-  account-kept t x d l = account_kept (length system.notes) x system.threads (past_before system t) d l
+  pub account-kept : (t x : ℕ) (d : Account) → x < length system.threads → get_or (accounts_of (firsts_of system) 0 system.threads (past_before system t)) x d ≡ account_at system x (past_before system t)
+  account-kept t x d l = account_kept (firsts_of system) x system.threads (past_before system t) d l
 
-  pub word-kept : (t n : ℕ) (d : Held) → n < length system.notes → get_or (words_of 0 system.notes (past_before system t)) n d ≡ held n (past_before system t)
+  pub word-kept : (t n : ℕ) (d : Held) → n < length system.notes → get_or (words_of 0 (firsts_of system) (past_before system t)) n d ≡ held_in system n (past_before system t)
   word-kept t n d l =
-      let m = length-words 0 system.notes (past_before system t) in
-      word_kept n system.notes (past_before system t) (words_of 0 system.notes (past_before system t)) d refl (omega (arith, l, m))
+      let m = length-words 0 (firsts_of system) (past_before system t) in
+      let k = length-firsts 0 system.threads system.notes in
+      word_kept n (firsts_of system) (past_before system t) (words_of 0 (firsts_of system) (past_before system t)) d refl (omega (arith, l, m, k))
 
 module _ (system : System) (group : ℕ → Bool) (shifts : Shifts) (from : ℕ) (well : IsWellFormed system) (recur : FindingsRecur system group shifts from) where
   abbrev d : ℕ
@@ -90,7 +93,7 @@ module _ (system : System) (group : ℕ → Bool) (shifts : Shifts) (from : ℕ)
   Later x = IsLaterAccount shifts.by (account_at system x (past_before system from)) (account_at system x (past_before system (from + shifts.by)))
 
   abbrev pub Set : ℕ → Type 0
-  Set n = (held n (past_before system (from + shifts.by))).since ≡ (held n (past_before system from)).since + shifts.by
+  Set n = (held_in system n (past_before system (from + shifts.by))).since ≡ (held_in system n (past_before system from)).since + shifts.by
 
   abbrev Like : ℕ → List Row → List Row → Type 0
   Like t rows rows' = Alike system group shifts Later Set t rows rows'
@@ -113,7 +116,7 @@ module _ (system : System) (group : ℕ → Bool) (shifts : Shifts) (from : ℕ)
       sym (ap (λ (held : Held). held.since) (word-kept system well (from + d) n no_word known)) ∙ h no_word
       ∙ ap (λ (held : Held). held.since + d) (word-kept system well from n no_word known)
 
-  same-word : (n : ℕ) → n < length system.notes → WordIsSame system d from n → (held n (past (from + d))).word ≡ (held n (past from)).word
+  same-word : (n : ℕ) → n < length system.notes → WordIsSame system d from n → (held_in system n (past (from + d))).word ≡ (held_in system n (past from)).word
   same-word n known h =
       sym (ap (λ (held : Held). held.word) (word-kept system well (from + d) n no_word known)) ∙ h no_word
       ∙ ap (λ (held : Held). held.word) (word-kept system well from n no_word known)
@@ -146,6 +149,7 @@ module _ (system : System) (group : ℕ → Bool) (shifts : Shifts) (from : ℕ)
   count-row c t (row.Wake x note word) own l o ends takes = tt
   count-row c t (row.Hold note word) own l o ends takes = tt
   count-row c t (row.Order context) own l o ends takes = tt
+  count-row c t (row.Interrupt source at_note badge) own l o ends takes = tt
 
   count-rows : (c t : ℕ) (rows : List What) → group c ≡ true → from ≤ t → AllByRecursion (IsOfOwn system c) rows →
       ((x : ℕ) → EndsNoRound system x from (from + d) → AllByRecursion (λ what. (nat_le from t && ends_round x what) ≡ false) rows) →
@@ -173,6 +177,7 @@ module _ (system : System) (group : ℕ → Bool) (shifts : Shifts) (from : ℕ)
   count-later c (row.Wake x note word) k = k
   count-later c (row.Hold note word) k = k
   count-later c (row.Order context) k = k
+  count-later c (row.Interrupt source at_note badge) k = k
 
   count-all : (t c : ℕ) → from ≤ t → c < system.cores → group c ≡ true → AllByRecursion Count (whats t c)
   count-all t c l known own = forever system group shifts from well recur.recurs (λ c what. Count what) count-later from (omega arith) count-first t c l known own

@@ -15,7 +15,7 @@ use Rattle.mcs_verdict.specs.declared.finding.Finding.{Finding}
 use Rattle.mcs_verdict.specs.declared.finding.Finding.TheVariants.{Miss, Overdue, Lost, Never}
 use Rattle.mcs_verdict.specs.declared.finding.Found.{Found}
 use Rattle.mcs_verdict.specs.Jobs.{job}
-use Rattle.mcs_verdict.specs.Words.{held_of, leaves}
+use Rattle.mcs_verdict.specs.Words.{held_of, firsts_of, leaves}
 use Rattle.mcs_verdict.specs.Misses.{is_above, unended}
 use Rattle.mcs_verdict.specs.Findings.{finding, past_of, found_at, found_in}
 use Rattle.mcs_verdict_laws.specs.laws.Horizons.{TakesItAlone, is_miss_of, has_miss_of}
@@ -199,6 +199,7 @@ module _ (system : System) (n : ℕ) where
   held-row c (row.Got x note word) own e = absurd (contrary false refl e)
   held-row c (row.Round x number response) own e = absurd (contrary false refl e)
   held-row c (row.Order context) own e = absurd (contrary false refl e)
+  held-row c (row.Interrupt source at_note badge) own e = absurd (contrary false refl e)
 
   held-rows : (c : ℕ) (rows : List What) → AllByRecursion (IsOfOwn system c) rows → AllByRecursion (IsHeldAtHome c) rows
   held-rows c [] own = tt
@@ -211,7 +212,7 @@ module _ (system : System) (n : ℕ) where
 
   lost-home : (m core : ℕ) (past : List Row) (what : What) → IsHeldAtHome core what →
       (f : Finding) → finding system past m what ≡ Some f → is_lost_of n f ≡ true → core ≡ (note_part system n).core
-  lost-home m core past (row.Hold note word) own f e lost = by (leaves (held_of (length system.notes) note past).word word) e
+  lost-home m core past (row.Hold note word) own f e lost = by (leaves (held_of (firsts_of system) note past).word word) e
     where
       by : (b : Bool) → cond b (Some (Lost note word)) None ≡ Some f → core ≡ (note_part system n).core
       by true g =
@@ -242,6 +243,7 @@ module _ (system : System) (n : ℕ) where
   lost-home m core past (row.Wake y note word) own f e lost = absurd (cc)
   lost-home m core past (row.Got y note word) own f e lost = absurd (cc)
   lost-home m core past (row.Order context) own f e lost = absurd (cc)
+  lost-home m core past (row.Interrupt source at_note badge) own f e lost = absurd (cc)
 
   lost-own : (group : ℕ → Bool) (past rows : List Row) → group (note_part system n).core ≡ true
       → AllByRecursion (λ (r : Row). IsHeldAtHome r.core r.what) rows → AllPass system group (is_lost_of n) past rows

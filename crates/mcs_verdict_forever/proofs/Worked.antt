@@ -42,6 +42,7 @@ account deadline standing since began preemptions stood =
     record {
       deadline = deadline;
       waits = None;
+      bits = Some 0;
       standing = standing;
       since = since;
       begun = Some began;
@@ -166,21 +167,26 @@ signals =
       call = 1;
       min_budget = 1;
       contexts = record { name = 115 ∷ []; core = 0; config = record { budget = 2; period = 4; extra = 0 }; mode = Sporadic } ∷ [];
-      notes = record { name = 110 ∷ []; core = 0 } ∷ [];
+      notes = record { name = 110 ∷ []; core = 0; word = 0 } ∷ [];
       threads = record { name = 83 ∷ []; context = 0; priority = 5; start = 0; rounds = 0; deadline = 0; script = Signal 0 1 ∷ Compute 1 ∷ [] } ∷ [];
       orders = [];
       links = [];
+      servers = 0;
+      sources = [];
+      beats = [];
+      chains = [];
     }
 
 abbrev period : Shifts
 period = record { by = 4; contexts = λ c k. 4; threads = λ c x. 4; rounds = λ c x. 1 }
 
--- before 3 and before 7 S waits for its budget, and the word stands as the first signal set it
+-- before 3 and before 7 S waits for its budget, and the word is 1; as nobody waits for it, it is no word that calls somebody, and so it is
+-- told to be set by the latest signal
 abbrev core_as : ℕ → ℕ → ℕ → Core
 core_as round since date =
     record {
       running = None;
-      threads = record { standing = Pending; place = record { round = round; item = 0; left = 1 }; since = since } ∷ [];
+      threads = record { standing = Pending; place = record { round = round; item = 0; left = 1; word = 0; priority = 5 }; since = since } ∷ [];
       ready = [];
       releases = record { thread = 0; date = date } ∷ [];
       contexts = Some (record { config = record { budget = 2; period = 4; extra = 0 }; mode = Sporadic; budget = Dates (date ∷ (date + 1) ∷ []) }) ∷ [];
@@ -205,19 +211,19 @@ none-3 = refl
 none-7 : (world signals 7).mails ≡ []
 none-7 = refl
 
-kept-3 : (d : Account) → kept signals 3 0 d ≡ account 0 Throttled 2 2 0 (parts 0 0 0)
+kept-3 : (d : Account) → kept signals 3 0 d ≡ record (account 0 Throttled 2 2 0 (parts 0 0 0)) { bits = None }
 kept-3 d = refl
 
-kept-7 : (d : Account) → kept signals 7 0 d ≡ account 0 Throttled 6 6 0 (parts 0 0 0)
+kept-7 : (d : Account) → kept signals 7 0 d ≡ record (account 0 Throttled 6 6 0 (parts 0 0 0)) { bits = None }
 kept-7 d = refl
 
-word-3 : (d : Held) → get_or (watch_before signals 3).words 0 d ≡ record { word = 1; since = 1 }
+word-3 : (d : Held) → get_or (watch_before signals 3).words 0 d ≡ record { word = 1; since = 1; bits = Some 0 }
 word-3 d = refl
 
-word-7 : (d : Held) → get_or (watch_before signals 7).words 0 d ≡ record { word = 1; since = 1 }
+word-7 : (d : Held) → get_or (watch_before signals 7).words 0 d ≡ record { word = 1; since = 5; bits = Some 0 }
 word-7 d = refl
 
--- nobody takes the word, which was not set later
+-- nobody takes the word
 nobody-takes : TakesNoWord signals 0 3 7
 nobody-takes = (refl, (refl, (refl, (refl, (refl, (refl, (refl, (refl, (refl, (refl, (refl, (refl, tt))))))))))))
 
@@ -245,6 +251,7 @@ signals-recur =
           cores = λ c l own. let P : ℕ → Type 0 = λ c. core_shown signals (world signals 7) c ≡ later_core (shift_of period c) (core_shown signals (world signals 3) c) in subst P (only c l) again;
           mails = ap (filter (is_for signals all)) none-7 ∙ sym (ap (λ mails. map (later_mail 4) (filter (is_for signals all) mails)) none-3);
         };
+        alarms = λ c known own. refl;
         rows = λ t c l m known own.
             let P : ℕ → Type 0 = λ c. AllByRecursion (KeepsUp signals (shift_of period c)) (turn_of signals c t).rows in
             subst P (only c known) (keep-up t l m);

@@ -12,7 +12,7 @@ use Rattle.mcs_notify.specs.declared.posted.Posted.TheVariants.{Woke, Held}
 use Rattle.mcs_notify.specs.declared.posted.Waited.{Waited}
 use Rattle.mcs_notify.specs.declared.posted.Waited.TheVariants.{Got, Blocks}
 use Rattle.mcs_script.specs.declared.item.Item.TheVariants.{Wait}
-use Rattle.mcs_system.specs.System.{System, TakesTime, thread_part}
+use Rattle.mcs_system.specs.System.{System, TakesTime, thread_part, is_server}
 use Rattle.mcs_system.specs.WellFormed.{IsWellFormed}
 use Rattle.mcs_system.proofs.Linked.{takes_time}
 use Rattle.mcs_core.specs.Core.{Core, note_of, with_note}
@@ -23,8 +23,11 @@ use Rattle.mcs_core.proofs.Clock.{turn_of-kept, rows-clock}
 use Rattle.mcs_verdict.specs.Rounds.{first_wait}
 use Rattle.mcs_verdict_laws.specs.laws.Horizons.{is_taken_by_another, TakesItAlone, WaitsAlone, WhoWaitsAloneTakesIt}
 use Rattle.mcs_verdict_laws.proofs.Entering.{self, equal}
-use Rattle.mcs_verdict_laws.proofs.Signals.{IsPlain, moves-plain, wakes-plain, whole-turn}
+use Rattle.mcs_verdict_laws.proofs.Signals.{IsPlain, moves-plain, wakes-plain, let_in-plain, whole-turn}
 use Rattle.mcs_verdict_laws.proofs.Homes.{mails-home, runs-home}
+use Rattle.mcs_verdict_laws.proofs.Steps.{contrary}
+use Rattle.mcs_verdict_laws.proofs.Finishing.{item_home}
+use Rattle.mcs_verdict_laws.proofs.WordsTold.{waits-item}
 
 -- a row by which no other thread takes the word
 module _ (x : ℕ) (waits : Option ℕ) where
@@ -46,6 +49,7 @@ module _ (x : ℕ) (waits : Option ℕ) where
       by (Some note) (row.Got y n word) plain = absurd plain
       by (Some note) (row.Round y number response) plain = refl
       by (Some note) (row.Order context) plain = refl
+      by (Some note) (row.Interrupt source at_note badge) plain = refl
 
   plain-free : (rows : List What) → AllByRecursion IsPlain rows → AllByRecursion IsFree rows
   plain-free [] all = tt
@@ -89,15 +93,36 @@ module _ (x : ℕ) (waits : Option ℕ) where
   posts-free : (system : System) (t n : ℕ) (post : Posted) (k : Core) → AllByRecursion IsFree (turns.posts_as by_priority system t n post k).rows
   posts-free system t n (Woke y word) k =
       let noted = with_note n (after_post (Woke y word) (note_of k n)) k in
-      (wake-free y n word, plain-free (turns.wakes by_priority system t y noted).rows (wakes-plain system t y noted).rows)
+      (wake-free y n word, plain-free (turns.wakes by_priority system t y word noted).rows (wakes-plain system t y word noted).rows)
   posts-free system t n (Held word) k = (hold-free n word, tt)
 
   waits-free : (system : System) (t y n : ℕ) (w : Waited) (k : Core) → ((word : ℕ) → IsFree (row.Got y n word))
       → AllByRecursion IsFree (turns.waits_as system t y n w k).rows
   waits-free system t y n (Got word) k free =
-      let given = turns.given t y (with_note n (after_wait (Got word) (turns.queued system y) (note_of k n)) k) in
+      let given = turns.given system t y word (with_note n (after_wait (Got word) (turns.queued y k) (note_of k n)) k) in
       (free word, plain-free (turns.moves_on system t y given).rows (moves-plain system t y (turns.move_of system y given) given).rows)
   waits-free system t y n Blocks k free = tt
+
+  -- a server that is entered or left, which is no notification for which a script waits
+  enters-free : (system : System) (t y n : ℕ) (w : Waited) (k : Core) → ((note : ℕ) → waits ≡ Some note → (n == note) ≡ false)
+      → AllByRecursion IsFree (turns.enters_as system t y n w k).rows
+  enters-free system t y n (Got word) k apart =
+      let noted = with_note n (after_wait (Got word) (turns.queued y k) (note_of k n)) k in
+      (by waits apart, plain-free (turns.moves_on system t y noted).rows (moves-plain system t y (turns.move_of system y noted) noted).rows)
+    where
+      by : (waits : Option ℕ) → ((note : ℕ) → waits ≡ Some note → (n == note) ≡ false) → is_taken_by_another x waits (row.Got y n word) ≡ false
+      by None apart = refl
+      by (Some note) apart = ap (λ b. b && not (y == x)) (apart note refl)
+  enters-free system t y n Blocks k apart = tt
+
+  frees_as-free : (system : System) (t n : ℕ) (post : Posted) (k : Core) → AllByRecursion IsFree (turns.frees_as by_priority system t n post k).rows
+  frees_as-free system t n (Woke y word) k =
+      let noted = with_note n (after_post (Woke y word) (note_of k n)) k in
+      (wake-free y n word, plain-free (turns.let_in by_priority system t y noted).rows (let_in-plain system t y noted).rows)
+  frees_as-free system t n (Held word) k = tt
+
+  frees-free : (system : System) (t y n : ℕ) (k : Core) → AllByRecursion IsFree (turns.frees by_priority system t y n k).rows
+  frees-free system t y n k = (never-taken (row.Signal y n 1) tt, frees_as-free system t n (posted 1 (note_of k n)) k)
 
 both-false : (b c : Bool) → c ≡ false → (b && c) ≡ false
 both-false true c e = e
@@ -106,6 +131,15 @@ both-false false c e = refl
 module _ (system : System) (well : IsWellFormed system) (x : ℕ) (alone : WaitsAlone system x) where
   takes : TakesTime system
   takes = takes_time system well
+
+  apart : (n : ℕ) → is_server system n ≡ true → (note : ℕ) → first_wait (thread_part system x) ≡ Some note → (n == note) ≡ false
+  apart n served note e = by (n == note) refl
+    where
+      by : (b : Bool) → (n == note) ≡ b → b ≡ false
+      by true f =
+          let is = item_home system well x 0 (Wait note) (waits-item (slice_get (thread_part system x).script 0) note e) in
+          absurd (contrary (is_server system note) is.2 (ap (is_server system) (sym (equal n note f)) ∙ served))
+      by false f = refl
 
   turn-free : (t c : ℕ) → c < system.cores → AllByRecursion (IsFree x (first_wait (thread_part system x))) (clocks.turn_of system c t).rows
   turn-free t c known =
@@ -119,6 +153,8 @@ module _ (system : System) (well : IsWellFormed system) (x : ℕ) (alone : Waits
       (λ notes made part p q. free-append x waits made.rows (part made.core).rows p q)
       (λ n badge k e i. posts-free x waits system t n (posted badge (note_of k n)) k)
       (λ y place n k there e i. waits-free x waits system t y n (waited (note_of k n)) k (λ word. got-free x waits system alone y place n word there))
+      (λ y n k served home i. enters-free x waits system t y n (waited (note_of k n)) k (apart n served))
+      (λ y n k served home i. frees-free x waits system t y n k)
       mails k (mails-home system t c (clocks.world system t).mails) (runs-home system well x t c known) tt
       in
       let P : Turn → Type 0 = λ turn. AllByRecursion (IsFree x waits) turn.rows in

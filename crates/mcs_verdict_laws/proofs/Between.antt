@@ -20,7 +20,8 @@ use Rattle.mcs_verdict.specs.Rounds.{first_wait, begun_of, called_of, activated}
 use Rattle.mcs_verdict.specs.Standing.{standing_at, telling}
 use Rattle.mcs_verdict.specs.Stood.{stood_in}
 use Rattle.mcs_verdict.specs.Jobs.{job}
-use Rattle.mcs_verdict.specs.Words.{held_of, leaves}
+use Rattle.mcs_verdict.specs.Calls.{bits_of}
+use Rattle.mcs_verdict.specs.Words.{held_of, leaves, firsts_of}
 use Rattle.mcs_verdict.specs.Misses.{is_above, overdue_at, yet_to_begin, first_word, overdue_since, overdue, was_activated, never_at, never, first_of, unended}
 use Rattle.mcs_verdict.specs.Findings.{finding, past_of, found_at, found_in, found_at_end, findings}
 use Rattle.mcs_verdict_laws.specs.laws.Horizons.{is_taken_by_another, TakesItAlone, is_miss_of, has_miss_of, found_of, NothingIsFoundBetween, NothingAtAllIsFoundBetween}
@@ -57,11 +58,11 @@ no-deadline system past h x e =
     ap (λ found. first_of found (never system past h x)) (by (begun_of system x past))
     ∙ ap
     (λ deadline. never_at x deadline
-    (was_activated (first_wait (thread_part system x)) (called_of system x past) (first_word system x past) (stood_in x past 0 h))) e
+    (was_activated (first_wait (thread_part system x)) (bits_of (thread_part system x)) (called_of system x past) (first_word system x past) (stood_in x past 0 h))) e
   where
     by : (begun : Option ℕ) → overdue_since system past h x begun ≡ None
     by None =
-        let yet = yet_to_begin (standing_at h None (telling x past)) (first_word system x past) in
+        let yet = yet_to_begin (standing_at h None (telling x past)) (bits_of (thread_part system x)) (first_word system x past) in
         ap (λ deadline. overdue_at h x deadline h (stood_in x past h h) yet) e ∙ no-overdue h x h (stood_in x past h h) yet
     by (Some from) =
         ap (λ deadline. overdue_at h x deadline from (stood_in x past from h) (activated system x past from h)) e
@@ -93,7 +94,7 @@ miss-home system x m home core past (row.Round y number response) own f e miss =
         in
         own (ap (is_miss_of x) same ∙ miss)
     by false g = absurd (cc)
-miss-home system x m home core past (row.Hold note word) own f e miss = by (leaves (held_of (length system.notes) note past).word word) e
+miss-home system x m home core past (row.Hold note word) own f e miss = by (leaves (held_of (firsts_of system) note past).word word) e
   where
     by : (b : Bool) → cond b (Some (Lost note word)) None ≡ Some f → core ≡ home
     by true g =
@@ -108,6 +109,7 @@ miss-home system x m home core past (row.Arrive note badge maker) own f e miss =
 miss-home system x m home core past (row.Wake y note word) own f e miss = absurd (cc)
 miss-home system x m home core past (row.Got y note word) own f e miss = absurd (cc)
 miss-home system x m home core past (row.Order context) own f e miss = absurd (cc)
+miss-home system x m home core past (row.Interrupt source at_note badge) own f e miss = absurd (cc)
 
 module _ (group : ℕ → Bool) where
   abbrev mine : List Found → List Found

@@ -13,6 +13,7 @@ use Rattle.mcs_verdict.specs.declared.standing.Stood.{Stood}
 use Rattle.mcs_verdict.specs.Account.{since_of, stood_of}
 use Rattle.mcs_verdict.specs.Findings.{InOrder, UpTo}
 use Rattle.mcs_verdict.specs.Jobs.{or_now}
+use Rattle.mcs_verdict.specs.Calls.{calls}
 use Rattle.mcs_verdict.specs.Rounds.{begun_at, begun_by_word, begun_after, begun_of}
 use Rattle.mcs_verdict.specs.Standing.{tells, telling, standing_stopped, standing_after, settled}
 use Rattle.mcs_verdict.specs.Stood.{no_ticks, counted, all_ticks, stood_for, stood_in}
@@ -61,6 +62,7 @@ more-parted Done k stood at p = absurd at
 -- no telling row says that the thread is pending
 stopped_not_pending : (cause : Why) (until : Option ℕ) → standing_stopped cause until ≡ Pending → ⊥
 stopped_not_pending why.Wait until e = cc
+stopped_not_pending why.Call until e = cc
 stopped_not_pending why.Done until e = cc
 stopped_not_pending why.Spent None e = cc
 stopped_not_pending why.Spent (Some date) e = cc
@@ -82,6 +84,7 @@ not_pending (row.Hold note word) e = cc
 not_pending (row.Got y note word) e = cc
 not_pending (row.Round y number response) e = cc
 not_pending (row.Order context) e = cc
+not_pending (row.Interrupt source at_note badge) e = cc
 
 -- up to a telling row a thread with a round under way was at it
 none_done : (before after : Standing) (what : What) → Done ≡ before → Turns before what after → ⊥
@@ -96,6 +99,7 @@ none_done before after (row.Hold note word) e h = h
 none_done before after (row.Got y note word) e h = h
 none_done before after (row.Round y number response) e h = h
 none_done before after (row.Order context) e h = h
+none_done before after (row.Interrupt source at_note badge) e h = h
 
 woken_at_it : (before after : Standing) (what : What) → (before ≡ Ready) ⊎ (before ≡ Throttled) → Turns before what after
     → IsAtIt (settled (Some what) Woken)
@@ -111,6 +115,7 @@ woken_at_it before after (row.Hold note word) w h = absurd h
 woken_at_it before after (row.Got y note word) w h = absurd h
 woken_at_it before after (row.Round y number response) w h = absurd h
 woken_at_it before after (row.Order context) w h = absurd h
+woken_at_it before after (row.Interrupt source at_note badge) w h = absurd h
 
 at_it : (told before after : Standing) (what : What) → TellsOf told before → (told ≡ Pending → ⊥) → Turns before what after
     → IsAtIt (settled (Some what) told)
@@ -132,31 +137,37 @@ begins_at : (waits : Option ℕ) (t : ℕ) (before : Option ℕ) → Begins t be
 begins_at None t before = Anew refl
 begins_at (Some note) t before = Ends refl
 
-begins_by : (waits : Option ℕ) (t : ℕ) (before : Option ℕ) → Begins t before (begun_by_word waits t before)
-begins_by None t before = Keeps refl
-begins_by (Some note) t None = Anew refl
-begins_by (Some note) t (Some since) = Keeps refl
+begins_by : (waits bits : Option ℕ) (word t : ℕ) (before : Option ℕ) → Begins t before (begun_by_word waits bits word t before)
+begins_by None bits word t before = Keeps refl
+begins_by (Some note) bits word t None = by (calls bits word)
+  where
+    by : (b : Bool) → Begins t None (cond b (Some t) None)
+    by true = Anew refl
+    by false = Keeps refl
+begins_by (Some note) bits word t (Some since) = Keeps refl
 
 begins_if : (b : Bool) (t : ℕ) (before after : Option ℕ) → Begins t before after → Begins t before (cond b after before)
 begins_if true t before after h = h
 begins_if false t before after h = Keeps refl
 
-begins : (waits : Option ℕ) (x t : ℕ) (what : What) (before : Option ℕ) → Begins t before (begun_after waits x t what before)
-begins waits x t (row.Round y number response) before = begins_if (y == x) t before (begun_at waits t) (begins_at waits t before)
-begins waits x t (row.Got y note word) before = begins_if (y == x) t before (begun_by_word waits t before) (begins_by waits t before)
-begins waits x t (row.Wake y note word) before = begins_if (y == x) t before (begun_by_word waits t before) (begins_by waits t before)
-begins waits x t (row.Stop y why.Done charged until) before = begins_if (y == x) t before None (Ends refl)
-begins waits x t (row.Stop y why.Spent charged until) before = Keeps refl
-begins waits x t (row.Stop y why.Yield charged until) before = Keeps refl
-begins waits x t (row.Stop y why.Wait charged until) before = Keeps refl
-begins waits x t (row.Stop y why.Preempt charged until) before = Keeps refl
-begins waits x t (row.Stop y why.Order charged until) before = Keeps refl
-begins waits x t (row.Release y) before = Keeps refl
-begins waits x t (row.Run y) before = Keeps refl
-begins waits x t (row.Signal y note badge) before = Keeps refl
-begins waits x t (row.Arrive note badge maker) before = Keeps refl
-begins waits x t (row.Hold note word) before = Keeps refl
-begins waits x t (row.Order context) before = Keeps refl
+begins : (waits bits : Option ℕ) (x t : ℕ) (what : What) (before : Option ℕ) → Begins t before (begun_after waits bits x t what before)
+begins waits bits x t (row.Round y number response) before = begins_if (y == x) t before (begun_at waits t) (begins_at waits t before)
+begins waits bits x t (row.Got y note word) before = begins_if (y == x) t before (begun_by_word waits bits word t before) (begins_by waits bits word t before)
+begins waits bits x t (row.Wake y note word) before = begins_if (y == x) t before (begun_by_word waits bits word t before) (begins_by waits bits word t before)
+begins waits bits x t (row.Stop y why.Done charged until) before = begins_if (y == x) t before None (Ends refl)
+begins waits bits x t (row.Stop y why.Spent charged until) before = Keeps refl
+begins waits bits x t (row.Stop y why.Yield charged until) before = Keeps refl
+begins waits bits x t (row.Stop y why.Wait charged until) before = Keeps refl
+begins waits bits x t (row.Stop y why.Call charged until) before = Keeps refl
+begins waits bits x t (row.Stop y why.Preempt charged until) before = Keeps refl
+begins waits bits x t (row.Stop y why.Order charged until) before = Keeps refl
+begins waits bits x t (row.Release y) before = Keeps refl
+begins waits bits x t (row.Run y) before = Keeps refl
+begins waits bits x t (row.Signal y note badge) before = Keeps refl
+begins waits bits x t (row.Arrive note badge maker) before = Keeps refl
+begins waits bits x t (row.Hold note word) before = Keeps refl
+begins waits bits x t (row.Order context) before = Keeps refl
+begins waits bits x t (row.Interrupt source at_note badge) before = Keeps refl
 
 -- of a round that has just begun nothing is counted
 just_begun : (t : ℕ) (rows : List Row) → since_of rows ≤ t → IsParted (stood_of (Some t) rows)
@@ -253,6 +264,7 @@ module _ (system : System) (x : ℕ) where
       by (row.Hold note word) timed allows = tt
       by (row.Got y note word) timed allows = tt
       by (row.Order context) timed allows = tt
+      by (row.Interrupt source at_note badge) timed allows = tt
 
   -- one row more
   pending_early : (t : ℕ) (what : What) (before : Told) (after : Standing) → tells x what ≡ true → Turns before.standing what after
@@ -268,12 +280,13 @@ module _ (system : System) (x : ℕ) where
   pending_early t (row.Got y note word) before after own turn allows from e p = absurd turn
   pending_early t (row.Round y number response) before after own turn allows from e p = absurd turn
   pending_early t (row.Order context) before after own turn allows from e p = absurd turn
+  pending_early t (row.Interrupt source at_note badge) before after own turn allows from e p = absurd turn
 
   keeps : (past : List Row) (r : Row) (before next : Told) (opening : Standing) → (opening ≡ Pending) ⊎ (opening ≡ Done)
       → Step x (first system x) r.moment before r.what next
       → UpTo r.moment past → TellsOf (said opening (telling x past)) before.standing → Kept past before → Kept (r ∷ past) next
   keeps past r before next opening o step up told kept from is =
-      by (begins (first system x) x r.moment r.what before.begun)
+      by (begins (first system x).waits (first system x).bits x r.moment r.what before.begun)
     where
       same : (b : Bool) → tells x r.what ≡ b → Passes b before.standing r.what next.standing → before.begun ≡ Some from
           → IsParted (stood_of (Some from) (cond b (r ∷ telling x past) (telling x past)))
@@ -282,7 +295,7 @@ module _ (system : System) (x : ℕ) where
           (pending_early r.moment r.what before next.standing own turn step.allows from e) (kept from e)
       same false own turn e = kept from e
 
-      by : Begins r.moment before.begun (begun_after (first system x) x r.moment r.what before.begun)
+      by : Begins r.moment before.begun (begun_after (first system x).waits (first system x).bits x r.moment r.what before.begun)
           → IsParted (stood_of (Some from) (telling x (r ∷ past)))
       by (Keeps e) = same (tells x r.what) refl step.passes (sym e ∙ sym step.begins ∙ is)
       by (Ends e) = let f : None ≡ Some from = sym e ∙ sym step.begins ∙ is in absurd (cc)
@@ -310,7 +323,7 @@ module _ (system : System) (x : ℕ) where
       let step = leads.1 in (
         ends_parted past r before next at_first o step order.0 told e kept,
         all_parted (r ∷ past) rows next last at_first o leads.2 order.1 (tells_on past r before next at_first step told)
-            (step.begins ∙ ap (λ begun. begun_after (first system x) x r.moment r.what begun) e)
+            (step.begins ∙ ap (λ begun. begun_after (first system x).waits (first system x).bits x r.moment r.what begun) e)
             (keeps past r before next at_first o step order.0 told kept),
       )
 
@@ -337,6 +350,7 @@ module _ (system : System) where
   summed_by past moment (row.Hold note word) t parted = tt
   summed_by past moment (row.Got y note word) t parted = tt
   summed_by past moment (row.Order context) t parted = tt
+  summed_by past moment (row.Interrupt source at_note badge) t parted = tt
 
   summed_all : (past rows : List Row) → AreTold system past rows → ((x : ℕ) → ArePartedBy system x past rows) → AreSummed system past rows
   summed_all past [] t parted = tt

@@ -23,7 +23,7 @@ use Rattle.mcs_verdict.specs.declared.standing.Standing.{Standing}
 use Rattle.mcs_verdict.specs.declared.standing.Standing.TheVariants.{Pending, Ready, Running, Throttled, Blocked, Done}
 use Rattle.mcs_verdict.specs.Rounds.{begun_at, begun_by_word, begun_after}
 use Rattle.mcs_verdict.specs.Standing.{standing_stopped}
-use Rattle.mcs_verdict_laws.proofs.Steps.{told_of, EndsAfter, Turns, Passes, Step}
+use Rattle.mcs_verdict_laws.proofs.Steps.{told_of, First, EndsAfter, Turns, Passes, Step}
 use Rattle.mcs_verdict_laws.proofs.Holds.{beginning_of, first, start_at, IsUnderWay, IsStarted, Holds, Loose, same-context, holds-same, Goes, goes_if}
 
 pub self : (x : ℕ) → (x == x) ≡ true
@@ -38,34 +38,34 @@ by_date None = Ready
 by_date (Some date) = Throttled
 
 -- a stop after which the thread enters again
-pub record IsPlain (x : ℕ) (waits : Option ℕ) (t : ℕ) (cause : Why) : Type 0 where
+pub record IsPlain (x : ℕ) (first : First) (t : ℕ) (cause : Why) : Type 0 where
   pub standing : (date : Option ℕ) → by_date date ≡ standing_stopped cause date
-  pub begun : (n : ℕ) (date begun : Option ℕ) → begun ≡ begun_after waits x t (row.Stop x cause n date) begun
+  pub begun : (n : ℕ) (date begun : Option ℕ) → begun ≡ begun_after first.waits first.bits x t (row.Stop x cause n date) begun
   pub ended : (before : Option What) (n : ℕ) (date : Option ℕ) → EndsAfter x before (row.Stop x cause n date)
 
-module _ (x : ℕ) (waits : Option ℕ) (t : ℕ) where
-  pub plain_spent : IsPlain x waits t why.Spent
+module _ (x : ℕ) (first : First) (t : ℕ) where
+  pub plain_spent : IsPlain x first t why.Spent
   plain_spent = record { standing = by; begun = λ n date begun. refl; ended = λ before n date. tt }
     where
       by : (date : Option ℕ) → by_date date ≡ standing_stopped why.Spent date
       by None = refl
       by (Some date) = refl
 
-  pub plain_yield : IsPlain x waits t why.Yield
+  pub plain_yield : IsPlain x first t why.Yield
   plain_yield = record { standing = by; begun = λ n date begun. refl; ended = λ before n date. tt }
     where
       by : (date : Option ℕ) → by_date date ≡ standing_stopped why.Yield date
       by None = refl
       by (Some date) = refl
 
-  pub plain_preempt : IsPlain x waits t why.Preempt
+  pub plain_preempt : IsPlain x first t why.Preempt
   plain_preempt = record { standing = by; begun = λ n date begun. refl; ended = λ before n date. tt }
     where
       by : (date : Option ℕ) → by_date date ≡ standing_stopped why.Preempt date
       by None = refl
       by (Some date) = refl
 
-  pub plain_order : IsPlain x waits t why.Order
+  pub plain_order : IsPlain x first t why.Order
   plain_order = record { standing = by; begun = λ n date begun. refl; ended = λ before n date. tt }
     where
       by : (date : Option ℕ) → by_date date ≡ standing_stopped why.Order date
@@ -78,8 +78,8 @@ module _ (x : ℕ) (waits : Option ℕ) (t : ℕ) where
   passes_own false before after what e h = absurd (let g : false ≡ true = e in cc)
 
   pub step-stop : (n : ℕ) (cause : Why) (date : Option ℕ) (standing : Standing) (begun ended : Option ℕ) → standing ≡ standing_stopped cause date
-      → ended ≡ begun_after waits x t (row.Stop x cause n date) begun
-      → Step x waits t (told_of Running begun) (row.Stop x cause n date) (told_of standing ended)
+      → ended ≡ begun_after first.waits first.bits x t (row.Stop x cause n date) begun
+      → Step x first t (told_of Running begun) (row.Stop x cause n date) (told_of standing ended)
   step-stop n cause date standing begun ended e f =
       record {
         passes = passes_own (x == x) Running standing (row.Stop x cause n date) (self x) (refl, e);
@@ -91,46 +91,46 @@ module _ (x : ℕ) (waits : Option ℕ) (t : ℕ) where
       }
 
   pub step-round : (number response beginning : ℕ) (begun : Option ℕ) → begun ≡ Some beginning → t ≡ beginning + response
-      → Step x waits t (told_of Running begun) (row.Round x number response) (told_of Running (begun_at waits t))
+      → Step x first t (told_of Running begun) (row.Round x number response) (told_of Running (begun_at first.waits t))
   step-round number response beginning begun e f =
       record {
         passes = refl;
-        begins = sym (ap (λ b. cond b (begun_at waits t) begun) (self x));
+        begins = sym (ap (λ b. cond b (begun_at first.waits t) begun) (self x));
         timed = λ g. (beginning, e, f);
         alive = λ g. absurd (cc);
         allows = λ g. refl;
         takes = tt;
       }
 
-  pub step-got : (note word : ℕ) (begun : Option ℕ) → (begun ≡ None → waits ≡ Some note)
-      → Step x waits t (told_of Running begun) (row.Got x note word) (told_of Running (begun_by_word waits t begun))
-  step-got note word begun first =
+  pub step-got : (note word : ℕ) (begun : Option ℕ) → (begun ≡ None → first.waits ≡ Some note)
+      → Step x first t (told_of Running begun) (row.Got x note word) (told_of Running (begun_by_word first.waits first.bits word t begun))
+  step-got note word begun taken =
       record {
         passes = refl;
-        begins = sym (ap (λ b. cond b (begun_by_word waits t begun) begun) (self x));
+        begins = sym (ap (λ b. cond b (begun_by_word first.waits first.bits word t begun) begun) (self x));
         timed = tt;
         alive = λ g. absurd (cc);
         allows = tt;
-        takes = λ own. first;
+        takes = λ own. taken;
       }
 
   woken_to : (date : Option ℕ) → (by_date date ≡ Ready) ⊎ (by_date date ≡ Throttled)
   woken_to None = inl refl
   woken_to (Some date) = inr refl
 
-  pub step-wake : (note word : ℕ) (date begun : Option ℕ) → (begun ≡ None → waits ≡ Some note)
-      → Step x waits t (told_of Blocked begun) (row.Wake x note word) (told_of (by_date date) (begun_by_word waits t begun))
-  step-wake note word date begun first =
+  pub step-wake : (note word : ℕ) (date begun : Option ℕ) → (begun ≡ None → first.waits ≡ Some note)
+      → Step x first t (told_of Blocked begun) (row.Wake x note word) (told_of (by_date date) (begun_by_word first.waits first.bits word t begun))
+  step-wake note word date begun taken =
       record {
         passes = passes_own (x == x) Blocked (by_date date) (row.Wake x note word) (self x) (refl, woken_to date);
-        begins = sym (ap (λ b. cond b (begun_by_word waits t begun) begun) (self x));
+        begins = sym (ap (λ b. cond b (begun_by_word first.waits first.bits word t begun) begun) (self x));
         timed = tt;
         alive = λ g. absurd (cc);
         allows = tt;
-        takes = λ own. first;
+        takes = λ own. taken;
       }
 
-  pub step-run : (begun : Option ℕ) → Step x waits t (told_of Ready begun) (row.Run x) (told_of Running begun)
+  pub step-run : (begun : Option ℕ) → Step x first t (told_of Ready begun) (row.Run x) (told_of Running begun)
   step-run begun =
       record {
         passes = passes_own (x == x) Ready Running (row.Run x) (self x) (refl, refl);
@@ -143,7 +143,7 @@ module _ (x : ℕ) (waits : Option ℕ) (t : ℕ) where
 
   pub step-release : (standing : Standing) (begun : Option ℕ) → (standing ≡ Pending) ⊎ (standing ≡ Throttled)
       → (standing ≡ Pending → (beginning : ℕ) → begun ≡ Some beginning → t ≤ beginning)
-      → Step x waits t (told_of standing begun) (row.Release x) (told_of Ready begun)
+      → Step x first t (told_of standing begun) (row.Release x) (told_of Ready begun)
   step-release standing begun h early =
       record {
         passes = passes_own (x == x) standing Ready (row.Release x) (self x) (h, refl);
@@ -162,13 +162,13 @@ module _ (system : System) (x : ℕ) where
   -- the state of the thread changes
   pub under-thread : (begun : Option ℕ) (state : Thread) (k : Core) → x < length system.threads → x < length k.threads
       → length k.notes ≡ length system.notes
-      → begun ≡ beginning_of (first system x) state.place.item state.since → IsUnderWay system x begun (with_thread x state k)
+      → begun ≡ beginning_of (first system x).waits state.place.item state.since → IsUnderWay system x begun (with_thread x state k)
   under-thread begun state k known has notes e =
       record {
         known = known;
         has = let l = length-set k.threads x state in omega arith;
         notes = notes;
-        begins = e ∙ ap (λ (s : Thread). beginning_of (first system x) s.place.item s.since) (sym (get_or-set_same k.threads x state no_state has));
+        begins = e ∙ ap (λ (s : Thread). beginning_of (first system x).waits s.place.item s.since) (sym (get_or-set_same k.threads x state no_state has));
       }
 
   pub started-thread : (now : ℕ) (state : Thread) (k : Core) → x < length k.threads → start_at system x ≤ now → state.since ≤ now
@@ -191,13 +191,13 @@ module _ (system : System) (x : ℕ) where
 
   -- it enters
   pub enters-back : (from now : ℕ) (date begun : Option ℕ) (k : Core) → Loose system x now begun k
-      → Holds system x from now (told_of (by_date date) begun) (turns.enters_back by_priority system x date k)
+      → Holds system x from now (told_of (by_date date) begun) (turns.enters_back by_priority x date k)
   enters-back from now None begun k l =
       let under = under-stands begun core_standing.TheVariants.Ready k l.under in
       let started = started-stands now core_standing.TheVariants.Ready k l.under.has l.started in
       record {
         runs = l.runs;
-        ready = times_queued-back x (turns.queued system x) k.ready ∙ one_self (times_queued x k.ready) l.ready;
+        ready = times_queued-back x (turns.queued x k) k.ready ∙ one_self (times_queued x k.ready) l.ready;
         dated = l.dated;
         waits = l.waits;
         own = (
@@ -220,13 +220,13 @@ module _ (system : System) (x : ℕ) where
       }
 
   pub enters-front : (from now : ℕ) (date begun : Option ℕ) (k : Core) → Loose system x now begun k
-      → Holds system x from now (told_of (by_date date) begun) (turns.enters_front by_priority system x date k)
+      → Holds system x from now (told_of (by_date date) begun) (turns.enters_front by_priority x date k)
   enters-front from now None begun k l =
       let under = under-stands begun core_standing.TheVariants.Ready k l.under in
       let started = started-stands now core_standing.TheVariants.Ready k l.under.has l.started in
       record {
         runs = l.runs;
-        ready = times_queued-front x (turns.queued system x) k.ready ∙ one_self (times_queued x k.ready) l.ready;
+        ready = times_queued-front x (turns.queued x k) k.ready ∙ one_self (times_queued x k.ready) l.ready;
         dated = l.dated;
         waits = l.waits;
         own = (
@@ -283,7 +283,7 @@ module _ (system : System) (x : ℕ) where
       → Holds system x from t (told_of Running begun) k
       → Goes system x from t (told_of Running begun) (turns.stops_to_back by_priority system t x cause n k)
   stops_to_back-goes from t n cause begun k plain h =
-      leaves-goes from t n cause begun (turns.enters_back by_priority system) (turns.charged system x n k) plain
+      leaves-goes from t n cause begun (turns.enters_back by_priority) (turns.charged system x n k) plain
       (λ date core l. enters-back from t date begun core l)
       (holds-same system x from t (told_of Running begun) k (turns.charged system x n k) (same-context system x _ _ k) h)
 
@@ -291,7 +291,7 @@ module _ (system : System) (x : ℕ) where
       → Holds system x from t (told_of Running begun) k
       → Goes system x from t (told_of Running begun) (turns.stops_to_front by_priority system t x cause n k)
   stops_to_front-goes from t n cause begun k plain h =
-      leaves-goes from t n cause begun (turns.enters_front by_priority system) k plain (λ date core l. enters-front from t date begun core l) h
+      leaves-goes from t n cause begun (turns.enters_front by_priority) k plain (λ date core l. enters-front from t date begun core l) h
 
   spent-goes : (from t using : ℕ) (begun : Option ℕ) (k : Core) → Holds system x from t (told_of Running begun) k
       → Goes system x from t (told_of Running begun) (turns.may_stop by_priority system t x using after.GoesOn k)
@@ -308,6 +308,7 @@ module _ (system : System) (x : ℕ) where
   IsCalm after.Yields = Unit {0}
   IsCalm after.Ends = ⊥
   IsCalm after.Blocks = ⊥
+  IsCalm after.Calls = ⊥
 
   pub calm-goes : (cause : AfterItem) → IsCalm cause → (from t using : ℕ) (begun : Option ℕ) (k : Core)
       → Holds system x from t (told_of Running begun) k
@@ -317,3 +318,4 @@ module _ (system : System) (x : ℕ) where
       stops_to_back-goes from t (head_amount (turns.its_context system x k)) why.Yield begun k (plain_yield x (first system x) t) h
   calm-goes after.Ends calm from t using begun k h = absurd calm
   calm-goes after.Blocks calm from t using begun k h = absurd calm
+  calm-goes after.Calls calm from t using begun k h = absurd calm

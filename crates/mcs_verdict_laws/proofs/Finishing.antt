@@ -1,8 +1,9 @@
 -- The running thread finishes an item, and a waiting one is woken.
-use Rattle.std.proofs.Common.{◌≡◌, ◌≢◌, ℕ, zero, suc, ◌+◌, ◌-◌, ◌<◌, ◌≤◌, ◌⊎◌, inl, inr, Bool, true, false, cond, ◌==◌, List, [], ◌∷◌, length, get_or, slice_get, Option, Some, None, refl, sym, ap, subst, ◌∙◌, arith, nat_lt}
+use Rattle.std.proofs.Common.{◌≡◌, ◌≢◌, ℕ, zero, suc, ◌+◌, ◌-◌, ◌<◌, ◌≤◌, ◌⊎◌, inl, inr, Bool, true, false, cond, not, ◌==◌, List, [], ◌∷◌, length, get_or, slice_get, Option, Some, None, refl, sym, ap, subst, ◌∙◌, arith}
+use Rattle.std.specs.Prelude.{unwrap_or}
 use Rattle.std.proofs.lemmas.Bool.{cases_lt}
 use Rattle.std.proofs.lemmas.Bool.Decides.{nat_tests}
-use Rattle.std.proofs.lemmas.List.{get_or-set_same}
+use Rattle.std.proofs.lemmas.List.{get_or-set_same, get_or_past}
 use Rattle.std.proofs.lemmas.Option.{slice_get_past, get_or_from_slice_get}
 use Rattle.std.proofs.Math.ListN.{length-set}
 use Rattle.mcs_ticks.specs.Queue.{by_priority}
@@ -12,18 +13,19 @@ use Rattle.mcs_notify.specs.Note.{Note, quiet_note, after_post, after_wait}
 use Rattle.mcs_notify.specs.declared.posted.Posted.TheVariants.{Woke}
 use Rattle.mcs_notify.specs.declared.posted.Waited.TheVariants.{Got, Blocks}
 use Rattle.mcs_script.specs.declared.item.Item.{Item}
-use Rattle.mcs_script.specs.declared.item.Item.TheVariants.{Wait, Yield}
+use Rattle.mcs_script.specs.declared.item.Item.TheVariants.{Compute, Signal, Wait, Yield, On, Spin, Enter, Leave}
 use Rattle.mcs_script.specs.declared.moved.Moved.{Moved}
 use Rattle.mcs_script.specs.declared.moved.Moved.TheVariants.{Next, RoundEnds, AllDone}
-use Rattle.mcs_script.specs.Script.{waits_last, move_after, place_after}
+use Rattle.mcs_script.specs.Script.{is_wait, heard, next_item, next_of, place_after}
 use Rattle.mcs_script.specs.declared.place.Place.{Place}
-use Rattle.mcs_system.specs.System.{System, no_thread, thread_part, core_of}
+use Rattle.mcs_system.specs.declared.part.ThreadPart.{ThreadPart}
+use Rattle.mcs_system.specs.System.{System, no_thread, thread_part, core_of, is_server}
 use Rattle.mcs_system.specs.WellFormed.{IsWellFormed, IsThread, IsItem}
 use Rattle.mcs_core.specs.declared.standing.AfterItem.{AfterItem}
 use Rattle.mcs_core.specs.declared.standing.AfterItem.TheVariants as after
 use Rattle.mcs_core.specs.declared.standing.Standing as core_standing
 use Rattle.mcs_core.specs.declared.standing.Thread.{Thread}
-use Rattle.mcs_core.specs.Core.{Core, no_state, thread_of, note_of, with_note, off}
+use Rattle.mcs_core.specs.Core.{Core, no_state, thread_of, note_of, with_note, stands, off}
 use Rattle.mcs_core.specs.Places.{times_queued, times_waiting}
 use Rattle.mcs_core.specs.Turn as turns
 use Rattle.mcs_core.specs.Turn.{Turn, silent, says, ◌followed_by◌}
@@ -31,10 +33,12 @@ use Rattle.mcs_core.proofs.Counts.{times_queued-append, times_queued-without, ti
 use Rattle.mcs_laws.proofs.Places.{set-waiting}
 use Rattle.mcs_verdict.specs.declared.standing.Standing.{Standing}
 use Rattle.mcs_verdict.specs.declared.standing.Standing.TheVariants.{Pending, Ready, Running, Throttled, Blocked, Woken, Done}
-use Rattle.mcs_verdict.specs.Rounds.{waited_on, begun_at, begun_by_word}
-use Rattle.mcs_verdict_laws.proofs.Steps.{told_of}
-use Rattle.mcs_verdict_laws.proofs.Holds.{waits_as, beginning_of, first, IsUnderWay, IsStarted, IsWaiting, Holds, Loose, same-note, holds-same, Goes}
-use Rattle.mcs_verdict_laws.proofs.Entering.{self, equal, by_date, step-stop, step-round, step-got, step-wake, under-thread, started-thread, under-stands, started-stands, enters-back, IsCalm, calm-goes}
+use Rattle.mcs_verdict.specs.Calls.{calls, called_for, waited_on}
+use Rattle.mcs_verdict.specs.Rounds.{begun_at, begun_by_word}
+use Rattle.mcs_verdict_laws.proofs.Steps.{told_of, contrary, Step}
+use Rattle.mcs_verdict_laws.proofs.Handlers.{goes-where, not-first, wait_goes, enter_goes, goes-past}
+use Rattle.mcs_verdict_laws.proofs.Holds.{waits_as, beginning_of, Awaits, first, IsUnderWay, IsStarted, IsWaiting, Holds, Loose, same-note, holds-same, Goes}
+use Rattle.mcs_verdict_laws.proofs.Entering.{self, equal, by_date, step-stop, step-round, step-got, step-wake, under-thread, started-thread, under-stands, started-stands, enters-back, enters-front, IsCalm, calm-goes}
 
 -- where a round begins that does not begin with the thread's first wait
 pub unless_first : (script : List Item) (waits : Option ℕ) (item since : ℕ) → waits ≡ waited_on (slice_get script 0)
@@ -82,11 +86,12 @@ one_note x notes i j one here there = by (i == j) refl
     by true e = equal i j e
     by false e = let l = two_waiting x notes i j (differ i j e) in absurd (omega (arith, l, one, here, there))
 
--- a wait is given its word: its round is under way from then on
-when_given : (script : List Item) (waits : Option ℕ) (item since t note : ℕ) → waits ≡ waited_on (slice_get script 0)
+-- a wait is given its word: its round is under way from then on, unless it is the first one and the word leaves nothing to do
+when_given : (script : List Item) (waits : Option ℕ) (item since t note word old : ℕ) → waits ≡ waited_on (slice_get script 0)
     → slice_get script item ≡ Some (Wait note)
-    → begun_by_word waits t (beginning_of waits item since) ≡ Some (cond (item == 0) t since)
-when_given script None item since t note e f = by (item == 0) refl
+    → begun_by_word waits (called_for script) word t (beginning_of waits item since)
+    ≡ beginning_of waits (unwrap_or (next_item script (cond (item == 0) (heard script word) old) item) 0) (cond (item == 0) t since)
+when_given script None item since t note word old e f = by (item == 0) refl
   where
     by : (b : Bool) → (item == 0) ≡ b → Some since ≡ Some (cond b t since)
     by true g =
@@ -94,52 +99,31 @@ when_given script None item since t note e f = by (item == 0) refl
         let i : None ≡ Some note = e ∙ ap (λ n. waited_on (slice_get script n)) (sym h) ∙ ap waited_on f in
         absurd (cc)
     by false g = refl
-when_given script (Some first) item since t note e f = by (item == 0)
+when_given script (Some first) item since t note word old e f = by (item == 0) refl
   where
-    by : (b : Bool) → begun_by_word (Some first) t (cond b None (Some since)) ≡ Some (cond b t since)
-    by true = refl
-    by false = refl
+    gives : (b c : Bool) → c ≡ not b → cond b (Some t) None ≡ cond c None (Some t)
+    gives true c g = ap (λ c. cond c None (Some t)) (sym g)
+    gives false c g = ap (λ c. cond c None (Some t)) (sym g)
 
--- after an item that is not the last no round begins
-past_first : (waits : Option ℕ) (item since : ℕ) → beginning_of waits (item + 1) since ≡ Some since
-past_first None item since = refl
-past_first (Some note) item since = ap (λ b. cond b None (Some since)) (later item)
-  where
-    later : (item : ℕ) → (item + 1 == 0) ≡ false
-    later item = grind (arith, nat_tests)
+    by : (b : Bool) → (item == 0) ≡ b
+        → begun_by_word (Some first) (called_for script) word t (cond b None (Some since))
+        ≡ beginning_of (Some first) (unwrap_or (next_item script (cond b (heard script word) old) item) 0) (cond b t since)
+    by true g =
+        let h : item ≡ 0 = equal item 0 g in
+        gives (calls (called_for script) word) (unwrap_or (next_item script (heard script word) 0) 0 == 0)
+        (goes-where script word note (ap (slice_get script) (sym h) ∙ f))
+        ∙ ap (λ n. cond (unwrap_or (next_item script (heard script word) n) 0 == 0) None (Some t)) (sym h)
+    by false g = sym (ap (λ b. cond b None (Some since)) (not-first script old item note f g))
+
+-- after an item that is no wait no round begins
+past_first : (waits : Option ℕ) (next since : ℕ) → (next == 0) ≡ false → beginning_of waits next since ≡ Some since
+past_first None next since e = refl
+past_first (Some note) next since e = ap (λ b. cond b None (Some since)) e
 
 -- and a round that begins is under way unless it begins with a wait
 at_first : (waits : Option ℕ) (t : ℕ) → begun_at waits t ≡ beginning_of waits 0 t
 at_first None t = refl
 at_first (Some note) t = refl
-
--- a wait is not the last item of a script
-wait_goes : (script : List Item) (rounds note : ℕ) (place : Place) → waits_last script ≡ false → slice_get script place.item ≡ Some (Wait note)
-    → move_after script rounds place ≡ Next
-wait_goes script rounds note place last e = by (cases_lt (place.item + 1) (length script))
-  where
-    next : (b : Bool) (other : Moved) → b ≡ true → cond b Next other ≡ Next
-    next true other f = refl
-    next false other f = absurd (let g : false ≡ true = f in cc)
-
-    less : (a b : ℕ) → a < b → nat_lt a b ≡ true
-    less a b h = grind (arith, nat_tests)
-
-    is_wait_last : waits_last script ≡ true → ⊥
-    is_wait_last f = let g : true ≡ false = sym f ∙ last in cc
-
-    last_at : place.item ≡ length script - 1 → waits_last script ≡ true
-    last_at f = let g : slice_get script (length script - 1) ≡ Some (Wait note) = ap (slice_get script) (sym f) ∙ e in rw g refl
-
-    by : (place.item + 1 < length script) ⊎ (length script ≤ place.item + 1) → move_after script rounds place ≡ Next
-    by (inl within) = next (nat_lt (place.item + 1) (length script)) _ (less (place.item + 1) (length script) within)
-    by (inr past) = at (cases_lt place.item (length script))
-      where
-        at : (place.item < length script) ⊎ (length script ≤ place.item) → move_after script rounds place ≡ Next
-        at (inl l) = absurd (is_wait_last (last_at (omega (arith, l, past))))
-        at (inr l) =
-            let g : Some (Wait note) ≡ None = sym e ∙ slice_get_past script place.item l in
-            absurd (cc)
 
 -- its notification is one of the system's
 wait_known : (system : System) (core : ℕ) (script : List Item) (item note : ℕ)
@@ -156,6 +140,53 @@ wait_known system core script item note h e = by (cases_lt item (length script))
         let g : Some (Wait note) ≡ None = sym e ∙ slice_get_past script item past in
         absurd (cc)
 
+-- so is a server that it enters, and it is one
+item_known : (system : System) (core : ℕ) (script : List Item) (place : ℕ) (item : Item)
+    → ((i : ℕ) (d : Item) → i < length script → IsItem system core (get_or script i d))
+    → slice_get script place ≡ Some item → IsItem system core item
+item_known system core script place item h e = by (cases_lt place (length script))
+  where
+    by : (place < length script) ⊎ (length script ≤ place) → IsItem system core item
+    by (inl within) = let P : Item → Type 0 = IsItem system core in subst P (get_or_from_slice_get script place item Yield e) (h place Yield within)
+    by (inr past) =
+        let g : Some item ≡ None = sym e ∙ slice_get_past script place past in
+        absurd (cc)
+
+enter_known : (system : System) (core : ℕ) (script : List Item) (place server priority : ℕ)
+    → ((i : ℕ) (d : Item) → i < length script → IsItem system core (get_or script i d))
+    → slice_get script place ≡ Some (Enter server priority) → server < length system.notes
+enter_known system core script place server priority h e = (item_known system core script place (Enter server priority) h e).0
+
+server_known : (system : System) (core : ℕ) (script : List Item) (place server priority : ℕ)
+    → ((i : ℕ) (d : Item) → i < length script → IsItem system core (get_or script i d))
+    → slice_get script place ≡ Some (Enter server priority) → is_server system server ≡ true
+server_known system core script place server priority h e = (item_known system core script place (Enter server priority) h e).2
+
+note_known : (system : System) (core : ℕ) (script : List Item) (place note : ℕ)
+    → ((i : ℕ) (d : Item) → i < length script → IsItem system core (get_or script i d))
+    → slice_get script place ≡ Some (Wait note) → is_server system note ≡ false
+note_known system core script place note h e = (item_known system core script place (Wait note) h e).2
+
+-- an item of a thread of the system, or of none
+pub item_home : (system : System) → IsWellFormed system → (y place : ℕ) (item : Item) → slice_get (thread_part system y).script place ≡ Some item
+    → IsItem system (core_of system (thread_part system y)) item
+item_home system well y place item e = by (cases_lt y (length system.threads))
+  where
+    by : (y < length system.threads) ⊎ (length system.threads ≤ y) → IsItem system (core_of system (thread_part system y)) item
+    by (inl l) = item_known system (core_of system (thread_part system y)) (thread_part system y).script place item (well.threads y no_thread l).items e
+    by (inr past) =
+        let nothing : List Item = [] in
+        let none : thread_part system y ≡ no_thread = get_or_past system.threads y no_thread past in
+        let g : Some item ≡ None =
+        sym e ∙ ap (λ (part : ThreadPart). slice_get part.script place) none ∙ slice_get_past nothing place (omega arith)
+        in
+        absurd (cc)
+
+-- a word that is given while a round is under way begins none
+under_way : (waits bits : Option ℕ) (word t since : ℕ) → begun_by_word waits bits word t (Some since) ≡ Some since
+under_way None bits word t since = refl
+under_way (Some note) bits word t since = refl
+
 module _ (system : System) (well : IsWellFormed system) (x : ℕ) where
   thread : x < length system.threads → IsThread system (thread_part system x)
   thread known = well.threads x no_thread known
@@ -166,59 +197,62 @@ module _ (system : System) (well : IsWellFormed system) (x : ℕ) where
       let state = thread_of k x in record state { place = place_after system.call (thread_part system x).script move state.place; since = since }
 
   -- what a wait makes of the thread when its word is there: it moves on to the next item
-  pub moved_on : ℕ → Core → Core
-  moved_on t k = let given = turns.given t x k in turns.placed system t x Next (thread_of given x).since given
+  pub moved_on : ℕ → ℕ → Core → Core
+  moved_on t word k = let given = turns.given system t x word k in turns.placed system t x Next (thread_of given x).since given
 
-  given-state : (t : ℕ) (k : Core) → x < length k.threads
-      → thread_of (turns.given t x k) x ≡ record (thread_of k x) { since = cond ((thread_of k x).place.item == 0) t (thread_of k x).since }
-  given-state t k has =
-      get_or-set_same k.threads x (record (thread_of k x) { since = cond ((thread_of k x).place.item == 0) t (thread_of k x).since }) no_state has
+  -- its state when it has the word
+  abbrev given_at : ℕ → ℕ → Core → Thread
+  given_at t word k = turns.round_begun (thread_part system x).script t word (thread_of k x)
+
+  given-state : (t word : ℕ) (k : Core) → x < length k.threads → thread_of (turns.given system t x word k) x ≡ given_at t word k
+  given-state t word k has = get_or-set_same k.threads x (given_at t word k) no_state has
 
   not_later : (b : Bool) (t since : ℕ) → since ≤ t → cond b t since ≤ t
   not_later true t since h = omega arith
   not_later false t since h = h
 
-  given-next : (t : ℕ) (k : Core) → x < length k.threads → x < length system.threads → IsWaiting system x k
-      → turns.move_of system x (turns.given t x k) ≡ Next
-  given-next t k has known w =
-      let e = ap (λ (s : Thread). s.place) (given-state t k has) in
-      wait_goes (thread_part system x).script (thread_part system x).rounds w.note (thread_of (turns.given t x k) x).place (thread known).script.last
+  given-next : (t word : ℕ) (k : Core) → x < length k.threads → IsWaiting system x k → turns.move_of system x (turns.given system t x word k) ≡ Next
+  given-next t word k has w =
+      let e = ap (λ (s : Thread). s.place) (given-state t word k has) in
+      wait_goes (thread_part system x).script (thread_part system x).rounds w.note (thread_of (turns.given system t x word k) x).place
       (ap (λ (p : Place). slice_get (thread_part system x).script p.item) e ∙ w.item)
 
-  given-under : (t : ℕ) (begun : Option ℕ) (k : Core) → IsUnderWay system x begun k → IsStarted system x t k → IsWaiting system x k
-      → IsUnderWay system x (begun_by_word (first system x) t begun) (moved_on t k)
-  unfolding moved_on
-  given-under t begun k u s w =
-      let given = turns.given t x k in
-      let e = given-state t k u.has in
-      let state = state_at Next (thread_of given x).since given in
-      let item = (thread_of k x).place.item in
-      let since = (thread_of k x).since in
-      let word : begun_by_word (first system x) t begun ≡ Some (cond (item == 0) t since) =
-      ap (begun_by_word (first system x) t) u.begins ∙ when_given (thread_part system x).script (first system x) item since t w.note refl w.item
-      in
-      let there : Some (cond (item == 0) t since) ≡ Some (thread_of given x).since = ap (λ (s : Thread). Some s.since) (sym e) in
-      under-thread system x (begun_by_word (first system x) t begun) state given u.known
-      (let l = length-set k.threads x (record (thread_of k x) { since = cond (item == 0) t since }) in let h = u.has in omega arith)
-      u.notes
-      (word ∙ there ∙ sym (past_first (first system x) (thread_of given x).place.item (thread_of given x).since))
+  given-has : (t word : ℕ) (k : Core) → x < length k.threads → x < length (turns.given system t x word k).threads
+  given-has t word k has = let l = length-set k.threads x (given_at t word k) in omega arith
 
-  given-started : (t : ℕ) (begun : Option ℕ) (k : Core) → IsUnderWay system x begun k → IsStarted system x t k → IsStarted system x t (moved_on t k)
+  given-under : (t word : ℕ) (begun : Option ℕ) (k : Core) → IsUnderWay system x begun k → IsWaiting system x k
+      → IsUnderWay system x (begun_by_word (first system x).waits (first system x).bits word t begun) (moved_on t word k)
   unfolding moved_on
-  given-started t begun k u s =
-      let given = turns.given t x k in
+  given-under t word begun k u w =
+      let given = turns.given system t x word k in
+      let script = (thread_part system x).script in
+      let e = given-state t word k u.has in
+      let old = (thread_of k x).place in
+      let since = (thread_of k x).since in
+      let next = begun_by_word (first system x).waits (first system x).bits word t begun in
+      let begins : next
+      ≡ beginning_of (first system x).waits (unwrap_or (next_item script (given_at t word k).place.word old.item) 0) (given_at t word k).since =
+      ap (begun_by_word (first system x).waits (first system x).bits word t) u.begins
+      ∙ when_given script (first system x).waits old.item since t w.note word old.word refl w.item
+      in
+      under-thread system x next (state_at Next (thread_of given x).since given) given u.known (given-has t word k u.has) u.notes
+      (begins ∙ sym (ap (λ (s : Thread). beginning_of (first system x).waits (unwrap_or (next_item script s.place.word s.place.item) 0) s.since) e))
+
+  given-started : (t word : ℕ) (begun : Option ℕ) (k : Core) → IsUnderWay system x begun k → IsStarted system x t k
+      → IsStarted system x t (moved_on t word k)
+  unfolding moved_on
+  given-started t word begun k u s =
+      let given = turns.given system t x word k in
       let item = (thread_of k x).place.item in
       let since = (thread_of k x).since in
-      let e = ap (λ (s : Thread). s.since) (given-state t k u.has) in
+      let e = ap (λ (s : Thread). s.since) (given-state t word k u.has) in
       let state = state_at Next (thread_of given x).since given in
-      started-thread system x t state given
-      (let l = length-set k.threads x (record (thread_of k x) { since = cond (item == 0) t since }) in let h = u.has in omega arith)
-      s.start
+      started-thread system x t state given (given-has t word k u.has) s.start
       (let n = not_later (item == 0) t since s.since in omega arith)
 
   -- the thread finishes an item that is no wait
   placed-holds : (from t since : ℕ) (move : Moved) (begun ended : Option ℕ) (k : Core) → Holds system x from t (told_of Running begun) k → since ≤ t
-      → ended ≡ beginning_of (first system x) (place_after system.call (thread_part system x).script move (thread_of k x).place).item since
+      → ended ≡ beginning_of (first system x).waits (place_after system.call (thread_part system x).script move (thread_of k x).place).item since
       → Holds system x from t (told_of Running ended) (turns.placed system t x move since k)
   placed-holds from t since move begun ended k h l e =
       let state = state_at move since k in
@@ -235,22 +269,23 @@ module _ (system : System) (well : IsWellFormed system) (x : ℕ) where
 
   pub finish-goes : (from t using : ℕ) (begun : Option ℕ) (k : Core) (move : Moved) (cause : AfterItem) → IsCalm system x cause
       → Holds system x from t (told_of Running begun) k
-      → begun ≡ Some (thread_of k x).since
+      → begun ≡ Some (thread_of k x).since → is_wait (turns.item_of system x k) ≡ false → turns.move_of system x k ≡ move
       → Goes system x from t (told_of Running begun)
       (turns.moves system t x move k followed_by turns.may_stop by_priority system t x using (turns.after_move move cause))
-  finish-goes from t using begun k Next cause calm h e =
+  finish-goes from t using begun k Next cause calm h e none move =
       let moved = turns.placed system t x Next (thread_of k x).since k in
       let q =
       calm-goes system x cause calm from t using begun moved
       (placed-holds from t (thread_of k x).since Next begun begun k h h.own.1.since
-      (e ∙ sym (past_first (first system x) (thread_of k x).place.item (thread_of k x).since)))
+      (e ∙ sym (past_first (first system x).waits (unwrap_or (next_of (thread_part system x).script (thread_of k x).place) 0) (thread_of k x).since
+      (goes-past (thread_part system x).script (thread_part system x).rounds (thread_of k x).place none move))))
       in
       record { last = q.last; walks = q.walks; holds = q.holds; ended = q.ended }
-  finish-goes from t using begun k RoundEnds cause calm h e =
+  finish-goes from t using begun k RoundEnds cause calm h e none move =
       let moved = turns.placed system t x RoundEnds t k in
-      let next = begun_at (first system x) t in
+      let next = begun_at (first system x).waits t in
       let q = calm-goes system x cause calm from t using next moved
-      (placed-holds from t t RoundEnds begun next k h (omega arith) (at_first (first system x) t)) in
+      (placed-holds from t t RoundEnds begun next k h (omega arith) (at_first (first system x).waits t)) in
       let l = h.own.1.since in
       record {
         last = q.last;
@@ -262,8 +297,8 @@ module _ (system : System) (well : IsWellFormed system) (x : ℕ) where
         holds = q.holds;
         ended = λ before. (tt, q.ended (Some (row.Round x (thread_of k x).place.round (t - (thread_of k x).since))));
       }
-  finish-goes from t using begun k AllDone cause calm h e =
-      let next = begun_at (first system x) t in
+  finish-goes from t using begun k AllDone cause calm h e none move =
+      let next = begun_at (first system x).waits t in
       let l = h.own.1.since in
       record {
         last = told_of Done None;
@@ -287,31 +322,31 @@ module _ (system : System) (well : IsWellFormed system) (x : ℕ) where
       (turns.waits_as system t x note (Got word) k followed_by turns.may_stop by_priority system t x using after.GoesOn)
   unfolding moved_on
   got-goes from t using note word begun k h item =
-      let noted = with_note note (after_wait (Got word) (turns.queued system x) (note_of k note)) k in
-      let given = turns.given t x noted in
+      let noted = with_note note (after_wait (Got word) (turns.queued x k) (note_of k note)) k in
+      let given = turns.given system t x word noted in
       let was = holds-same system x from t (told_of Running begun) k noted
-      (same-note system x note (after_wait (Got word) (turns.queued system x) (note_of k note)) k refl) h in
+      (same-note system x note (after_wait (Got word) (turns.queued x k) (note_of k note)) k refl) h in
       let waits : IsWaiting system x noted = record { note = note; item = item } in
-      let next = begun_by_word (first system x) t begun in
-      let yet : begun ≡ None → first system x ≡ Some note =
-      λ none. at_wait (thread_part system x).script (first system x) (thread_of k x).place.item (thread_of k x).since note refl item
+      let next = begun_by_word (first system x).waits (first system x).bits word t begun in
+      let yet : begun ≡ None → (first system x).waits ≡ Some note =
+      λ none. at_wait (thread_part system x).script (first system x).waits (thread_of k x).place.item (thread_of k x).since note refl item
       (sym h.own.0.begins ∙ none)
       in
-      let holds : Holds system x from t (told_of Running next) (moved_on t noted) =
+      let holds : Holds system x from t (told_of Running next) (moved_on t word noted) =
       record {
         runs = was.runs;
         ready = was.ready;
         dated = was.dated;
         waits = was.waits;
-        own = (given-under t begun noted was.own.0 was.own.1 waits, given-started t begun noted was.own.0 was.own.1);
+        own = (given-under t word begun noted was.own.0 waits, given-started t word begun noted was.own.0 was.own.1);
       }
       in
-      let q = calm-goes system x after.GoesOn tt from t using next (moved_on t noted) holds in
+      let q = calm-goes system x after.GoesOn tt from t using next (moved_on t word noted) holds in
       let P : Moved → Type 0 =
       λ move. Goes system x from t (told_of Running begun)
       (says (row.Got x note word) given followed_by turns.moves system t x move followed_by turns.may_stop by_priority system t x using after.GoesOn)
       in
-      subst P (sym (given-next t noted was.own.0.has was.own.0.known waits))
+      subst P (sym (given-next t word noted was.own.0.has waits))
       record {
         last = q.last;
         walks = (told_of Running next, step-got x (first system x) t note word begun yet, q.walks);
@@ -319,20 +354,19 @@ module _ (system : System) (well : IsWellFormed system) (x : ℕ) where
         ended = λ before. (tt, q.ended (Some (row.Got x note word)));
       }
 
-  pub blocks-goes : (from t using note : ℕ) (begun : Option ℕ) (k : Core) → Holds system x from t (told_of Running begun) k
-      → slice_get (thread_part system x).script (thread_of k x).place.item ≡ Some (Wait note)
-      → Goes system x from t (told_of Running begun)
-      (turns.waits_as system t x note Blocks k followed_by turns.may_stop by_priority system t x using after.Blocks)
-  blocks-goes from t using note begun k h item =
+  -- a thread blocks at its item, which waits for this notification or server
+  blocks-holds : (from t using note : ℕ) (begun : Option ℕ) (k : Core) → Holds system x from t (told_of Running begun) k
+      → note < length system.notes → Awaits (turns.item_of system x k) note
+      → Holds system x from t (told_of Blocked begun)
+      (stands x core_standing.TheVariants.Blocked (off (turns.charged system x using (with_note note (after_wait Blocks (turns.queued x k) (note_of k note)) k))))
+  blocks-holds from t using note begun k h known item =
       let u = h.own.0 in
-      let ready = after_wait Blocks (turns.queued system x) (note_of k note) in
+      let ready = after_wait Blocks (turns.queued x k) (note_of k note) in
       let noted = with_note note ready k in
       let gone = off (turns.charged system x using noted) in
-      let known = wait_known system (core_of system (thread_part system x)) (thread_part system x).script (thread_of k x).place.item note
-      (thread u.known).items item in
       let within : note < length k.notes = let e = u.notes in omega arith in
       let set = times_waiting-set x note ready k.notes within in
-      let more = times_queued-append x (note_of k note).waiters (turns.queued system x) in
+      let more = times_queued-append x (note_of k note).waiters (turns.queued x k) in
       let one : ◌≡◌ {A = ℕ} (cond (x == x) 1 0) 1 = ap (λ b. cond b 1 0) (self x) in
       let under : IsUnderWay system x begun gone =
       record { known = u.known; has = u.has; notes = length-set k.notes note ready ∙ u.notes; begins = u.begins }
@@ -340,27 +374,87 @@ module _ (system : System) (well : IsWellFormed system) (x : ℕ) where
       let started : IsStarted system x t gone = record { start = h.own.1.start; since = h.own.1.since } in
       let state = get_or-set_same k.threads x (record (thread_of k x) { standing = core_standing.TheVariants.Blocked }) no_state u.has in
       record {
+        runs = refl;
+        ready = h.ready;
+        dated = h.dated;
+        waits = let none = h.waits in omega (arith, set, more, one, none);
+        own = (
+          under-stands system x begun core_standing.TheVariants.Blocked gone under,
+          started-stands system x t core_standing.TheVariants.Blocked gone u.has started,
+          record {
+            note = note;
+            item = subst (λ (s : Thread). Awaits (slice_get (thread_part system x).script s.place.item) note) (sym state) item;
+            listed =
+                let there = ap (λ (n : Note). times_queued x n.waiters) (get_or-set_same k.notes note ready quiet_note within) in
+                omega (arith, there, more, one);
+          },
+        );
+      }
+
+  pub blocks-goes : (from t using note : ℕ) (begun : Option ℕ) (k : Core) → Holds system x from t (told_of Running begun) k
+      → slice_get (thread_part system x).script (thread_of k x).place.item ≡ Some (Wait note)
+      → Goes system x from t (told_of Running begun)
+      (turns.waits_as system t x note Blocks k followed_by turns.may_stop by_priority system t x using after.Blocks)
+  blocks-goes from t using note begun k h item =
+      let known = wait_known system (core_of system (thread_part system x)) (thread_part system x).script (thread_of k x).place.item note
+      (thread h.own.0.known).items item in
+      record {
         last = told_of Blocked begun;
         walks = (told_of Blocked begun, step-stop x (first system x) t using why.Wait None Blocked begun begun refl refl, refl);
         ended = λ before. (tt, tt);
-        holds =
-            record {
-              runs = refl;
-              ready = h.ready;
-              dated = h.dated;
-              waits = let none = h.waits in omega (arith, set, more, one, none);
-              own = (
-                under-stands system x begun core_standing.TheVariants.Blocked gone under,
-                started-stands system x t core_standing.TheVariants.Blocked gone u.has started,
-                record {
-                  note = note;
-                  item = ap (λ (s : Thread). slice_get (thread_part system x).script s.place.item) state ∙ item;
-                  listed =
-                      let there = ap (λ (n : Note). times_queued x n.waiters) (get_or-set_same k.notes note ready quiet_note within) in
-                      omega (arith, there, more, one);
-                },
-              );
-            };
+        holds = blocks-holds from t using note begun k h known (subst (λ (o : Option Item). Awaits o note) (sym item) refl);
+      }
+
+  -- a thread enters a server that is free, or waits for it
+  pub enters-blocks : (from t using server priority : ℕ) (begun : Option ℕ) (k : Core) → Holds system x from t (told_of Running begun) k
+      → turns.item_of system x k ≡ Some (Enter server priority)
+      → Goes system x from t (told_of Running begun)
+      (turns.enters_as system t x server Blocks k followed_by turns.may_stop by_priority system t x using after.Calls)
+  enters-blocks from t using server priority begun k h item =
+      let known = enter_known system (core_of system (thread_part system x)) (thread_part system x).script (thread_of k x).place.item server priority
+      (thread h.own.0.known).items item in
+      record {
+        last = told_of Blocked begun;
+        walks = (told_of Blocked begun, step-stop x (first system x) t using why.Call None Blocked begun begun refl refl, refl);
+        ended = λ before. (tt, tt);
+        holds = blocks-holds from t using server begun k h known (subst (λ (o : Option Item). Awaits o server) (sym item) refl);
+      }
+
+  -- behind the entering of a server its script goes on
+  goes_behind : (server priority : ℕ) (k : Core) → x < length system.threads → turns.item_of system x k ≡ Some (Enter server priority)
+      → turns.move_of system x k ≡ Next
+  goes_behind server priority k known item =
+      enter_goes (thread_part system x).script (thread_part system x).rounds server priority (thread_of k x).place (thread known).script item
+
+  pub enters-goes : (from t using server priority word : ℕ) (begun : Option ℕ) (k : Core) → Holds system x from t (told_of Running begun) k
+      → turns.item_of system x k ≡ Some (Enter server priority) → begun ≡ Some (thread_of k x).since
+      → Goes system x from t (told_of Running begun)
+      (turns.enters_as system t x server (Got word) k followed_by turns.may_stop by_priority system t x using after.GoesOn)
+  enters-goes from t using server priority word begun k h item there =
+      let noted = with_note server (after_wait (Got word) (turns.queued x k) (note_of k server)) k in
+      let was = holds-same system x from t (told_of Running begun) k noted
+      (same-note system x server (after_wait (Got word) (turns.queued x k) (note_of k server)) k refl) h in
+      let next = goes_behind server priority k h.own.0.known item in
+      let q = finish-goes from t using begun noted Next after.GoesOn tt was there (ap is_wait item) next in
+      let P : Moved → Type 0 =
+      λ move. Goes system x from t (told_of Running begun)
+      (says (row.Got x server word) noted followed_by turns.moves system t x move followed_by turns.may_stop by_priority system t x using after.GoesOn)
+      in
+      let same : begun_by_word (first system x).waits (first system x).bits word t begun ≡ begun =
+      ap (begun_by_word (first system x).waits (first system x).bits word t) there ∙ under_way (first system x).waits (first system x).bits word t (thread_of k x).since
+      ∙ sym there
+      in
+      let R : Option ℕ → Type 0 = λ after. Step x (first system x) t (told_of Running begun) (row.Got x server word) (told_of Running after) in
+      subst P (sym next)
+      record {
+        last = q.last;
+        walks = (
+          told_of Running begun,
+          subst R same (step-got x (first system x) t server word begun (λ none. absurd (let g : None ≡ Some (thread_of k x).since = sym none ∙ there in cc))),
+          q.walks,
+        );
+        holds = q.holds;
+        ended = λ before. (tt, q.ended (Some (row.Got x server word)));
       }
 
   -- a waiting thread is woken
@@ -373,11 +467,36 @@ module _ (system : System) (well : IsWellFormed system) (x : ℕ) where
   waits_one Woken l = absurd (omega (arith, l))
   waits_one Done l = absurd (omega (arith, l))
 
-  pub woken-goes : (from t note word : ℕ) (begun : Option ℕ) (k : Core) → 1 ≤ times_queued x (note_of k note).waiters
+  -- whoever waits for the signal of a notification is at a wait, and whoever waits for a server is about to enter it
+  at-wait : (note : ℕ) (o : Option Item) → is_server system note ≡ false → Awaits o note
+      → ((n priority : ℕ) → o ≡ Some (Enter n priority) → is_server system n ≡ true) → o ≡ Some (Wait note)
+  at-wait note (Some (Wait n)) e a h = ap (λ n. Some (Wait n)) a
+  at-wait note (Some (Enter n priority)) e a h = absurd (contrary (is_server system note) e (ap (is_server system) (sym a) ∙ h n priority refl))
+  at-wait note (Some (Compute ticks)) e a h = absurd a
+  at-wait note (Some (Signal n badge)) e a h = absurd a
+  at-wait note (Some Yield) e a h = absurd a
+  at-wait note (Some (On badges)) e a h = absurd a
+  at-wait note (Some Spin) e a h = absurd a
+  at-wait note (Some (Leave n priority)) e a h = absurd a
+  at-wait note None e a h = absurd a
+
+  at-enter : (server : ℕ) (o : Option Item) → is_server system server ≡ true → Awaits o server
+      → ((n : ℕ) → o ≡ Some (Wait n) → is_server system n ≡ false) → (priority : ℕ) × (o ≡ Some (Enter server priority))
+  at-enter server (Some (Enter n priority)) e a h = (priority, ap (λ n. Some (Enter n priority)) a)
+  at-enter server (Some (Wait n)) e a h = absurd (contrary (is_server system server) (ap (is_server system) (sym a) ∙ h n refl) e)
+  at-enter server (Some (Compute ticks)) e a h = absurd a
+  at-enter server (Some (Signal n badge)) e a h = absurd a
+  at-enter server (Some Yield) e a h = absurd a
+  at-enter server (Some (On badges)) e a h = absurd a
+  at-enter server (Some Spin) e a h = absurd a
+  at-enter server (Some (Leave n priority)) e a h = absurd a
+  at-enter server None e a h = absurd a
+
+  pub woken-goes : (from t note word : ℕ) (begun : Option ℕ) (k : Core) → is_server system note ≡ false → 1 ≤ times_queued x (note_of k note).waiters
       → Holds system x from t (told_of Blocked begun) k
       → Goes system x from t (told_of Blocked begun) (turns.posts_as by_priority system t note (Woke x word) k)
   unfolding moved_on
-  woken-goes from t note word begun k waits h =
+  woken-goes from t note word begun k signalled waits h =
       let state = after_post (Woke x word) (note_of k note) in
       let noted = with_note note state k in
       let woken = turns.with_woken_context system t x noted in
@@ -389,35 +508,102 @@ module _ (system : System) (well : IsWellFormed system) (x : ℕ) where
       record { known = u.known; has = u.has; notes = length-set k.notes note state ∙ u.notes; begins = u.begins }
       in
       let started : IsStarted system x t woken = record { start = h.own.1.start; since = h.own.1.since } in
-      let waiting : IsWaiting system x woken = record { note = h.own.2.note; item = h.own.2.item } in
-      let next = begun_by_word (first system x) t begun in
-      let own = one_note x k.notes note h.own.2.note h.waits waits h.own.2.listed in
-      let yet : begun ≡ None → first system x ≡ Some note =
-      λ none. at_wait (thread_part system x).script (first system x) (thread_of k x).place.item (thread_of k x).since h.own.2.note refl h.own.2.item
-      (sym u.begins ∙ none) ∙ ap Some (sym own)
+      let own : note ≡ h.own.2.note = one_note x k.notes note h.own.2.note h.waits waits h.own.2.listed in
+      let place = (thread_of k x).place.item in
+      let item : slice_get (thread_part system x).script place ≡ Some (Wait note) =
+      at-wait note (slice_get (thread_part system x).script place) signalled
+      (subst (λ n. Awaits (slice_get (thread_part system x).script place) n) (sym own) h.own.2.item)
+      (λ n priority e. (server_known system (core_of system (thread_part system x)) (thread_part system x).script place n priority (thread u.known).items e))
       in
-      let moved = moved_on t woken in
+      let waiting : IsWaiting system x woken = record { note = note; item = item } in
+      let next = begun_by_word (first system x).waits (first system x).bits word t begun in
+      let yet : begun ≡ None → (first system x).waits ≡ Some note =
+      λ none. at_wait (thread_part system x).script (first system x).waits place (thread_of k x).since note refl item (sym u.begins ∙ none)
+      in
+      let moved = moved_on t word woken in
       let loose : Loose system x t next moved =
       record {
         runs = h.runs;
         ready = h.ready;
         dated = h.dated;
         waits = let was = h.waits in omega (arith, left, one, less, was);
-        under = given-under t begun woken under started waiting;
-        started = given-started t begun woken under started;
+        under = given-under t word begun woken under waiting;
+        started = given-started t word begun woken under started;
       }
       in
       let date = turns.date_of system t x moved in
       let P : Moved → Type 0 =
       λ move. Goes system x from t (told_of Blocked begun)
       (says (row.Wake x note word) noted followed_by λ core.
-      turns.moves system t x move (turns.given t x (turns.with_woken_context system t x core))
-      followed_by λ core. silent (turns.enters_back by_priority system x (turns.date_of system t x core) core))
+      turns.moves system t x move (turns.given system t x word (turns.with_woken_context system t x core))
+      followed_by λ core. silent (turns.enters_back by_priority x (turns.date_of system t x core) core))
       in
-      subst P (sym (given-next t woken under.has under.known waiting))
+      subst P (sym (given-next t word woken under.has waiting))
       record {
         last = told_of (by_date date) next;
         walks = (told_of (by_date date) next, step-wake x (first system x) t note word date begun yet, refl);
         holds = enters-back system x from t date next moved loose;
+        ended = λ before. (tt, tt);
+      }
+
+  -- a thread that waits for a server is let in
+  pub let-goes : (from t server word : ℕ) (begun : Option ℕ) (k : Core) → is_server system server ≡ true
+      → 1 ≤ times_queued x (note_of k server).waiters → Holds system x from t (told_of Blocked begun) k
+      → Goes system x from t (told_of Blocked begun) (turns.frees_as by_priority system t server (Woke x word) k)
+  let-goes from t server word begun k served waits h =
+      let state = after_post (Woke x word) (note_of k server) in
+      let noted = with_note server state k in
+      let woken = turns.with_woken_context system t x noted in
+      let left = times_queued-without x x (note_of k server).waiters waits in
+      let one : ◌≡◌ {A = ℕ} (cond (x == x) 1 0) 1 = ap (λ b. cond b 1 0) (self x) in
+      let less = set-waiting x k.notes server state in
+      let u = h.own.0 in
+      let own : server ≡ h.own.2.note = one_note x k.notes server h.own.2.note h.waits waits h.own.2.listed in
+      let place = (thread_of k x).place in
+      let script = (thread_part system x).script in
+      let enter =
+      at-enter server (slice_get script place.item) served (subst (λ n. Awaits (slice_get script place.item) n) (sym own) h.own.2.item)
+      (λ n e. note_known system (core_of system (thread_part system x)) script place.item n (thread u.known).items e)
+      in
+      let there : begun ≡ Some (thread_of k x).since =
+      u.begins ∙ unless_first script (first system x).waits place.item (thread_of k x).since refl (ap waited_on enter.1)
+      in
+      let goes = goes_behind server enter.0 k u.known enter.1 in
+      let moved = turns.placed system t x Next (thread_of woken x).since woken in
+      let loose : Loose system x t begun moved =
+      record {
+        runs = h.runs;
+        ready = h.ready;
+        dated = h.dated;
+        waits = let was = h.waits in omega (arith, left, one, less, was);
+        under =
+            under-thread system x begun (state_at Next (thread_of woken x).since woken) woken u.known u.has (length-set k.notes server state ∙ u.notes)
+            (there ∙ sym (past_first (first system x).waits (unwrap_or (next_of script place) 0) (thread_of k x).since
+            (goes-past script (thread_part system x).rounds place (ap is_wait enter.1) goes)));
+        started = started-thread system x t (state_at Next (thread_of woken x).since woken) woken u.has h.own.1.start h.own.1.since;
+      }
+      in
+      let date = turns.date_of system t x moved in
+      let same : begun_by_word (first system x).waits (first system x).bits word t begun ≡ begun =
+      ap (begun_by_word (first system x).waits (first system x).bits word t) there ∙ under_way (first system x).waits (first system x).bits word t (thread_of k x).since
+      ∙ sym there
+      in
+      let R : Option ℕ → Type 0 = λ after. Step x (first system x) t (told_of Blocked begun) (row.Wake x server word) (told_of (by_date date) after) in
+      let P : Moved → Type 0 =
+      λ move. Goes system x from t (told_of Blocked begun)
+      (says (row.Wake x server word) noted followed_by λ core.
+      turns.moves system t x move (turns.with_woken_context system t x core)
+      followed_by λ core. silent (turns.enters_front by_priority x (turns.date_of system t x core) core))
+      in
+      subst P (sym goes)
+      record {
+        last = told_of (by_date date) begun;
+        walks = (
+          told_of (by_date date) begun,
+          subst R same
+              (step-wake x (first system x) t server word date begun (λ none. absurd (let g : None ≡ Some (thread_of k x).since = sym none ∙ there in cc))),
+          refl,
+        );
+        holds = enters-front system x from t date begun moved loose;
         ended = λ before. (tt, tt);
       }

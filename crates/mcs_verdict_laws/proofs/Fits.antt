@@ -1,5 +1,6 @@
 -- What the rows of a schedule keep to, of a thread and of the word for which its script waits first.
-use Rattle.std.proofs.Common.{◌≡◌, ◌≢◌, ℕ, true, ◌==◌, List, [], ◌∷◌, ◌++◌, Some, None}
+use Rattle.std.proofs.Common.{◌≡◌, ℕ, true, ◌==◌, List, [], ◌∷◌, ◌++◌, get_or, Some, None}
+use Rattle.std.specs.Prelude.{bit_or}
 use Rattle.mcs_ticks.specs.declared.row.Row.{Row}
 use Rattle.mcs_ticks.specs.declared.row.What.{What}
 use Rattle.mcs_ticks.specs.declared.row.What.TheVariants as row
@@ -7,7 +8,8 @@ use Rattle.mcs_ticks.specs.declared.row.Why.TheVariants as why
 use Rattle.mcs_system.specs.System.{System, thread_part}
 use Rattle.mcs_verdict.specs.Findings.{past_of}
 use Rattle.mcs_verdict.specs.Rounds.{first_wait, begun_of}
-use Rattle.mcs_verdict.specs.Words.{held}
+use Rattle.mcs_verdict.specs.declared.held.Held.{Held}
+use Rattle.mcs_verdict.specs.Words.{no_word, held, firsts_of}
 use Rattle.mcs_verdict_laws.proofs.Steps.{ends_round}
 
 -- the latest row so far ended a round of the thread, at this moment
@@ -15,16 +17,26 @@ abbrev pub JustEnded : ℕ → ℕ → List Row → Type 0
 JustEnded x moment [] = ⊥
 JustEnded x moment (r ∷ past) = (ends_round x r.what ≡ true) × (r.moment ≡ moment)
 
+-- the notification's word, by the rows so far
+abbrev pub first_held : System → ℕ → Held
+first_held system note = get_or (firsts_of system) note no_word
+
+abbrev pub held_in : System → ℕ → List Row → Held
+held_in system note past = held (first_held system note) note past
+
 module _ (system : System) (x : ℕ) where
-  -- a round that ends was under way, a thread is done right after one, a signal leaves no word 0, and a thread whose round is yet to begin
-  -- takes the word for which it waits first, or waits for it while it is 0
+  -- a round that ends was under way, a thread is done right after one, a signal adds to the word, and a thread whose round is yet to begin
+  -- takes all of the word for which it waits first, or waits for it while it is 0
   abbrev pub Fits : List Row → ℕ → What → Type 0
   Fits past moment (row.Round y number response) = (y == x) ≡ true → (begun : ℕ) × (begun_of system x past ≡ Some begun)
   Fits past moment (row.Stop y why.Done charged until) = (y == x) ≡ true → JustEnded x moment past
-  Fits past moment (row.Hold note word) = first_wait (thread_part system x) ≡ Some note → (held note past).word ≢ 0 → word ≢ 0
+  Fits past moment (row.Hold note word) =
+      first_wait (thread_part system x) ≡ Some note → (badge : ℕ) × (word ≡ bit_or (held_in system note past).word badge)
   Fits past moment (row.Wake y note word) =
-      (y == x) ≡ true → begun_of system x past ≡ None → (first_wait (thread_part system x) ≡ Some note) × ((held note past).word ≡ 0)
-  Fits past moment (row.Got y note word) = (y == x) ≡ true → begun_of system x past ≡ None → first_wait (thread_part system x) ≡ Some note
+      (y == x) ≡ true → begun_of system x past ≡ None → (first_wait (thread_part system x) ≡ Some note) × ((held_in system note past).word ≡ 0)
+  Fits past moment (row.Got y note word) =
+      (y == x) ≡ true → begun_of system x past ≡ None
+      → (first_wait (thread_part system x) ≡ Some note) × (word ≡ (held_in system note past).word)
   Fits past moment _ = Unit {0}
 
   -- each row, by those before it

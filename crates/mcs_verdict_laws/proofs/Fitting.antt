@@ -14,13 +14,12 @@ use Rattle.mcs_core.specs.Clock as clocks
 use Rattle.mcs_core.proofs.Clock.{rows-clock}
 use Rattle.mcs_verdict.specs.Findings.{past_of}
 use Rattle.mcs_verdict.specs.Rounds.{first_wait, begun_after, begun_of}
-use Rattle.mcs_verdict.specs.Words.{held}
 use Rattle.mcs_verdict_laws.proofs.Steps.{ended_last, EndsAfter, AreEnded, Told, IsTimed, Takes, Leads}
 use Rattle.mcs_verdict_laws.proofs.Holds.{first as first_note}
 use Rattle.mcs_verdict_laws.proofs.Entering.{self}
 use Rattle.mcs_verdict_laws.proofs.Opening.{opening_told}
 use Rattle.mcs_verdict_laws.proofs.Reached.{reached, turn_ended}
-use Rattle.mcs_verdict_laws.proofs.Fits.{JustEnded, Fits, AreFit}
+use Rattle.mcs_verdict_laws.proofs.Fits.{JustEnded, held_in, Fits, AreFit}
 use Rattle.mcs_verdict_laws.proofs.Words.{IsRight}
 use Rattle.mcs_verdict_laws.proofs.WordsTold.{AreRight, right-clock}
 
@@ -44,6 +43,7 @@ module _ (x : ℕ) where
   stopped-after t last past (row.Stop y why.Spent charged until) link ends = tt
   stopped-after t last past (row.Stop y why.Yield charged until) link ends = tt
   stopped-after t last past (row.Stop y why.Wait charged until) link ends = tt
+  stopped-after t last past (row.Stop y why.Call charged until) link ends = tt
   stopped-after t last past (row.Stop y why.Preempt charged until) link ends = tt
   stopped-after t last past (row.Stop y why.Order charged until) link ends = tt
   stopped-after t last past (row.Release y) link ends = tt
@@ -55,6 +55,7 @@ module _ (x : ℕ) where
   stopped-after t last past (row.Got y note word) link ends = tt
   stopped-after t last past (row.Round y number response) link ends = tt
   stopped-after t last past (row.Order context) link ends = tt
+  stopped-after t last past (row.Interrupt source at_note badge) link ends = tt
 
   stamped-stopped : (c t : ℕ) (last : Option What) (past : List Row) (rows : List What) → (ended_last x last ≡ true → JustEnded x t past)
       → AreEnded x last rows → AreStopped past (stamped c t rows)
@@ -87,6 +88,7 @@ module _ (system : System) (x : ℕ) where
   given-by past told m (row.Arrive note badge maker) e timed takes = tt
   given-by past told m (row.Hold note word) e timed takes = tt
   given-by past told m (row.Order context) e timed takes = tt
+  given-by past told m (row.Interrupt source at_note badge) e timed takes = tt
 
   given-all : (past rows : List Row) (before last : Told) → Leads x (first_note system x) before rows last → before.begun ≡ begun_of system x past
       → AreGiven past rows
@@ -95,14 +97,15 @@ module _ (system : System) (x : ℕ) where
       let step = leads.1 in (
         given-by past before r.moment r.what e step.timed step.takes,
         given-all (r ∷ past) rows leads.0 last leads.2
-            (step.begins ∙ ap (λ begun. begun_after (first_note system x) x r.moment r.what begun) e),
+            (step.begins ∙ ap (λ begun. begun_after (first_note system x).waits (first_note system x).bits x r.moment r.what begun) e),
       )
 
   -- all of it together
   fit-row : (past : List Row) (m : ℕ) (what : What) → IsGiven past m what → IsStopped x past m what
-      → ((note : ℕ) → first_wait (thread_part system x) ≡ Some note → IsRight note (held note past).word what) → Fits system x past m what
+      → ((note : ℕ) → first_wait (thread_part system x) ≡ Some note → IsRight note (held_in system note past).word what) → Fits system x past m what
   fit-row past m (row.Round y number response) given stopped right = given
-  fit-row past m (row.Got y note word) given stopped right = given
+  fit-row past m (row.Got y note word) given stopped right =
+      λ own none. let waits = given own none in (waits, right note waits (self note))
   fit-row past m (row.Wake y note word) given stopped right =
       λ own none. let waits = given own none in (waits, right note waits (self note))
   fit-row past m (row.Hold note word) given stopped right = λ waits. right note waits (self note)
@@ -110,6 +113,7 @@ module _ (system : System) (x : ℕ) where
   fit-row past m (row.Stop y why.Spent charged until) given stopped right = tt
   fit-row past m (row.Stop y why.Yield charged until) given stopped right = tt
   fit-row past m (row.Stop y why.Wait charged until) given stopped right = tt
+  fit-row past m (row.Stop y why.Call charged until) given stopped right = tt
   fit-row past m (row.Stop y why.Preempt charged until) given stopped right = tt
   fit-row past m (row.Stop y why.Order charged until) given stopped right = tt
   fit-row past m (row.Release y) given stopped right = tt
@@ -117,9 +121,10 @@ module _ (system : System) (x : ℕ) where
   fit-row past m (row.Signal y note badge) given stopped right = tt
   fit-row past m (row.Arrive note badge maker) given stopped right = tt
   fit-row past m (row.Order context) given stopped right = tt
+  fit-row past m (row.Interrupt source at_note badge) given stopped right = tt
 
   fit-all : (past rows : List Row) → AreGiven past rows → AreStopped x past rows
-      → ((note : ℕ) → first_wait (thread_part system x) ≡ Some note → AreRight note past rows) → AreFit system x past rows
+      → ((note : ℕ) → first_wait (thread_part system x) ≡ Some note → AreRight system note past rows) → AreFit system x past rows
   fit-all past [] given stopped right = tt
   fit-all past (r ∷ rows) given stopped right = (
     fit-row past r.moment r.what given.0 stopped.0 (λ note e. (right note e).0),

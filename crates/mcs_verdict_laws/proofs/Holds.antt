@@ -11,7 +11,9 @@ use Rattle.mcs_ticks.specs.declared.row.What.{What}
 use Rattle.mcs_control.specs.Context.{Context}
 use Rattle.mcs_notify.specs.Note.{Note, quiet_note}
 use Rattle.mcs_release.specs.declared.dated.Dated.{Dated}
-use Rattle.mcs_script.specs.declared.item.Item.TheVariants.{Wait}
+use Rattle.mcs_script.specs.declared.item.Item.TheVariants.{Wait, Enter}
+use Rattle.mcs_script.specs.declared.item.Item.{Item}
+use Rattle.mcs_script.specs.declared.place.Place.{Place}
 use Rattle.mcs_system.specs.System.{System, thread_part}
 use Rattle.mcs_core.specs.declared.standing.Chosen.{Chosen}
 use Rattle.mcs_core.specs.declared.standing.Standing as core_standing
@@ -24,8 +26,8 @@ use Rattle.mcs_core.proofs.Counts.{times_queued-back, times_queued-front, times_
 use Rattle.mcs_laws.specs.Places.{times_running}
 use Rattle.mcs_verdict.specs.declared.standing.Standing.{Standing}
 use Rattle.mcs_verdict.specs.declared.standing.Standing.TheVariants.{Pending, Ready, Running, Throttled, Blocked, Woken, Done}
-use Rattle.mcs_verdict.specs.Rounds.{first_wait}
-use Rattle.mcs_verdict_laws.proofs.Steps.{Told, AreOther, other-append, AreEnded, ended-append, ended-other, Walks, walks-append, walks-other}
+use Rattle.mcs_verdict.specs.Calls.{first_wait, bits_of}
+use Rattle.mcs_verdict_laws.proofs.Steps.{Told, First, AreOther, other-append, AreEnded, ended-append, ended-other, Walks, walks-append, walks-other}
 
 -- how often a thread that stands so runs, is ready, is in the release queue, and waits
 abbrev pub runs_as : Standing → ℕ
@@ -69,9 +71,15 @@ abbrev pub beginning_of : Option ℕ → ℕ → ℕ → Option ℕ
 beginning_of None item since = Some since
 beginning_of (Some note) item since = cond (item == 0) None (Some since)
 
+-- whether an item waits for this notification, or for this server
+abbrev pub Awaits : Option Item → ℕ → Type 0
+Awaits (Some (Wait n)) note = n ≡ note
+Awaits (Some (Enter n priority)) note = n ≡ note
+Awaits _ note = ⊥
+
 module _ (system : System) (x : ℕ) where
-  abbrev pub first : Option ℕ
-  first = first_wait (thread_part system x)
+  abbrev pub first : First
+  first = record { waits = first_wait (thread_part system x); bits = bits_of (thread_part system x) }
 
   abbrev pub start_at : ℕ
   start_at = (thread_part system x).start
@@ -81,7 +89,7 @@ module _ (system : System) (x : ℕ) where
     pub known : x < length system.threads
     pub has : x < length k.threads
     pub notes : length k.notes ≡ length system.notes
-    pub begins : begun ≡ beginning_of first (thread_of k x).place.item (thread_of k x).since
+    pub begins : begun ≡ beginning_of first.waits (thread_of k x).place.item (thread_of k x).since
 
   -- and that has started
   pub record IsStarted (now : ℕ) (k : Core) : Type 0 where
@@ -93,10 +101,10 @@ module _ (system : System) (x : ℕ) where
     pub note : ℕ
     pub item : slice_get (thread_part system x).script (thread_of k x).place.item ≡ Some (Wait note)
 
-  -- and it is among those that wait for its signal
+  -- it is among those that wait for the signal, or for the server, for which its item waits
   pub record IsListed (k : Core) : Type 0 where
     pub note : ℕ
-    pub item : slice_get (thread_part system x).script (thread_of k x).place.item ≡ Some (Wait note)
+    pub item : Awaits (slice_get (thread_part system x).script (thread_of k x).place.item) note
     pub listed : 1 ≤ times_queued x (note_of k note).waiters
 
   -- its dates in the release queue are this one
@@ -174,8 +182,8 @@ module _ (system : System) (x : ℕ) where
         known = u.known;
         has = let e = s.has in let h = u.has in omega arith;
         notes = s.notes ∙ u.notes;
-        begins = u.begins ∙ ap (λ p. beginning_of first p.item (thread_of k x).since) (sym s.place) ∙ ap
-            (λ m. beginning_of first (thread_of after x).place.item m) (sym s.since);
+        begins = u.begins ∙ ap (λ p. beginning_of first.waits p.item (thread_of k x).since) (sym s.place) ∙ ap
+            (λ m. beginning_of first.waits (thread_of after x).place.item m) (sym s.since);
       }
 
   started-same : (now : ℕ) (k after : Core) → Same k after → IsStarted now k → IsStarted now after
@@ -185,7 +193,7 @@ module _ (system : System) (x : ℕ) where
   listed-same k after s w =
       record {
         note = w.note;
-        item = ap (λ p. slice_get (thread_part system x).script p.item) s.place ∙ w.item;
+        item = subst (λ (p : Place). Awaits (slice_get (thread_part system x).script p.item) w.note) (sym s.place) w.item;
         listed = let e = s.listed w.note in let l = w.listed in omega (arith, e, l);
       }
 
@@ -325,25 +333,25 @@ module _ (system : System) (x : ℕ) where
       }
 
   -- another thread enters, or leaves the core
-  pub same-back : (y : ℕ) (date : Option ℕ) (k : Core) → (y == x) ≡ false → Same k (turns.enters_back by_priority system y date k)
+  pub same-back : (y : ℕ) (date : Option ℕ) (k : Core) → (y == x) ≡ false → Same k (turns.enters_back by_priority y date k)
   same-back y None k e =
-      same-trans k (stands y core_standing.TheVariants.Ready k) (turns.enters_back by_priority system y None k)
+      same-trans k (stands y core_standing.TheVariants.Ready k) (turns.enters_back by_priority y None k)
       (same-thread y (record (thread_of k y) { standing = core_standing.TheVariants.Ready }) k e)
-      (same-ready (by_priority.back (turns.queued system y) k.ready) (stands y core_standing.TheVariants.Ready k)
-      (times_queued-back x (turns.queued system y) k.ready ∙ ap (λ n. n + times_queued x k.ready) (one_other y e) ∙ omega arith))
+      (same-ready (by_priority.back (turns.queued y k) k.ready) (stands y core_standing.TheVariants.Ready k)
+      (times_queued-back x (turns.queued y k) k.ready ∙ ap (λ n. n + times_queued x k.ready) (one_other y e) ∙ omega arith))
   same-back y (Some date) k e =
-      same-trans k (stands y core_standing.TheVariants.Pending k) (turns.enters_back by_priority system y (Some date) k)
+      same-trans k (stands y core_standing.TheVariants.Pending k) (turns.enters_back by_priority y (Some date) k)
       (same-thread y (record (thread_of k y) { standing = core_standing.TheVariants.Pending }) k e)
       (same-dated y date (stands y core_standing.TheVariants.Pending k) e)
 
-  pub same-front : (y : ℕ) (date : Option ℕ) (k : Core) → (y == x) ≡ false → Same k (turns.enters_front by_priority system y date k)
+  pub same-front : (y : ℕ) (date : Option ℕ) (k : Core) → (y == x) ≡ false → Same k (turns.enters_front by_priority y date k)
   same-front y None k e =
-      same-trans k (stands y core_standing.TheVariants.Ready k) (turns.enters_front by_priority system y None k)
+      same-trans k (stands y core_standing.TheVariants.Ready k) (turns.enters_front by_priority y None k)
       (same-thread y (record (thread_of k y) { standing = core_standing.TheVariants.Ready }) k e)
-      (same-ready (by_priority.front (turns.queued system y) k.ready) (stands y core_standing.TheVariants.Ready k)
-      (times_queued-front x (turns.queued system y) k.ready ∙ ap (λ n. n + times_queued x k.ready) (one_other y e) ∙ omega arith))
+      (same-ready (by_priority.front (turns.queued y k) k.ready) (stands y core_standing.TheVariants.Ready k)
+      (times_queued-front x (turns.queued y k) k.ready ∙ ap (λ n. n + times_queued x k.ready) (one_other y e) ∙ omega arith))
   same-front y (Some date) k e =
-      same-trans k (stands y core_standing.TheVariants.Pending k) (turns.enters_front by_priority system y (Some date) k)
+      same-trans k (stands y core_standing.TheVariants.Pending k) (turns.enters_front by_priority y (Some date) k)
       (same-thread y (record (thread_of k y) { standing = core_standing.TheVariants.Pending }) k e)
       (same-dated y date (stands y core_standing.TheVariants.Pending k) e)
 
@@ -412,6 +420,15 @@ module _ (system : System) (x : ℕ) where
   goes-each from now part h (item ∷ items) told k holds =
       goes-then from from now told (part item k) (each part items) (h item told k holds)
       (λ last then. goes-each from now part h items last (part item k).core then)
+
+  -- where it goes through the part for items of which something is so
+  pub goes-where : {A : Type 0} (C : A → Type 0) (from now : ℕ) (part : A → Core → Turn)
+      → ((item : A) (told : Told) (k : Core) → C item → Holds from now told k → Goes from now told (part item k))
+      → (items : List A) (told : Told) (k : Core) → AllByRecursion C items → Holds from now told k → Goes from now told (each part items k)
+  goes-where C from now part h [] told k all holds = goes-aside from now told k (silent k) holds (aside-silent k k (same-refl k))
+  goes-where C from now part h (item ∷ items) told k all holds =
+      goes-then from from now told (part item k) (each part items) (h item told k all.0 holds)
+      (λ last then. goes-where C from now part h items last (part item k).core all.1 then)
 
   pub goes_if : (from now : ℕ) (told : Told) (b : Bool) (u v : Turn) → Goes from now told u → Goes from now told v → Goes from now told (cond b u v)
   goes_if from now told true u v p q = p

@@ -63,6 +63,7 @@ module _ (system : System) (well : IsWellFormed system) (x : ℕ) where
   no-round (row.Hold note word) other e = absurd (contrary false refl e)
   no-round (row.Got y note word) other e = absurd (contrary false refl e)
   no-round (row.Order context) other e = absurd (contrary false refl e)
+  no-round (row.Interrupt source at_note badge) other e = absurd (contrary false refl e)
 
   home-there : (c t : ℕ) (rows : List What) → c ≡ core_of system (thread_part system x) → AllByRecursion IsHome (stamped c t rows)
   home-there c t [] e = tt

@@ -13,6 +13,7 @@ use Rattle.mcs_verdict.specs.declared.account.Account.{Account}
 use Rattle.mcs_verdict.specs.declared.finding.Finding.TheVariants.{Overdue}
 use Rattle.mcs_verdict.specs.declared.finding.Found.{Found}
 use Rattle.mcs_verdict.specs.declared.standing.Stood.{Stood}
+use Rattle.mcs_verdict.specs.Calls.{bits_of}
 use Rattle.mcs_verdict.specs.Rounds.{first_wait, called_of}
 use Rattle.mcs_verdict.specs.Misses.{is_reached, overdue_at, first_word, overdue, was_activated, never}
 use Rattle.mcs_verdict.specs.Findings.{finding, InOrder, UpTo, past_of, found_at, found_in}
@@ -156,14 +157,14 @@ module _ (system : System) (well : IsWellFormed system) (x h k : ℕ) (l : h ≤
       let rest = after system well x h k l in
       let waits = first_wait (thread_part system x) in
       let once : ℕ → ℕ → Bool =
-      λ n m. was_activated waits (called_of system x (past n)) (first_word system x (past n)) (total_at m (kept (past n)).standing (kept (past n)))
+      λ n m. was_activated waits (bits_of (thread_part system x)) (called_of system x (past n)) (first_word system x (past n)) (total_at m (kept (past n)).standing (kept (past n)))
       in
       let P : List Row → Type 0 =
-      λ rows. was_activated waits (called_of system x rows) (first_word system x rows) (total_at h (kept rows).standing (kept rows)) ≡ true
+      λ rows. was_activated waits (bits_of (thread_part system x)) (called_of system x rows) (first_word system x rows) (total_at h (kept rows).standing (kept rows)) ≡ true
       in
       sym (never-kept system x k (past k) (up k))
       ∙ never-none x deadline (once h h) (once k k)
-      (λ was. once-later h k waits (called_of system x (past k)) (first_word system x (past k)) (kept (past k)) l
+      (λ was. once-later h k waits (bits_of (thread_part system x)) (called_of system x (past k)) (first_word system x (past k)) (kept (past k)) l
       (subst P (past-later rest)
       (once-stays system x h (past h) rest.rows rest.moments rest.order rest.fits (alone-later rest alone) was)))
       (never-kept system x h (past h) (up h) ∙ none)

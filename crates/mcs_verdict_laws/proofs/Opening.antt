@@ -4,11 +4,10 @@ use Rattle.std.specs.Prelude.{nat_lt}
 use Rattle.std.proofs.lemmas.Bool.Decides.{nat_tests}
 use Rattle.std.proofs.lemmas.List.{get_or-map, length-map}
 use Rattle.mcs_release.specs.declared.dated.Dated.{Dated}
-use Rattle.mcs_notify.specs.Note.{quiet_note}
 use Rattle.mcs_system.specs.declared.part.ThreadPart.{ThreadPart}
 use Rattle.mcs_system.specs.System.{System, no_thread, thread_part, core_of}
 use Rattle.mcs_core.specs.declared.standing.Thread.{Thread}
-use Rattle.mcs_core.specs.Core.{no_state, thread_of, opening_thread, opening_releases, opening_core}
+use Rattle.mcs_core.specs.Core.{opening_note, no_state, thread_of, opening_thread, opening_releases, opening_core}
 use Rattle.mcs_core.specs.Places.{times_dated}
 use Rattle.mcs_laws.proofs.Places.{quiet-waiting}
 use Rattle.mcs_laws.proofs.Homes.{no_date}
@@ -81,10 +80,10 @@ module _ (system : System) (x : ℕ) where
   opening_standing = opening_as (nat_lt x (length system.threads))
 
   abbrev pub opening_told : Told
-  opening_told = told_of opening_standing (begun_at (first system x) (start_at system x))
+  opening_told = told_of opening_standing (begun_at (first system x).waits (start_at system x))
 
   known-holds : x < length system.threads
-      → Holds system x 0 0 (told_of Pending (begun_at (first system x) (start_at system x)))
+      → Holds system x 0 0 (told_of Pending (begun_at (first system x).waits (start_at system x)))
       (opening_core system (core_of system (thread_part system x)))
   known-holds known =
       let c = core_of system (thread_part system x) in
@@ -99,8 +98,8 @@ module _ (system : System) (x : ℕ) where
           record {
             known = known;
             has = let l = length-map system.threads (opening_thread system c) in omega (arith, l, known);
-            notes = length-map system.notes (λ _. quiet_note);
-            begins = begins (first system x) (start_at system x) ∙ ap (λ (s : Thread). beginning_of (first system x) s.place.item s.since)
+            notes = length-map system.notes opening_note;
+            begins = begins (first system x).waits (start_at system x) ∙ ap (λ (s : Thread). beginning_of (first system x).waits s.place.item s.since)
                 (sym state);
           },
           record {
@@ -138,7 +137,7 @@ module _ (system : System) (x : ℕ) where
       outside a b e = grind (arith, nat_tests)
 
       by : (b : Bool) → nat_lt x (length system.threads) ≡ b
-          → Holds system x 0 0 (told_of (opening_as b) (begun_at (first system x) (start_at system x)))
+          → Holds system x 0 0 (told_of (opening_as b) (begun_at (first system x).waits (start_at system x)))
           (opening_core system (core_of system (thread_part system x)))
       by true e = known-holds (inside x (length system.threads) e)
-      by false e = unknown-holds (begun_at (first system x) (start_at system x)) (outside x (length system.threads) e)
+      by false e = unknown-holds (begun_at (first system x).waits (start_at system x)) (outside x (length system.threads) e)

@@ -23,7 +23,7 @@ use Rattle.mcs_core.specs.Turn as turns
 use Rattle.mcs_core.specs.Turn.{Turn, silent, says, ◌followed_by◌}
 use Rattle.mcs_core.proofs.Counts.{times_queued-append, times_queued-without, times_waiting-at}
 use Rattle.mcs_laws.proofs.Places.{woke}
-use Rattle.mcs_verdict_laws.proofs.Holds.{Same, same-refl, same-trans, same-context, same-thread, same-note, same-back, same-off, Aside, aside-then, aside-silent, aside_if}
+use Rattle.mcs_verdict_laws.proofs.Holds.{Same, same-refl, same-trans, same-context, same-thread, same-note, same-back, same-front, same-off, Aside, aside-then, aside-silent, aside_if}
 use Rattle.mcs_verdict_laws.proofs.Entering.{equal}
 
 module _ (system : System) (x : ℕ) where
@@ -41,19 +41,19 @@ module _ (system : System) (x : ℕ) where
   pub moves_on-aside : (t y : ℕ) (k : Core) → (y == x) ≡ false → Aside system x k (turns.moves_on system t y k)
   moves_on-aside t y k e = moves-aside t y (turns.move_of system y k) k e
 
-  given-aside : (t y : ℕ) (k : Core) → (y == x) ≡ false → Same system x k (turns.given t y k)
-  given-aside t y k e = same-thread system x y (record (thread_of k y) { since = cond ((thread_of k y).place.item == 0) t (thread_of k y).since }) k e
+  given-aside : (t y word : ℕ) (k : Core) → (y == x) ≡ false → Same system x k (turns.given system t y word k)
+  given-aside t y word k e = same-thread system x y (turns.round_begun (thread_part system y).script t word (thread_of k y)) k e
 
-  wakes-aside : (t y : ℕ) (k : Core) → (y == x) ≡ false → Aside system x k (turns.wakes by_priority system t y k)
-  wakes-aside t y k e =
+  wakes-aside : (t y word : ℕ) (k : Core) → (y == x) ≡ false → Aside system x k (turns.wakes by_priority system t y word k)
+  wakes-aside t y word k e =
       let context = turns.with_woken_context system t y k in
-      let woken = turns.given t y context in
+      let woken = turns.given system t y word context in
       let moved = turns.moves_on system t y woken in
       let a = moves_on-aside t y woken e in
-      let before = same-trans system x k context woken (same-context system x _ _ k) (given-aside t y context e) in
-      aside-then system x k moved (λ core. silent (turns.enters_back by_priority system y (turns.date_of system t y core) core))
+      let before = same-trans system x k context woken (same-context system x _ _ k) (given-aside t y word context e) in
+      aside-then system x k moved (λ core. silent (turns.enters_back by_priority y (turns.date_of system t y core) core))
       record { same = same-trans system x k woken moved.core before a.same; rows = a.rows }
-      (aside-silent system x moved.core (turns.enters_back by_priority system y (turns.date_of system t y moved.core) moved.core)
+      (aside-silent system x moved.core (turns.enters_back by_priority y (turns.date_of system t y moved.core) moved.core)
       (same-back system x y (turns.date_of system t y moved.core) moved.core e))
 
   pub woke-aside : (t note badge y word : ℕ) (k : Core) → posted badge (note_of k note) ≡ Woke y word → (y == x) ≡ false
@@ -63,12 +63,12 @@ module _ (system : System) (x : ℕ) where
       let left = times_queued-without x y (note_of k note).waiters waits in
       let none : ◌≡◌ {A = ℕ} (cond (y == x) 1 0) 0 = ap (λ b. cond b 1 0) e in
       let noted = with_note note (after_post (Woke y word) (note_of k note)) k in
-      aside-then system x k (says (row.Wake y note word) noted) (turns.wakes by_priority system t y)
+      aside-then system x k (says (row.Wake y note word) noted) (turns.wakes by_priority system t y word)
       record {
         same = same-note system x note (after_post (Woke y word) (note_of k note)) k (omega (arith, left, none));
         rows = (e, tt);
       }
-      (wakes-aside t y noted e)
+      (wakes-aside t y word noted e)
 
   pub held-aside : (t note word : ℕ) (k : Core) → Aside system x k (turns.posts_as by_priority system t note (Held word) k)
   held-aside t note word k = record { same = same-note system x note (after_post (Held word) (note_of k note)) k refl; rows = (tt, tt) }
@@ -101,19 +101,83 @@ module _ (system : System) (x : ℕ) where
       in
       record { same = a.same; rows = (tt, a.rows) }
 
-  pub waits_as-aside : (t y note : ℕ) (w : Waited) (k : Core) → (y == x) ≡ false → Aside system x k (turns.waits_as system t y note w k)
-  waits_as-aside t y note (Got word) k e =
-      let noted = with_note note (after_wait (Got word) (turns.queued system y) (note_of k note)) k in
-      let given = turns.given t y noted in
-      let a = moves_on-aside t y given e in
-      let before = same-trans system x k noted given
-      (same-note system x note (after_wait (Got word) (turns.queued system y) (note_of k note)) k refl) (given-aside t y noted e) in
-      record { same = same-trans system x k given (turns.moves_on system t y given).core before a.same; rows = (e, a.rows) }
-  waits_as-aside t y note Blocks k e =
-      let more = times_queued-append x (note_of k note).waiters (turns.queued system y) in
+  -- a thread is let into a server
+  let_in-aside : (t y : ℕ) (k : Core) → (y == x) ≡ false → Aside system x k (turns.let_in by_priority system t y k)
+  let_in-aside t y k e =
+      let context = turns.with_woken_context system t y k in
+      let moved = turns.moves_on system t y context in
+      let a = moves_on-aside t y context e in
+      aside-then system x k moved (λ core. silent (turns.enters_front by_priority y (turns.date_of system t y core) core))
+      record { same = same-trans system x k context moved.core (same-context system x _ _ k) a.same; rows = a.rows }
+      (aside-silent system x moved.core (turns.enters_front by_priority y (turns.date_of system t y moved.core) moved.core)
+      (same-front system x y (turns.date_of system t y moved.core) moved.core e))
+
+  pub let-aside : (t server y word : ℕ) (k : Core) → posted 1 (note_of k server) ≡ Woke y word → (y == x) ≡ false
+      → Aside system x k (turns.frees_as by_priority system t server (Woke y word) k)
+  let-aside t server y word k p e =
+      let waits = woke y word 1 (note_of k server).word (note_of k server).waiters p in
+      let left = times_queued-without x y (note_of k server).waiters waits in
+      let none : ◌≡◌ {A = ℕ} (cond (y == x) 1 0) 0 = ap (λ b. cond b 1 0) e in
+      let noted = with_note server (after_post (Woke y word) (note_of k server)) k in
+      aside-then system x k (says (row.Wake y server word) noted) (turns.let_in by_priority system t y)
+      record {
+        same = same-note system x server (after_post (Woke y word) (note_of k server)) k (omega (arith, left, none));
+        rows = (e, tt);
+      }
+      (let_in-aside t y noted e)
+
+  pub free-aside : (t server word : ℕ) (k : Core) → Aside system x k (turns.frees_as by_priority system t server (Held word) k)
+  free-aside t server word k = record { same = same-note system x server (after_post (Held word) (note_of k server)) k refl; rows = tt }
+
+  frees_as-aside : (t server : ℕ) (post : Posted) (k : Core) → posted 1 (note_of k server) ≡ post → times_waiting x k.notes ≡ 0
+      → Aside system x k (turns.frees_as by_priority system t server post k)
+  frees_as-aside t server (Held word) k p none = free-aside t server word k
+  frees_as-aside t server (Woke y word) k p none = by (y == x) refl
+    where
+      by : (b : Bool) → (y == x) ≡ b → Aside system x k (turns.frees_as by_priority system t server (Woke y word) k)
+      by true e =
+          let waits = woke y word 1 (note_of k server).word (note_of k server).waiters p in
+          let own = ap (λ z. times_queued z (note_of k server).waiters) (equal y x e) in
+          let at = times_waiting-at x server k.notes in
+          absurd (omega (arith, waits, own, at, none))
+      by false e = let-aside t server y word k p e
+
+  pub frees-aside : (t y server : ℕ) (k : Core) → times_waiting x k.notes ≡ 0 → Aside system x k (turns.frees by_priority system t y server k)
+  frees-aside t y server k none =
+      let a = frees_as-aside t server (posted 1 (note_of k server)) k refl none in
+      record { same = a.same; rows = (tt, a.rows) }
+
+  pub enters_as-aside : (t y server : ℕ) (w : Waited) (k : Core) → (y == x) ≡ false → Aside system x k (turns.enters_as system t y server w k)
+  enters_as-aside t y server (Got word) k e =
+      let noted = with_note server (after_wait (Got word) (turns.queued y k) (note_of k server)) k in
+      let a = moves_on-aside t y noted e in
+      record {
+        same =
+            same-trans system x k noted (turns.moves_on system t y noted).core
+            (same-note system x server (after_wait (Got word) (turns.queued y k) (note_of k server)) k refl) a.same;
+        rows = (e, a.rows);
+      }
+  enters_as-aside t y server Blocks k e =
+      let more = times_queued-append x (note_of k server).waiters (turns.queued y k) in
       let none : ◌≡◌ {A = ℕ} (cond (y == x) 1 0) 0 = ap (λ b. cond b 1 0) e in
       record {
-        same = same-note system x note (after_wait Blocks (turns.queued system y) (note_of k note)) k (omega (arith, more, none));
+        same = same-note system x server (after_wait Blocks (turns.queued y k) (note_of k server)) k (omega (arith, more, none));
+        rows = tt;
+      }
+
+  pub waits_as-aside : (t y note : ℕ) (w : Waited) (k : Core) → (y == x) ≡ false → Aside system x k (turns.waits_as system t y note w k)
+  waits_as-aside t y note (Got word) k e =
+      let noted = with_note note (after_wait (Got word) (turns.queued y k) (note_of k note)) k in
+      let given = turns.given system t y word noted in
+      let a = moves_on-aside t y given e in
+      let before = same-trans system x k noted given
+      (same-note system x note (after_wait (Got word) (turns.queued y k) (note_of k note)) k refl) (given-aside t y word noted e) in
+      record { same = same-trans system x k given (turns.moves_on system t y given).core before a.same; rows = (e, a.rows) }
+  waits_as-aside t y note Blocks k e =
+      let more = times_queued-append x (note_of k note).waiters (turns.queued y k) in
+      let none : ◌≡◌ {A = ℕ} (cond (y == x) 1 0) 0 = ap (λ b. cond b 1 0) e in
+      record {
+        same = same-note system x note (after_wait Blocks (turns.queued y k) (note_of k note)) k (omega (arith, more, none));
         rows = tt;
       }
 
@@ -136,7 +200,7 @@ module _ (system : System) (x : ℕ) where
       → Aside system x k (turns.stops_to_back by_priority system t y cause n k)
   stops_to_back-aside t y n using cause k r e =
       let charged = turns.charged system y n k in
-      let a = leaves-aside t y n using cause (turns.enters_back by_priority system) charged (λ date core. same-back system x y date core e) r e in
+      let a = leaves-aside t y n using cause (turns.enters_back by_priority) charged (λ date core. same-back system x y date core e) r e in
       record {
         same = same-trans system x k charged (turns.stops_to_back by_priority system t y cause n k).core
             (charged-aside y n k) a.same;
@@ -168,5 +232,6 @@ module _ (system : System) (x : ℕ) where
       → Aside system x k (turns.may_stop by_priority system t y using cause k)
   may_stop-aside t y using held after.Ends k r e = stops-aside y using held why.Done core_standing.TheVariants.Done k r e
   may_stop-aside t y using held after.Blocks k r e = stops-aside y using held why.Wait core_standing.TheVariants.Blocked k r e
+  may_stop-aside t y using held after.Calls k r e = stops-aside y using held why.Call core_standing.TheVariants.Blocked k r e
   may_stop-aside t y using held after.Yields k r e = stops_to_back-aside t y (head_amount (turns.its_context system y k)) held why.Yield k r e
   may_stop-aside t y using held after.GoesOn k r e = spent-aside t y using k held r e

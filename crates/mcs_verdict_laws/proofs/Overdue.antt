@@ -1,5 +1,5 @@
 -- A round that is overdue stays so from row to row, until it ends.
-use Rattle.std.proofs.Common.{◌≡◌, ◌≢◌, ℕ, suc, ◌-◌, ◌<◌, ◌≤◌, ◌⊎◌, inl, inr, Bool, true, false, cond, not, ◌&&◌, ◌||◌, ◌==◌, nat_lt, nat_le, List, [], ◌∷◌, ◌++◌, length, Option, Some, None, refl, sym, ap, subst, ◌∙◌, arith}
+use Rattle.std.proofs.Common.{◌≡◌, ◌≢◌, ℕ, suc, ◌-◌, ◌<◌, ◌≤◌, ◌⊎◌, inl, inr, Bool, true, false, cond, not, ◌&&◌, ◌||◌, ◌==◌, nat_lt, nat_le, List, [], ◌∷◌, ◌++◌, Option, Some, None, refl, sym, ap, subst, ◌∙◌, arith}
 use Rattle.std.specs.List.{AllByRecursion, list_any}
 use Rattle.std.proofs.lemmas.Bool.Decides.{nat_tests}
 use Rattle.std.proofs.lemmas.List.Folds.{list_any-append}
@@ -21,7 +21,8 @@ use Rattle.mcs_verdict.specs.declared.standing.Stood.{Stood}
 use Rattle.mcs_verdict.specs.Stood.{no_ticks}
 use Rattle.mcs_verdict.specs.Standing.{standing_after}
 use Rattle.mcs_verdict.specs.Rounds.{first_wait}
-use Rattle.mcs_verdict.specs.Words.{held, held_of}
+use Rattle.mcs_verdict.specs.Calls.{calls, is_set, bits_of}
+use Rattle.mcs_verdict.specs.Words.{held_of, firsts_of}
 use Rattle.mcs_verdict.specs.Jobs.{or_now, job}
 use Rattle.mcs_verdict.specs.Misses.{is_above, is_reached, missed, miss, overdue_at, set_at, word_for, first_word}
 use Rattle.mcs_verdict.specs.Findings.{finding, UpTo, InOrder, past_of, found_at, found_in}
@@ -32,8 +33,8 @@ use Rattle.mcs_verdict.proofs.Kept.{account_at, job-kept}
 use Rattle.mcs_verdict_laws.specs.laws.Horizons.{is_taken_by_another, TakesItAlone, is_miss_of, has_miss_of}
 use Rattle.mcs_verdict_laws.proofs.Entering.{equal}
 use Rattle.mcs_verdict_laws.proofs.Steps.{contrary, ends_round}
-use Rattle.mcs_verdict_laws.proofs.Fits.{JustEnded, Fits, AreFit}
-use Rattle.mcs_verdict_laws.proofs.Due.{due_in, due_at, yet-set, set-since, due-word, due-later, due-told, given-under, given-begins, stopped-not_done, takes, takes_first, word-stays, takes-none, takes-another, word-none, since-due}
+use Rattle.mcs_verdict_laws.proofs.Fits.{JustEnded, held_in, Fits, AreFit}
+use Rattle.mcs_verdict_laws.proofs.Due.{due_in, due_at, yet-set, set-since, set-word, set-calls, held-there, due-word, due-later, due-told, given-under, given-begins, stopped-not_done, takes, takes_first, word-stays, takes-none, takes-another, word-none, since-due}
 
 -- a finding among others
 found-miss : (x m core : ℕ) (o : Option Finding) (others : List Found) → has_miss_of x (found_at m core o ++ others) ≡ false
@@ -104,29 +105,29 @@ module _ (system : System) (x h a : ℕ) (late : is_reached (thread_part system 
   other-row m core what past e fits t due =
       let r : Row = record { moment = m; core = core; what = what } in
       let P : Account → Type 0 = λ kept. due_at h (word (r ∷ past)) kept ≡ Some a in
-      subst P (sym (same (length system.notes) part x past m core what e))
+      subst P (sym (same (firsts_of system) part x past m core what e))
       (due-word h (account past) (word past) (word (r ∷ past)) a
-      (word-stays system x (length system.notes) m core a (first_wait part) past what refl fits t) due)
+      (word-stays system x m core a (first_wait part) past what refl fits t) due)
 
   -- a row of its own
   own-row : (m core : ℕ) (what : What) (past : List Row) → UpTo m past → is_about x what ≡ true → Fits system x past m what
       → takes_first (first_wait part) what ≡ false
-      → due_at h (word past) (seen_own (set_for (length system.notes) past what) m what (account past)) ≡ Some a
+      → due_at h (word past) (seen_own (set_for (firsts_of system) past what) m what (account past)) ≡ Some a
       → IsDue (record { moment = m; core = core; what = what } ∷ past)
   own-row m core what past up e fits t due =
       let r : Row = record { moment = m; core = core; what = what } in
-      let set = set_for (length system.notes) past what in
-      let P : Account → Type 0 = λ kept. due_at h (word (r ∷ past)) kept ≡ Some a in
-      subst P (own (length system.notes) part x past m core set what e refl (since-up_to x m past up))
-      (due-word h (seen_own set m what (account past)) (word past) (word (r ∷ past)) a
-      (word-stays system x (length system.notes) m core a (first_wait part) past what refl fits t) due)
+      let set = set_for (firsts_of system) past what in
+      let P : Account → Type 0 = λ kept. due_at h (word past) kept ≡ Some a in
+      due-word h (account (r ∷ past)) (word past) (word (r ∷ past)) a
+      (word-stays system x m core a (first_wait part) past what refl fits t)
+      (subst P (own (firsts_of system) part x past m core set what e refl (since-up_to x m past up)) due)
 
   -- it is activated, and no round of its own begins anew
-  yet-set-at : (past : List Row) → (account past).begun ≡ None → IsDue past → set_at (word past) ≡ Some a
+  yet-set-at : (past : List Row) → (account past).begun ≡ None → IsDue past → set_at (bits_of part) (word past) ≡ Some a
   yet-set-at past e due =
       let kept = account past in
-      yet-set kept.standing (word past) a
-      (ap (λ begun. due_in h (word past) kept.waits kept.called kept.active kept.standing kept.since begun) (sym e) ∙ due)
+      yet-set kept.standing kept.bits (word past) a
+      (ap (λ begun. due_in h (word past) kept.waits kept.bits kept.called kept.active kept.standing kept.since begun) (sym e) ∙ due)
 
   no-end : (m : ℕ) (past : List Row) → h < m → JustEnded x m past → IsOpen past → ⊥
   no-end m [] l ended ongoing = ended
@@ -136,7 +137,7 @@ module _ (system : System) (x h a : ℕ) (late : is_reached (thread_part system 
   told-row : (m core : ℕ) (what : What) (past : List Row) → h < m → UpTo m past → is_about x what ≡ true → Fits system x past m what
       → ((note : ℕ) → takes note what ≡ false) → standing_after what ≢ Done
       → ((kept : Account) → due_at h (word past) (told m what kept) ≡ Some a
-      → due_at h (word past) (seen_own (set_for (length system.notes) past what) m what kept) ≡ Some a)
+      → due_at h (word past) (seen_own (set_for (firsts_of system) past what) m what kept) ≡ Some a)
       → IsDue past → IsDue (record { moment = m; core = core; what = what } ∷ past)
   told-row m core what past l up e fits t n more due =
       own-row m core what past up e fits (takes-none (first_wait part) what t)
@@ -175,6 +176,8 @@ module _ (system : System) (x h a : ℕ) (late : is_reached (thread_part system 
       told-row m core (row.Stop y why.Yield charged until) past l up e tt (λ note. refl) (stopped-not_done why.Yield until (λ e. cc)) (λ kept f. f) due
   stop-own m core y charged why.Wait until past l up e fits ongoing due =
       told-row m core (row.Stop y why.Wait charged until) past l up e tt (λ note. refl) (stopped-not_done why.Wait until (λ e. cc)) (λ kept f. f) due
+  stop-own m core y charged why.Call until past l up e fits ongoing due =
+      told-row m core (row.Stop y why.Call charged until) past l up e tt (λ note. refl) (stopped-not_done why.Call until (λ e. cc)) (λ kept f. f) due
   stop-own m core y charged why.Preempt until past l up e fits ongoing due =
       told-row m core (row.Stop y why.Preempt charged until) past l up e tt (λ note. refl) (stopped-not_done why.Preempt until (λ e. cc)) (λ kept f. f) due
   stop-own m core y charged why.Order until past l up e fits ongoing due =
@@ -194,11 +197,11 @@ module _ (system : System) (x h a : ℕ) (late : is_reached (thread_part system 
   wake-row m core y note w past l up fits due = by (y == x) refl
     where
       own-wake : (begun : Option ℕ) → (account past).begun ≡ begun → (y == x) ≡ true
-          → due_at h (word past) (given m m (told m (row.Wake y note w) (account past))) ≡ Some a
-      own-wake None e f = let first = fits f e in absurd (word-none system x note a past first.0 first.1 (yet-set-at past e due))
+          → due_at h (word past) (given m m w (told m (row.Wake y note w) (account past))) ≡ Some a
+      own-wake None e f = let first = fits f e in absurd (word-none system x note a (bits_of part) past first.0 first.1 (yet-set-at past e due))
       own-wake (Some begun) e f =
           let kept = told m (row.Wake y note w) (account past) in
-          ap (due_at h (word past)) (given-under m m begun kept e) ∙ due-told h m (row.Wake y note w) (account past) (word past) a l (λ e. cc) due
+          ap (due_at h (word past)) (given-under m m w begun kept e) ∙ due-told h m (row.Wake y note w) (account past) (word past) a l (λ e. cc) due
 
       by : (b : Bool) → (y == x) ≡ b → Told m core (row.Wake y note w) past
       by true e =
@@ -213,28 +216,36 @@ module _ (system : System) (x h a : ℕ) (late : is_reached (thread_part system 
     where
       own-got : (begun : Option ℕ) → (account past).begun ≡ begun → (y == x) ≡ true
           → due_at h (word (record { moment = m; core = core; what = row.Got y note w } ∷ past))
-          (given m (held_of (length system.notes) note past).since (account past)) ≡ Some a
+          (given m (held_of (firsts_of system) note past).since w (account past)) ≡ Some a
       own-got None e f =
-          let first = fits f e in
-          let since : (held_of (length system.notes) note past).since ≡ a =
-          ap (λ waits. (word_for (length system.notes) waits past).since) (sym first) ∙ set-since (word past) a (yet-set-at past e due)
+          let fit = fits f e in
+          let yet = yet-set-at past e due in
+          let at : word past ≡ held_of (firsts_of system) note past = ap (λ waits. word_for (firsts_of system) waits past) fit.0 in
+          let since : (held_of (firsts_of system) note past).since ≡ a =
+          ap (λ (held : Held). held.since) (sym at) ∙ set-since (bits_of part) (word past) a yet
           in
-          given-begins h m (held_of (length system.notes) note past).since note (account past)
-          (word (record { moment = m; core = core; what = row.Got y note w } ∷ past)) first e
+          let set : is_set (bits_of part) (held_of (firsts_of system) note past).word ≡ true =
+          ap (λ (held : Held). is_set (bits_of part) held.word) (sym at) ∙ set-word (bits_of part) (word past) a yet
+          in
+          let called : calls (bits_of part) w ≡ true =
+          ap (calls (bits_of part)) fit.1 ∙ set-calls (bits_of part) (held_in system note past).word (held-there system note (bits_of part) past set)
+          in
+          given-begins h m (held_of (firsts_of system) note past).since w note (account past)
+          (word (record { moment = m; core = core; what = row.Got y note w } ∷ past)) called fit.0 e
           ∙ ap Some since
       own-got (Some begun) e f =
           let kept = account past in
           let later = word (record { moment = m; core = core; what = row.Got y note w } ∷ past) in
-          ap (due_at h later) (given-under m (held_of (length system.notes) note past).since begun kept e)
-          ∙ ap (λ begun. due_in h later kept.waits kept.called kept.active kept.standing kept.since begun) e
-          ∙ sym (ap (λ begun. due_in h (word past) kept.waits kept.called kept.active kept.standing kept.since begun) e)
+          ap (due_at h later) (given-under m (held_of (firsts_of system) note past).since w begun kept e)
+          ∙ ap (λ begun. due_in h later kept.waits kept.bits kept.called kept.active kept.standing kept.since begun) e
+          ∙ sym (ap (λ begun. due_in h (word past) kept.waits kept.bits kept.called kept.active kept.standing kept.since begun) e)
           ∙ due
 
       by : (b : Bool) → (y == x) ≡ b → Told m core (row.Got y note w) past
       by true e =
           let P : Account → Type 0 = λ kept. due_at h (word (record { moment = m; core = core; what = row.Got y note w } ∷ past)) kept ≡ Some a in
           subst P
-          (own (length system.notes) part x past m core (held_of (length system.notes) note past).since (row.Got y note w) e refl
+          (own (firsts_of system) part x past m core (held_of (firsts_of system) note past).since (row.Got y note w) e refl
           (since-up_to x m past up))
           (own-got (account past).begun refl e)
       by false e = other-row m core (row.Got y note w) past e fits (takes-another x y note w (first_wait part) e alone) due
@@ -286,6 +297,8 @@ module _ (system : System) (x h a : ℕ) (late : is_reached (thread_part system 
       )
   step m core (row.Order context) past l up fits alone ongoing due =
       inl (other-row m core (row.Order context) past refl fits (takes-none (first_wait part) (row.Order context) (λ n. refl)) due, refl)
+  step m core (row.Interrupt source at_note badge) past l up fits alone ongoing due =
+      inl (other-row m core (row.Interrupt source at_note badge) past refl fits (takes-none (first_wait part) (row.Interrupt source at_note badge) (λ n. refl)) due, refl)
 
   -- and so through all rows after the horizon
   pub stays : (past rows : List Row) → AllByRecursion (λ (r : Row). suc h ≤ r.moment) rows → InOrder past rows → AreFit system x past rows
@@ -323,6 +336,6 @@ overdue-due k x held account = by account.begun
         → (from : ℕ) × (stood : Stood)
         × (overdue_from k x held begun account
         ≡ overdue_at k x account.deadline from stood
-        (due_in k held account.waits account.called account.active account.standing account.since begun))
+        (due_in k held account.waits account.bits account.called account.active account.standing account.since begun))
     by None = (k, no_ticks, refl)
     by (Some begun) = (begun, stood_since (Some begun) k account.standing account, refl)

@@ -1,5 +1,5 @@
 -- A thread goes on through each part of its core's turn.
-use Rattle.std.proofs.Common.{◌≡◌, ℕ, ◌+◌, ◌≤◌, ◌-◌, Bool, true, false, cond, ◌==◌, [], ◌∷◌, Option, Some, None, refl, sym, ap, subst, ◌∙◌, arith}
+use Rattle.std.proofs.Common.{◌≡◌, ℕ, ◌+◌, ◌≤◌, Bool, true, false, cond, ◌==◌, [], ◌∷◌, slice_get, Option, Some, None, refl, sym, ap, subst, ◌∙◌, arith}
 use Rattle.std.specs.Prelude.{nat_lt}
 use Rattle.mcs_ticks.specs.Queue.{by_priority, first_of, rest_of}
 use Rattle.mcs_ticks.specs.declared.queue.Queued.{Queued}
@@ -12,13 +12,14 @@ use Rattle.mcs_notify.specs.declared.posted.Posted.TheVariants.{Woke, Held}
 use Rattle.mcs_notify.specs.declared.posted.Waited.{Waited}
 use Rattle.mcs_notify.specs.declared.posted.Waited.TheVariants.{Got, Blocks}
 use Rattle.mcs_script.specs.declared.item.Item.{Item}
-use Rattle.mcs_script.specs.declared.item.Item.TheVariants.{Compute, Signal, Wait, Yield}
+use Rattle.mcs_script.specs.declared.item.Item.TheVariants.{Compute, Signal, Wait, Yield, On, Spin, Enter, Leave}
 use Rattle.mcs_script.specs.declared.moved.Moved.{Moved}
-use Rattle.mcs_script.specs.Script.{move_after}
+use Rattle.mcs_script.specs.Script.{is_wait, left_after, move_after}
 use Rattle.mcs_script.specs.declared.place.Place.{Place}
 use Rattle.mcs_mail.specs.declared.mail.Mail.{Mail}
-use Rattle.mcs_system.specs.System.{System, note_part, thread_part}
-use Rattle.mcs_system.specs.WellFormed.{IsWellFormed}
+use Rattle.mcs_system.specs.System.{System, note_part, thread_part, core_of, is_server}
+use Rattle.mcs_system.specs.WellFormed.{IsWellFormed, IsItem}
+use Rattle.mcs_core.specs.declared.alarm.Alarm.{Alarm}
 use Rattle.mcs_core.specs.declared.standing.AfterItem.TheVariants as after
 use Rattle.mcs_core.specs.declared.standing.Chosen.{Chosen}
 use Rattle.mcs_core.specs.declared.standing.Standing as core_standing
@@ -29,15 +30,15 @@ use Rattle.mcs_core.specs.Turn as turns
 use Rattle.mcs_core.specs.Turn.{Turn, silent, says, ◌followed_by◌, each, is_for_now}
 use Rattle.mcs_core.proofs.Counts.{times_queued-rest, times_waiting-at}
 use Rattle.mcs_laws.specs.Places.{times_running}
-use Rattle.mcs_laws.proofs.Places.{woke, moves-running, signals-running}
+use Rattle.mcs_laws.proofs.Places.{woke, moves-running, signals-running, frees-running}
 use Rattle.mcs_verdict.specs.declared.standing.Standing.{Standing}
 use Rattle.mcs_verdict.specs.declared.standing.Standing.TheVariants.{Pending, Ready, Running, Throttled, Blocked, Woken, Done}
-use Rattle.mcs_verdict.specs.Rounds.{waited_on}
+use Rattle.mcs_verdict.specs.Calls.{waited_on}
 use Rattle.mcs_verdict_laws.proofs.Steps.{Told, told_of, ended-append, ended-other, walks-append, walks-other}
 use Rattle.mcs_verdict_laws.proofs.Holds.{runs_as, ready_as, first, IsUnderWay, IsStarted, Holds, Same, same-refl, same-trans, same-context, same-thread, same-running, same-ready, same-front, holds-same, Aside, aside-silent, aside_if, Goes, goes-aside, goes-then, goes-assoc, goes_if}
 use Rattle.mcs_verdict_laws.proofs.Entering.{self, equal, plain_order, plain_preempt, step-run, under-thread, started-thread, under-stands, started-stands, stops_to_front-goes, calm-goes}
-use Rattle.mcs_verdict_laws.proofs.Others.{moves_on-aside, woke-aside, held-aside, signals-aside, waits_as-aside, leaves-aside, charged-aside, may_stop-aside}
-use Rattle.mcs_verdict_laws.proofs.Finishing.{unless_first, finish-goes, got-goes, blocks-goes, waits_one, woken-goes}
+use Rattle.mcs_verdict_laws.proofs.Others.{moves_on-aside, woke-aside, held-aside, let-aside, free-aside, frees-aside, signals-aside, enters_as-aside, waits_as-aside, leaves-aside, charged-aside, may_stop-aside}
+use Rattle.mcs_verdict_laws.proofs.Finishing.{item_home, unless_first, finish-goes, got-goes, blocks-goes, enters-blocks, enters-goes, waits_one, woken-goes, let-goes}
 
 -- how a thread stands that has a place
 runs_one : (standing : Standing) → 1 ≤ runs_as standing → standing ≡ Running
@@ -60,12 +61,12 @@ ready_one Done l = absurd (omega (arith, l))
 
 module _ (system : System) (well : IsWellFormed system) (x : ℕ) where
   -- posts
-  posts_as-goes : (from t note badge : ℕ) (post : Posted) (told : Told) (k : Core) → posted badge (note_of k note) ≡ post
-      → Holds system x from t told k
+  posts_as-goes : (from t note badge : ℕ) (post : Posted) (told : Told) (k : Core) → is_server system note ≡ false
+      → posted badge (note_of k note) ≡ post → Holds system x from t told k
       → Goes system x from t told (turns.posts_as by_priority system t note post k)
-  posts_as-goes from t note badge (Held word) told k p h =
+  posts_as-goes from t note badge (Held word) told k signalled p h =
       goes-aside system x from t told k (turns.posts_as by_priority system t note (Held word) k) h (held-aside system x t note word k)
-  posts_as-goes from t note badge (Woke y word) told k p h = by (y == x) refl
+  posts_as-goes from t note badge (Woke y word) told k signalled p h = by (y == x) refl
     where
       by : (b : Bool) → (y == x) ≡ b → Goes system x from t told (turns.posts_as by_priority system t note (Woke y word) k)
       by true e =
@@ -78,34 +79,74 @@ module _ (system : System) (well : IsWellFormed system) (x : ℕ) where
           let P : ℕ → Type 0 = λ z. Goes system x from t told (turns.posts_as by_priority system t note (Woke z word) k) in
           let Q : Standing → Type 0 = λ s. Holds system x from t (told_of s told.begun) k → Goes system x from t (told_of s told.begun)
           (turns.posts_as by_priority system t note (Woke x word) k) in
-          subst P (sym same) (subst Q (sym blocked) (woken-goes system well x from t note word told.begun k own) h)
+          subst P (sym same) (subst Q (sym blocked) (woken-goes system well x from t note word told.begun k signalled own) h)
       by false e = goes-aside system x from t told k (turns.posts_as by_priority system t note (Woke y word) k) h
           (woke-aside system x t note badge y word k p e)
 
-  posts-goes : (from t note badge : ℕ) (told : Told) (k : Core) → Holds system x from t told k
+  posts-goes : (from t note badge : ℕ) (told : Told) (k : Core) → is_server system note ≡ false → Holds system x from t told k
       → Goes system x from t told (turns.posts by_priority system t note badge k)
-  posts-goes from t note badge told k h = posts_as-goes from t note badge (posted badge (note_of k note)) told k refl h
+  posts-goes from t note badge told k signalled h = posts_as-goes from t note badge (posted badge (note_of k note)) told k signalled refl h
 
-  signals-goes : (from c t y note badge : ℕ) (told : Told) (k : Core) → Holds system x from t told k
+  -- a server is left
+  frees_as-goes : (from t server : ℕ) (post : Posted) (told : Told) (k : Core) → is_server system server ≡ true
+      → posted 1 (note_of k server) ≡ post → Holds system x from t told k
+      → Goes system x from t told (turns.frees_as by_priority system t server post k)
+  frees_as-goes from t server (Held word) told k served p h =
+      goes-aside system x from t told k (turns.frees_as by_priority system t server (Held word) k) h (free-aside system x t server word k)
+  frees_as-goes from t server (Woke y word) told k served p h = by (y == x) refl
+    where
+      by : (b : Bool) → (y == x) ≡ b → Goes system x from t told (turns.frees_as by_priority system t server (Woke y word) k)
+      by true e =
+          let same = equal y x e in
+          let waits = woke y word 1 (note_of k server).word (note_of k server).waiters p in
+          let alike = ap (λ z. times_queued z (note_of k server).waiters) same in
+          let own : 1 ≤ times_queued x (note_of k server).waiters = omega (arith, alike, waits) in
+          let at = times_waiting-at x server k.notes in
+          let blocked : told.standing ≡ Blocked = waits_one system well x told.standing (let w = h.waits in omega (arith, w, own, at)) in
+          let P : ℕ → Type 0 = λ z. Goes system x from t told (turns.frees_as by_priority system t server (Woke z word) k) in
+          let Q : Standing → Type 0 = λ s. Holds system x from t (told_of s told.begun) k → Goes system x from t (told_of s told.begun)
+          (turns.frees_as by_priority system t server (Woke x word) k) in
+          subst P (sym same) (subst Q (sym blocked) (let-goes system well x from t server word told.begun k served own) h)
+      by false e = goes-aside system x from t told k (turns.frees_as by_priority system t server (Woke y word) k) h
+          (let-aside system x t server y word k p e)
+
+  frees-goes : (from t y server : ℕ) (told : Told) (k : Core) → is_server system server ≡ true → Holds system x from t told k
+      → Goes system x from t told (turns.frees by_priority system t y server k)
+  frees-goes from t y server told k served h =
+      goes-then system x from from t told (says (row.Signal y server 1) k)
+      (λ core. turns.frees_as by_priority system t server (posted 1 (note_of core server)) core)
+      (goes-aside system x from t told k (says (row.Signal y server 1) k) h record { same = same-refl system x k; rows = (tt, tt) })
+      (λ last holds. frees_as-goes from t server (posted 1 (note_of k server)) last k served refl holds)
+
+  signals-goes : (from c t y note badge : ℕ) (told : Told) (k : Core) → is_server system note ≡ false → Holds system x from t told k
       → Goes system x from t told (turns.signals by_priority system c t y note badge k)
-  signals-goes from c t y note badge told k h =
+  signals-goes from c t y note badge told k signalled h =
       let sent : Turn = record { core = k; rows = []; mails = turns.mail_to system c t note badge ∷ [] } in
       goes-then system x from from t told (says (row.Signal y note badge) k)
       (λ core. cond ((note_part system note).core == c) (turns.posts by_priority system t note badge core)
       (record { core = core; rows = []; mails = turns.mail_to system c t note badge ∷ [] }))
       (goes-aside system x from t told k (says (row.Signal y note badge) k) h record { same = same-refl system x k; rows = (tt, tt) })
       (λ last holds. goes_if system x from t last ((note_part system note).core == c) (turns.posts by_priority system t note badge k) sent
-      (posts-goes from t note badge last k holds)
+      (posts-goes from t note badge last k signalled holds)
       (goes-aside system x from t last k sent holds record { same = same-refl system x k; rows = tt }))
 
-  pub arrives-goes : (from t : ℕ) (mail : Mail) (told : Told) (k : Core) → Holds system x from t told k
+  pub interrupts-goes : (from t : ℕ) (alarm : Alarm) (told : Told) (k : Core) → is_server system alarm.note ≡ false → Holds system x from t told k
+      → Goes system x from t told (turns.interrupts by_priority system t alarm k)
+  interrupts-goes from t alarm told k signalled h =
+      goes-then system x from from t told (says (row.Interrupt alarm.source alarm.note alarm.badge) k)
+      (turns.posts by_priority system t alarm.note alarm.badge)
+      (goes-aside system x from t told k
+      (says (row.Interrupt alarm.source alarm.note alarm.badge) k) h record { same = same-refl system x k; rows = (tt, tt) })
+      (λ last holds. posts-goes from t alarm.note alarm.badge last k signalled holds)
+
+  pub arrives-goes : (from t : ℕ) (mail : Mail) (told : Told) (k : Core) → is_server system mail.note ≡ false → Holds system x from t told k
       → Goes system x from t told (turns.arrives by_priority system t mail k)
-  arrives-goes from t mail told k h =
+  arrives-goes from t mail told k signalled h =
       goes-then system x from from t told (says (row.Arrive mail.note mail.badge mail.maker) k)
       (turns.posts by_priority system t mail.note mail.badge)
       (goes-aside system x from t told k
       (says (row.Arrive mail.note mail.badge mail.maker) k) h record { same = same-refl system x k; rows = (tt, tt) })
-      (λ last holds. posts-goes from t mail.note mail.badge last k holds)
+      (λ last holds. posts-goes from t mail.note mail.badge last k signalled holds)
 
   -- the running thread is this one or another
   split : (from to t : ℕ) (told : Told) (k : Core) (chosen : Chosen) (turn : ℕ → Turn) → k.running ≡ Some chosen → Holds system x from t told k
@@ -139,30 +180,71 @@ module _ (system : System) (well : IsWellFormed system) (x : ℕ) where
       by Blocks = refl
   effect-running c t y (Some (Compute ticks)) k = moves-running system t x y (turns.move_of system y k) k
   effect-running c t y (Some Yield) k = moves-running system t x y (turns.move_of system y k) k
+  effect-running c t y (Some (On badges)) k = moves-running system t x y (turns.move_of system y k) k
+  effect-running c t y (Some Spin) k = moves-running system t x y (turns.move_of system y k) k
+  effect-running c t y (Some (Enter server priority)) k = by (waited (note_of k server))
+    where
+      by : (w : Waited) → (turns.enters_as system t y server w k).core.running ≡ k.running
+      by (Got word) = moves-running system t x y _ _
+      by Blocks = refl
+  effect-running c t y (Some (Leave server priority)) k =
+      let freed = turns.frees by_priority system t y server k in
+      moves-running system t x y (turns.move_of system y freed.core) freed.core ∙ frees-running system t x y server k
   effect-running c t y None k = refl
 
-  effect-other : (from c t y : ℕ) (item : Option Item) (told : Told) (k : Core) → (y == x) ≡ false → Holds system x from t told k
+  -- what an item says of its notification or server
+  abbrev IsOwn : Option Item → Type 0
+  IsOwn (Some (Signal note badge)) = is_server system note ≡ false
+  IsOwn (Some (Leave server priority)) = is_server system server ≡ true
+  IsOwn _ = Unit {0}
+
+  own-item : (core : ℕ) (item : Item) → IsItem system core item → IsOwn (Some item)
+  own-item core (Signal note badge) is = is.1
+  own-item core (Leave server priority) is = is.2
+  own-item core (Compute ticks) is = tt
+  own-item core (Wait note) is = tt
+  own-item core Yield is = tt
+  own-item core (On badges) is = tt
+  own-item core Spin is = tt
+  own-item core (Enter server priority) is = tt
+
+  is-own : (y place : ℕ) (o : Option Item) → slice_get (thread_part system y).script place ≡ o → IsOwn o
+  is-own y place None e = tt
+  is-own y place (Some item) e = own-item (core_of system (thread_part system y)) item (item_home system well y place item e)
+
+  effect-other : (from c t y : ℕ) (item : Option Item) (told : Told) (k : Core) → IsOwn item → (y == x) ≡ false → Holds system x from t told k
       → Goes system x from t told (turns.takes_effect by_priority system c t y item k)
-  effect-other from c t y (Some (Signal note badge)) told k e h =
+  effect-other from c t y (Some (Signal note badge)) told k own e h =
       let sent = turns.signals by_priority system c t y note badge k in
-      goes-then system x from from t told sent (turns.moves_on system t y) (signals-goes from c t y note badge told k h)
+      goes-then system x from from t told sent (turns.moves_on system t y) (signals-goes from c t y note badge told k own h)
       (λ last holds. goes-aside system x from t last sent.core (turns.moves_on system t y sent.core) holds (moves_on-aside system x t y sent.core e))
-  effect-other from c t y (Some (Wait note)) told k e h =
+  effect-other from c t y (Some (Wait note)) told k own e h =
       goes-aside system x from t told k (turns.waits_as system t y note (waited (note_of k note)) k) h
       (waits_as-aside system x t y note (waited (note_of k note)) k e)
-  effect-other from c t y (Some (Compute ticks)) told k e h =
+  effect-other from c t y (Some (Compute ticks)) told k own e h =
       goes-aside system x from t told k (turns.moves_on system t y k) h (moves_on-aside system x t y k e)
-  effect-other from c t y (Some Yield) told k e h =
+  effect-other from c t y (Some Yield) told k own e h =
       goes-aside system x from t told k (turns.moves_on system t y k) h (moves_on-aside system x t y k e)
-  effect-other from c t y None told k e h = goes-aside system x from t told k (silent k) h (aside-silent system x k k (same-refl system x k))
+  effect-other from c t y (Some (On badges)) told k own e h =
+      goes-aside system x from t told k (turns.moves_on system t y k) h (moves_on-aside system x t y k e)
+  effect-other from c t y (Some Spin) told k own e h =
+      goes-aside system x from t told k (turns.moves_on system t y k) h (moves_on-aside system x t y k e)
+  effect-other from c t y (Some (Enter server priority)) told k own e h =
+      goes-aside system x from t told k (turns.enters_as system t y server (waited (note_of k server)) k) h
+      (enters_as-aside system x t y server (waited (note_of k server)) k e)
+  effect-other from c t y (Some (Leave server priority)) told k own e h =
+      let freed = turns.frees by_priority system t y server k in
+      goes-then system x from from t told freed (turns.moves_on system t y) (frees-goes from t y server told k own h)
+      (λ last holds. goes-aside system x from t last freed.core (turns.moves_on system t y freed.core) holds (moves_on-aside system x t y freed.core e))
+  effect-other from c t y None told k own e h = goes-aside system x from t told k (silent k) h (aside-silent system x k k (same-refl system x k))
 
-  finishes-other : (from c t y using held : ℕ) (item : Option Item) (told : Told) (k : Core) → (y == x) ≡ false → k.running ≡ Some
+  finishes-other : (from c t y using held : ℕ) (item : Option Item) (told : Told) (k : Core) → IsOwn item → (y == x) ≡ false → k.running ≡ Some
       (record { thread = y; using = held })
       → Holds system x from t told k → Goes system x from t told (turns.finishes by_priority system c t y using item k)
-  finishes-other from c t y using held item told k e r h =
+  finishes-other from c t y using held item told k own e r h =
       let effect = turns.takes_effect by_priority system c t y item k in
       let cause = turns.after_item system y item k in
-      goes-then system x from from t told effect (turns.may_stop by_priority system t y using cause) (effect-other from c t y item told k e h)
+      goes-then system x from from t told effect (turns.may_stop by_priority system t y using cause) (effect-other from c t y item told k own e h)
       (λ last holds. goes-aside system x from t last effect.core (turns.may_stop by_priority system t y using cause effect.core) holds
       (may_stop-aside system x t y using held cause effect.core (effect-running c t y item k ∙ r) e))
 
@@ -170,7 +252,7 @@ module _ (system : System) (well : IsWellFormed system) (x : ℕ) where
   begun_there : (from t : ℕ) (begun : Option ℕ) (k : Core) → Holds system x from t (told_of Running begun) k
       → waited_on (turns.item_of system x k) ≡ None → begun ≡ Some (thread_of k x).since
   begun_there from t begun k h e =
-      h.own.0.begins ∙ unless_first (thread_part system x).script (first system x) (thread_of k x).place.item (thread_of k x).since refl e
+      h.own.0.begins ∙ unless_first (thread_part system x).script (first system x).waits (thread_of k x).place.item (thread_of k x).since refl e
 
   finishes-signal : (from c t using note badge : ℕ) (begun : Option ℕ) (k : Core) → Holds system x from t (told_of Running begun) k
       → turns.item_of system x k ≡ Some (Signal note badge)
@@ -185,12 +267,15 @@ module _ (system : System) (well : IsWellFormed system) (x : ℕ) where
       let moved : turns.move_of system x sent.core ≡ turns.move_of system x k =
       ap (λ (p : Place). move_after (thread_part system x).script (thread_part system x).rounds p) a.same.place
       in
+      let none : is_wait (turns.item_of system x sent.core) ≡ false =
+      ap (λ (p : Place). is_wait (slice_get (thread_part system x).script p.item)) a.same.place ∙ ap is_wait item
+      in
       let P : Moved → Type 0 =
       λ move. Goes system x from t (told_of Running begun)
       (turns.moves system t x (turns.move_of system x sent.core) sent.core followed_by turns.may_stop by_priority system t x using
       (turns.after_move move after.GoesOn))
       in
-      let q = subst P moved (finish-goes system well x from t using begun sent.core (turns.move_of system x sent.core) after.GoesOn tt holds there) in
+      let q = subst P moved (finish-goes system well x from t using begun sent.core (turns.move_of system x sent.core) after.GoesOn tt holds there none refl) in
       goes-assoc system x from t (told_of Running begun) sent (turns.moves_on system t x) (turns.may_stop by_priority system t x using cause)
       record {
         last = q.last;
@@ -208,6 +293,47 @@ module _ (system : System) (well : IsWellFormed system) (x : ℕ) where
       got-goes system well x from t using note word begun k h item
   finishes-wait from t using note Blocks begun k h item = blocks-goes system well x from t using note begun k h item
 
+  finishes-enter : (from t using server priority : ℕ) (w : Waited) (begun : Option ℕ) (k : Core) → Holds system x from t (told_of Running begun) k
+      → turns.item_of system x k ≡ Some (Enter server priority)
+      → Goes system x from t (told_of Running begun)
+      (turns.enters_as system t x server w k followed_by turns.may_stop by_priority system t x using (turns.after_entered w))
+  finishes-enter from t using server priority (Got word) begun k h item =
+      enters-goes system well x from t using server priority word begun k h item (begun_there from t begun k h (ap waited_on item))
+  finishes-enter from t using server priority Blocks begun k h item = enters-blocks system well x from t using server priority begun k h item
+
+  finishes-leave : (from t using server priority : ℕ) (begun : Option ℕ) (k : Core) → Holds system x from t (told_of Running begun) k
+      → turns.item_of system x k ≡ Some (Leave server priority)
+      → Goes system x from t (told_of Running begun)
+      (turns.frees by_priority system t x server k followed_by turns.moves_on system t x followed_by
+      turns.may_stop by_priority system t x using (turns.after_move (turns.move_of system x k) after.GoesOn))
+  finishes-leave from t using server priority begun k h item =
+      let freed = turns.frees by_priority system t x server k in
+      let cause = turns.after_move (turns.move_of system x k) after.GoesOn in
+      let a = frees-aside system x t x server k h.waits in
+      let holds = holds-same system x from t (told_of Running begun) k freed.core a.same h in
+      let there : begun ≡ Some (thread_of freed.core x).since = begun_there from t begun k h (ap waited_on item) ∙ ap (λ m. Some m)
+      (sym a.same.since) in
+      let moved : turns.move_of system x freed.core ≡ turns.move_of system x k =
+      ap (λ (p : Place). move_after (thread_part system x).script (thread_part system x).rounds p) a.same.place
+      in
+      let none : is_wait (turns.item_of system x freed.core) ≡ false =
+      ap (λ (p : Place). is_wait (slice_get (thread_part system x).script p.item)) a.same.place ∙ ap is_wait item
+      in
+      let P : Moved → Type 0 =
+      λ move. Goes system x from t (told_of Running begun)
+      (turns.moves system t x (turns.move_of system x freed.core) freed.core followed_by turns.may_stop by_priority system t x using
+      (turns.after_move move after.GoesOn))
+      in
+      let q = subst P moved (finish-goes system well x from t using begun freed.core (turns.move_of system x freed.core) after.GoesOn tt holds there none refl) in
+      goes-assoc system x from t (told_of Running begun) freed (turns.moves_on system t x) (turns.may_stop by_priority system t x using cause)
+      record {
+        last = q.last;
+        walks = walks-append x (first system x) t freed.rows _ (told_of Running begun) (told_of Running begun) q.last
+            (walks-other x (first system x) t (told_of Running begun) freed.rows a.rows) q.walks;
+        holds = q.holds;
+        ended = λ before. ended-append x before freed.rows _ (ended-other x before freed.rows a.rows) q.ended;
+      }
+
   finishes-own : (from c t using : ℕ) (item : Option Item) (begun : Option ℕ) (k : Core) → turns.item_of system x k ≡ item
       → Holds system x from t (told_of Running begun) k
       → Goes system x from t (told_of Running begun) (turns.finishes by_priority system c t x using item k)
@@ -215,8 +341,19 @@ module _ (system : System) (well : IsWellFormed system) (x : ℕ) where
   finishes-own from c t using (Some (Wait note)) begun k e h = finishes-wait from t using note (waited (note_of k note)) begun k h e
   finishes-own from c t using (Some (Compute ticks)) begun k e h =
       finish-goes system well x from t using begun k (turns.move_of system x k) after.GoesOn tt h (begun_there from t begun k h (ap waited_on e))
+      (ap is_wait e) refl
   finishes-own from c t using (Some Yield) begun k e h =
       finish-goes system well x from t using begun k (turns.move_of system x k) after.Yields tt h (begun_there from t begun k h (ap waited_on e))
+      (ap is_wait e) refl
+  finishes-own from c t using (Some (On badges)) begun k e h =
+      finish-goes system well x from t using begun k (turns.move_of system x k) after.GoesOn tt h (begun_there from t begun k h (ap waited_on e))
+      (ap is_wait e) refl
+  finishes-own from c t using (Some Spin) begun k e h =
+      finish-goes system well x from t using begun k (turns.move_of system x k) after.GoesOn tt h (begun_there from t begun k h (ap waited_on e))
+      (ap is_wait e) refl
+  finishes-own from c t using (Some (Enter server priority)) begun k e h =
+      finishes-enter from t using server priority (waited (note_of k server)) begun k h e
+  finishes-own from c t using (Some (Leave server priority)) begun k e h = finishes-leave from t using server priority begun k h e
   finishes-own from c t using None begun k e h = calm-goes system x after.GoesOn tt from t using begun k h
 
   after_count-own : (from c t using : ℕ) (begun : Option ℕ) (k : Core) → Holds system x from t (told_of Running begun) k
@@ -234,7 +371,7 @@ module _ (system : System) (well : IsWellFormed system) (x : ℕ) where
       goes_if system x from t told ((thread_of k y).place.left == 0)
       (turns.finishes by_priority system c t y using (turns.item_of system y k) k)
       (turns.may_stop by_priority system t y using after.GoesOn k)
-      (finishes-other from c t y using held (turns.item_of system y k) told k e r h)
+      (finishes-other from c t y using held (turns.item_of system y k) told k (is-own y (thread_of k y).place.item (turns.item_of system y k) refl) e r h)
       (goes-aside system x from t told k (turns.may_stop by_priority system t y using after.GoesOn k) h
       (may_stop-aside system x t y using held after.GoesOn k r e))
 
@@ -242,7 +379,7 @@ module _ (system : System) (well : IsWellFormed system) (x : ℕ) where
       → Holds system x from t (told_of Running begun) (turns.counts (record { thread = x; using = using }) k)
   counts-own from t using begun k h =
       let old = thread_of k x in
-      let state : Thread = record old { place = record (old.place) { left = old.place.left - 1 } } in
+      let state : Thread = record old { place = record (old.place) { left = left_after 1 old.place.left } } in
       let running = record k { running = Some (record { thread = x; using = using + 1 }) } in
       record {
         runs = ap (λ b. cond b 1 0) (self x);
@@ -259,7 +396,7 @@ module _ (system : System) (well : IsWellFormed system) (x : ℕ) where
       → Same system x k (turns.counts (record { thread = y; using = using }) k)
   counts-other y using k r e =
       let old = thread_of k y in
-      let state : Thread = record old { place = record (old.place) { left = old.place.left - 1 } } in
+      let state : Thread = record old { place = record (old.place) { left = left_after 1 old.place.left } } in
       let running = record k { running = Some (record { thread = y; using = using + 1 }) } in
       let same : times_running x (Some (record { thread = y; using = using + 1 })) ≡ times_running x k.running = sym (ap (times_running x) r) in
       same-trans system x k running (turns.counts (record { thread = y; using = using }) k)
@@ -282,7 +419,7 @@ module _ (system : System) (well : IsWellFormed system) (x : ℕ) where
       → Aside system x k (turns.stops_to_front by_priority system t y (cond order why.Order why.Preempt) using core)
   stops_to_front-aside t y using order k core s r e =
       let a =
-      leaves-aside system x t y using using (cond order why.Order why.Preempt) (turns.enters_front by_priority system) core
+      leaves-aside system x t y using using (cond order why.Order why.Preempt) (turns.enters_front by_priority) core
       (λ date c. same-front system x y date c e) r e
       in
       record {
@@ -337,13 +474,13 @@ module _ (system : System) (well : IsWellFormed system) (x : ℕ) where
       split from from t told k chosen
       (λ y. turns.preempts_by by_priority system t (Some (record { thread = y; using = chosen.using })) (Some best) k) r h
       (λ e. goes-aside system x from t told k (turns.preempts_by by_priority system t (Some chosen) (Some best) k) h
-      (aside_if system x k (nat_lt (turns.part_of system chosen.thread).priority best.priority)
+      (aside_if system x k (nat_lt (thread_of k chosen.thread).place.priority best.priority)
       (turns.stops_to_front by_priority system t chosen.thread why.Preempt chosen.using (turns.charged system chosen.thread chosen.using k))
       (silent k)
       (stops_to_front-aside t chosen.thread chosen.using false k (turns.charged system chosen.thread chosen.using k)
       (charged-aside system x chosen.thread chosen.using k) r e)
       (aside-silent system x k k (same-refl system x k))))
-      (λ holds own. goes_if system x from t (told_of Running told.begun) (nat_lt (turns.part_of system x).priority best.priority)
+      (λ holds own. goes_if system x from t (told_of Running told.begun) (nat_lt (thread_of k x).place.priority best.priority)
       (turns.stops_to_front by_priority system t x why.Preempt chosen.using (turns.charged system x chosen.using k))
       (silent k)
       (stops_to_front-goes system x from t chosen.using why.Preempt told.begun (turns.charged system x chosen.using k)

@@ -20,6 +20,7 @@ use Rattle.mcs_verdict.specs.declared.standing.Standing.{Standing}
 use Rattle.mcs_verdict.specs.declared.standing.Standing.TheVariants.{Pending, Ready, Running, Throttled, Blocked, Woken, Done}
 use Rattle.mcs_verdict_laws.proofs.Steps.{Told, told_of, AreOther, AreEnded, ended-other, Walks, walks-other, walks-done, Leads, leads-append, leads-stamped}
 use Rattle.mcs_verdict_laws.proofs.Holds.{first, IsStarted, Own, Holds}
+use Rattle.mcs_verdict_laws.proofs.Sources.{mails-signalled}
 use Rattle.mcs_verdict_laws.proofs.Turns.{turn-goes}
 use Rattle.mcs_verdict_laws.proofs.Opening.{opening_told, opening-holds}
 
@@ -79,7 +80,7 @@ module _ (system : System) (well : IsWellFormed system) (x : ℕ) where
       let holds : Holds system x t t (told_of Done None) k =
       record { runs = omega (arith, none); ready = omega (arith, none); dated = omega (arith, none); waits = omega (arith, none); own = tt }
       in
-      let goes = turn-goes system well c t x (mails t c) (told_of Done None) k holds in
+      let goes = turn-goes system well c t x (mails t c) (told_of Done None) k (mails-signalled system well t c) holds in
       let P : Turn → Type 0 = λ made. AreOther x made.rows in
       subst P (sym (turn_of-kept system c t)) (walks-done x (first system x) t (told_of Done None) goes.last _ goes.walks refl)
 
@@ -94,7 +95,7 @@ module _ (system : System) (well : IsWellFormed system) (x : ℕ) where
   unfolding mails
   own-turn t told holds =
       let c = core_of system (thread_part system x) in
-      let goes = turn-goes system well c t x (mails t c) told (core_before t) holds in
+      let goes = turn-goes system well c t x (mails t c) told (core_before t) (mails-signalled system well t c) holds in
       let P : Turn → Type 0 = λ made. Walks x (first system x) t told made.rows goes.last in
       let Q : Core → Type 0 = λ k. Holds system x (suc t) t goes.last k in
       let R : Turn → Type 0 = λ made. AreEnded x None made.rows in

@@ -26,8 +26,8 @@ module _ (system : System) where
       (subst P e step.timed, timed x (r ∷ past) rows leads.0 last leads.2 (step.begins ∙ again r e))
     where
       again : (r : Row) → before.begun ≡ begun_of system x past
-          → begun_after (first system x) x r.moment r.what before.begun ≡ begun_of system x (r ∷ past)
-      again r e = ap (λ begun. begun_after (first system x) x r.moment r.what begun) e
+          → begun_after (first system x).waits (first system x).bits x r.moment r.what before.begun ≡ begun_of system x (r ∷ past)
+      again r e = ap (λ begun. begun_after (first system x).waits (first system x).bits x r.moment r.what begun) e
 
   -- of all
   told_by : (past : List Row) (moment : ℕ) (what : What) → ((x : ℕ) → IsTimed x moment what (begun_of system x past))
@@ -44,6 +44,7 @@ module _ (system : System) where
   told_by past moment (row.Hold note word) h = tt
   told_by past moment (row.Got y note word) h = tt
   told_by past moment (row.Order context) h = tt
+  told_by past moment (row.Interrupt source at_note badge) h = tt
 
   told_all : (past rows : List Row) → ((x : ℕ) → AreTimed x past rows) → AreTold system past rows
   told_all past [] h = tt

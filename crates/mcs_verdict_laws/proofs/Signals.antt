@@ -16,13 +16,15 @@ use Rattle.mcs_control.specs.Context.{head_amount}
 use Rattle.mcs_notify.specs.Note.{Note, waited}
 use Rattle.mcs_release.specs.Release.{is_due}
 use Rattle.mcs_script.specs.declared.item.Item.{Item}
-use Rattle.mcs_script.specs.declared.item.Item.TheVariants.{Compute, Signal, Wait, Yield}
+use Rattle.mcs_script.specs.declared.item.Item.TheVariants.{Compute, Signal, Wait, Yield, On, Spin, Enter, Leave}
 use Rattle.mcs_script.specs.declared.moved.Moved.{Moved}
 use Rattle.mcs_script.specs.declared.moved.Moved.TheVariants.{Next, RoundEnds, AllDone}
 use Rattle.mcs_mail.specs.declared.mail.Mail.{Mail}
 use Rattle.mcs_system.specs.declared.part.ThreadPart.{ThreadPart}
-use Rattle.mcs_system.specs.System.{System, no_thread, thread_part, note_part, core_of}
+use Rattle.mcs_system.specs.System.{System, no_thread, thread_part, note_part, core_of, is_server}
 use Rattle.mcs_system.specs.WellFormed.{IsWellFormed, IsItem}
+use Rattle.mcs_core.specs.Alarms.{ringing, alarms_at}
+use Rattle.mcs_core.specs.declared.alarm.Alarm.{Alarm}
 use Rattle.mcs_core.specs.declared.standing.AfterItem.{AfterItem}
 use Rattle.mcs_core.specs.declared.standing.AfterItem.TheVariants as after
 use Rattle.mcs_core.specs.declared.standing.Chosen.{Chosen}
@@ -30,6 +32,8 @@ use Rattle.mcs_core.specs.Core.{Core, thread_of, note_of, off}
 use Rattle.mcs_core.specs.Turn as turns
 use Rattle.mcs_core.specs.Turn.{Turn, silent, says, ◌followed_by◌, each, is_for_now}
 use Rattle.mcs_verdict_laws.proofs.Entering.{equal}
+use Rattle.mcs_verdict_laws.proofs.Finishing.{item_home}
+use Rattle.mcs_verdict_laws.proofs.Sources.{IsHeard, alarms-heard}
 
 -- a row that tells of no notification's word
 abbrev pub IsPlain : What → Type 0
@@ -68,19 +72,27 @@ module _ (system : System) (t : ℕ) where
   moves-plain y RoundEnds k = record { rows = (tt, tt); same = refl }
   moves-plain y AllDone k = record { rows = (tt, tt); same = refl }
 
-  back-notes : (y : ℕ) (date : Option ℕ) (k : Core) → (turns.enters_back by_priority system y date k).notes ≡ k.notes
+  back-notes : (y : ℕ) (date : Option ℕ) (k : Core) → (turns.enters_back by_priority y date k).notes ≡ k.notes
   back-notes y None k = refl
   back-notes y (Some date) k = refl
 
-  front-notes : (y : ℕ) (date : Option ℕ) (k : Core) → (turns.enters_front by_priority system y date k).notes ≡ k.notes
+  front-notes : (y : ℕ) (date : Option ℕ) (k : Core) → (turns.enters_front by_priority y date k).notes ≡ k.notes
   front-notes y None k = refl
   front-notes y (Some date) k = refl
 
-  pub wakes-plain : (y : ℕ) (k : Core) → Plain k.notes (turns.wakes by_priority system t y k)
-  wakes-plain y k =
-      let woken = turns.given t y (turns.with_woken_context system t y k) in
+  pub let_in-plain : (y : ℕ) (k : Core) → Plain k.notes (turns.let_in by_priority system t y k)
+  let_in-plain y k =
+      let woken = turns.with_woken_context system t y k in
       let moved = turns.moves_on system t y woken in
-      plain-then k.notes moved (λ core. silent (turns.enters_back by_priority system y (turns.date_of system t y core) core))
+      plain-then k.notes moved (λ core. silent (turns.enters_front by_priority y (turns.date_of system t y core) core))
+      (moves-plain y (turns.move_of system y woken) woken)
+      record { rows = tt; same = front-notes y (turns.date_of system t y moved.core) moved.core }
+
+  pub wakes-plain : (y word : ℕ) (k : Core) → Plain k.notes (turns.wakes by_priority system t y word k)
+  wakes-plain y word k =
+      let woken = turns.given system t y word (turns.with_woken_context system t y k) in
+      let moved = turns.moves_on system t y woken in
+      plain-then k.notes moved (λ core. silent (turns.enters_back by_priority y (turns.date_of system t y core) core))
       (moves-plain y (turns.move_of system y woken) woken)
       record { rows = tt; same = back-notes y (turns.date_of system t y moved.core) moved.core }
 
@@ -95,6 +107,7 @@ module _ (system : System) (t : ℕ) where
   may_stop-plain : (y using : ℕ) (cause : AfterItem) (k : Core) → Plain k.notes (turns.may_stop by_priority system t y using cause k)
   may_stop-plain y using after.Ends k = record { rows = (tt, tt); same = refl }
   may_stop-plain y using after.Blocks k = record { rows = (tt, tt); same = refl }
+  may_stop-plain y using after.Calls k = record { rows = (tt, tt); same = refl }
   may_stop-plain y using after.Yields k = leaves-back y (head_amount (turns.its_context system y k)) why.Yield k
   may_stop-plain y using after.GoesOn k =
       plain_if k.notes (using == head_amount (turns.its_context system y k))
@@ -121,11 +134,11 @@ module _ (system : System) (t : ℕ) where
   releases-plain : (k : Core) → Plain k.notes (turns.releases by_priority system t k)
   releases-plain k =
       let left = record k { releases = filter (λ dated. not (is_due t dated)) k.releases } in
-      plain-each (turns.released by_priority system) (λ due core. record { rows = (tt, tt); same = refl }) (filter (is_due t) k.releases) left
+      plain-each (turns.released by_priority) (λ due core. record { rows = (tt, tt); same = refl }) (filter (is_due t) k.releases) left
 
   preempts_by-plain : (o : Option Chosen) (best : Option Queued) (k : Core) → Plain k.notes (turns.preempts_by by_priority system t o best k)
   preempts_by-plain (Some chosen) (Some best) k =
-      plain_if k.notes (nat_lt (turns.part_of system chosen.thread).priority best.priority)
+      plain_if k.notes (nat_lt (thread_of k chosen.thread).place.priority best.priority)
       (turns.stops_to_front by_priority system t chosen.thread why.Preempt chosen.using (turns.charged system chosen.thread chosen.using k))
       (silent k)
       (leaves-front chosen.thread chosen.using why.Preempt (turns.charged system chosen.thread chosen.using k))
@@ -151,7 +164,7 @@ wait_home system well y item note e = known (cases_lt y (length system.threads))
         subst P (get_or_from_slice_get (thread_part system y).script item (Wait note) Yield e)
         ((well.threads y no_thread l).items item Yield within)
         in
-        is
+        (is.0, is.1)
     here l (inr past) = let g : Some (Wait note) ≡ None = sym e ∙ slice_get_past (thread_part system y).script item past in absurd (cc)
 
     known : (y < length system.threads) ⊎ (length system.threads ≤ y)
@@ -174,7 +187,11 @@ module _ (system : System) (well : IsWellFormed system) (c t : ℕ) (I : List No
     (posts : (note badge : ℕ) (k : Core) → (note_part system note).core ≡ c → I k.notes → Q k.notes (turns.posts by_priority system t note badge k))
     (waits : (y item note : ℕ) (k : Core) → slice_get (thread_part system y).script item ≡ Some (Wait note)
     → (note_part system note).core ≡ c → I k.notes
-    → Q k.notes (turns.waits_as system t y note (waited (note_of k note)) k)) where
+    → Q k.notes (turns.waits_as system t y note (waited (note_of k note)) k))
+    (enters : (y server : ℕ) (k : Core) → is_server system server ≡ true → (note_part system server).core ≡ c → I k.notes
+    → Q k.notes (turns.enters_as system t y server (waited (note_of k server)) k))
+    (frees : (y server : ℕ) (k : Core) → is_server system server ≡ true → (note_part system server).core ≡ c → I k.notes
+    → Q k.notes (turns.frees by_priority system t y server k)) where
   signals-turn : (y note badge : ℕ) (k : Core) → I k.notes → Q k.notes (turns.signals by_priority system c t y note badge k)
   signals-turn y note badge k i =
       let sent : Turn = record { core = k; rows = []; mails = turns.mail_to system c t note badge ∷ [] } in
@@ -191,11 +208,27 @@ module _ (system : System) (well : IsWellFormed system) (c t : ℕ) (I : List No
       by false e =
           plain k.notes (record { core = k; rows = []; mails = turns.mail_to system c t note badge ∷ [] }) i record { rows = tt; same = refl }
 
-  -- the place of an item in its script, where it is a wait for a notification of this core
+  -- the place of an item in its script, where it is a wait for a notification of this core; what it enters or leaves is a server of this core
   abbrev IsOf : ℕ → Option Item → Type 0
-  IsOf y item =
-      (note : ℕ) → item ≡ Some (Wait note)
-      → (place : ℕ) × (slice_get (thread_part system y).script place ≡ Some (Wait note)) × ((note_part system note).core ≡ c)
+  IsOf y (Some (Wait note)) = (place : ℕ) × (slice_get (thread_part system y).script place ≡ Some (Wait note)) × ((note_part system note).core ≡ c)
+  IsOf y (Some (Enter server priority)) = (is_server system server ≡ true) × ((note_part system server).core ≡ c)
+  IsOf y (Some (Leave server priority)) = (is_server system server ≡ true) × ((note_part system server).core ≡ c)
+  IsOf y _ = Unit {0}
+
+  is-of : (y place : ℕ) (o : Option Item) → core_of system (thread_part system y) ≡ c → slice_get (thread_part system y).script place ≡ o → IsOf y o
+  is-of y place (Some (Wait note)) own e = (place, e, (wait_home system well y place note e).1 ∙ own)
+  is-of y place (Some (Enter server priority)) own e =
+      let is = item_home system well y place (Enter server priority) e in
+      (is.2, is.1 ∙ own)
+  is-of y place (Some (Leave server priority)) own e =
+      let is = item_home system well y place (Leave server priority) e in
+      (is.2, is.1 ∙ own)
+  is-of y place (Some (Compute ticks)) own e = tt
+  is-of y place (Some (Signal note badge)) own e = tt
+  is-of y place (Some Yield) own e = tt
+  is-of y place (Some (On badges)) own e = tt
+  is-of y place (Some Spin) own e = tt
+  is-of y place None own e = tt
 
   effect-turn : (y : ℕ) (item : Option Item) (k : Core) → IsOf y item → I k.notes
       → Q k.notes (turns.takes_effect by_priority system c t y item k)
@@ -205,10 +238,19 @@ module _ (system : System) (well : IsWellFormed system) (c t : ℕ) (I : List No
       next k.notes sent (turns.moves_on system t y) q
       (plain sent.core.notes (turns.moves_on system t y sent.core) (inside k.notes sent q)
       (moves-plain system t y (turns.move_of system y sent.core) sent.core))
-  effect-turn y (Some (Wait note)) k home i = let at = home note refl in waits y at.0 note k at.1 at.2 i
+  effect-turn y (Some (Wait note)) k home i = waits y home.0 note k home.1 home.2 i
   effect-turn y (Some (Compute ticks)) k home i =
       plain k.notes (turns.moves_on system t y k) i (moves-plain system t y (turns.move_of system y k) k)
   effect-turn y (Some Yield) k home i = plain k.notes (turns.moves_on system t y k) i (moves-plain system t y (turns.move_of system y k) k)
+  effect-turn y (Some (On badges)) k home i = plain k.notes (turns.moves_on system t y k) i (moves-plain system t y (turns.move_of system y k) k)
+  effect-turn y (Some Spin) k home i = plain k.notes (turns.moves_on system t y k) i (moves-plain system t y (turns.move_of system y k) k)
+  effect-turn y (Some (Enter server priority)) k home i = enters y server k home.0 home.1 i
+  effect-turn y (Some (Leave server priority)) k home i =
+      let freed = turns.frees by_priority system t y server k in
+      let q = frees y server k home.0 home.1 i in
+      next k.notes freed (turns.moves_on system t y) q
+      (plain freed.core.notes (turns.moves_on system t y freed.core) (inside k.notes freed q)
+      (moves-plain system t y (turns.move_of system y freed.core) freed.core))
   effect-turn y None k home i = plain k.notes (silent k) i record { rows = tt; same = refl }
 
   finishes-turn : (y using : ℕ) (item : Option Item) (k : Core) → IsOf y item → I k.notes
@@ -236,9 +278,23 @@ module _ (system : System) (well : IsWellFormed system) (c t : ℕ) (I : List No
       (turns.finishes by_priority system c t y (chosen.using + 1) (turns.item_of system y counted) counted)
       (turns.may_stop by_priority system t y (chosen.using + 1) after.GoesOn counted)
       (finishes-turn y (chosen.using + 1) (turns.item_of system y counted) counted
-      (λ note e. ((thread_of counted y).place.item, e, (wait_home system well y (thread_of counted y).place.item note e).1 ∙ own chosen refl)) i)
+      (is-of y (thread_of counted y).place.item (turns.item_of system y counted) (own chosen refl) refl) i)
       (plain k.notes (turns.may_stop by_priority system t y (chosen.using + 1) after.GoesOn counted) i
       (may_stop-plain system t y (chosen.using + 1) after.GoesOn counted))
+
+  interrupts-turn : (alarm : Alarm) (k : Core) → (note_part system alarm.note).core ≡ c → I k.notes → Q k.notes (turns.interrupts by_priority system t alarm k)
+  interrupts-turn alarm k home i =
+      next k.notes (says (row.Interrupt alarm.source alarm.note alarm.badge) k) (turns.posts by_priority system t alarm.note alarm.badge)
+      (plain k.notes (says (row.Interrupt alarm.source alarm.note alarm.badge) k) i record { rows = (tt, tt); same = refl })
+      (posts alarm.note alarm.badge k home i)
+
+  all-interrupt : (alarms : List Alarm) (k : Core) → AllByRecursion (IsHeard system well c) alarms → I k.notes
+      → Q k.notes (each (turns.interrupts by_priority system t) alarms k)
+  all-interrupt [] k heard i = plain k.notes (silent k) i record { rows = tt; same = refl }
+  all-interrupt (alarm ∷ alarms) k heard i =
+      let first = turns.interrupts by_priority system t alarm k in
+      let q = interrupts-turn alarm k heard.0.home i in
+      next k.notes first (each (turns.interrupts by_priority system t) alarms) q (all-interrupt alarms first.core heard.1 (inside k.notes first q))
 
   arrives-turn : (mail : Mail) (k : Core) → (note_part system mail.note).core ≡ c → I k.notes → Q k.notes (turns.arrives by_priority system t mail k)
   arrives-turn mail k home i =
@@ -259,12 +315,18 @@ module _ (system : System) (well : IsWellFormed system) (c t : ℕ) (I : List No
       → Q k.notes (turns.turn_with by_priority system c t mails k)
   whole-turn mails k home own i =
       let orders = filter (is_for_now system c t) system.orders in
-      let one = turns.tick by_priority system c t k in
+      let zeroth = turns.tick by_priority system c t k in
+      let alarms = ringing t (alarms_at system c t) in
+      let one = zeroth followed_by each (turns.interrupts by_priority system t) alarms in
       let two = one followed_by each (turns.arrives by_priority system t) mails in
       let three = two followed_by each (turns.obeys by_priority system t) orders in
       let four = three followed_by turns.releases by_priority system t in
       let five = four followed_by turns.preempts by_priority system t in
-      let q1 = tick-turn k.running k own i in
+      let q0 = tick-turn k.running k own i in
+      let q1 =
+      next k.notes zeroth (each (turns.interrupts by_priority system t) alarms) q0
+      (all-interrupt alarms zeroth.core (alarms-heard system well c t) (inside k.notes zeroth q0))
+      in
       let q2 = next k.notes one (each (turns.arrives by_priority system t) mails) q1 (all-arrive mails one.core home (inside k.notes one q1)) in
       let q3 =
       next k.notes two (each (turns.obeys by_priority system t) orders) q2

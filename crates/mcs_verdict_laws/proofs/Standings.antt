@@ -24,8 +24,8 @@ use Rattle.mcs_verdict.proofs.Watches.{since-up_to}
 use Rattle.mcs_verdict_laws.specs.Standing.{standing_in_clock, TellsOf}
 use Rattle.mcs_verdict_laws.specs.laws.Standings.{StandingsAreTheClocks}
 use Rattle.mcs_verdict_laws.proofs.Order.{in_order}
-use Rattle.mcs_verdict_laws.proofs.Steps.{Told, Turns, Passes, Leads}
-use Rattle.mcs_verdict_laws.proofs.Holds.{runs_as, ready_as, dated_as, waits_as, first, start_at, Own}
+use Rattle.mcs_verdict_laws.proofs.Steps.{Told, First, Turns, Passes, Leads}
+use Rattle.mcs_verdict_laws.proofs.Holds.{runs_as, ready_as, dated_as, waits_as, first as first_of, start_at, Own}
 use Rattle.mcs_verdict_laws.proofs.Opening.{opening_as, opening_standing, opening_told}
 use Rattle.mcs_verdict_laws.proofs.Reached.{core_before, reached, after, later}
 
@@ -36,6 +36,7 @@ said before (r ∷ rows) = standing_after r.what
 
 stopped_tells : (cause : Why) (until : Option ℕ) → TellsOf (standing_stopped cause until) (standing_stopped cause until)
 stopped_tells why.Wait until = refl
+stopped_tells why.Call until = refl
 stopped_tells why.Done until = refl
 stopped_tells why.Spent None = refl
 stopped_tells why.Spent (Some date) = refl
@@ -59,6 +60,7 @@ turn_tells before after (row.Hold note word) h = absurd h
 turn_tells before after (row.Got y note word) h = absurd h
 turn_tells before after (row.Round y number response) h = absurd h
 turn_tells before after (row.Order context) h = absurd h
+turn_tells before after (row.Interrupt source at_note badge) h = absurd h
 
 -- the next telling row comes after such a standing
 abbrev IsNext : Option What → Standing → Type 0
@@ -78,6 +80,7 @@ turn_next before after (row.Hold note word) h = tt
 turn_next before after (row.Got y note word) h = tt
 turn_next before after (row.Round y number response) h = tt
 turn_next before after (row.Order context) h = tt
+turn_next before after (row.Interrupt source at_note badge) h = tt
 
 -- a woken thread that is released next was in the release queue
 throttled : (s : Standing) → (s ≡ Ready) ⊎ (s ≡ Throttled) → (s ≡ Pending) ⊎ (s ≡ Throttled) → Throttled ≡ s
@@ -97,6 +100,7 @@ woken_settles (Some (row.Hold note word)) s h n = h
 woken_settles (Some (row.Got y note word)) s h n = h
 woken_settles (Some (row.Round y number response)) s h n = h
 woken_settles (Some (row.Order context)) s h n = h
+woken_settles (Some (row.Interrupt source at_note badge)) s h n = h
 
 settles : (next : Option What) (r s : Standing) → TellsOf r s → IsNext next s → TellsOf (settled next r) s
 settles next Woken s h n = woken_settles next s h n
@@ -140,22 +144,22 @@ module _ (x : ℕ) where
       up_to a b h = grind (arith, nat_tests)
 
   -- what rows tell goes along with how the thread stands
-  rows_tell : (waits : Option ℕ) (opening : Standing) (past rows : List Row) (before last : Told) → Leads x waits before rows last
+  rows_tell : (first : First) (opening : Standing) (past rows : List Row) (before last : Told) → Leads x first before rows last
       → TellsOf (said opening (telling x past)) before.standing → TellsOf (said opening (telling x (past_of past rows))) last.standing
-  rows_tell waits opening past [] before last leads h =
+  rows_tell first opening past [] before last leads h =
       let P : Told → Type 0 = λ told. TellsOf (said opening (telling x past)) told.standing in subst P leads h
-  rows_tell waits opening past (r ∷ rows) before last leads h =
-      rows_tell waits opening (r ∷ past) rows leads.0 last leads.2 (by (tells x r.what) leads.1.passes)
+  rows_tell first opening past (r ∷ rows) before last leads h =
+      rows_tell first opening (r ∷ past) rows leads.0 last leads.2 (by (tells x r.what) leads.1.passes)
     where
       by : (b : Bool) → Passes b before.standing r.what leads.0.standing
           → TellsOf (said opening (cond b (r ∷ telling x past) (telling x past))) leads.0.standing
       by true turn = turn_tells before.standing leads.0.standing r.what turn
       by false same = let P : Standing → Type 0 = λ s. TellsOf (said opening (telling x past)) s in subst P (sym same) h
 
-  next_told : (waits : Option ℕ) (rows : List Row) (before last : Told) → Leads x waits before rows last
+  next_told : (first : First) (rows : List Row) (before last : Told) → Leads x first before rows last
       → IsNext (first_told None rows) before.standing
-  next_told waits [] before last leads = tt
-  next_told waits (r ∷ rows) before last leads = by (tells x r.what) leads.1.passes (next_told waits rows leads.0 last leads.2)
+  next_told first [] before last leads = tt
+  next_told first (r ∷ rows) before last leads = by (tells x r.what) leads.1.passes (next_told first rows leads.0 last leads.2)
     where
       by : (b : Bool) → Passes b before.standing r.what leads.0.standing → IsNext (first_told None rows) leads.0.standing
           → IsNext (cond b (Some r.what) (first_told None rows)) before.standing
@@ -223,7 +227,7 @@ module _ (system : System) (well : IsWellFormed system) (x : ℕ) where
   unfolding rows_of_tick
   up_to_tick t =
       let r = reached system well x (suc t) in
-      rows_tell x (first system x) (opening_standing system x) [] (clocks.clock system (suc t)).rows (opening_told system x) r.told r.leads
+      rows_tell x (first_of system x) (opening_standing system x) [] (clocks.clock system (suc t)).rows (opening_told system x) r.told r.leads
       (opening_tells (nat_lt x (length system.threads)))
 
   pub next_row : (horizon t : ℕ) → t ≤ horizon → Option What
@@ -250,7 +254,7 @@ module _ (system : System) (well : IsWellFormed system) (x : ℕ) where
       let l = later system well x (horizon - t) (suc t) (suc horizon) (omega (arith, within)) in
       let r = reached system well x (suc t) in
       settles (next_row horizon t within) (said (opening_standing system x) (rows_of_tick t)) r.told.standing (up_to_tick t)
-      (next_told x (first system x) l.rows r.told (reached system well x (suc horizon)).told l.leads)
+      (next_told x (first_of system x) l.rows r.told (reached system well x (suc horizon)).told l.leads)
 
 pub standings : StandingsAreTheClocks
 standings system well horizon t x within known =

@@ -82,6 +82,7 @@ module _ (x : ℕ) where
   ends-other last (row.Stop y why.Spent charged until) e = tt
   ends-other last (row.Stop y why.Yield charged until) e = tt
   ends-other last (row.Stop y why.Wait charged until) e = tt
+  ends-other last (row.Stop y why.Call charged until) e = tt
   ends-other last (row.Stop y why.Preempt charged until) e = tt
   ends-other last (row.Stop y why.Order charged until) e = tt
   ends-other last (row.Release y) e = tt
@@ -93,6 +94,7 @@ module _ (x : ℕ) where
   ends-other last (row.Got y note word) e = tt
   ends-other last (row.Round y number response) e = tt
   ends-other last (row.Order context) e = tt
+  ends-other last (row.Interrupt source at_note badge) e = tt
 
   pub ended-other : (last : Option What) (rows : List What) → AreOther rows → AreEnded last rows
   ended-other last [] other = tt
@@ -110,18 +112,23 @@ module _ (x : ℕ) where
   Allows t (row.Release y) told = (y == x) ≡ true → told.standing ≡ Pending → (beginning : ℕ) → told.begun ≡ Some beginning → t ≤ beginning
   Allows t _ told = Unit {0}
 
--- the thread, and the notification for which its script waits first
-module _ (x : ℕ) (waits : Option ℕ) where
+-- the notification for which a script waits first, and which of its words begin a round
+pub record First : Type 0 where
+  pub waits : Option ℕ
+  pub bits : Option ℕ
+
+-- the thread, and what its script waits for first
+module _ (x : ℕ) (first : First) where
   -- a thread whose round is yet to begin takes no other word, and is woken by no other signal
   abbrev pub Takes : What → Told → Type 0
-  Takes (row.Got y note word) told = (y == x) ≡ true → told.begun ≡ None → waits ≡ Some note
-  Takes (row.Wake y note word) told = (y == x) ≡ true → told.begun ≡ None → waits ≡ Some note
+  Takes (row.Got y note word) told = (y == x) ≡ true → told.begun ≡ None → first.waits ≡ Some note
+  Takes (row.Wake y note word) told = (y == x) ≡ true → told.begun ≡ None → first.waits ≡ Some note
   Takes _ told = Unit {0}
 
   -- one row more
   pub record Step (t : ℕ) (before : Told) (what : What) (after : Told) : Type 0 where
     pub passes : Passes (tells x what) before.standing what after.standing
-    pub begins : after.begun ≡ begun_after waits x t what before.begun
+    pub begins : after.begun ≡ begun_after first.waits first.bits x t what before.begun
     pub timed : IsTimed x t what before.begun
     pub alive : before.standing ≡ Done → IsOther x what
     pub allows : Allows x t what before
@@ -142,10 +149,11 @@ module _ (x : ℕ) (waits : Option ℕ) where
   untold false s what e = refl
 
   not_stopped : (t charged y : ℕ) (cause : Why) (until begun : Option ℕ) → (y == x) ≡ false
-      → begun ≡ begun_after waits x t (row.Stop y cause charged until) begun
+      → begun ≡ begun_after first.waits first.bits x t (row.Stop y cause charged until) begun
   not_stopped t charged y why.Spent until begun e = refl
   not_stopped t charged y why.Yield until begun e = refl
   not_stopped t charged y why.Wait until begun e = refl
+  not_stopped t charged y why.Call until begun e = refl
   not_stopped t charged y why.Done until begun e = rw e refl
   not_stopped t charged y why.Preempt until begun e = refl
   not_stopped t charged y why.Order until begun e = refl
@@ -195,6 +203,7 @@ module _ (x : ℕ) (waits : Option ℕ) where
   step-other t told (row.Arrive note badge maker) e = record { passes = refl; begins = refl; timed = tt; alive = λ f. tt; allows = tt; takes = tt }
   step-other t told (row.Hold note word) e = record { passes = refl; begins = refl; timed = tt; alive = λ f. tt; allows = tt; takes = tt }
   step-other t told (row.Order context) e = record { passes = refl; begins = refl; timed = tt; alive = λ f. tt; allows = tt; takes = tt }
+  step-other t told (row.Interrupt source at_note badge) e = record { passes = refl; begins = refl; timed = tt; alive = λ f. tt; allows = tt; takes = tt }
 
   pub walks-other : (t : ℕ) (told : Told) (rows : List What) → AreOther x rows → Walks t told rows told
   walks-other t told [] other = refl
@@ -215,6 +224,7 @@ module _ (x : ℕ) (waits : Option ℕ) where
       not_told (row.Arrive note badge maker) o = refl
       not_told (row.Hold note word) o = refl
       not_told (row.Order context) o = refl
+      not_told (row.Interrupt source at_note badge) o = refl
 
       by : (b : Bool) → Passes b before.standing what after.standing → b ≡ false → after.standing ≡ Done
       by true p f = absurd (let g : true ≡ false = f in cc)

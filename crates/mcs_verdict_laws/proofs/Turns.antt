@@ -9,6 +9,8 @@ use Rattle.mcs_release.specs.Release.{is_due}
 use Rattle.mcs_mail.specs.declared.mail.Mail.{Mail}
 use Rattle.mcs_system.specs.System.{System}
 use Rattle.mcs_system.specs.WellFormed.{IsWellFormed}
+use Rattle.std.specs.List.{AllByRecursion}
+use Rattle.mcs_core.specs.Alarms.{ringing, alarms_at}
 use Rattle.mcs_core.specs.Core.{Core, thread_of}
 use Rattle.mcs_core.specs.Places.{times_dated}
 use Rattle.mcs_core.specs.Turn as turns
@@ -16,9 +18,10 @@ use Rattle.mcs_core.specs.Turn.{Turn, silent, says, ◌followed_by◌, each, is_
 use Rattle.mcs_verdict.specs.declared.standing.Standing.{Standing}
 use Rattle.mcs_verdict.specs.declared.standing.Standing.TheVariants.{Pending, Ready, Running, Throttled, Blocked, Woken, Done}
 use Rattle.mcs_verdict_laws.proofs.Steps.{Told, told_of, ended-append, ended-other, walks-append, walks-other}
-use Rattle.mcs_verdict_laws.proofs.Holds.{dated_as, beginning_of, first, start_at, IsUnderWay, IsStarted, IsPending, AreDated, Own, Holds, Loose, Same, same-refl, same-back, holds-same, loose-same, Aside, Goes, goes-aside, goes-then, goes-each}
+use Rattle.mcs_verdict_laws.proofs.Holds.{dated_as, beginning_of, first, start_at, IsUnderWay, IsStarted, IsPending, AreDated, Own, Holds, Loose, Same, same-refl, same-back, holds-same, loose-same, Aside, Goes, goes-aside, goes-then, goes-each, goes-where}
 use Rattle.mcs_verdict_laws.proofs.Entering.{equal, step-release, enters-back}
-use Rattle.mcs_verdict_laws.proofs.Parts.{tick_of-goes, arrives-goes, obeys-goes, preempts_by-goes, chooses_of-goes}
+use Rattle.mcs_verdict_laws.proofs.Sources.{IsHeard, IsSignalled, alarms-heard}
+use Rattle.mcs_verdict_laws.proofs.Parts.{tick_of-goes, interrupts-goes, arrives-goes, obeys-goes, preempts_by-goes, chooses_of-goes}
 
 -- the release queue, of which those that are due leave
 due-left : (x t : ℕ) (xs : List Dated)
@@ -82,39 +85,39 @@ module _ (system : System) (x : ℕ) where
       later a b false e f = grind (arith, nat_tests)
 
   -- the due threads are released, among which this one is not ..
-  released-aside : (due : Dated) (k : Core) → (due.thread == x) ≡ false → Aside system x k (turns.released by_priority system due k)
+  released-aside : (due : Dated) (k : Core) → (due.thread == x) ≡ false → Aside system x k (turns.released by_priority due k)
   released-aside due k e = record { same = same-back system x due.thread None k e; rows = (e, tt) }
 
   none-released : (from t : ℕ) (xs : List Dated) (told : Told) (k : Core) → times_dated x xs ≡ 0 → Holds system x from t told k
-      → Goes system x from t told (each (turns.released by_priority system) xs k)
+      → Goes system x from t told (each (turns.released by_priority) xs k)
   none-released from t [] told k none h = goes-aside system x from t told k (silent k) h record { same = same-refl system x k; rows = tt }
   none-released from t (d ∷ xs) told k none h =
-      by (d.thread == x) refl none (λ last empty holds. none-released from t xs last (turns.released by_priority system d k).core empty holds)
+      by (d.thread == x) refl none (λ last empty holds. none-released from t xs last (turns.released by_priority d k).core empty holds)
     where
       by : (b : Bool) → (d.thread == x) ≡ b → cond b 1 0 + times_dated x xs ≡ 0
-          → ((last : Told) → times_dated x xs ≡ 0 → Holds system x from t last (turns.released by_priority system d k).core
-          → Goes system x from t last (each (turns.released by_priority system) xs (turns.released by_priority system d k).core))
-          → Goes system x from t told (each (turns.released by_priority system) (d ∷ xs) k)
+          → ((last : Told) → times_dated x xs ≡ 0 → Holds system x from t last (turns.released by_priority d k).core
+          → Goes system x from t last (each (turns.released by_priority) xs (turns.released by_priority d k).core))
+          → Goes system x from t told (each (turns.released by_priority) (d ∷ xs) k)
       by true e f rest = absurd (omega (arith, f))
       by false e f rest =
-          let next = turns.released by_priority system d k in
-          goes-then system x from from t told next (each (turns.released by_priority system) xs)
+          let next = turns.released by_priority d k in
+          goes-then system x from from t told next (each (turns.released by_priority) xs)
           (goes-aside system x from t told k next h (released-aside d k e))
           (λ last holds. rest last (omega (arith, f)) holds)
 
   -- .. or is
   one-released : (from t : ℕ) (xs : List Dated) (standing : Standing) (begun : Option ℕ) (k : Core) → (standing ≡ Pending) ⊎ (standing ≡ Throttled)
       → (standing ≡ Pending → (beginning : ℕ) → begun ≡ Some beginning → t ≤ beginning) → times_dated x xs ≡ 1
-      → Loose system x t begun k → Goes system x from t (told_of standing begun) (each (turns.released by_priority system) xs k)
+      → Loose system x t begun k → Goes system x from t (told_of standing begun) (each (turns.released by_priority) xs k)
   one-released from t [] standing begun k was early one l = absurd (omega (arith, one))
   one-released from t (d ∷ xs) standing begun k was early one l =
       by (d.thread == x) refl one
-      (λ another loose. one-released from t xs standing begun (turns.released by_priority system d k).core was early another loose)
+      (λ another loose. one-released from t xs standing begun (turns.released by_priority d k).core was early another loose)
     where
       own : times_dated x xs ≡ 0 → Goes system x from t (told_of standing begun)
-          (turns.released by_priority system (record d { thread = x }) k followed_by each (turns.released by_priority system) xs)
+          (turns.released by_priority (record d { thread = x }) k followed_by each (turns.released by_priority) xs)
       own none =
-          let next = turns.released by_priority system (record d { thread = x }) k in
+          let next = turns.released by_priority (record d { thread = x }) k in
           let first : Goes system x from t (told_of standing begun) next =
           record {
             last = told_of Ready begun;
@@ -123,21 +126,21 @@ module _ (system : System) (x : ℕ) where
             holds = enters-back system x from t None begun k l;
           }
           in
-          goes-then system x from from t (told_of standing begun) next (each (turns.released by_priority system) xs) first
+          goes-then system x from from t (told_of standing begun) next (each (turns.released by_priority) xs) first
           (λ last holds. none-released from t xs last next.core none holds)
 
       by : (b : Bool) → (d.thread == x) ≡ b → cond b 1 0 + times_dated x xs ≡ 1
-          → (times_dated x xs ≡ 1 → Loose system x t begun (turns.released by_priority system d k).core
-          → Goes system x from t (told_of standing begun) (each (turns.released by_priority system) xs (turns.released by_priority system d k).core))
-          → Goes system x from t (told_of standing begun) (each (turns.released by_priority system) (d ∷ xs) k)
+          → (times_dated x xs ≡ 1 → Loose system x t begun (turns.released by_priority d k).core
+          → Goes system x from t (told_of standing begun) (each (turns.released by_priority) xs (turns.released by_priority d k).core))
+          → Goes system x from t (told_of standing begun) (each (turns.released by_priority) (d ∷ xs) k)
       by true e f rest =
           let P : ℕ → Type 0 =
           λ z. Goes system x from t (told_of standing begun)
-          (turns.released by_priority system (record d { thread = z }) k followed_by each (turns.released by_priority system) xs)
+          (turns.released by_priority (record d { thread = z }) k followed_by each (turns.released by_priority) xs)
           in
           subst P (sym (equal d.thread x e)) (own (omega (arith, f)))
       by false e f rest =
-          let next = turns.released by_priority system d k in
+          let next = turns.released by_priority d k in
           let a = released-aside d k e in
           let q = rest (omega (arith, f)) (loose-same system x t begun k next.core a.same l) in
           record {
@@ -272,7 +275,7 @@ module _ (system : System) (x : ℕ) where
   early : (t : ℕ) (begun : Option ℕ) (k : Core) → IsUnderWay system x begun k → IsPending system x t k → Pending ≡ Pending → (beginning : ℕ)
       → begun ≡ Some beginning → t ≤ beginning
   early t begun k u p same beginning e =
-      let since = at_start (first system x) (thread_of k x).place.item (thread_of k x).since beginning (sym u.begins ∙ e) in
+      let since = at_start (first system x).waits (thread_of k x).place.item (thread_of k x).since beginning (sym u.begins ∙ e) in
       let later = p.later in
       let start = p.since in
       omega (arith, since, later, start)
@@ -322,10 +325,11 @@ module _ (system : System) (x : ℕ) where
 
 -- the whole turn
 module _ (system : System) (well : IsWellFormed system) (c t x : ℕ) where
-  pub turn-goes : (mails : List Mail) (told : Told) (k : Core) → Holds system x t t told k
+  pub turn-goes : (mails : List Mail) (told : Told) (k : Core) → AllByRecursion (IsSignalled system well) mails → Holds system x t t told k
       → Goes system x (suc t) t told (turns.turn_with by_priority system c t mails k)
-  turn-goes mails told k h =
-      let one = turns.tick by_priority system c t k in
+  turn-goes mails told k signalled h =
+      let first = turns.tick by_priority system c t k in
+      let one = first followed_by each (turns.interrupts by_priority system t) (ringing t (alarms_at system c t)) in
       let two = one followed_by each (turns.arrives by_priority system t) mails in
       let three = two followed_by each (turns.obeys by_priority system t) (filter (is_for_now system c t) system.orders) in
       let four = three followed_by turns.releases by_priority system t in
@@ -335,8 +339,13 @@ module _ (system : System) (well : IsWellFormed system) (c t x : ℕ) where
       (goes-then system x t (suc t) t told three (turns.releases by_priority system t)
       (goes-then system x t t t told two (each (turns.obeys by_priority system t) (filter (is_for_now system c t) system.orders))
       (goes-then system x t t t told one (each (turns.arrives by_priority system t) mails)
+      (goes-then system x t t t told first (each (turns.interrupts by_priority system t) (ringing t (alarms_at system c t)))
       (tick_of-goes system well x t c t k.running told k refl h)
-      (λ last holds. goes-each system x t t (turns.arrives by_priority system t) (arrives-goes system well x t t) mails last one.core holds))
+      (λ last holds. goes-where system x (IsHeard system well c) t t (turns.interrupts by_priority system t)
+      (λ alarm told core heard here. interrupts-goes system well x t t alarm told core heard.signalled here) (ringing t (alarms_at system c t)) last first.core
+      (alarms-heard system well c t) holds))
+      (λ last holds. goes-where system x (IsSignalled system well) t t (turns.arrives by_priority system t)
+      (λ mail told core is here. arrives-goes system well x t t mail told core is here) mails last one.core signalled holds))
       (λ last holds. goes-each system x t t (turns.obeys by_priority system t) (obeys-goes system well x t t)
       (filter (is_for_now system c t) system.orders) last two.core holds))
       (λ last holds. releases-as system x t last.standing last.begun three.core holds))

@@ -3,7 +3,6 @@ use Rattle.std.proofs.Common.{◌≡◌, ◌≢◌, ℕ, ◌<◌, ◌⊎◌, inl
 use Rattle.std.specs.Prelude.{bit_or}
 use Rattle.std.specs.List.{AllByRecursion}
 use Rattle.std.proofs.lemmas.Bool.Decides.{nat_tests}
-use Rattle.std.proofs.lemmas.Nat.{le_or_l}
 use Rattle.std.proofs.lemmas.List.{get_or-set_same, get_or-set_other}
 use Rattle.std.proofs.Math.ListN.{length-set}
 use Rattle.mcs_ticks.specs.Queue.{by_priority}
@@ -21,7 +20,7 @@ use Rattle.mcs_core.specs.Turn as turns
 use Rattle.mcs_core.specs.Turn.{Turn, silent, says, ◌followed_by◌, stamped}
 use Rattle.mcs_verdict_laws.proofs.Steps.{contrary}
 use Rattle.mcs_verdict_laws.proofs.Entering.{equal}
-use Rattle.mcs_verdict_laws.proofs.Signals.{IsPlain, Plain, moves-plain, wakes-plain}
+use Rattle.mcs_verdict_laws.proofs.Signals.{IsPlain, Plain, moves-plain, wakes-plain, let_in-plain}
 
 differ : (a b : ℕ) → (a == b) ≡ false → a ≢ b
 differ a b e = grind (arith, nat_tests)
@@ -33,10 +32,11 @@ module _ (note : ℕ) where
   word_after (row.Got y n word) before = cond (n == note) 0 before
   word_after _ before = before
 
-  -- a signal leaves no word 0, and wakes a thread only while it is 0
+  -- a signal adds its badge, and wakes a thread only while the word is 0; who takes the word takes all of it
   abbrev pub IsRight : ℕ → What → Type 0
-  IsRight before (row.Hold n word) = (n == note) ≡ true → before ≢ 0 → word ≢ 0
+  IsRight before (row.Hold n word) = (n == note) ≡ true → (badge : ℕ) × (word ≡ bit_or before badge)
   IsRight before (row.Wake y n word) = (n == note) ≡ true → before ≡ 0
+  IsRight before (row.Got y n word) = (n == note) ≡ true → word ≡ before
   IsRight before _ = Unit {0}
 
   abbrev pub Words : ℕ → List What → ℕ → Type 0
@@ -60,6 +60,7 @@ module _ (note : ℕ) where
   plain-words before (row.Arrive n badge maker ∷ rows) all = (tt, plain-words before rows all.1)
   plain-words before (row.Round y number response ∷ rows) all = (tt, plain-words before rows all.1)
   plain-words before (row.Order context ∷ rows) all = (tt, plain-words before rows all.1)
+  plain-words before (row.Interrupt source at_note badge ∷ rows) all = (tt, plain-words before rows all.1)
 
   -- a notification that there is, on which no thread waits while its word is set
   pub record IsSound (notes : List Note) : Type 0 where
@@ -146,8 +147,8 @@ module _ (note : ℕ) where
       said-sounds n (after_post (Woke y word) (note_of k n)) (row.Wake y n word) k sound (λ f. zero-word f)
       (same-word (n == note) refl) (λ f. inr (same (equal n note f) ∙ zero-word f))
       in
-      sounds-then k.notes (says (row.Wake y n word) noted) (turns.wakes by_priority system t y) first
-      (plain-sounds noted.notes (turns.wakes by_priority system t y noted) first.sound (wakes-plain system t y noted))
+      sounds-then k.notes (says (row.Wake y n word) noted) (turns.wakes by_priority system t y word) first
+      (plain-sounds noted.notes (turns.wakes by_priority system t y word noted) first.sound (wakes-plain system t y word noted))
     where
       same : n ≡ note → (note_of k n).word ≡ word_in k.notes
       same f = ap (λ m. (note_of k m).word) f
@@ -166,16 +167,9 @@ module _ (note : ℕ) where
       same-word false f = refl
   posts_as-sounds system t n badge (Held word) k e sound =
       let held = held-none badge word (note_of k n) e in
-      said-sounds n (after_post (Held word) (note_of k n)) (row.Hold n word) k sound (λ f some none. some (was-zero f none))
+      said-sounds n (after_post (Held word) (note_of k n)) (row.Hold n word) k sound
+      (λ f. (badge, held.1 ∙ ap (λ m. bit_or (note_of k m).word badge) (equal n note f)))
       refl (λ f. inl held.0)
-    where
-      was-zero : (n == note) ≡ true → word ≡ 0 → word_in k.notes ≡ 0
-      was-zero f none =
-          let held = held-none badge word (note_of k n) e in
-          let least = le_or_l (note_of k n).word badge in
-          let is = held.1 in
-          let same : (note_of k n).word ≡ word_in k.notes = ap (λ m. (note_of k m).word) (equal n note f) in
-          omega (arith, least, is, same, none)
 
   pub posts-sounds : (system : System) (t n badge : ℕ) (k : Core) → IsSound k.notes → Sounds k.notes (turns.posts by_priority system t n badge k)
   posts-sounds system t n badge k sound = posts_as-sounds system t n badge (posted badge (note_of k n)) k refl sound
@@ -183,15 +177,24 @@ module _ (note : ℕ) where
   waits_as-sounds : (system : System) (t y n : ℕ) (w : Waited) (k : Core) → waited (note_of k n) ≡ w → IsSound k.notes
       → Sounds k.notes (turns.waits_as system t y n w k)
   waits_as-sounds system t y n (Got word) k e sound =
-      let state = after_wait (Got word) (turns.queued system y) (note_of k n) in
+      let state = after_wait (Got word) (turns.queued y k) (note_of k n) in
       let noted = with_note n state k in
-      let first = said-sounds n state (row.Got y n word) k sound tt refl (λ f. inr refl) in
-      let given = turns.given t y noted in
+      let first =
+      said-sounds n state (row.Got y n word) k sound (λ f. all-taken (note_of k n) e ∙ ap (λ m. (note_of k m).word) (equal n note f)) refl (λ f. inr refl)
+      in
+      let given = turns.given system t y word noted in
       let start : Sounds k.notes (says (row.Got y n word) given) = record { words = first.words; sound = first.sound } in
       sounds-then k.notes (says (row.Got y n word) given) (turns.moves_on system t y) start
       (plain-sounds given.notes (turns.moves_on system t y given) first.sound (moves-plain system t y (turns.move_of system y given) given))
+    where
+      all-taken : (state : Note) → waited state ≡ Got word → word ≡ state.word
+      all-taken state f = by (state.word == 0) f
+        where
+          by : (b : Bool) → cond b Blocks (Got state.word) ≡ Got word → word ≡ state.word
+          by true f = absurd (cc)
+          by false f = cc
   waits_as-sounds system t y n Blocks k e sound =
-      let state = after_wait Blocks (turns.queued system y) (note_of k n) in
+      let state = after_wait Blocks (turns.queued y k) (note_of k n) in
       let now = set-sound k.notes n state sound (λ f. inr (zero-word (note_of k n) e)) in
       record { words = same-word (n == note) refl ∙ sym now.0; sound = now.1 }
     where
@@ -210,6 +213,45 @@ module _ (note : ℕ) where
       → Sounds k.notes (turns.waits_as system t y n (waited (note_of k n)) k)
   waits-sounds system t y n k sound = waits_as-sounds system t y n (waited (note_of k n)) k refl sound
 
+  -- another note is entered, or left
+  pub enters_as-sounds : (system : System) (t y n : ℕ) (w : Waited) (k : Core) → (n == note) ≡ false → IsSound k.notes
+      → Sounds k.notes (turns.enters_as system t y n w k)
+  enters_as-sounds system t y n (Got word) k e sound =
+      let state = after_wait (Got word) (turns.queued y k) (note_of k n) in
+      let noted = with_note n state k in
+      let first =
+      said-sounds n state (row.Got y n word) k sound (λ f. absurd (contrary (n == note) e f)) refl (λ f. absurd (contrary (n == note) e f))
+      in
+      sounds-then k.notes (says (row.Got y n word) noted) (turns.moves_on system t y) first
+      (plain-sounds noted.notes (turns.moves_on system t y noted) first.sound (moves-plain system t y (turns.move_of system y noted) noted))
+  enters_as-sounds system t y n Blocks k e sound =
+      let state = after_wait Blocks (turns.queued y k) (note_of k n) in
+      let now = set-sound k.notes n state sound (λ f. absurd (contrary (n == note) e f)) in
+      record { words = sym (now.0 ∙ ap (λ b. cond b state.word (word_in k.notes)) e); sound = now.1 }
+
+  frees_as-sounds : (system : System) (t n : ℕ) (post : Posted) (k : Core) → (n == note) ≡ false → IsSound k.notes
+      → Sounds k.notes (turns.frees_as by_priority system t n post k)
+  frees_as-sounds system t n (Woke y word) k e sound =
+      let state = after_post (Woke y word) (note_of k n) in
+      let noted = with_note n state k in
+      let first =
+      said-sounds n state (row.Wake y n word) k sound (λ f. absurd (contrary (n == note) e f))
+      (sym (ap (λ b. cond b state.word (word_in k.notes)) e)) (λ f. absurd (contrary (n == note) e f))
+      in
+      sounds-then k.notes (says (row.Wake y n word) noted) (turns.let_in by_priority system t y) first
+      (plain-sounds noted.notes (turns.let_in by_priority system t y noted) first.sound (let_in-plain system t y noted))
+  frees_as-sounds system t n (Held word) k e sound =
+      let state = after_post (Held word) (note_of k n) in
+      let now = set-sound k.notes n state sound (λ f. absurd (contrary (n == note) e f)) in
+      record { words = sym (now.0 ∙ ap (λ b. cond b state.word (word_in k.notes)) e); sound = now.1 }
+
+  pub frees-sounds : (system : System) (t y n : ℕ) (k : Core) → (n == note) ≡ false → IsSound k.notes
+      → Sounds k.notes (turns.frees by_priority system t y n k)
+  frees-sounds system t y n k e sound =
+      sounds-then k.notes (says (row.Signal y n 1) k) (λ core. turns.frees_as by_priority system t n (posted 1 (note_of core n)) core)
+      (plain-sounds k.notes (says (row.Signal y n 1) k) sound record { rows = (tt, tt); same = refl })
+      (frees_as-sounds system t n (posted 1 (note_of k n)) k e sound)
+
   -- rows that tell of other notifications
   abbrev pub IsStill : What → Type 0
   IsStill (row.Hold n word) = (n == note) ≡ false
@@ -224,7 +266,7 @@ module _ (note : ℕ) where
       ((λ f. absurd (contrary (n == note) all.0 f)), subst P (sym (ap (λ b. cond b word before) all.0)) (still-words before rows all.1))
   still-words before (row.Got y n word ∷ rows) all =
       let P : ℕ → Type 0 = λ w. Words w rows before in
-      (tt, subst P (sym (ap (λ b. cond b 0 before) all.0)) (still-words before rows all.1))
+      ((λ f. absurd (contrary (n == note) all.0 f)), subst P (sym (ap (λ b. cond b 0 before) all.0)) (still-words before rows all.1))
   still-words before (row.Wake y n word ∷ rows) all = ((λ f. absurd (contrary (n == note) all.0 f)), still-words before rows all.1)
   still-words before (row.Release y ∷ rows) all = (tt, still-words before rows all.1)
   still-words before (row.Run y ∷ rows) all = (tt, still-words before rows all.1)
@@ -233,6 +275,7 @@ module _ (note : ℕ) where
   still-words before (row.Arrive n badge maker ∷ rows) all = (tt, still-words before rows all.1)
   still-words before (row.Round y number response ∷ rows) all = (tt, still-words before rows all.1)
   still-words before (row.Order context ∷ rows) all = (tt, still-words before rows all.1)
+  still-words before (row.Interrupt source at_note badge ∷ rows) all = (tt, still-words before rows all.1)
 
   pub still-append : (rows more : List What) → AllByRecursion IsStill rows → AllByRecursion IsStill more → AllByRecursion IsStill (rows ++ more)
   still-append [] more here there = there
@@ -250,20 +293,43 @@ module _ (note : ℕ) where
   plain-still (row.Arrive n badge maker ∷ rows) all = (tt, plain-still rows all.1)
   plain-still (row.Round y number response ∷ rows) all = (tt, plain-still rows all.1)
   plain-still (row.Order context ∷ rows) all = (tt, plain-still rows all.1)
+  plain-still (row.Interrupt source at_note badge ∷ rows) all = (tt, plain-still rows all.1)
 
   posts_as-still : (system : System) (t n : ℕ) (post : Posted) (k : Core) → (n == note) ≡ false
       → AllByRecursion IsStill (turns.posts_as by_priority system t n post k).rows
   posts_as-still system t n (Woke y word) k e =
       let noted = with_note n (after_post (Woke y word) (note_of k n)) k in
-      (e, plain-still (turns.wakes by_priority system t y noted).rows (wakes-plain system t y noted).rows)
+      (e, plain-still (turns.wakes by_priority system t y word noted).rows (wakes-plain system t y word noted).rows)
   posts_as-still system t n (Held word) k e = (e, tt)
 
   waits_as-still : (system : System) (t y n : ℕ) (w : Waited) (k : Core) → (n == note) ≡ false
       → AllByRecursion IsStill (turns.waits_as system t y n w k).rows
   waits_as-still system t y n (Got word) k e =
-      let given = turns.given t y (with_note n (after_wait (Got word) (turns.queued system y) (note_of k n)) k) in
+      let given = turns.given system t y word (with_note n (after_wait (Got word) (turns.queued y k) (note_of k n)) k) in
       (e, plain-still (turns.moves_on system t y given).rows (moves-plain system t y (turns.move_of system y given) given).rows)
   waits_as-still system t y n Blocks k e = tt
+
+  pub enters_as-still : (system : System) (t y n : ℕ) (w : Waited) (k : Core) → (n == note) ≡ false
+      → AllByRecursion IsStill (turns.enters_as system t y n w k).rows
+  enters_as-still system t y n (Got word) k e =
+      let noted = with_note n (after_wait (Got word) (turns.queued y k) (note_of k n)) k in
+      (e, plain-still (turns.moves_on system t y noted).rows (moves-plain system t y (turns.move_of system y noted) noted).rows)
+  enters_as-still system t y n Blocks k e = tt
+
+  pub enters-still : (system : System) (t y n : ℕ) (k : Core) → (n == note) ≡ false
+      → AllByRecursion IsStill (turns.enters_as system t y n (waited (note_of k n)) k).rows
+  enters-still system t y n k e = enters_as-still system t y n (waited (note_of k n)) k e
+
+  frees_as-still : (system : System) (t n : ℕ) (post : Posted) (k : Core) → (n == note) ≡ false
+      → AllByRecursion IsStill (turns.frees_as by_priority system t n post k).rows
+  frees_as-still system t n (Woke y word) k e =
+      let noted = with_note n (after_post (Woke y word) (note_of k n)) k in
+      (e, plain-still (turns.let_in by_priority system t y noted).rows (let_in-plain system t y noted).rows)
+  frees_as-still system t n (Held word) k e = tt
+
+  pub frees-still : (system : System) (t y n : ℕ) (k : Core) → (n == note) ≡ false
+      → AllByRecursion IsStill (turns.frees by_priority system t y n k).rows
+  frees-still system t y n k e = (tt, frees_as-still system t n (posted 1 (note_of k n)) k e)
 
   pub posts-still : (system : System) (t n badge : ℕ) (k : Core) → (n == note) ≡ false
       → AllByRecursion IsStill (turns.posts by_priority system t n badge k).rows

@@ -35,10 +35,14 @@ one_core contexts threads =
       call = 1;
       min_budget = 1;
       contexts = contexts;
-      notes = record { name = []; core = 0 } ∷ [];
+      notes = record { name = []; core = 0; word = 0 } ∷ [];
       threads = threads;
       orders = [];
       links = [];
+      servers = 0;
+      sources = [];
+      beats = [];
+      chains = [];
     }
 
 -- by the rows up to a horizon
