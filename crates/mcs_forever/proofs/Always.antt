@@ -22,7 +22,7 @@ use Rattle.mcs_notify.specs.declared.posted.Posted.TheVariants.{Woke, Held}
 use Rattle.mcs_notify.specs.declared.posted.Waited.{Waited}
 use Rattle.mcs_notify.specs.declared.posted.Waited.TheVariants.{Got, Blocks}
 use Rattle.mcs_script.specs.declared.item.Item.{Item}
-use Rattle.mcs_script.specs.declared.item.Item.TheVariants.{Compute, Signal, Wait, Yield}
+use Rattle.mcs_script.specs.declared.item.Item.TheVariants.{Compute, Signal, Wait, Yield, On, Spin, Enter, Leave}
 use Rattle.mcs_script.specs.declared.moved.Moved.{Moved}
 use Rattle.mcs_script.specs.declared.moved.Moved.TheVariants.{Next, RoundEnds, AllDone}
 use Rattle.mcs_mail.specs.declared.mail.Mail.{Mail}
@@ -31,6 +31,8 @@ use Rattle.mcs_release.specs.Release.{is_due}
 use Rattle.mcs_system.specs.declared.part.ContextPart.{ContextPart}
 use Rattle.mcs_system.specs.System.{System, note_part, context_part, no_context, start_of}
 use Rattle.mcs_system.specs.WellFormed.{IsWellFormed}
+use Rattle.mcs_core.specs.Alarms.{ringing, alarms_at}
+use Rattle.mcs_core.specs.declared.alarm.Alarm.{Alarm}
 use Rattle.mcs_core.specs.Contexts.{no_server}
 use Rattle.mcs_core.specs.Core.{Core, context_of, note_of, with_note, thread_of, off, opening_core, opening_contexts, opening_thread}
 use Rattle.mcs_core.specs.declared.standing.AfterItem.{AfterItem}
@@ -65,11 +67,11 @@ module _ (queue : Discipline) (system : System) (t : ℕ) where
   each_keeps f h [] k = refl
   each_keeps f h (x ∷ xs) k = then_keeps k (f x k) (each f xs) (h x k) (each_keeps f h xs)
 
-  back_keeps : (x : ℕ) (until : Option ℕ) (k : Core) → length (turns.enters_back queue system x until k).threads ≡ length k.threads
+  back_keeps : (x : ℕ) (until : Option ℕ) (k : Core) → length (turns.enters_back queue x until k).threads ≡ length k.threads
   back_keeps x (Some date) k = length-set k.threads x _
   back_keeps x None k = length-set k.threads x _
 
-  front_keeps : (x : ℕ) (until : Option ℕ) (k : Core) → length (turns.enters_front queue system x until k).threads ≡ length k.threads
+  front_keeps : (x : ℕ) (until : Option ℕ) (k : Core) → length (turns.enters_front queue x until k).threads ≡ length k.threads
   front_keeps x (Some date) k = length-set k.threads x _
   front_keeps x None k = length-set k.threads x _
 
@@ -82,6 +84,7 @@ module _ (queue : Discipline) (system : System) (t : ℕ) where
   may_stop-keeps : (x using : ℕ) (cause : AfterItem) (k : Core) → Keeps (turns.may_stop queue system t x using cause k) k
   may_stop-keeps x using after.Ends k = length-set k.threads x _
   may_stop-keeps x using after.Blocks k = length-set k.threads x _
+  may_stop-keeps x using after.Calls k = length-set k.threads x _
   may_stop-keeps x using after.Yields k = stops_to_back-keeps x why.Yield (head_amount (turns.its_context system x k)) k
   may_stop-keeps x using after.GoesOn k =
       test_keeps (using == head_amount (turns.its_context system x k)) (turns.stops_to_back queue system t x why.Spent using k) (silent k) k (stops_to_back-keeps x why.Spent using k) refl
@@ -96,23 +99,47 @@ module _ (queue : Discipline) (system : System) (t : ℕ) where
 
   waits_as-keeps : (x note : ℕ) (w : Waited) (k : Core) → Keeps (turns.waits_as system t x note w k) k
   waits_as-keeps x note (Got word) k =
-      then_keeps k (says (row.Got x note word) (turns.given t x (with_note note (after_wait (Got word) (turns.queued system x) (note_of k note)) k))) (turns.moves_on system t x)
+      then_keeps k (says (row.Got x note word) (turns.given system t x word (with_note note (after_wait (Got word) (turns.queued x k) (note_of k note)) k))) (turns.moves_on system t x)
       (length-set k.threads x _) (moves_on-keeps x)
   waits_as-keeps x note Blocks k = refl
 
-  wakes-keeps : (x : ℕ) (k : Core) → Keeps (turns.wakes queue system t x k) k
-  wakes-keeps x k =
-      then_keeps k (turns.moves_on system t x (turns.given t x (turns.with_woken_context system t x k))) (λ core. silent (turns.enters_back queue system x (turns.date_of system t x core) core))
-      (moves_on-keeps x (turns.given t x (turns.with_woken_context system t x k)) ∙ length-set k.threads x _)
+  enters_as-keeps : (x server : ℕ) (w : Waited) (k : Core) → Keeps (turns.enters_as system t x server w k) k
+  enters_as-keeps x server (Got word) k =
+      then_keeps k (says (row.Got x server word) (with_note server (after_wait (Got word) (turns.queued x k) (note_of k server)) k)) (turns.moves_on system t x) refl (moves_on-keeps x)
+  enters_as-keeps x server Blocks k = refl
+
+  wakes-keeps : (x word : ℕ) (k : Core) → Keeps (turns.wakes queue system t x word k) k
+  wakes-keeps x word k =
+      then_keeps k (turns.moves_on system t x (turns.given system t x word (turns.with_woken_context system t x k))) (λ core. silent (turns.enters_back queue x (turns.date_of system t x core) core))
+      (moves_on-keeps x (turns.given system t x word (turns.with_woken_context system t x k)) ∙ length-set k.threads x _)
       (λ l. back_keeps x (turns.date_of system t x l) l)
+
+  let_in-keeps : (x : ℕ) (k : Core) → Keeps (turns.let_in queue system t x k) k
+  let_in-keeps x k =
+      then_keeps k (turns.moves_on system t x (turns.with_woken_context system t x k)) (λ core. silent (turns.enters_front queue x (turns.date_of system t x core) core))
+      (moves_on-keeps x (turns.with_woken_context system t x k))
+      (λ l. front_keeps x (turns.date_of system t x l) l)
 
   posts_as-keeps : (note : ℕ) (p : Posted) (k : Core) → Keeps (turns.posts_as queue system t note p k) k
   posts_as-keeps note (Woke x word) k =
-      then_keeps k (says (row.Wake x note word) (with_note note (after_post (Woke x word) (note_of k note)) k)) (turns.wakes queue system t x) refl (wakes-keeps x)
+      then_keeps k (says (row.Wake x note word) (with_note note (after_post (Woke x word) (note_of k note)) k)) (turns.wakes queue system t x word) refl (wakes-keeps x word)
   posts_as-keeps note (Held word) k = refl
+
+  frees_as-keeps : (server : ℕ) (p : Posted) (k : Core) → Keeps (turns.frees_as queue system t server p k) k
+  frees_as-keeps server (Woke x word) k =
+      then_keeps k (says (row.Wake x server word) (with_note server (after_post (Woke x word) (note_of k server)) k)) (turns.let_in queue system t x) refl (let_in-keeps x)
+  frees_as-keeps server (Held word) k = refl
+
+  frees-keeps : (x server : ℕ) (k : Core) → Keeps (turns.frees queue system t x server k) k
+  frees-keeps x server k =
+      then_keeps k (says (row.Signal x server 1) k) (λ l. turns.frees_as queue system t server (posted 1 (note_of l server)) l) refl (λ l. frees_as-keeps server (posted 1 (note_of l server)) l)
 
   posts-keeps : (note badge : ℕ) (k : Core) → Keeps (turns.posts queue system t note badge k) k
   posts-keeps note badge k = posts_as-keeps note (posted badge (note_of k note)) k
+
+  interrupts-keeps : (alarm : Alarm) (k : Core) → Keeps (turns.interrupts queue system t alarm k) k
+  interrupts-keeps alarm k =
+      then_keeps k (says (row.Interrupt alarm.source alarm.note alarm.badge) k) (turns.posts queue system t alarm.note alarm.badge) refl (posts-keeps alarm.note alarm.badge)
 
   arrives-keeps : (mail : Mail) (k : Core) → Keeps (turns.arrives queue system t mail k) k
   arrives-keeps mail k =
@@ -129,15 +156,15 @@ module _ (queue : Discipline) (system : System) (t : ℕ) where
   obeys-keeps order k =
       then_keeps k (says (row.Order order.context) k) (λ l. turns.orders_running queue system t order l.running l) refl (λ l. orders_running-keeps order l.running l)
 
-  released-keeps : (due : Dated) (k : Core) → Keeps (turns.released queue system due k) k
+  released-keeps : (due : Dated) (k : Core) → Keeps (turns.released queue due k) k
   released-keeps due k = back_keeps due.thread None k
 
   releases-keeps : (k : Core) → Keeps (turns.releases queue system t k) k
-  releases-keeps k = each_keeps (turns.released queue system) released-keeps (filter (is_due t) k.releases) (record k { releases = filter (λ dated. not (is_due t dated)) k.releases })
+  releases-keeps k = each_keeps (turns.released queue) released-keeps (filter (is_due t) k.releases) (record k { releases = filter (λ dated. not (is_due t dated)) k.releases })
 
   preempts_by-keeps : (o : Option Chosen) (best : Option Queued) (k : Core) → Keeps (turns.preempts_by queue system t o best k) k
   preempts_by-keeps (Some chosen) (Some best) k =
-      test_keeps (nat_lt (turns.part_of system chosen.thread).priority best.priority)
+      test_keeps (nat_lt (thread_of k chosen.thread).place.priority best.priority)
       (turns.stops_to_front queue system t chosen.thread why.Preempt chosen.using (turns.charged system chosen.thread chosen.using k)) (silent k) k
       (stops_to_front-keeps chosen.thread why.Preempt chosen.using (turns.charged system chosen.thread chosen.using k)) refl
   preempts_by-keeps (Some chosen) None k = refl
@@ -160,6 +187,11 @@ module _ (queue : Discipline) (system : System) (t : ℕ) where
     takes_effect-keeps x (Some (Wait note)) k = waits_as-keeps x note (waited (note_of k note)) k
     takes_effect-keeps x (Some (Compute ticks)) k = moves_on-keeps x k
     takes_effect-keeps x (Some Yield) k = moves_on-keeps x k
+    takes_effect-keeps x (Some (On badges)) k = moves_on-keeps x k
+    takes_effect-keeps x (Some Spin) k = moves_on-keeps x k
+    takes_effect-keeps x (Some (Enter server priority)) k = enters_as-keeps x server (waited (note_of k server)) k
+    takes_effect-keeps x (Some (Leave server priority)) k =
+        then_keeps k (turns.frees queue system t x server k) (turns.moves_on system t x) (frees-keeps x server k) (moves_on-keeps x)
     takes_effect-keeps x None k = refl
 
     finishes-keeps : (x using : ℕ) (item : Option Item) (k : Core) → Keeps (turns.finishes queue system c t x using item k) k
@@ -176,8 +208,11 @@ module _ (queue : Discipline) (system : System) (t : ℕ) where
     tick_of-keeps None k = refl
     tick_of-keeps (Some chosen) k = after_count-keeps chosen.thread (chosen.using + 1) (turns.counts chosen k) ∙ length-set k.threads chosen.thread _
 
+    abbrev rung : Core → Turn
+    rung k = turns.tick queue system c t k followed_by each (turns.interrupts queue system t) (ringing t (alarms_at system c t))
+
     abbrev arrived : List Mail → Core → Turn
-    arrived mails k = turns.tick queue system c t k followed_by each (turns.arrives queue system t) mails
+    arrived mails k = rung k followed_by each (turns.arrives queue system t) mails
 
     abbrev obeyed : List Mail → Core → Turn
     obeyed mails k = arrived mails k followed_by each (turns.obeys queue system t) (filter (turns.is_for_now system c t) system.orders)
@@ -194,7 +229,10 @@ module _ (queue : Discipline) (system : System) (t : ℕ) where
         (then_keeps k (freed mails k) (turns.preempts queue system t)
         (then_keeps k (obeyed mails k) (turns.releases queue system t)
         (then_keeps k (arrived mails k) (each (turns.obeys queue system t) (filter (turns.is_for_now system c t) system.orders))
-        (then_keeps k (turns.tick queue system c t k) (each (turns.arrives queue system t) mails) (tick_of-keeps k.running k) (each_keeps (turns.arrives queue system t) arrives-keeps mails))
+        (then_keeps k (rung k) (each (turns.arrives queue system t) mails)
+        (then_keeps k (turns.tick queue system c t k) (each (turns.interrupts queue system t) (ringing t (alarms_at system c t))) (tick_of-keeps k.running k)
+        (each_keeps (turns.interrupts queue system t) interrupts-keeps (ringing t (alarms_at system c t))))
+        (each_keeps (turns.arrives queue system t) arrives-keeps mails))
         (each_keeps (turns.obeys queue system t) obeys-keeps (filter (turns.is_for_now system c t) system.orders)))
         releases-keeps)
         (λ l. preempts_by-keeps l.running (queue.best l.ready) l))

@@ -5,7 +5,7 @@ use Rattle.std.specs.List.{slice_get}
 use Rattle.std.proofs.lemmas.Bool.Decides.{nat_tests}
 use Rattle.std.proofs.lemmas.List.{get_or-set_same, get_or-set_other, get_or-replicate, get_or_past, length-set, length-replicate, get_or_append_left, get_or_push, length_push}
 use Rattle.mcs_script.specs.declared.item.Item.{Item}
-use Rattle.mcs_script.specs.declared.item.Item.TheVariants.{Compute, Signal, Wait, Yield}
+use Rattle.mcs_script.specs.declared.item.Item.TheVariants.{Compute, Signal, Wait, Yield, On, Spin, Enter, Leave}
 use Rattle.mcs_system.specs.System.{System, thread_part, note_part, core_of}
 use Rattle.mcs_laws.specs.Links.{Signals}
 use Rattle.mcs_forever.specs.Recurs.{IsClosed}
@@ -231,6 +231,10 @@ module _ (system : System) where
       by (Some (Compute ticks)) item e = absurd (no_home e)
       by (Some (Wait note)) item e = absurd (no_home e)
       by (Some Yield) item e = absurd (no_home e)
+      by (Some (On badges)) item e = absurd (no_home e)
+      by (Some Spin) item e = absurd (no_home e)
+      by (Some (Enter server priority)) item e = absurd (no_home e)
+      by (Some (Leave server priority)) item e = absurd (no_home e)
       by None item e = absurd (no_home e)
 
   pub makers-silent : (n i : ℕ) (makers : List (List Bool)) → home_signalled system (slice_get (thread_part system n).script i) ≡ None →

@@ -1,5 +1,5 @@
 -- Rows tell of the core's own threads and notifications: at each moment no other thread has a place on the core, and no part of a turn gives it one.
-use Rattle.std.proofs.Common.{◌≡◌, ◌≢◌, ℕ, zero, suc, ◌+◌, ◌<◌, ◌≤◌, ◌⊎◌, inl, inr, Bool, true, false, cond, not, List, [], ◌∷◌, ◌++◌, length, get_or, refl, sym, ap, subst, ◌∙◌, Option, Some, None, arith}
+use Rattle.std.proofs.Common.{◌≡◌, ◌≢◌, ℕ, zero, suc, ◌+◌, ◌<◌, ◌≤◌, ◌⊎◌, inl, inr, Bool, true, false, cond, not, List, [], ◌∷◌, ◌++◌, map, length, get_or, refl, sym, ap, subst, ◌∙◌, Option, Some, None, arith}
 use Rattle.std.specs.Prelude.{filter, ◌==◌, ◌&&◌, nat_lt, All, flat_map}
 use Rattle.std.specs.List.{AllByRecursion, slice_get, range_with_len}
 use Rattle.std.proofs.lemmas.Bool.{cases_lt}
@@ -19,12 +19,15 @@ use Rattle.mcs_notify.specs.declared.posted.Waited.TheVariants.{Got, Blocks}
 use Rattle.mcs_release.specs.declared.dated.Dated.{Dated}
 use Rattle.mcs_release.specs.Release.{is_due}
 use Rattle.mcs_script.specs.declared.item.Item.{Item}
-use Rattle.mcs_script.specs.declared.item.Item.TheVariants.{Compute, Signal, Wait, Yield}
+use Rattle.mcs_script.specs.declared.item.Item.TheVariants.{Compute, Signal, Wait, Yield, On, Spin, Enter, Leave}
 use Rattle.mcs_script.specs.declared.moved.Moved.{Moved}
 use Rattle.mcs_script.specs.declared.moved.Moved.TheVariants.{Next, RoundEnds, AllDone}
 use Rattle.mcs_mail.specs.declared.mail.Mail.{Mail}
-use Rattle.mcs_system.specs.System.{System, no_thread, note_part, thread_part, core_of}
-use Rattle.mcs_system.specs.WellFormed.{IsWellFormed, IsItem}
+use Rattle.mcs_system.specs.declared.part.Beat.{Beat}
+use Rattle.mcs_system.specs.System.{System, no_thread, no_source, note_part, thread_part, source_part, core_of}
+use Rattle.mcs_system.specs.WellFormed.{IsWellFormed, IsItem, IsBeat}
+use Rattle.mcs_core.specs.Alarms.{alarm_of, is_at_home, rung, rings, ringing, past, alarms_at}
+use Rattle.mcs_core.specs.declared.alarm.Alarm.{Alarm}
 use Rattle.mcs_core.specs.Core.{Core, note_of, thread_of, with_note, opening_core}
 use Rattle.mcs_core.specs.Places.{times_queued, times_dated}
 use Rattle.mcs_core.specs.declared.standing.AfterItem.{AfterItem}
@@ -41,7 +44,7 @@ use Rattle.mcs_laws.proofs.UnderWay.{signals-of-turns}
 use Rattle.mcs_laws.specs.Places.{times_running, places}
 use Rattle.mcs_laws.proofs.Histories.{takes-time}
 use Rattle.mcs_laws.proofs.Homes.{one_if, no_date}
-use Rattle.mcs_laws.proofs.Places.{queued-cons, dated-cons, woke, set-waiting, arrives-held, each-held, obeys-held, releases-held, preempts_by-held, tick_of-held, turn-held, quiet-waiting}
+use Rattle.mcs_laws.proofs.Places.{queued-cons, dated-cons, woke, set-waiting, interrupts-held, arrives-held, each-held, obeys-held, releases-held, preempts_by-held, tick_of-held, turn-held, quiet-waiting}
 use Rattle.mcs_forever.specs.laws.Home.{IsOwnThread, IsOwnNote, IsOfOwn, RowsAreOfOwn}
 
 -- each signal under way is for a notification that there is
@@ -151,7 +154,7 @@ module _ (system : System) (c : ℕ) where
         ((own, home), all_append (turns.moves_on system t x begun).rows [] (moves-own x (turns.move_of system x begun) begun own) tt)
       where
         begun : Core
-        begun = turns.given t x (turns.with_woken_context system t x (with_note note (after_post (Woke x word) (note_of k note)) k))
+        begun = turns.given system t x word (turns.with_woken_context system t x (with_note note (after_post (Woke x word) (note_of k note)) k))
 
         own : Own x
         own = waits-own k s note x (woke x word badge (note_of k note).word (note_of k note).waiters e)
@@ -159,6 +162,30 @@ module _ (system : System) (c : ℕ) where
 
     posts-own : (note badge : ℕ) (k : Core) → NoOther k → IsOwnNote system c note → AllOwn (turns.posts by_priority system t note badge k).rows
     posts-own note badge k s home = posts_as-own note badge (posted badge (note_of k note)) k refl s home
+
+    -- a server that is left
+    frees-own : (x server : ℕ) (k : Core) → Own x → NoOther k → IsOwnNote system c server → AllOwn (turns.frees by_priority system t x server k).rows
+    frees-own x server k own s home = (own, by (posted 1 (note_of k server)) refl)
+      where
+        by : (p : Posted) → posted 1 (note_of k server) ≡ p → AllOwn (turns.frees_as by_priority system t server p k).rows
+        by (Woke y word) e =
+            let woken = turns.with_woken_context system t y (with_note server (after_post (Woke y word) (note_of k server)) k) in
+            let waiter : Own y = waits-own k s server y (woke y word 1 (note_of k server).word (note_of k server).waiters e) in
+            ((waiter, home), all_append (turns.moves_on system t y woken).rows [] (moves-own y (turns.move_of system y woken) woken waiter) tt)
+        by (Held word) e = tt
+
+    -- interrupts, each for a notification of the core
+    abbrev AreOwn : List Alarm → Type 0
+    AreOwn alarms = AllByRecursion (λ (alarm : Alarm). IsOwnNote system c alarm.note) alarms
+
+    interrupts-own : (alarms : List Alarm) (k : Core) → AreOwn alarms → NoOther k → AllOwn (each (turns.interrupts by_priority system t) alarms k).rows
+    interrupts-own [] k h s = tt
+    interrupts-own (alarm ∷ alarms) k h s = (
+      h.0,
+      all_append (turns.posts by_priority system t alarm.note alarm.badge k).rows (each (turns.interrupts by_priority system t) alarms (turns.interrupts by_priority system t alarm k).core).rows
+          (posts-own alarm.note alarm.badge k s h.0)
+          (interrupts-own alarms (turns.interrupts by_priority system t alarm k).core h.1 (kept k (turns.interrupts by_priority system t alarm k).core (λ y. interrupts-held system t y alarm k) s)),
+    )
 
     -- arrivals, each for a notification of the core
     arrivals-own : (mails : List Mail) (k : Core) → AllByRecursion (λ (mail : Mail). IsOwnNote system c mail.note) mails → NoOther k → AllOwn (each (turns.arrives by_priority system t) mails k).rows
@@ -191,10 +218,10 @@ module _ (system : System) (c : ℕ) where
     abbrev NoOtherDate : List Dated → Type 0
     NoOtherDate dated = (y : ℕ) → (Own y → ⊥) → times_dated y dated ≡ 0
 
-    released-own : (dated : List Dated) (k : Core) → NoOtherDate dated → AllOwn (each (turns.released by_priority system) dated k).rows
+    released-own : (dated : List Dated) (k : Core) → NoOtherDate dated → AllOwn (each (turns.released by_priority) dated k).rows
     released-own [] k s = tt
     released-own (due ∷ dated) k s =
-        (by (own_or due.thread), released-own dated (turns.released by_priority system due k).core (λ y away. omega (arith, s y away, dated-cons y due dated)))
+        (by (own_or due.thread), released-own dated (turns.released by_priority due k).core (λ y away. omega (arith, s y away, dated-cons y due dated)))
       where
         by : Own due.thread ⊎ (Own due.thread → ⊥) → Own due.thread
         by (inl own) = own
@@ -216,7 +243,7 @@ module _ (system : System) (c : ℕ) where
     -- the choice
     preempts_by-own : (o : Option Chosen) (best : Option Queued) (k : Core) → k.running ≡ o → NoOther k → AllOwn (turns.preempts_by by_priority system t o best k).rows
     preempts_by-own (Some chosen) (Some best) k e s =
-        all_test (nat_lt (turns.part_of system chosen.thread).priority best.priority)
+        all_test (nat_lt (thread_of k chosen.thread).place.priority best.priority)
         (turns.stops_to_front by_priority system t chosen.thread why.Preempt chosen.using (turns.charged system chosen.thread chosen.using k)) (turns.silent k) (runs-own k s chosen e, tt) tt
     preempts_by-own (Some chosen) None k e s = tt
     preempts_by-own None best k e s = tt
@@ -235,12 +262,19 @@ module _ (system : System) (c : ℕ) where
     waits_as-own x note (Got word) k own home = ((own, home), moves-own x (turns.move_of system x begun) begun own)
       where
         begun : Core
-        begun = turns.given t x (with_note note (after_wait (Got word) (turns.queued system x) (note_of k note)) k)
+        begun = turns.given system t x word (with_note note (after_wait (Got word) (turns.queued x k) (note_of k note)) k)
     waits_as-own x note Blocks k own home = tt
+
+    enters_as-own : (x server : ℕ) (w : Waited) (k : Core) → Own x → IsOwnNote system c server → AllOwn (turns.enters_as system t x server w k).rows
+    enters_as-own x server (Got word) k own home =
+        let taken = with_note server (after_wait (Got word) (turns.queued x k) (note_of k server)) k in
+        ((own, home), moves-own x (turns.move_of system x taken) taken own)
+    enters_as-own x server Blocks k own home = tt
 
     may_stop-own : (x using : ℕ) (cause : AfterItem) (k : Core) → Own x → AllOwn (turns.may_stop by_priority system t x using cause k).rows
     may_stop-own x using after.Ends k own = (own, tt)
     may_stop-own x using after.Blocks k own = (own, tt)
+    may_stop-own x using after.Calls k own = (own, tt)
     may_stop-own x using after.Yields k own = (own, tt)
     may_stop-own x using after.GoesOn k own =
         all_test (using == head_amount (turns.its_context system x k)) (turns.stops_to_back by_priority system t x why.Spent using k) (turns.silent k) (own, tt) tt
@@ -278,6 +312,16 @@ module _ (system : System) (c : ℕ) where
           waits_as-own x note (waited (note_of k note)) k own (record { known = item.0; home = item.1 ∙ own.home })
       takes_effect-own x (Some (Compute ticks)) k e own s = moves-own x (turns.move_of system x k) k own
       takes_effect-own x (Some Yield) k e own s = moves-own x (turns.move_of system x k) k own
+      takes_effect-own x (Some (On badges)) k e own s = moves-own x (turns.move_of system x k) k own
+      takes_effect-own x (Some Spin) k e own s = moves-own x (turns.move_of system x k) k own
+      takes_effect-own x (Some (Enter server priority)) k e own s =
+          let item = own-item x (Enter server priority) k e own in
+          enters_as-own x server (waited (note_of k server)) k own (record { known = item.0; home = item.1 ∙ own.home })
+      takes_effect-own x (Some (Leave server priority)) k e own s =
+          let item = own-item x (Leave server priority) k e own in
+          let first = turns.frees by_priority system t x server k in
+          all_append first.rows (turns.moves_on system t x first.core).rows (frees-own x server k own s (record { known = item.0; home = item.1 ∙ own.home }))
+          (moves-own x (turns.move_of system x first.core) first.core own)
       takes_effect-own x None k e own s = tt
 
       finishes-own : (x using : ℕ) (item : Option Item) (k : Core) → turns.item_of system x k ≡ item → Own x → NoOther k → AllOwn (turns.finishes by_priority system c t x using item k).rows
@@ -301,14 +345,51 @@ module _ (system : System) (c : ℕ) where
               let f : times_running y k.running ≡ times_running y (Some chosen) = ap (times_running y) e in
               omega (arith, f)
 
+      -- what rings is for the core's notifications
+      same_core : (a b : ℕ) → (a == b) ≡ true → a ≡ b
+      same_core a b e = grind (arith, nat_tests)
+
+      own-first : (beats : List Beat) → All (IsBeat system) beats → AreOwn (map (alarm_of system) (filter (is_at_home system c) beats))
+      own-first [] h = tt
+      own-first (beat ∷ beats) h = by (is_at_home system c beat) refl (own-first beats (All-tail (IsBeat system) beat beats h))
+        where
+          by : (b : Bool) → is_at_home system c beat ≡ b → AreOwn (map (alarm_of system) (filter (is_at_home system c) beats)) →
+              AreOwn (map (alarm_of system) (cond b (beat ∷ filter (is_at_home system c) beats) (filter (is_at_home system c) beats)))
+          by true e i =
+              let source = well.sources.sources beat.source no_source (All-head (IsBeat system) beat beats h).source in
+              (record { known = source.note; home = same_core (note_part system (source_part system beat.source).note).core c e }, i)
+          by false e i = i
+
+      own-past : (m : ℕ) (alarms : List Alarm) → AreOwn alarms → AreOwn (past m alarms)
+      own-past m [] h = tt
+      own-past m (alarm ∷ alarms) h = (by (rings m alarm), own-past m alarms h.1)
+        where
+          by : (b : Bool) → IsOwnNote system c (cond b (rung alarm) alarm).note
+          by true = h.0
+          by false = h.0
+
+      own-alarms : (m : ℕ) → AreOwn (alarms_at system c m)
+      own-alarms zero = own-first system.beats well.sources.beats
+      own-alarms (suc m) = own-past m (alarms_at system c m) (own-alarms m)
+
+      own-ringing : (m : ℕ) (alarms : List Alarm) → AreOwn alarms → AreOwn (ringing m alarms)
+      own-ringing m [] h = tt
+      own-ringing m (alarm ∷ alarms) h = by (rings m alarm) (own-ringing m alarms h.1)
+        where
+          by : (b : Bool) → AreOwn (ringing m alarms) → AreOwn (cond b (alarm ∷ ringing m alarms) (ringing m alarms))
+          by true i = (h.0, i)
+          by false i = i
+
       -- a whole turn
       pub turn-own : (mails : List Mail) (k : Core) → AllByRecursion (λ (mail : Mail). IsOwnNote system c mail.note) mails → NoOther k → AllOwn (turns.turn_with by_priority system c t mails k).rows
       turn-own mails k h s =
-          all_append ((((ticked.rows ++ arrived.rows) ++ obeyed.rows) ++ freed.rows) ++ yielded.rows) (turns.chooses by_priority system t yielded.core).rows
-          (all_append (((ticked.rows ++ arrived.rows) ++ obeyed.rows) ++ freed.rows) yielded.rows
-          (all_append ((ticked.rows ++ arrived.rows) ++ obeyed.rows) freed.rows
-          (all_append (ticked.rows ++ arrived.rows) obeyed.rows
-          (all_append ticked.rows arrived.rows (tick_of-own k.running k refl s) (arrivals-own mails ticked.core h first))
+          all_append (((((ticked.rows ++ rang.rows) ++ arrived.rows) ++ obeyed.rows) ++ freed.rows) ++ yielded.rows) (turns.chooses by_priority system t yielded.core).rows
+          (all_append ((((ticked.rows ++ rang.rows) ++ arrived.rows) ++ obeyed.rows) ++ freed.rows) yielded.rows
+          (all_append (((ticked.rows ++ rang.rows) ++ arrived.rows) ++ obeyed.rows) freed.rows
+          (all_append ((ticked.rows ++ rang.rows) ++ arrived.rows) obeyed.rows
+          (all_append (ticked.rows ++ rang.rows) arrived.rows
+          (all_append ticked.rows rang.rows (tick_of-own k.running k refl s) (interrupts-own (ringing t (alarms_at system c t)) ticked.core (own-ringing t (alarms_at system c t) (own-alarms t)) first))
+          (arrivals-own mails rang.core h interrupted))
           (orders-own (filter (turns.is_for_now system c t) system.orders) arrived.core second))
           (releases-own obeyed.core third))
           (preempts_by-own freed.core.running (first_of freed.core.ready) freed.core refl fourth))
@@ -317,8 +398,11 @@ module _ (system : System) (c : ℕ) where
           ticked : Turn
           ticked = turns.tick by_priority system c t k
 
+          rang : Turn
+          rang = each (turns.interrupts by_priority system t) (ringing t (alarms_at system c t)) ticked.core
+
           arrived : Turn
-          arrived = each (turns.arrives by_priority system t) mails ticked.core
+          arrived = each (turns.arrives by_priority system t) mails rang.core
 
           obeyed : Turn
           obeyed = each (turns.obeys by_priority system t) (filter (turns.is_for_now system c t) system.orders) arrived.core
@@ -332,8 +416,11 @@ module _ (system : System) (c : ℕ) where
           first : NoOther ticked.core
           first = kept k ticked.core (λ y. tick_of-held system c t y k.running k refl) s
 
+          interrupted : NoOther rang.core
+          interrupted = kept ticked.core rang.core (λ y. each-held system t y (turns.interrupts by_priority system t) (interrupts-held system t y) (ringing t (alarms_at system c t)) ticked.core) first
+
           second : NoOther arrived.core
-          second = kept ticked.core arrived.core (λ y. each-held system t y (turns.arrives by_priority system t) (arrives-held system t y) mails ticked.core) first
+          second = kept rang.core arrived.core (λ y. each-held system t y (turns.arrives by_priority system t) (arrives-held system t y) mails rang.core) interrupted
 
           third : NoOther obeyed.core
           third = kept arrived.core obeyed.core (λ y. each-held system t y (turns.obeys by_priority system t) (obeys-held system t y) (filter (turns.is_for_now system c t) system.orders) arrived.core) second
@@ -375,6 +462,18 @@ module _ (system : System) (c : ℕ) where
       by true true e i = (record { known = h.0; home = same (note_part system mail.note).core c e }, i)
       by true false e i = i
       by false home e i = i
+
+-- a server that the running thread of a core may leave is at home there
+pub leaves-at-home : (system : System) → IsWellFormed system → (c t : ℕ) → c < system.cores → (chosen : Chosen) →
+    (clocks.core_shown system (clocks.world system t) c).running ≡ Some chosen → (i server priority : ℕ) →
+    slice_get (thread_part system chosen.thread).script i ≡ Some (Leave server priority) → (note_part system server).core ≡ c
+leaves-at-home system well c t known chosen runs i server priority e =
+    let own = runs-own system c (clocks.core_shown system (clocks.world system t) c) (none-other system c well known t) chosen runs in
+    let item =
+    item-at system c t well (core_of system (thread_part system chosen.thread)) (thread_part system chosen.thread).script i (Leave server priority)
+    (well.threads chosen.thread no_thread own.known).items e
+    in
+    item.1 ∙ own.home
 
 pub rows-of-own : RowsAreOfOwn
 rows-of-own system well c t known =

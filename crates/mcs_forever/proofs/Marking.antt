@@ -150,6 +150,7 @@ module _ (system : System) where
     row-tells core (row.Arrive note badge maker) context round own = tt
     row-tells core (row.Hold note word) context round own = tt
     row-tells core (row.Order context_of) context round own = tt
+    row-tells core (row.Interrupt source note badge) context round own = tt
 
     any-first : (p : What → Bool) (what : What) (rows : List What) → p what ≡ true → list_any p (what ∷ rows) ≡ true
     any-first p what rows e = ap (λ b. b || list_any p rows) e
@@ -219,6 +220,7 @@ module _ (system : System) where
     context-asked x (row.Arrive note badge maker) keeps e = no e
     context-asked x (row.Hold note word) keeps e = no e
     context-asked x (row.Order context) keeps e = no e
+    context-asked x (row.Interrupt source note badge) keeps e = no e
 
     round-asked : (x : ℕ) (what : What) → KeepsUp system shift what → (mark_by system x what).round ≡ true → RoundKeepsUp system shift x
     round-asked x (row.Wake y note word) keeps e = marked-round (RoundKeepsUp system shift) x y _ e (λ _. keeps.1)
@@ -232,6 +234,7 @@ module _ (system : System) where
     round-asked x (row.Arrive note badge maker) keeps e = no e
     round-asked x (row.Hold note word) keeps e = no e
     round-asked x (row.Order context) keeps e = no e
+    round-asked x (row.Interrupt source note badge) keeps e = no e
 
     -- so of any row
     any-asked : (P : Type 0) (p : What → Bool) → ((what : What) → KeepsUp system shift what → p what ≡ true → P) → (rows : List What) →

@@ -35,6 +35,10 @@ ordered =
           ∷ record { name = 76 ∷ []; context = 2; priority = 1; start = 0; rounds = 0; deadline = 0; script = Compute 9 ∷ [] } ∷ [];
       orders = [];
       links = [];
+      servers = 0;
+      sources = [];
+      beats = [];
+      chains = [];
     }
 
 abbrev M : Queued
@@ -81,9 +85,9 @@ abbrev core_as : ℕ → ℕ → ℕ → ℕ → List ℕ → List ℕ → Core
 core_as h m began since dates lagging =
     record {
       running = Some (record { thread = 0; using = 0 });
-      threads = record { standing = Running; place = record { round = h; item = 0; left = 2 }; since = began }
-          ∷ record { standing = Ready; place = record { round = m; item = 0; left = 2 }; since = since }
-          ∷ record { standing = Ready; place = record { round = 1; item = 0; left = 7 }; since = 0 } ∷ [];
+      threads = record { standing = Running; place = record { round = h; item = 0; left = 2; word = 0; priority = 5 }; since = began }
+          ∷ record { standing = Ready; place = record { round = m; item = 0; left = 2; word = 0; priority = 3 }; since = since }
+          ∷ record { standing = Ready; place = record { round = 1; item = 0; left = 7; word = 0; priority = 1 }; since = 0 } ∷ [];
       ready = M ∷ L ∷ [];
       releases = [];
       contexts = Some (record { config = record { budget = 2; period = 4; extra = 0 }; mode = Sporadic; budget = Dates dates })
@@ -145,6 +149,7 @@ recurs =
       shift = is_shift;
       orders = tt;
       again = is_later;
+      alarms = λ c known own. refl;
       rows = λ t c l m known own. rows t c l m known;
     }
 

@@ -16,11 +16,15 @@ pair =
       min_budget = 1;
       contexts = record { name = 99 ∷ []; core = 0; config = record { budget = 2; period = 4; extra = 0 }; mode = Sporadic }
           ∷ record { name = 100 ∷ []; core = 1; config = record { budget = 2; period = 4; extra = 0 }; mode = Sporadic } ∷ [];
-      notes = record { name = 110 ∷ []; core = 1 } ∷ [];
+      notes = record { name = 110 ∷ []; core = 1; word = 0 } ∷ [];
       threads = record { name = 83 ∷ []; context = 0; priority = 5; start = 0; rounds = 0; deadline = 0; script = Compute 1 ∷ Signal 0 1 ∷ [] }
           ∷ record { name = 87 ∷ []; context = 1; priority = 5; start = 0; rounds = 0; deadline = 0; script = Wait 0 ∷ Compute 1 ∷ [] } ∷ [];
       orders = [];
       links = [];
+      servers = 0;
+      sources = [];
+      beats = [];
+      chains = [];
     }
 
 abbrev alone : List Bool

@@ -8,7 +8,7 @@ use Rattle.mcs_control.specs.declared.config.Mode.TheVariants as modes
 use Rattle.mcs_control.specs.Context.{Context, Budget, context_charged, context_woken, context_chosen, context_unblocked, woken_by, chosen_by, head_amount, amount_of, max_refills_of, date_from}
 use Rattle.mcs_control.specs.Context.Budget.{Dates, Slice}
 use Rattle.mcs_script.specs.declared.item.Item.{Item}
-use Rattle.mcs_script.specs.Script.{move_after}
+use Rattle.mcs_script.specs.Script.{next_of, move_by, move_after}
 use Rattle.mcs_script.specs.declared.place.Place.{Place}
 use Rattle.mcs_ticks.specs.declared.row.What.TheVariants as row
 use Rattle.mcs_ticks.specs.declared.row.Why.{Why}
@@ -218,4 +218,8 @@ round-ends (suc n) r = top r n (2 ^ 64 - 1)
 -- a thread with no last round, or that has begun no more rounds, moves as it would
 pub moves-same : (script : List Item) (rounds n : ℕ) (place : Place) → (n ≡ 0) ⊎ (rounds ≡ 0) → move_after script rounds (later_place n place) ≡ move_after script rounds place
 moves-same script rounds n place (inl e) = rw e refl
-moves-same script rounds n place (inr e) = rw e refl
+moves-same script rounds n place (inr e) = rw e (by (next_of script place))
+  where
+    by : (o : Option ℕ) → move_by o 0 (later_place n place) ≡ move_by o 0 place
+    by (Some next) = refl
+    by None = refl

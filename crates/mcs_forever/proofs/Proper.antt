@@ -85,6 +85,7 @@ module _ (system : System) (well : IsWellFormed system) (shift : Shift) (c t : â
       by (row.Hold note word) own h = tt
       by (row.Got x note word) own h = tt
       by (row.Order context) own h = tt
+      by (row.Interrupt source note badge) own h = tt
 
   pub proper : AllByRecursion (IsProper system shift) (clocks.turn_of system c t).rows
   proper = all-proper (clocks.turn_of system c t).rows (rows-of-own system well c t known) charged

@@ -78,6 +78,7 @@ timeless-in_time system shifts c (row.Wake thread note word) h = h
 timeless-in_time system shifts c (row.Hold note word) h = h
 timeless-in_time system shifts c (row.Got thread note word) h = h
 timeless-in_time system shifts c (row.Order context) h = h
+timeless-in_time system shifts c (row.Interrupt source note badge) h = h
 
 pub never-late : NeverLate
 never-late system group shifts a well recurs first horizon = all-turns (λ row. InTime row.core row.what) system well (suc horizon) (λ t c l known. by t c known (group c) refl)
@@ -107,6 +108,7 @@ timeless-ends shifts thread c (row.Wake x note word) h = h
 timeless-ends shifts thread c (row.Hold note word) h = h
 timeless-ends shifts thread c (row.Got x note word) h = h
 timeless-ends shifts thread c (row.Order context) h = h
+timeless-ends shifts thread c (row.Interrupt source note badge) h = h
 
 -- rounds of a thread end on its own core alone
 ends-at-home : (system : System) (thread c : ℕ) (what : What) → IsOfOwn system c what → (core_of system (thread_part system thread) ≡ c → ⊥) → ends_round thread what ≡ false
@@ -127,6 +129,7 @@ ends-at-home system thread c (row.Wake x note word) own away = refl
 ends-at-home system thread c (row.Hold note word) own away = refl
 ends-at-home system thread c (row.Got x note word) own away = refl
 ends-at-home system thread c (row.Order context) own away = refl
+ends-at-home system thread c (row.Interrupt source note badge) own away = refl
 
 pub no-round-ends-again : NoRoundEndsAgain
 no-round-ends-again system group shifts a well recurs thread own first horizon =

@@ -27,6 +27,7 @@ module _ (system : System) (shift : Shift) where
   IsProper (row.Hold note word) = Unit {0}
   IsProper (row.Got thread note word) = Unit {0}
   IsProper (row.Order context) = Unit {0}
+  IsProper (row.Interrupt source note badge) = Unit {0}
 
   -- what is compared with now keeps up, and the row is proper
   abbrev pub Agrees : What → Type 0
@@ -41,6 +42,7 @@ module _ (system : System) (shift : Shift) where
   Agrees (row.Hold note word) = Unit {0}
   Agrees (row.Got thread note word) = RoundKeepsUp system shift thread
   Agrees (row.Order context) = Unit {0}
+  Agrees (row.Interrupt source note badge) = Unit {0}
 
   abbrev pub AllAgree : List What → Type 0
   AllAgree [] = Unit {0}
@@ -58,6 +60,7 @@ module _ (system : System) (shift : Shift) where
   agrees (row.Hold note word) a b = tt
   agrees (row.Got thread note word) a b = a
   agrees (row.Order context) a b = tt
+  agrees (row.Interrupt source note badge) a b = tt
 
   pub all-agree : (rows : List What) → AllByRecursion (KeepsUp system shift) rows → AllByRecursion IsProper rows → AllAgree rows
   all-agree [] a b = tt

@@ -19,12 +19,14 @@ use Rattle.mcs_notify.specs.declared.posted.Posted.TheVariants.{Woke, Held}
 use Rattle.mcs_notify.specs.declared.posted.Waited.{Waited}
 use Rattle.mcs_notify.specs.declared.posted.Waited.TheVariants.{Got, Blocks}
 use Rattle.mcs_script.specs.declared.item.Item.{Item}
-use Rattle.mcs_script.specs.declared.item.Item.TheVariants.{Compute, Signal, Wait, Yield}
+use Rattle.mcs_script.specs.declared.item.Item.TheVariants.{Compute, Signal, Wait, Yield, On, Spin, Enter, Leave}
 use Rattle.mcs_script.specs.declared.moved.Moved.{Moved}
 use Rattle.mcs_script.specs.declared.moved.Moved.TheVariants.{Next, RoundEnds, AllDone}
-use Rattle.mcs_script.specs.Script.{move_after, place_at}
+use Rattle.mcs_script.specs.Script.{move_after, place_after, goes_to, heard, left_after}
 use Rattle.mcs_mail.specs.declared.mail.Mail.{Mail}
 use Rattle.mcs_system.specs.System.{System, note_part, thread_part, delay_between}
+use Rattle.mcs_core.specs.Alarms.{alarms_at, rings, has_come, ringing}
+use Rattle.mcs_core.specs.declared.alarm.Alarm.{Alarm}
 use Rattle.mcs_core.specs.Core.{Core, note_of, with_note, with_context, with_thread, thread_of, stands, pends, off}
 use Rattle.mcs_core.specs.declared.standing.Standing.{Standing}
 use Rattle.mcs_core.specs.declared.standing.Standing.TheVariants.{Blocked, Pending, Ready, Running, Done}
@@ -36,7 +38,7 @@ use Rattle.mcs_release.specs.declared.dated.Dated.{Dated}
 use Rattle.mcs_release.specs.Release.{is_due}
 use Rattle.mcs_core.specs.Turn as turns
 use Rattle.mcs_core.specs.Turn.{Turn, each, silent, says, ◌followed_by◌}
-use Rattle.mcs_forever.specs.Later.{Shift, later_context, later_thread, more_rounds, later_dated, later_mail, later_core, later_what, ContextKeepsUp, RoundKeepsUp, IsShift}
+use Rattle.mcs_forever.specs.Later.{Shift, later_context, later_thread, more_rounds, later_dated, later_mail, later_alarm, later_core, later_what, ContextKeepsUp, RoundKeepsUp, IsShift}
 use Rattle.mcs_forever.proofs.Sound.{Agrees, AllAgree, IsInOrder, IsCore}
 use Rattle.mcs_forever.proofs.Parts.{charged-context, woken-context, chosen-context, chosen-sporadic, head-context, charged-order, woken-order, chosen-order, date-later, held-later, set-later, held-order, kept-order, thread-same, thread-later, thread-set, round-ends, moves-same}
 
@@ -47,6 +49,17 @@ later_turn shift made =
       rows = map (later_what shift) made.rows;
       mails = map (later_mail shift.by) made.mails;
     }
+
+-- an alarm that is later rings later
+pub rings-later : (t d : ℕ) (alarm : Alarm) → rings (t + d) (later_alarm d alarm) ≡ rings t alarm
+rings-later t d alarm = by alarm.date
+  where
+    come : (date : ℕ) → nat_le (date + d) (t + d) ≡ nat_le date t
+    come date = grind (arith, nat_tests)
+
+    by : (o : Option ℕ) → has_come (t + d) (option_map (λ date. date + d) o) ≡ has_come t o
+    by None = refl
+    by (Some date) = come date
 
 module _ (queue : Discipline) (system : System) (shift : Shift) (is_shift : IsShift system shift) (t : ℕ) where
   abbrev d : ℕ
@@ -180,31 +193,42 @@ module _ (queue : Discipline) (system : System) (shift : Shift) (is_shift : IsSh
   sound-pends : (x date : ℕ) (k : Core) → Sound k → Sound (pends x date k)
   sound-pends x date k s = let r = sound-stands x Pending k s in record { threads = r.threads; contexts = r.contexts }
 
+  -- the place's priority is the same
+  priority-same : (x : ℕ) (k : Core) → (thread_of (later k) x).place.priority ≡ (thread_of k x).place.priority
+  priority-same x k = thread-same shift.threads shift.rounds (λ y. y.place.priority) x k.threads (λ y. refl)
+
+  queued-same : (x : ℕ) (k : Core) → turns.queued x (later k) ≡ turns.queued x k
+  queued-same x k = ap (λ priority. record { thread = x; priority = priority }) (priority-same x k)
+
   -- a way to enter
   record IsEntering (enters : ℕ → Option ℕ → Core → Core) : Type 0 where
     alike : (x : ℕ) (until : Option ℕ) (k : Core) → later (enters x until k) ≡ enters x (option_map (λ date. date + d) until) (later k)
     sound : (x : ℕ) (until : Option ℕ) (k : Core) → Sound k → Sound (enters x until k)
 
-  enters_back-later : (x : ℕ) (until : Option ℕ) (k : Core) → later (turns.enters_back queue system x until k) ≡ turns.enters_back queue system x (option_map (λ date. date + d) until) (later k)
+  enters_back-later : (x : ℕ) (until : Option ℕ) (k : Core) → later (turns.enters_back queue x until k) ≡ turns.enters_back queue x (option_map (λ date. date + d) until) (later k)
   enters_back-later x (Some date) k = pends-later x date k
-  enters_back-later x None k = ap (λ (core : Core). record core { ready = queue.back (turns.queued system x) k.ready }) (stands-later x Ready k)
+  enters_back-later x None k =
+      ap (λ (core : Core). record core { ready = queue.back (turns.queued x k) k.ready }) (stands-later x Ready k)
+      ∙ ap (λ queued. record (stands x Ready (later k)) { ready = queue.back queued k.ready }) (sym (queued-same x k))
 
-  sound-back : (x : ℕ) (until : Option ℕ) (k : Core) → Sound k → Sound (turns.enters_back queue system x until k)
+  sound-back : (x : ℕ) (until : Option ℕ) (k : Core) → Sound k → Sound (turns.enters_back queue x until k)
   sound-back x (Some date) k s = sound-pends x date k s
   sound-back x None k s = let r = sound-stands x Ready k s in record { threads = r.threads; contexts = r.contexts }
 
-  enters_front-later : (x : ℕ) (until : Option ℕ) (k : Core) → later (turns.enters_front queue system x until k) ≡ turns.enters_front queue system x (option_map (λ date. date + d) until) (later k)
+  enters_front-later : (x : ℕ) (until : Option ℕ) (k : Core) → later (turns.enters_front queue x until k) ≡ turns.enters_front queue x (option_map (λ date. date + d) until) (later k)
   enters_front-later x (Some date) k = pends-later x date k
-  enters_front-later x None k = ap (λ (core : Core). record core { ready = queue.front (turns.queued system x) k.ready }) (stands-later x Ready k)
+  enters_front-later x None k =
+      ap (λ (core : Core). record core { ready = queue.front (turns.queued x k) k.ready }) (stands-later x Ready k)
+      ∙ ap (λ queued. record (stands x Ready (later k)) { ready = queue.front queued k.ready }) (sym (queued-same x k))
 
-  sound-front : (x : ℕ) (until : Option ℕ) (k : Core) → Sound k → Sound (turns.enters_front queue system x until k)
+  sound-front : (x : ℕ) (until : Option ℕ) (k : Core) → Sound k → Sound (turns.enters_front queue x until k)
   sound-front x (Some date) k s = sound-pends x date k s
   sound-front x None k s = let r = sound-stands x Ready k s in record { threads = r.threads; contexts = r.contexts }
 
-  back : IsEntering (turns.enters_back queue system)
+  back : IsEntering (turns.enters_back queue)
   back = record { alike = enters_back-later; sound = sound-back }
 
-  front : IsEntering (turns.enters_front queue system)
+  front : IsEntering (turns.enters_front queue)
   front = record { alike = enters_front-later; sound = sound-front }
 
   sound-off : (k : Core) → Sound k → Sound (off k)
@@ -243,14 +267,15 @@ module _ (queue : Discipline) (system : System) (shift : Shift) (is_shift : IsSh
       Goes (turns.may_stop queue system t x using cause k) (turns.may_stop queue system now x using cause (later k))
   may_stop-goes x using after.Ends k s r = stops-goes x why.Done using Done k s r
   may_stop-goes x using after.Blocks k s r = stops-goes x why.Wait using Blocked k s r
+  may_stop-goes x using after.Calls k s r = stops-goes x why.Call using Blocked k s r
   may_stop-goes x using after.Yields k s r =
-      goes-to _ _ _ (charged-goes (turns.enters_back queue system) back x why.Yield (head_amount (turns.its_context system x k)) k s r)
+      goes-to _ _ _ (charged-goes (turns.enters_back queue) back x why.Yield (head_amount (turns.its_context system x k)) k s r)
       (ap (λ j. turns.stops_to_back queue system now x why.Yield j (later k)) (sym (head-later x k)))
   may_stop-goes x using after.GoesOn k s r =
       goes-to _ _ _
       (by_test (using == head_amount (turns.its_context system x k)) (turns.stops_to_back queue system t x why.Spent using k) (silent k)
       (turns.stops_to_back queue system now x why.Spent using (later k)) (silent (later k))
-      (charged-goes (turns.enters_back queue system) back x why.Spent using k s) (λ r. record { sound = s; alike = refl }) r)
+      (charged-goes (turns.enters_back queue) back x why.Spent using k s) (λ r. record { sound = s; alike = refl }) r)
       (ap (λ n. cond (using == n) (turns.stops_to_back queue system now x why.Spent using (later k)) (silent (later k))) (sym (head-later x k)))
 
   -- where a thread is in its script
@@ -265,18 +290,21 @@ module _ (queue : Discipline) (system : System) (shift : Shift) (is_shift : IsSh
   left-same : (x : ℕ) (k : Core) → (thread_of (later k) x).place.left ≡ (thread_of k x).place.left
   left-same x k = thread-same shift.threads shift.rounds (λ y. y.place.left) x k.threads (λ y. refl)
 
-  given-later : (x : ℕ) (k : Core) → RoundKeepsUp system shift x → later (turns.given t x k) ≡ turns.given now x (later k)
-  given-later x k e =
-      with-thread (λ y. record y { since = cond (y.place.item == 0) t y.since }) (λ y. record y { since = cond (y.place.item == 0) now y.since }) x k
-      (λ y. by y (y.place.item == 0))
+  given-later : (x word : ℕ) (k : Core) → RoundKeepsUp system shift x → later (turns.given system t x word k) ≡ turns.given system now x word (later k)
+  given-later x word k e =
+      with-thread (turns.round_begun (thread_part system x).script t word) (turns.round_begun (thread_part system x).script now word) x k (λ y. by y (y.place.item == 0))
     where
+      begun : Thread → Bool → ℕ → ℕ → Thread
+      begun y first since before =
+          record y { place = record (y.place) { word = cond first (heard (thread_part system x).script word) y.place.word }; since = cond first since before }
+
       by : (y : Thread) (b : Bool) →
-          later_thread (shift.threads x) (shift.rounds x) (record y { since = cond b t y.since }) ≡ record (later_thread (shift.threads x) (shift.rounds x) y) { since = cond b now (y.since + shift.threads x) }
-      by y true = ap (λ since. record (later_thread (shift.threads x) (shift.rounds x) y) { since = t + since }) e
+          later_thread (shift.threads x) (shift.rounds x) (begun y b t y.since) ≡ begun (later_thread (shift.threads x) (shift.rounds x) y) b now (y.since + shift.threads x)
+      by y true = ap (λ since. begun (later_thread (shift.threads x) (shift.rounds x) y) true (t + since) y.since) e
       by y false = refl
 
-  sound-given : (x : ℕ) (k : Core) → Sound k → Sound (turns.given t x k)
-  sound-given x k s = sound-thread x _ k s
+  sound-given : (x word : ℕ) (k : Core) → Sound k → Sound (turns.given system t x word k)
+  sound-given x word k s = sound-thread x _ k s
 
   round_row-later : (x : ℕ) (k : Core) → Sound k → Agrees system shift (turns.round_row system t x k) → later_what shift (turns.round_row system t x k) ≡ turns.round_row system now x (later k)
   round_row-later x k s a =
@@ -292,8 +320,8 @@ module _ (queue : Discipline) (system : System) (shift : Shift) (is_shift : IsSh
         sound = sound-thread x _ k s;
         alike =
             ap silent
-            (with-thread (λ y. record y { place = place_at system.call (thread_part system x).script y.place.round (y.place.item + 1); since = y.since })
-            (λ y. record y { place = place_at system.call (thread_part system x).script y.place.round (y.place.item + 1); since = y.since }) x k (λ y. refl));
+            (with-thread (λ y. record y { place = place_after system.call (thread_part system x).script Next y.place; since = y.since })
+            (λ y. record y { place = place_after system.call (thread_part system x).script Next y.place; since = y.since }) x k (λ y. refl));
       }
   moves-goes x RoundEnds k s r =
       record {
@@ -301,20 +329,20 @@ module _ (queue : Discipline) (system : System) (shift : Shift) (is_shift : IsSh
         alike =
             ap (λ what. says what (later (turns.placed system t x RoundEnds t k))) (round_row-later x k s r.0)
             ∙ ap (says (turns.round_row system now x (later k)))
-            (with-thread (λ y. record y { place = place_at system.call (thread_part system x).script (min (y.place.round + 1) (2 ^ 64 - 1)) 0; since = t })
-            (λ y. record y { place = place_at system.call (thread_part system x).script (min (y.place.round + 1) (2 ^ 64 - 1)) 0; since = now }) x k by);
+            (with-thread (λ y. record y { place = place_after system.call (thread_part system x).script RoundEnds y.place; since = t })
+            (λ y. record y { place = place_after system.call (thread_part system x).script RoundEnds y.place; since = now }) x k by);
       }
     where
-      placed : Standing → ℕ → ℕ → Thread
-      placed standing round since = record { standing = standing; place = place_at system.call (thread_part system x).script round 0; since = since }
+      placed : Thread → ℕ → ℕ → Thread
+      placed y round since = record y { place = goes_to system.call (thread_part system x).script round 0 y.place; since = since }
 
-      moved : (standing : Standing) (round more since : ℕ) → round ≡ more → since ≡ now → placed standing round since ≡ placed standing more now
-      moved standing round more since e f = ap (λ round. placed standing round since) e ∙ ap (λ since. placed standing more since) f
+      moved : (y : Thread) (round more since : ℕ) → round ≡ more → since ≡ now → placed y round since ≡ placed y more now
+      moved y round more since e f = ap (λ round. placed y round since) e ∙ ap (λ since. placed y more since) f
 
-      by : (y : Thread) → later_thread (shift.threads x) (shift.rounds x) (record y { place = place_at system.call (thread_part system x).script (min (y.place.round + 1) (2 ^ 64 - 1)) 0; since = t })
-          ≡ record (later_thread (shift.threads x) (shift.rounds x) y) { place = place_at system.call (thread_part system x).script (min (more_rounds (shift.rounds x) y.place.round + 1) (2 ^ 64 - 1)) 0; since = now }
+      by : (y : Thread) → later_thread (shift.threads x) (shift.rounds x) (record y { place = place_after system.call (thread_part system x).script RoundEnds y.place; since = t })
+          ≡ record (later_thread (shift.threads x) (shift.rounds x) y) { place = place_after system.call (thread_part system x).script RoundEnds (later_thread (shift.threads x) (shift.rounds x) y).place; since = now }
       by y =
-          moved y.standing (more_rounds (shift.rounds x) (min (y.place.round + 1) (2 ^ 64 - 1))) (min (more_rounds (shift.rounds x) y.place.round + 1) (2 ^ 64 - 1)) (t + shift.threads x)
+          moved y (more_rounds (shift.rounds x) (min (y.place.round + 1) (2 ^ 64 - 1))) (min (more_rounds (shift.rounds x) y.place.round + 1) (2 ^ 64 - 1)) (t + shift.threads x)
           (round-ends (shift.rounds x) y.place.round) (ap (λ n. t + n) r.0.1)
   moves-goes x AllDone k s r = record { sound = s; alike = ap (λ what. says what (later k)) (round_row-later x k s r.0) }
 
@@ -325,16 +353,34 @@ module _ (queue : Discipline) (system : System) (shift : Shift) (is_shift : IsSh
   waits_as-goes : (x note : ℕ) (w : Waited) (k : Core) → Sound k → Agree (turns.waits_as system t x note w k).rows →
       Goes (turns.waits_as system t x note w k) (turns.waits_as system now x note w (later k))
   waits_as-goes x note (Got word) k s r =
-      then_part (says (row.Got x note word) (turns.given t x noted)) (says (row.Got x note word) (turns.given now x (later noted))) (turns.moves_on system t x) (turns.moves_on system now x)
-      (record { sound = sound-given x noted sound-noted; alike = ap (says (row.Got x note word)) (given-later x noted r.0) })
+      then_part (says (row.Got x note word) (turns.given system t x word noted)) (says (row.Got x note word) (turns.given system now x word (later noted))) (turns.moves_on system t x) (turns.moves_on system now x)
+      (record { sound = sound-given x word noted sound-noted; alike = ap (says (row.Got x note word)) (given-later x word noted r.0) })
       (moves_on-goes x) r
     where
       noted : Core
-      noted = with_note note (after_wait (Got word) (turns.queued system x) (note_of k note)) k
+      noted = with_note note (after_wait (Got word) (turns.queued x k) (note_of k note)) k
 
       sound-noted : Sound noted
       sound-noted = record { threads = s.threads; contexts = s.contexts }
-  waits_as-goes x note Blocks k s r = record { sound = record { threads = s.threads; contexts = s.contexts }; alike = refl }
+  waits_as-goes x note Blocks k s r =
+      record {
+        sound = record { threads = s.threads; contexts = s.contexts };
+        alike = ap (λ queued. silent (with_note note (after_wait Blocks queued (note_of k note)) (later k))) (sym (queued-same x k));
+      }
+
+  enters_as-goes : (x server : ℕ) (w : Waited) (k : Core) → Sound k → Agree (turns.enters_as system t x server w k).rows →
+      Goes (turns.enters_as system t x server w k) (turns.enters_as system now x server w (later k))
+  enters_as-goes x server (Got word) k s r =
+      then_part (says (row.Got x server word) taken) (says (row.Got x server word) (later taken)) (turns.moves_on system t x) (turns.moves_on system now x)
+      (record { sound = record { threads = s.threads; contexts = s.contexts }; alike = refl }) (moves_on-goes x) r
+    where
+      taken : Core
+      taken = with_note server (after_wait (Got word) (turns.queued x k) (note_of k server)) k
+  enters_as-goes x server Blocks k s r =
+      record {
+        sound = record { threads = s.threads; contexts = s.contexts };
+        alike = ap (λ queued. silent (with_note server (after_wait Blocks queued (note_of k server)) (later k))) (sym (queued-same x k));
+      }
 
   -- a wake
   woken-later : (x : ℕ) (k : Core) → ContextKeepsUp system shift x → later (turns.with_woken_context system t x k) ≡ turns.with_woken_context system now x (later k)
@@ -350,39 +396,89 @@ module _ (queue : Discipline) (system : System) (shift : Shift) (is_shift : IsSh
       sound-context (thread_part system x).context (context_woken t (turns.its_context system x k)) k s
       (woken-order system shift (thread_part system x).context t (turns.its_context system x k) (its-order x k s))
 
-  wakes-goes : (x : ℕ) (k : Core) → ContextKeepsUp system shift x → RoundKeepsUp system shift x → Sound k → Agree (turns.wakes queue system t x k).rows →
-      Goes (turns.wakes queue system t x k) (turns.wakes queue system now x (later k))
-  wakes-goes x k e f s r =
-      then_part (turns.moves_on system t x begun) (turns.moves_on system now x (turns.given now x (turns.with_woken_context system now x (later k))))
-      (λ core. silent (turns.enters_back queue system x (turns.date_of system t x core) core))
-      (λ core. silent (turns.enters_back queue system x (turns.date_of system now x core) core))
+  wakes-goes : (x word : ℕ) (k : Core) → ContextKeepsUp system shift x → RoundKeepsUp system shift x → Sound k → Agree (turns.wakes queue system t x word k).rows →
+      Goes (turns.wakes queue system t x word k) (turns.wakes queue system now x word (later k))
+  wakes-goes x word k e f s r =
+      then_part (turns.moves_on system t x begun) (turns.moves_on system now x (turns.given system now x word (turns.with_woken_context system now x (later k))))
+      (λ core. silent (turns.enters_back queue x (turns.date_of system t x core) core))
+      (λ core. silent (turns.enters_back queue x (turns.date_of system now x core) core))
       (goes-to _ _ _ (moves_on-goes x begun sound-begun (agree-first (turns.moves_on system t x begun).rows [] r)) (ap (turns.moves_on system now x) begun-later))
       (λ core sound _. record {
         sound = sound-back x (turns.date_of system t x core) core sound;
         alike = ap silent (enters_back-later x (turns.date_of system t x core) core
-            ∙ ap (λ until. turns.enters_back queue system x until (later core)) (date_of-later x why.Wait 1 core (keeping-up x why.Wait (turns.date_of system t x core) e)));
+            ∙ ap (λ until. turns.enters_back queue x until (later core)) (date_of-later x why.Wait 1 core (keeping-up x why.Wait (turns.date_of system t x core) e)));
       })
       r
     where
       begun : Core
-      begun = turns.given t x (turns.with_woken_context system t x k)
+      begun = turns.given system t x word (turns.with_woken_context system t x k)
 
       sound-begun : Sound begun
-      sound-begun = sound-given x (turns.with_woken_context system t x k) (sound-woken x k s)
+      sound-begun = sound-given x word (turns.with_woken_context system t x k) (sound-woken x k s)
 
-      begun-later : later begun ≡ turns.given now x (turns.with_woken_context system now x (later k))
-      begun-later = given-later x (turns.with_woken_context system t x k) f ∙ ap (turns.given now x) (woken-later x k e)
+      begun-later : later begun ≡ turns.given system now x word (turns.with_woken_context system now x (later k))
+      begun-later = given-later x word (turns.with_woken_context system t x k) f ∙ ap (turns.given system now x word) (woken-later x k e)
+
+  -- a thread that is let in
+  let_in-goes : (x : ℕ) (k : Core) → ContextKeepsUp system shift x → Sound k → Agree (turns.let_in queue system t x k).rows →
+      Goes (turns.let_in queue system t x k) (turns.let_in queue system now x (later k))
+  let_in-goes x k e s r =
+      then_part (turns.moves_on system t x woken) (turns.moves_on system now x (turns.with_woken_context system now x (later k)))
+      (λ core. silent (turns.enters_front queue x (turns.date_of system t x core) core))
+      (λ core. silent (turns.enters_front queue x (turns.date_of system now x core) core))
+      (goes-to _ _ _ (moves_on-goes x woken (sound-woken x k s) (agree-first (turns.moves_on system t x woken).rows [] r)) (ap (turns.moves_on system now x) (woken-later x k e)))
+      (λ core sound _. record {
+        sound = sound-front x (turns.date_of system t x core) core sound;
+        alike = ap silent (enters_front-later x (turns.date_of system t x core) core
+            ∙ ap (λ until. turns.enters_front queue x until (later core)) (date_of-later x why.Wait 1 core (keeping-up x why.Wait (turns.date_of system t x core) e)));
+      })
+      r
+    where
+      woken : Core
+      woken = turns.with_woken_context system t x k
 
   posts_as-goes : (note : ℕ) (p : Posted) (k : Core) → Sound k → Agree (turns.posts_as queue system t note p k).rows →
       Goes (turns.posts_as queue system t note p k) (turns.posts_as queue system now note p (later k))
   posts_as-goes note (Woke x word) k s r =
-      says_first (row.Wake x note word) (with_note note (after_post (Woke x word) (note_of k note)) k) (turns.wakes queue system t x) (turns.wakes queue system now x)
-      (record { threads = s.threads; contexts = s.contexts }) (λ l. wakes-goes x l r.0.0 r.0.1) r
+      says_first (row.Wake x note word) (with_note note (after_post (Woke x word) (note_of k note)) k) (turns.wakes queue system t x word) (turns.wakes queue system now x word)
+      (record { threads = s.threads; contexts = s.contexts }) (λ l. wakes-goes x word l r.0.0 r.0.1) r
   posts_as-goes note (Held word) k s r = record { sound = record { threads = s.threads; contexts = s.contexts }; alike = refl }
+
+  frees_as-goes : (server : ℕ) (p : Posted) (k : Core) → Sound k → Agree (turns.frees_as queue system t server p k).rows →
+      Goes (turns.frees_as queue system t server p k) (turns.frees_as queue system now server p (later k))
+  frees_as-goes server (Woke x word) k s r =
+      says_first (row.Wake x server word) (with_note server (after_post (Woke x word) (note_of k server)) k) (turns.let_in queue system t x) (turns.let_in queue system now x)
+      (record { threads = s.threads; contexts = s.contexts }) (λ l. let_in-goes x l r.0.0) r
+  frees_as-goes server (Held word) k s r = record { sound = record { threads = s.threads; contexts = s.contexts }; alike = refl }
+
+  frees-goes : (x server : ℕ) (k : Core) → Sound k → Agree (turns.frees queue system t x server k).rows →
+      Goes (turns.frees queue system t x server k) (turns.frees queue system now x server (later k))
+  frees-goes x server k s r =
+      says_first (row.Signal x server 1) k (λ l. turns.frees_as queue system t server (posted 1 (note_of l server)) l) (λ l. turns.frees_as queue system now server (posted 1 (note_of l server)) l) s
+      (λ l. frees_as-goes server (posted 1 (note_of l server)) l) r
 
   posts-goes : (note badge : ℕ) (k : Core) → Sound k → Agree (turns.posts queue system t note badge k).rows →
       Goes (turns.posts queue system t note badge k) (turns.posts queue system now note badge (later k))
   posts-goes note badge k s r = posts_as-goes note (posted badge (note_of k note)) k s r
+
+  -- part 1a
+  interrupts-goes : (alarm : Alarm) (k : Core) → Sound k → Agree (turns.interrupts queue system t alarm k).rows →
+      Goes (turns.interrupts queue system t alarm k) (turns.interrupts queue system now (later_alarm d alarm) (later k))
+  interrupts-goes alarm k s r =
+      says_first (row.Interrupt alarm.source alarm.note alarm.badge) k (turns.posts queue system t alarm.note alarm.badge) (turns.posts queue system now alarm.note alarm.badge) s
+      (posts-goes alarm.note alarm.badge) r
+
+  ringing-later : (alarms : List Alarm) → map (later_alarm d) (ringing t alarms) ≡ ringing now (map (later_alarm d) alarms)
+  ringing-later [] = refl
+  ringing-later (alarm ∷ alarms) =
+      by (rings t alarm) (ringing-later alarms)
+      ∙ ap (λ b. cond b (later_alarm d alarm ∷ ringing now (map (later_alarm d) alarms)) (ringing now (map (later_alarm d) alarms))) (sym (rings-later t d alarm))
+    where
+      by : (b : Bool) → map (later_alarm d) (ringing t alarms) ≡ ringing now (map (later_alarm d) alarms) →
+          map (later_alarm d) (cond b (alarm ∷ ringing t alarms) (ringing t alarms))
+          ≡ cond b (later_alarm d alarm ∷ ringing now (map (later_alarm d) alarms)) (ringing now (map (later_alarm d) alarms))
+      by true e = ap (λ others. later_alarm d alarm ∷ others) e
+      by false e = e
 
   -- part 2
   arrives-goes : (mail : Mail) (k : Core) → Sound k → Agree (turns.arrives queue system t mail k).rows →
@@ -392,8 +488,8 @@ module _ (queue : Discipline) (system : System) (shift : Shift) (is_shift : IsSh
       (posts-goes mail.note mail.badge) r
 
   -- part 4
-  released-goes : (due : Dated) (k : Core) → Sound k → Agree (turns.released queue system due k).rows →
-      Goes (turns.released queue system due k) (turns.released queue system (later_dated d due) (later k))
+  released-goes : (due : Dated) (k : Core) → Sound k → Agree (turns.released queue due k).rows →
+      Goes (turns.released queue due k) (turns.released queue (later_dated d due) (later k))
   released-goes due k s r = record { sound = sound-back due.thread None k s; alike = ap (says (row.Release due.thread)) (enters_back-later due.thread None k) }
 
   due-later : (x : Dated) → is_due now (later_dated d x) ≡ is_due t x
@@ -414,9 +510,9 @@ module _ (queue : Discipline) (system : System) (shift : Shift) (is_shift : IsSh
   releases-goes : (k : Core) → Sound k → Agree (turns.releases queue system t k).rows → Goes (turns.releases queue system t k) (turns.releases queue system now (later k))
   releases-goes k s r =
       goes-to _ _ _
-      (each_part (later_dated d) (turns.released queue system) (turns.released queue system) released-goes (filter (is_due t) k.releases) rest (record { threads = s.threads; contexts = s.contexts }) r)
-      (ap (λ xs. each (turns.released queue system) xs (later rest)) (filter-later (is_due t) (is_due now) due-later k.releases)
-      ∙ ap (λ releases. each (turns.released queue system) (filter (is_due now) (map (later_dated d) k.releases)) (record (later k) { releases = releases }))
+      (each_part (later_dated d) (turns.released queue) (turns.released queue) released-goes (filter (is_due t) k.releases) rest (record { threads = s.threads; contexts = s.contexts }) r)
+      (ap (λ xs. each (turns.released queue) xs (later rest)) (filter-later (is_due t) (is_due now) due-later k.releases)
+      ∙ ap (λ releases. each (turns.released queue) (filter (is_due now) (map (later_dated d) k.releases)) (record (later k) { releases = releases }))
       (filter-later (λ x. not (is_due t x)) (λ x. not (is_due now x)) (λ x. ap not (due-later x)) k.releases))
     where
       rest : Core
@@ -426,10 +522,13 @@ module _ (queue : Discipline) (system : System) (shift : Shift) (is_shift : IsSh
   preempts_by-goes : (o : Option Chosen) (best : Option Queued) (k : Core) → Sound k → Agree (turns.preempts_by queue system t o best k).rows →
       Goes (turns.preempts_by queue system t o best k) (turns.preempts_by queue system now o best (later k))
   preempts_by-goes (Some chosen) (Some best) k s r =
-      by_test (nat_lt (thread_part system chosen.thread).priority best.priority)
+      goes-to _ _ _
+      (by_test (nat_lt (thread_of k chosen.thread).place.priority best.priority)
       (turns.stops_to_front queue system t chosen.thread why.Preempt chosen.using (turns.charged system chosen.thread chosen.using k)) (silent k)
       (turns.stops_to_front queue system now chosen.thread why.Preempt chosen.using (turns.charged system chosen.thread chosen.using (later k))) (silent (later k))
-      (charged-goes (turns.enters_front queue system) front chosen.thread why.Preempt chosen.using k s) (λ r. record { sound = s; alike = refl }) r
+      (charged-goes (turns.enters_front queue) front chosen.thread why.Preempt chosen.using k s) (λ r. record { sound = s; alike = refl }) r)
+      (ap (λ priority. cond (nat_lt priority best.priority)
+      (turns.stops_to_front queue system now chosen.thread why.Preempt chosen.using (turns.charged system chosen.thread chosen.using (later k))) (silent (later k))) (sym (priority-same chosen.thread k)))
   preempts_by-goes (Some chosen) None k s r = record { sound = s; alike = refl }
   preempts_by-goes None best k s r = record { sound = s; alike = refl }
 
@@ -502,6 +601,13 @@ module _ (queue : Discipline) (system : System) (shift : Shift) (is_shift : IsSh
     takes_effect-goes x (Some (Wait note)) k s r = waits_as-goes x note (waited (note_of k note)) k s r
     takes_effect-goes x (Some (Compute ticks)) k s r = moves_on-goes x k s r
     takes_effect-goes x (Some Yield) k s r = moves_on-goes x k s r
+    takes_effect-goes x (Some (On badges)) k s r = moves_on-goes x k s r
+    takes_effect-goes x (Some Spin) k s r = moves_on-goes x k s r
+    takes_effect-goes x (Some (Enter server priority)) k s r = enters_as-goes x server (waited (note_of k server)) k s r
+    takes_effect-goes x (Some (Leave server priority)) k s r =
+        then_part (turns.frees queue system t x server k) (turns.frees queue system now x server (later k)) (turns.moves_on system t x) (turns.moves_on system now x)
+        (frees-goes x server k s (agree-first (turns.frees queue system t x server k).rows (turns.moves_on system t x (turns.frees queue system t x server k).core).rows r))
+        (moves_on-goes x) r
     takes_effect-goes x None k s r = record { sound = s; alike = refl }
 
     after_item-same : (x : ℕ) (item : Option Item) (k : Core) → turns.after_item system x item k ≡ turns.after_item system x item (later k)
@@ -509,6 +615,10 @@ module _ (queue : Discipline) (system : System) (shift : Shift) (is_shift : IsSh
     after_item-same x (Some (Wait note)) k = refl
     after_item-same x (Some (Compute ticks)) k = ap (λ m. turns.after_move m after.GoesOn) (sym (move-same x k))
     after_item-same x (Some Yield) k = ap (λ m. turns.after_move m after.Yields) (sym (move-same x k))
+    after_item-same x (Some (On badges)) k = ap (λ m. turns.after_move m after.GoesOn) (sym (move-same x k))
+    after_item-same x (Some Spin) k = ap (λ m. turns.after_move m after.GoesOn) (sym (move-same x k))
+    after_item-same x (Some (Enter server priority)) k = refl
+    after_item-same x (Some (Leave server priority)) k = ap (λ m. turns.after_move m after.GoesOn) (sym (move-same x k))
     after_item-same x None k = refl
 
     finishes-goes : (x using : ℕ) (item : Option Item) (k : Core) → Sound k → Agree (turns.finishes queue system c t x using item k).rows →
@@ -533,7 +643,7 @@ module _ (queue : Discipline) (system : System) (shift : Shift) (is_shift : IsSh
 
     counts-later : (chosen : Chosen) (k : Core) → later (turns.counts chosen k) ≡ turns.counts chosen (later k)
     counts-later chosen k =
-        with-thread (λ y. record y { place = record (y.place) { left = y.place.left - 1 } }) (λ y. record y { place = record (y.place) { left = y.place.left - 1 } }) chosen.thread
+        with-thread (λ y. record y { place = record (y.place) { left = left_after 1 y.place.left } }) (λ y. record y { place = record (y.place) { left = left_after 1 y.place.left } }) chosen.thread
         (record k { running = Some (record { thread = chosen.thread; using = chosen.using + 1 }) }) (λ y. refl)
 
     tick_of-goes : (o : Option Chosen) (k : Core) → Sound k → Agree (turns.tick_of queue system c t o k).rows → Goes (turns.tick_of queue system c t o k) (turns.tick_of queue system c now o (later k))
@@ -552,8 +662,11 @@ module _ (queue : Discipline) (system : System) (shift : Shift) (is_shift : IsSh
     abbrev ticked : ℕ → Core → Turn
     ticked m k = turns.tick queue system c m k
 
+    abbrev rung : ℕ → Core → Turn
+    rung m k = ticked m k followed_by each (turns.interrupts queue system m) (ringing m (alarms_at system c m))
+
     abbrev arrived : ℕ → List Mail → Core → Turn
-    arrived m mails k = ticked m k followed_by each (turns.arrives queue system m) mails
+    arrived m mails k = rung m k followed_by each (turns.arrives queue system m) mails
 
     abbrev obeyed : ℕ → List Mail → Core → Turn
     obeyed m mails k = arrived m mails k followed_by each (turns.obeys queue system m) (filter (turns.is_for_now system c m) system.orders)
@@ -564,36 +677,49 @@ module _ (queue : Discipline) (system : System) (shift : Shift) (is_shift : IsSh
     abbrev yielded : ℕ → List Mail → Core → Turn
     yielded m mails k = freed m mails k followed_by turns.preempts queue system m
 
-    arrived-goes : (mails : List Mail) (k : Core) → Sound k → Agree (arrived t mails k).rows → Goes (arrived t mails k) (arrived now (map (later_mail d) mails) (later k))
-    arrived-goes mails k s r =
-        then_part (ticked t k) (ticked now (later k)) (each (turns.arrives queue system t) mails) (each (turns.arrives queue system now) (map (later_mail d) mails))
-        (tick_of-goes k.running k s (agree-first (ticked t k).rows (each (turns.arrives queue system t) mails (ticked t k).core).rows r))
+    -- the alarms are the same, but later
+    abbrev RingLater : Type 0
+    RingLater = alarms_at system c now ≡ map (later_alarm d) (alarms_at system c t)
+
+    rung-goes : (k : Core) → RingLater → Sound k → Agree (rung t k).rows → Goes (rung t k) (rung now (later k))
+    rung-goes k g s r =
+        goes-to _ _ _
+        (then_part (ticked t k) (ticked now (later k)) (each (turns.interrupts queue system t) (ringing t (alarms_at system c t)))
+        (each (turns.interrupts queue system now) (map (later_alarm d) (ringing t (alarms_at system c t))))
+        (tick_of-goes k.running k s (agree-first (ticked t k).rows (each (turns.interrupts queue system t) (ringing t (alarms_at system c t)) (ticked t k).core).rows r))
+        (each_part (later_alarm d) (turns.interrupts queue system t) (turns.interrupts queue system now) interrupts-goes (ringing t (alarms_at system c t))) r)
+        (ap (λ alarms. ticked now (later k) followed_by each (turns.interrupts queue system now) alarms) (ringing-later (alarms_at system c t) ∙ ap (ringing now) (sym g)))
+
+    arrived-goes : (mails : List Mail) (k : Core) → RingLater → Sound k → Agree (arrived t mails k).rows → Goes (arrived t mails k) (arrived now (map (later_mail d) mails) (later k))
+    arrived-goes mails k g s r =
+        then_part (rung t k) (rung now (later k)) (each (turns.arrives queue system t) mails) (each (turns.arrives queue system now) (map (later_mail d) mails))
+        (rung-goes k g s (agree-first (rung t k).rows (each (turns.arrives queue system t) mails (rung t k).core).rows r))
         (each_part (later_mail d) (turns.arrives queue system t) (turns.arrives queue system now) arrives-goes mails) r
 
     obeyed-goes : (mails : List Mail) (k : Core) → filter (turns.is_for_now system c t) system.orders ≡ [] → filter (turns.is_for_now system c now) system.orders ≡ [] →
-        Sound k → Agree (obeyed t mails k).rows → Goes (obeyed t mails k) (obeyed now (map (later_mail d) mails) (later k))
-    obeyed-goes mails k e f s r =
+        RingLater → Sound k → Agree (obeyed t mails k).rows → Goes (obeyed t mails k) (obeyed now (map (later_mail d) mails) (later k))
+    obeyed-goes mails k e f g s r =
         then_part (arrived t mails k) (arrived now (map (later_mail d) mails) (later k))
         (each (turns.obeys queue system t) (filter (turns.is_for_now system c t) system.orders)) (each (turns.obeys queue system now) (filter (turns.is_for_now system c now) system.orders))
-        (arrived-goes mails k s (agree-first (arrived t mails k).rows (each (turns.obeys queue system t) (filter (turns.is_for_now system c t) system.orders) (arrived t mails k).core).rows r))
+        (arrived-goes mails k g s (agree-first (arrived t mails k).rows (each (turns.obeys queue system t) (filter (turns.is_for_now system c t) system.orders) (arrived t mails k).core).rows r))
         (λ l q _. none-goes (filter (turns.is_for_now system c t) system.orders) (filter (turns.is_for_now system c now) system.orders) e f l q) r
 
     freed-goes : (mails : List Mail) (k : Core) → filter (turns.is_for_now system c t) system.orders ≡ [] → filter (turns.is_for_now system c now) system.orders ≡ [] →
-        Sound k → Agree (freed t mails k).rows → Goes (freed t mails k) (freed now (map (later_mail d) mails) (later k))
-    freed-goes mails k e f s r =
+        RingLater → Sound k → Agree (freed t mails k).rows → Goes (freed t mails k) (freed now (map (later_mail d) mails) (later k))
+    freed-goes mails k e f g s r =
         then_part (obeyed t mails k) (obeyed now (map (later_mail d) mails) (later k)) (turns.releases queue system t) (turns.releases queue system now)
-        (obeyed-goes mails k e f s (agree-first (obeyed t mails k).rows (turns.releases queue system t (obeyed t mails k).core).rows r)) releases-goes r
+        (obeyed-goes mails k e f g s (agree-first (obeyed t mails k).rows (turns.releases queue system t (obeyed t mails k).core).rows r)) releases-goes r
 
     yielded-goes : (mails : List Mail) (k : Core) → filter (turns.is_for_now system c t) system.orders ≡ [] → filter (turns.is_for_now system c now) system.orders ≡ [] →
-        Sound k → Agree (yielded t mails k).rows → Goes (yielded t mails k) (yielded now (map (later_mail d) mails) (later k))
-    yielded-goes mails k e f s r =
+        RingLater → Sound k → Agree (yielded t mails k).rows → Goes (yielded t mails k) (yielded now (map (later_mail d) mails) (later k))
+    yielded-goes mails k e f g s r =
         then_part (freed t mails k) (freed now (map (later_mail d) mails) (later k)) (turns.preempts queue system t) (turns.preempts queue system now)
-        (freed-goes mails k e f s (agree-first (freed t mails k).rows (turns.preempts queue system t (freed t mails k).core).rows r)) preempts-goes r
+        (freed-goes mails k e f g s (agree-first (freed t mails k).rows (turns.preempts queue system t (freed t mails k).core).rows r)) preempts-goes r
 
-    -- a whole turn, where no order is for its moment
+    -- a whole turn, where no order is for its moment, and the alarms are later
     pub turn-goes : (mails : List Mail) (k : Core) → filter (turns.is_for_now system c t) system.orders ≡ [] → filter (turns.is_for_now system c now) system.orders ≡ [] →
-        Sound k → Agree (turns.turn_with queue system c t mails k).rows →
+        RingLater → Sound k → Agree (turns.turn_with queue system c t mails k).rows →
         Goes (turns.turn_with queue system c t mails k) (turns.turn_with queue system c now (map (later_mail d) mails) (later k))
-    turn-goes mails k e f s r =
+    turn-goes mails k e f g s r =
         then_part (yielded t mails k) (yielded now (map (later_mail d) mails) (later k)) (turns.chooses queue system t) (turns.chooses queue system now)
-        (yielded-goes mails k e f s (agree-first (yielded t mails k).rows (turns.chooses queue system t (yielded t mails k).core).rows r)) chooses-goes r
+        (yielded-goes mails k e f g s (agree-first (yielded t mails k).rows (turns.chooses queue system t (yielded t mails k).core).rows r)) chooses-goes r

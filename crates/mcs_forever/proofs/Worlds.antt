@@ -1,5 +1,5 @@
 -- Worlds that recur: turn by turn, and then for ever.
-use Rattle.std.proofs.Common.{◌≡◌, ℕ, zero, suc, ◌+◌, ◌-◌, ◌<◌, ◌≤◌, inl, inr, Bool, true, false, cond, not, ◌&&◌, List, [], ◌∷◌, ◌++◌, map, refl, sym, ap, subst, ◌∙◌, Some, None, arith}
+use Rattle.std.proofs.Common.{◌≡◌, ℕ, zero, suc, ◌+◌, ◌-◌, ◌<◌, ◌≤◌, inl, inr, Bool, true, false, cond, not, ◌&&◌, List, [], ◌∷◌, ◌++◌, map, refl, sym, ap, subst, ◌∙◌, Option, Some, None, option_map, arith}
 use Rattle.std.specs.Prelude.{filter, flat_map, ◌==◌, nat_lt, nat_le}
 use Rattle.std.specs.List.{range_with_len, AllByRecursion}
 use Rattle.std.proofs.lemmas.Bool.Decides.{nat_tests}
@@ -12,6 +12,8 @@ use Rattle.mcs_control.specs.declared.config.Order.{Order}
 use Rattle.mcs_mail.specs.declared.mail.Mail.{Mail}
 use Rattle.mcs_system.specs.System.{System, note_part}
 use Rattle.mcs_system.specs.WellFormed.{IsWellFormed}
+use Rattle.mcs_core.specs.Alarms.{later_by, rung, rings, past, alarms_at}
+use Rattle.mcs_core.specs.declared.alarm.Alarm.{Alarm}
 use Rattle.mcs_core.specs.Core.{Core}
 use Rattle.mcs_core.specs.Orders.{is_for_core}
 use Rattle.mcs_core.specs.Turn as turns
@@ -27,10 +29,10 @@ use Rattle.mcs_laws.proofs.Links.{signals-said}
 use Rattle.mcs_laws.proofs.UnderWay.{signals-of-turns}
 use Rattle.mcs_laws.proofs.Ranges.{flat_map-moments-more}
 use Rattle.mcs_laws.proofs.Histories.{takes-time}
-use Rattle.mcs_forever.specs.Later.{Shift, later_core, later_mail, later_what}
+use Rattle.mcs_forever.specs.Later.{Shift, later_core, later_mail, later_alarm, later_what}
 use Rattle.mcs_forever.specs.Recurs.{Shifts, shift_of, is_for, IsLater, Recurs}
 use Rattle.mcs_forever.proofs.Sound.{Agrees, AllAgree, all-agree}
-use Rattle.mcs_forever.proofs.Turns.{later_turn, turn-goes, Goes}
+use Rattle.mcs_forever.proofs.Turns.{later_turn, turn-goes, Goes, rings-later}
 use Rattle.mcs_forever.proofs.Always.{core-order}
 use Rattle.mcs_forever.proofs.Proper.{proper}
 
@@ -111,10 +113,34 @@ agrees-later system shift (row.Wake thread note word) a = a
 agrees-later system shift (row.Hold note word) a = a
 agrees-later system shift (row.Got thread note word) a = a
 agrees-later system shift (row.Order context) a = a
+agrees-later system shift (row.Interrupt source note badge) a = a
 
 all-later : (system : System) (shift : Shift) (rows : List What) → AllAgree system shift rows → AllAgree system shift (map (later_what shift) rows)
 all-later system shift [] a = tt
 all-later system shift (what ∷ rows) a = (agrees-later system shift what a.0, all-later system shift rows a.1)
+
+-- alarms that are later are so at the next moment, too
+rung-later : (d : ℕ) (alarm : Alarm) → rung (later_alarm d alarm) ≡ later_alarm d (rung alarm)
+rung-later d alarm = ap (λ date. record (rung alarm) { date = date }) (by (alarm.left == 0) alarm.date)
+  where
+    swapped : (date period d : ℕ) → date + d + period ≡ date + period + d
+    swapped date period d = omega arith
+
+    by : (b : Bool) (o : Option ℕ) → cond b None (later_by alarm.period (option_map (λ date. date + d) o)) ≡ option_map (λ date. date + d) (cond b None (later_by alarm.period o))
+    by true o = refl
+    by false None = refl
+    by false (Some date) = ap Some (swapped date alarm.period d)
+
+past-later : (t d : ℕ) (alarms : List Alarm) → past (t + d) (map (later_alarm d) alarms) ≡ map (later_alarm d) (past t alarms)
+past-later t d [] = refl
+past-later t d (alarm ∷ alarms) =
+    ap (λ b. cond b (rung (later_alarm d alarm)) (later_alarm d alarm) ∷ past (t + d) (map (later_alarm d) alarms)) (rings-later t d alarm)
+    ∙ ap (λ others. cond (rings t alarm) (rung (later_alarm d alarm)) (later_alarm d alarm) ∷ others) (past-later t d alarms)
+    ∙ ap (λ first. first ∷ map (later_alarm d) (past t alarms)) (by (rings t alarm))
+  where
+    by : (b : Bool) → cond b (rung (later_alarm d alarm)) (later_alarm d alarm) ≡ later_alarm d (cond b (rung alarm) alarm)
+    by true = rung-later d alarm
+    by false = refl
 
 -- no order is for a moment from a on
 no-orders : (system : System) (c a t : ℕ) → a ≤ t → (orders : List Order) → AllByRecursion (λ (order : Order). order.moment < a) orders → filter (turns.is_for_now system c t) orders ≡ []
@@ -132,6 +158,34 @@ module _ (system : System) (group : ℕ → Bool) (shifts : Shifts) (a : ℕ) (w
 
   abbrev shift : ℕ → Shift
   shift c = shift_of shifts c
+
+  -- the alarms at t, and those at t + d
+  abbrev RingsLater : ℕ → Type 0
+  RingsLater t = (c : ℕ) → c < system.cores → group c ≡ true → alarms_at system c (t + d) ≡ map (later_alarm d) (alarms_at system c t)
+
+  rings-on : (n : ℕ) → RingsLater (a + n)
+  rings-on zero c known own =
+      let here : a + zero ≡ a = omega arith in
+      let P : ℕ → Type 0 = λ m. alarms_at system c (m + d) ≡ map (later_alarm d) (alarms_at system c m) in
+      subst P (sym here) (recurs.alarms c known own)
+  rings-on (suc n) c known own =
+      let P : ℕ → Type 0 = λ m. alarms_at system c (m + d) ≡ map (later_alarm d) (alarms_at system c m) in
+      subst P (next-moment a n) (then-moment (rings-on n c known own))
+    where
+      next-moment : (a n : ℕ) → suc (a + n) ≡ a + suc n
+      next-moment a n = omega arith
+
+      same : (t e : ℕ) → suc t + e ≡ suc (t + e)
+      same t e = omega arith
+
+      then-moment : alarms_at system c (a + n + d) ≡ map (later_alarm d) (alarms_at system c (a + n)) →
+          alarms_at system c (suc (a + n) + d) ≡ map (later_alarm d) (alarms_at system c (suc (a + n)))
+      then-moment e =
+          ap (alarms_at system c) (same (a + n) d)
+          ∙ ap (past (a + n + d)) e ∙ past-later (a + n) d (alarms_at system c (a + n))
+
+  rings-at : (t : ℕ) → a ≤ t → RingsLater t
+  rings-at t l = let e : a + (t - a) ≡ t = omega (arith, l) in subst RingsLater e (rings-on (t - a))
 
   -- the world at t, and that at t + d
   record Holds (t : ℕ) : Type 0 where
@@ -198,7 +252,7 @@ module _ (system : System) (group : ℕ → Bool) (shifts : Shifts) (a : ℕ) (w
           (turn system c (t + d) (map (later_mail d) (filter (clocks.arrives_at system t c) (clocks.world system t).mails)) (later_core (shift c) core))
       goes =
           turn-goes by_priority system (shift c) (recurs.shift c) t c (filter (clocks.arrives_at system t c) (clocks.world system t).mails) core
-          (no-orders system c a t l system.orders recurs.orders) (no-orders system c a (t + d) (omega (arith, l)) system.orders recurs.orders)
+          (no-orders system c a t l system.orders recurs.orders) (no-orders system c a (t + d) (omega (arith, l)) system.orders recurs.orders) (rings-at t l c known own)
           (core-order system well (shift c) c known t) agrees
 
       mails : map (later_mail d) (filter (clocks.arrives_at system t c) (clocks.world system t).mails) ≡ filter (clocks.arrives_at system (t + d) c) (clocks.world system (t + d)).mails

@@ -1,4 +1,4 @@
--- The same core later: its state, the rows of its turns and the signals under way, with each date later by as many ticks. What no turn
+-- The same core later: its state, the rows of its turns, the signals under way and its sources' next dates, each later by as many ticks. What no turn
 -- compares with now may lag: the dates of a context, and the beginning of a thread's round. A thread with no last round may have ended
 -- some rounds more.
 use Rattle.std.specs.Prelude.{◌≡◌, ℕ, zero, suc, ◌+◌, ◌-◌, ◌^◌, ◌≤◌, ◌⊎◌, min, List, [], ◌∷◌, map, Option, Some, None, option_map}
@@ -13,6 +13,7 @@ use Rattle.mcs_mail.specs.declared.mail.Mail.{Mail}
 use Rattle.mcs_system.specs.System.{System, thread_part, context_part}
 use Rattle.mcs_core.specs.declared.standing.Thread.{Thread}
 use Rattle.mcs_core.specs.Core.{Core}
+use Rattle.mcs_core.specs.declared.alarm.Alarm.{Alarm}
 
 -- how much later a core is: its releases and its signals, the dates of each context, the beginning of each thread's round, and how many
 -- rounds more each thread has ended
@@ -59,6 +60,10 @@ later_dated by dated = record { thread = dated.thread; date = dated.date + by }
 abbrev pub later_mail : ℕ → Mail → Mail
 later_mail by mail = record mail { arrives = mail.arrives + by; made = mail.made + by }
 
+-- a source's next date, with as many dates left behind it
+abbrev pub later_alarm : ℕ → Alarm → Alarm
+later_alarm by alarm = record alarm { date = option_map (λ date. date + by) alarm.date }
+
 module _ (shift : Shift) where
   -- who runs, the queues' orders, the words and who waits for them are the same
   abbrev pub later_core : Core → Core
@@ -81,6 +86,7 @@ module _ (shift : Shift) where
   later_what (row.Hold note word) = row.Hold note word
   later_what (row.Got thread note word) = row.Got thread note word
   later_what (row.Order context) = row.Order context
+  later_what (row.Interrupt source note badge) = row.Interrupt source note badge
 
 module _ (system : System) (shift : Shift) where
   -- nothing is later than the core, and only a thread with no last round has ended more rounds
@@ -112,3 +118,4 @@ module _ (system : System) (shift : Shift) where
   KeepsUp (row.Arrive note badge maker) = Unit {0}
   KeepsUp (row.Hold note word) = Unit {0}
   KeepsUp (row.Order context) = Unit {0}
+  KeepsUp (row.Interrupt source note badge) = Unit {0}

@@ -45,6 +45,7 @@ module _ (system : System) where
   compared (row.Arrive note badge maker) = None
   compared (row.Hold note word) = None
   compared (row.Order context) = None
+  compared (row.Interrupt source note badge) = None
 
   -- what a row shows of the thread
   abbrev pub mark_by : ℕ → What → Mark

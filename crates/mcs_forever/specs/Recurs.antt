@@ -5,8 +5,9 @@ use Rattle.mcs_control.specs.declared.config.Order.{Order}
 use Rattle.mcs_script.specs.declared.item.Item.TheVariants.{Signal}
 use Rattle.mcs_mail.specs.declared.mail.Mail.{Mail}
 use Rattle.mcs_system.specs.System.{System, thread_part, note_part, core_of}
+use Rattle.mcs_core.specs.Alarms.{alarms_at}
 use Rattle.mcs_core.specs.Clock.{World, core_shown, world, turn_of}
-use Rattle.mcs_forever.specs.Later.{Shift, later_core, later_mail, IsShift, KeepsUp}
+use Rattle.mcs_forever.specs.Later.{Shift, later_core, later_mail, later_alarm, IsShift, KeepsUp}
 
 -- how much later each core of a group is; all their releases and signals by the same
 pub record Shifts : Type 0 where
@@ -44,13 +45,16 @@ module _ (system : System) (group : ℕ → Bool) where
           ≡ later_core (shift_of shifts c) (core_shown system before c)
       pub mails : filter is_for after.mails ≡ map (later_mail shifts.by) (filter is_for before.mails)
 
-    -- the group stands before moment `from` + `by` as before `from`, but later, and no order comes from then on; what its cores compare with
-    -- now in the turns between has not lagged
+    -- the group stands before moment `from` + `by` as before `from`, but later, and no order comes from then on; each source of its cores has
+    -- its next date later and as many dates left, so it has no last date, or none to come; what its cores compare with now in the turns between
+    -- has not lagged
     pub record Recurs (from : ℕ) : Type 0 where
       pub closed : IsClosed
       pub some : 1 ≤ shifts.by
       pub shift : (c : ℕ) → IsShift system (shift_of shifts c)
       pub orders : AllByRecursion (λ (order : Order). order.moment < from) system.orders
       pub again : IsLater (world system from) (world system (from + shifts.by))
+      pub alarms : (c : ℕ) → c < system.cores → group c ≡ true → alarms_at system c (from + shifts.by)
+          ≡ map (later_alarm shifts.by) (alarms_at system c from)
       pub rows : (t c : ℕ) → from ≤ t → t < from + shifts.by → c < system.cores → group c ≡ true →
           AllByRecursion (KeepsUp system (shift_of shifts c)) (turn_of system c t).rows

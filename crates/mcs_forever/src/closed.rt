@@ -88,6 +88,10 @@ fn home_signalled(system: &System, item: &Option<Item>) -> Option<CoreId>
         Some(Item::Compute(_)) => None,
         Some(Item::Wait(_)) => None,
         Some(Item::Yield) => None,
+        Some(Item::On(_)) => None,
+        Some(Item::Spin) => None,
+        Some(Item::Enter(_, _)) => None,
+        Some(Item::Leave(_, _)) => None,
         None => None,
     }
 }

@@ -19,11 +19,15 @@ system =
       call = 1;
       min_budget = 1;
       contexts = record { name = codes "c"; core = 0; config = record { budget = 2; period = 5; extra = 0 }; mode = mode.Sporadic } ∷ [];
-      notes = record { name = codes "N"; core = 0 } ∷ [];
+      notes = record { name = codes "N"; core = 0; word = 0 } ∷ [];
       threads =
           record { name = codes "T"; context = 0; priority = 5; start = 0; rounds = 0; deadline = 10; script = Compute 5 ∷ [] } ∷ [];
       orders = [];
       links = [];
+      servers = 0;
+      sources = [];
+      beats = [];
+      chains = [];
     }
 
 -- cores 0 and 2, and a core that the system does not have

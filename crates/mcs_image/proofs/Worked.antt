@@ -41,7 +41,7 @@ another_slice_is_not_later = λ lag within later. grind arith
 
 -- a core on which the first thread runs, the second is ready, and the third is pending
 abbrev thread : Standing → ℕ → ℕ → ℕ → Thread
-thread standing round left since = record { standing = standing; place = record { round = round; item = 0; left = left }; since = since }
+thread standing round left since = record { standing = standing; place = record { round = round; item = 0; left = left; word = 0; priority = 5 }; since = since }
 
 abbrev sporadic : ℕ → ℕ → List ℕ → Context
 sporadic budget period dates = record { config = record { budget = budget; period = period; extra = 0 }; mode = Sporadic; budget = Dates dates }

@@ -61,7 +61,8 @@ impl CoreImage {
     }
 
     /// Whether a core may stand again as it did here, but later: the same thread runs, with as many ticks in use, and each thread stands at
-    /// the same item with as much left of it. It takes no memory. Where it answers no, the core is not this one, later by any shift.
+    /// the same item with as much left of it, the same word of the round and the same priority. It takes no memory. Where it answers no, the
+    /// core is not this one, later by any shift.
     pub fn may_be_again(&self, system: &System, state: &CoreState) -> bool
         requires fits { Fits system.now state.now }
         requires going { state.now.failed ≡ false }
@@ -83,8 +84,8 @@ impl CoreImage {
     }
 
     /// By how much this core is later than it was: it stands as it stood before, but `by` ticks later. Who runs, and with how many ticks in
-    /// use, how each thread stands, its item and what is left of it, the ready threads in their order, the words and who waits for them, and
-    /// the contexts' configurations, modes and slices are the same; the releases are the same in the same order, their dates later by
+    /// use, how each thread stands, its item, what is left of it, its round's word and its priority, the ready threads in their order, the
+    /// words and who waits for them, and the contexts' configurations, modes and slices are the same; the releases are the same in the same order, their dates later by
     /// `by`; the dates of each context are later by a number of its own, at most `by`, and so is the beginning of each thread's round,
     /// and a thread may have ended more rounds.
     ///

@@ -26,16 +26,20 @@ pub(crate) fn runs_alike(before: Option<Chosen>, after: Option<Chosen>) -> bool
     after == before
 }
 
-/// Whether the thread stands as it did, at the same item, with as much left of it.
+/// Whether the thread stands as it did, at the same item, with as much left of it, the same word of the round and the same priority.
 pub(crate) fn stands_alike(before: &Thread, after: &Thread) -> bool
     ensures { IsTrue result
         ↔ ((after.now.standing ≡ before.now.standing)
         × (after.now.place.item ≡ before.now.place.item)
-        × (after.now.place.left ≡ before.now.place.left)) }
+        × (after.now.place.left ≡ before.now.place.left)
+        × (after.now.place.word ≡ before.now.place.word)
+        × (after.now.place.priority ≡ before.now.place.priority)) }
 {
     after.standing == before.standing
         && after.place.item == before.place.item
         && after.place.left == before.place.left
+        && after.place.word == before.place.word
+        && after.place.priority == before.place.priority
 }
 
 /// How much later a thread's round began, and how many rounds more it has ended. None where it is not the same thread but for that.

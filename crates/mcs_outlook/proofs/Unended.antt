@@ -7,7 +7,8 @@ use Rattle.mcs_verdict.specs.declared.finding.Finding.{Finding}
 use Rattle.mcs_verdict.specs.declared.standing.Stood.{Stood}
 use Rattle.mcs_verdict.specs.declared.finding.Finding.TheVariants.{Overdue, Never}
 use Rattle.mcs_verdict.specs.Misses.{is_reached, yet_to_begin, first_word, was_activated, overdue_at, overdue_since, overdue, never_at, never, first_of, unended}
-use Rattle.mcs_verdict.specs.Rounds.{begun_of, called_of, first_wait, activated}
+use Rattle.mcs_verdict.specs.Calls.{first_wait, bits_of}
+use Rattle.mcs_verdict.specs.Rounds.{begun_of, called_of, activated}
 use Rattle.mcs_verdict.specs.Standing.{standing_at, telling}
 use Rattle.mcs_verdict.specs.Stood.{stood_in}
 use Rattle.mcs_outlook.specs.Lines.{end_told}
@@ -37,7 +38,7 @@ module _ (h x : ℕ) where
   overdue_since-told : (system : System) (past : List Row) (horizon thread : ℕ) (o : Option ℕ) → IsTold (overdue_since system past horizon thread o)
   overdue_since-told system past horizon thread None e =
       overdue_at-told horizon thread (thread_part system thread).deadline horizon (stood_in thread past horizon horizon)
-      (yet_to_begin (standing_at horizon None (telling thread past)) (first_word system thread past)) e
+      (yet_to_begin (standing_at horizon None (telling thread past)) (bits_of (thread_part system thread)) (first_word system thread past)) e
   overdue_since-told system past horizon thread (Some begun) e =
       overdue_at-told horizon thread (thread_part system thread).deadline begun (stood_in thread past begun horizon)
       (activated system thread past begun horizon) e
@@ -58,5 +59,5 @@ module _ (h x : ℕ) where
       first-told (overdue system past horizon thread) (never system past horizon thread)
       (overdue_since-told system past horizon thread (begun_of system thread past))
       (never_at-told thread (thread_part system thread).deadline
-      (was_activated (first_wait (thread_part system thread)) (called_of system thread past) (first_word system thread past)
+      (was_activated (first_wait (thread_part system thread)) (bits_of (thread_part system thread)) (called_of system thread past) (first_word system thread past)
       (stood_in thread past 0 horizon)))

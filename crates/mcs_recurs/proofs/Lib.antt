@@ -1,3 +1,4 @@
+pub mod Dates
 pub mod Again
 pub mod Marking
 pub mod Rows

@@ -19,6 +19,7 @@ use Rattle.mcs_under_way.specs.Group.{AreLater}
 use Rattle.mcs_recurs.specs.Snapshot.{Snapshot, IsOfClock}
 use Rattle.mcs_recurs.specs.Told.{shift_told, shifts_told, GroupIsAgain}
 use Rattle.mcs_recurs.specs.Period.{told_between, AreOfRun}
+use Rattle.mcs_recurs.specs.Sources.{AlarmsAreLater}
 use Rattle.mcs_recurs.proofs.Again.{all-shifts}
 use Rattle.mcs_recurs.proofs.Rows.{all-turn, all-apply}
 
@@ -67,15 +68,16 @@ module _ (system : System) (group : List Bool) (before after : Snapshot) (marks 
         (own system well c t known)
 
     pub recurs : RowsAreOfOwn → MarksTell → IsWellFormed system → 1 ≤ by → before.moment + by ≡ after.moment →
-        AreLater system group by before.mails after.mails →
+        AlarmsAreLater system group before.moment by → AreLater system group by before.mails after.mails →
         ((core : ℕ) → has group core ≡ true → MarkedKeepUp system core (shift_told by lags core) marks) →
         Recurs system (has group) (shifts_told by lags) before.moment
-    recurs own tell well some period mails keep = record {
+    recurs own tell well some period alarms mails keep = record {
       closed = run.closed;
       some = some;
       shift = all-shifts system by group before.each after.each lags (opening_core system 0) told;
       orders = run.orders;
       again =
           subst (λ (t : ℕ). IsLater system (has group) (shifts_told by lags) (world system before.moment) (world system t)) (sym period) (is-later mails);
+      alarms = λ c known is. alarms c is;
       rows = λ t c from within. rows-keep-up own tell well keep t c from (omega (arith, within, period));
     }

@@ -7,6 +7,7 @@ mod laws;
 mod marked;
 mod shifts;
 mod snapshot;
+mod sources;
 
 pub use group::is_own;
 pub use laws::rows_tell_turns;

@@ -4,6 +4,7 @@ ghost use Rattle.mcs_recurs.specs.Period.{AreOfRun, RecursBetween};
 use crate::lags::group_lags;
 use crate::marked::marked_keep_up;
 use crate::snapshot::Snapshot;
+use crate::sources::sources_are_later;
 use mcs_forever::{CoreSet, Marks, marks_tell, rows_are_of_own};
 use mcs_image::Lags;
 use mcs_system::System;
@@ -22,8 +23,9 @@ pub struct Shifts {
 
 impl Shifts {
     /// By how much a group of cores is later where it recurs between two moments: where it stands before the later one as it stood before the
-    /// earlier one, but later, with the same signals for it under way, and nothing lags that is marked as compared with now in between. Then
-    /// the group does the same again, without end, and the time between is its period.
+    /// earlier one, but later, with the same signals for it under way, the next dates of the sources that interrupt on its cores later, too, and
+    /// nothing lags that is marked as compared with now in between. Then the group does the same again, without end, and the time between is
+    /// its period.
     ///
     /// That holds of states of the clock, where no core outside the group signals one in it, each order of the system comes before the earlier
     /// moment, and the marks are those of the rows in between. None where the group does not stand so, or the second moment is not the later
@@ -48,6 +50,9 @@ impl Shifts {
             return Ok(None);
         }
         let by = past - from;
+        if !sources_are_later(system, group, from, by) {
+            return Ok(None);
+        }
         if !are_later(system, group, by, before.mails(), after.mails()) {
             return Ok(None);
         }

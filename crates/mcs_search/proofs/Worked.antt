@@ -26,6 +26,10 @@ one =
       threads = record { name = []; context = 0; priority = 5; start = 0; rounds = 1; deadline = 0; script = Compute 1 ∷ [] } ∷ [];
       orders = record { moment = 5; context = 0; config = budget } ∷ [];
       links = [];
+      servers = 0;
+      sources = [];
+      beats = [];
+      chains = [];
     }
 
 -- the order comes before 6, and not before 5

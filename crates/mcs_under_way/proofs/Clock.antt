@@ -1,6 +1,7 @@
 -- The rows before a moment tell the signals under way then.
-use Rattle.std.proofs.Common.{◌≡◌, ℕ, zero, suc, ◌<◌, ◌≤◌, ◌⊎◌, inl, inr, not, length, List, [], ◌∷◌, ◌++◌, refl, sym, ap, ◌∙◌, arith}
+use Rattle.std.proofs.Common.{◌≡◌, ℕ, zero, suc, ◌+◌, ◌<◌, ◌≤◌, ◌⊎◌, inl, inr, not, length, List, ◌++◌, refl, sym, ap, ◌∙◌, arith}
 use Rattle.std.specs.Prelude.{◌&&◌, nat_lt, nat_le, filter, flat_map}
+use Rattle.std.specs.List.{range_with_len}
 use Rattle.std.proofs.lemmas.Bool.{cases_lt}
 use Rattle.std.proofs.lemmas.Bool.Decides.{nat_tests}
 use Rattle.std.proofs.lemmas.List.{get_or_past}
@@ -17,31 +18,33 @@ use Rattle.mcs_laws.proofs.Histories.{takes-time}
 use Rattle.mcs_laws.proofs.UnderWay.{signals-of-turns}
 use Rattle.mcs_under_way.specs.Told.{mail_of, told_mails, arrives_from}
 use Rattle.mcs_under_way.specs.laws.Told.{SignalsAreTold, UnderWayIsTold}
+use Rattle.mcs_forever.proofs.Home.{leaves-at-home}
 use Rattle.mcs_under_way.proofs.Telling.{turn-tells, told-stamped}
 
 both : (xs ys us vs : List Mail) → xs ≡ ys → us ≡ vs → xs ++ us ≡ ys ++ vs
 both xs ys us vs e f = cc
 
 module _ (system : System) where
-  pub signals-told : SignalsAreTold system
-  signals-told c t =
-      turn-tells in_one_list system c t (filter (arrives_at system t c) (world system t).mails) (core_at system (world system t) c)
-      ∙ sym (told-stamped in_one_list system c t (turn_of system c t).rows)
-
-  -- the turns of a moment
-  moment-told : (t : ℕ) (cs : List ℕ) → flat_map (λ c. (turn_of system c t).mails) cs ≡ told_mails system (flat_map (λ c. rows_of system c t) cs)
-  moment-told t [] = refl
-  moment-told t (c ∷ cs) =
-      both _ _ _ _ (signals-told c t) (moment-told t cs)
-      ∙ sym (filter_map-append (mail_of system) (rows_of system c t) (flat_map (λ d. rows_of system d t) cs))
-
   module _ (well : IsWellFormed system) where
+    pub signals-told : SignalsAreTold system
+    signals-told c t known =
+        turn-tells in_one_list system c t (filter (arrives_at system t c) (world system t).mails) (core_at system (world system t) c) (λ chosen runs. leaves-at-home system well c t known chosen runs)
+        ∙ sym (told-stamped in_one_list system c t (turn_of system c t).rows)
+
+    -- the turns of a moment
+    moment-told : (t n a : ℕ) → a + n ≤ system.cores →
+        flat_map (λ c. (turn_of system c t).mails) (range_with_len a n) ≡ told_mails system (flat_map (λ c. rows_of system c t) (range_with_len a n))
+    moment-told t zero a l = refl
+    moment-told t (suc n) a l =
+        both _ _ _ _ (signals-told a t (omega (arith, l))) (moment-told t n (a + 1) (omega (arith, l)))
+        ∙ sym (filter_map-append (mail_of system) (rows_of system a t) (flat_map (λ c. rows_of system c t) (range_with_len (a + 1) n)))
+
     -- all turns before a moment
     before-told : (t : ℕ) → sent_before system t ≡ told_mails system (clock system t).rows
     before-told zero = refl
     before-told (suc t) =
         flat_map-moments-more (sent_at system) t
-        ∙ both _ _ _ _ (before-told t) (moment-told t (cores system))
+        ∙ both _ _ _ _ (before-told t) (moment-told t system.cores 0 (omega arith))
         ∙ sym (filter_map-append (mail_of system) (clock system t).rows (flat_map (λ c. rows_of system c t) (cores system)))
         ∙ ap (told_mails system) (sym (rows-clock system (takes-time system well) t))
 

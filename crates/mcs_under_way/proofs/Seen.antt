@@ -54,6 +54,7 @@ on-time system well c moment t l m (row.Hold note word) = refl
 on-time system well c moment t l m (row.Got thread note word) = refl
 on-time system well c moment t l m (row.Round thread number response) = refl
 on-time system well c moment t l m (row.Order context) = refl
+on-time system well c moment t l m (row.Interrupt source note badge) = refl
 
 -- one row more of a run
 pub seen-told : (system : System) → IsWellFormed system → (one : Row) (t : ℕ) (past : List Row) (before : List Mail) → before ≡ under_way system t past →

@@ -20,10 +20,14 @@ two_cores =
       call = 1;
       min_budget = 1;
       contexts = record { name = []; core = 0; config = record { budget = 10; period = 10; extra = 0 }; mode = Sporadic } ∷ [];
-      notes = record { name = []; core = 1 } ∷ record { name = []; core = 0 } ∷ [];
+      notes = record { name = []; core = 1; word = 0 } ∷ record { name = []; core = 0; word = 0 } ∷ [];
       threads = record { name = []; context = 0; priority = 5; start = 0; rounds = 1; deadline = 0; script = Compute 1 ∷ Signal 0 4 ∷ Signal 1 2 ∷ [] } ∷ [];
       orders = [];
       links = [];
+      servers = 0;
+      sources = [];
+      beats = [];
+      chains = [];
     }
 
 abbrev at_5 : What → Row

@@ -21,6 +21,7 @@ module _ (system : System) where
   mail_told c t (what.Got thread note word) = None
   mail_told c t (what.Round thread number response) = None
   mail_told c t (what.Order context) = None
+  mail_told c t (what.Interrupt source note badge) = None
 
   abbrev pub mail_of : Row → Option Mail
   mail_of row = mail_told row.core row.moment row.what

@@ -30,6 +30,7 @@ module _ (system : System) (core : ℕ) where
   IsOfOwn (row.Hold note word) = IsOwnNote note
   IsOfOwn (row.Got thread note word) = IsOwnThread thread × IsOwnNote note
   IsOfOwn (row.Order context) = Unit {0}
+  IsOfOwn (row.Interrupt source note badge) = IsOwnNote note
 
 abbrev pub RowsAreOfOwn : Type 0
 RowsAreOfOwn =

@@ -2,7 +2,7 @@
 use Rattle.std.specs.Prelude.{◌≡◌, ℕ, ◌<◌, ◌⊎◌, Bool, true, false, List, [], length, get_or, set, Option, Some, None}
 use Rattle.std.specs.List.{slice_get}
 use Rattle.mcs_script.specs.declared.item.Item.{Item}
-use Rattle.mcs_script.specs.declared.item.Item.TheVariants.{Compute, Signal, Wait, Yield}
+use Rattle.mcs_script.specs.declared.item.Item.TheVariants.{Compute, Signal, Wait, Yield, On, Spin, Enter, Leave}
 use Rattle.mcs_system.specs.System.{System, thread_part, note_part, core_of}
 use Rattle.mcs_laws.specs.Links.{Signals}
 use Rattle.mcs_forever.specs.Closed.{has}
@@ -21,6 +21,10 @@ home_signalled system (Some (Signal note badge)) = Some (note_part system note).
 home_signalled system (Some (Compute ticks)) = None
 home_signalled system (Some (Wait note)) = None
 home_signalled system (Some Yield) = None
+home_signalled system (Some (On badges)) = None
+home_signalled system (Some Spin) = None
+home_signalled system (Some (Enter server priority)) = None
+home_signalled system (Some (Leave server priority)) = None
 home_signalled system None = None
 
 -- for each home a set of cores that signal it, of whom none is missing that does so by the scripts of the threads below number n or by the

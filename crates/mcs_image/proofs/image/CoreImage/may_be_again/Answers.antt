@@ -28,5 +28,11 @@ returns-then-not-stands_alike c = λ shift later.
     ∙ threads-later-at shift.threads shift.rounds before c.args.state.now.core.threads threads i within
     ∙ ap (later_thread (shift.threads i) (shift.rounds i)) (get_or_default before i no_state c.index.result.now within ∙ sym c.index.ensures) in
     let alike : c.stands_alike.result ≡ true =
-    c.stands_alike.ensures.1 (ap (λ (thread : Thread). thread.standing) at, ap (λ (thread : Thread). thread.place.item) at, ap (λ (thread : Thread). thread.place.left) at) in
+    c.stands_alike.ensures.1 (
+      ap (λ (thread : Thread). thread.standing) at,
+      ap (λ (thread : Thread). thread.place.item) at,
+      ap (λ (thread : Thread). thread.place.left) at,
+      ap (λ (thread : Thread). thread.place.word) at,
+      ap (λ (thread : Thread). thread.place.priority) at,
+    ) in
     cc
