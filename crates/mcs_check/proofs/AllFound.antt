@@ -1,10 +1,11 @@
 -- What was found of all rows of a run.
 use Rattle.std.proofs.Common.{◌≡◌, ◌∙◌, [], Bool, false, ℕ, List, Option, IfErr, IfOk, sym, subst}
-use Rattle.std.specs.Prelude.{Result, Ok, Err, IfSome, length}
+use Rattle.std.specs.Prelude.{Result, Ok, Err, IfSome}
 use Rattle.mcs_ticks.specs.declared.row.Row.{Row}
 use Rattle.mcs_system.specs.System.{System}
 use Rattle.mcs_verdict.specs.Findings.{UpTo, found_at_end, past_of}
 use Rattle.mcs_verdict.specs.Watch.{watch_of}
+use Rattle.mcs_verdict.specs.Words.{firsts_of}
 use Rattle.mcs_verdict.proofs.Watches.{length-accounts as length-watched}
 use Rattle.mcs_table.specs.Table.{Table}
 use Rattle.mcs_cli.specs.Flow.{AppendsBefore, IsWriteFault}
@@ -54,5 +55,5 @@ module _ (system : System) (allowed : List Bool) (options : Options) (old new : 
 pub kept-accounts : (how : Format) (system : System) (horizon : ℕ) (past : List Row) (asked : Show) → IfSome (kept_of asked system horizon past) (IsKeptOf system)
 kept-accounts how system horizon rows show.Findings = tt
 kept-accounts how system horizon rows show.Jobs = tt
-kept-accounts how system horizon rows show.Table = record { watched = length-watched (length system.notes) 0 system.threads rows; tabled = kept-long how system horizon rows show.Table }
-kept-accounts how system horizon rows show.Both = record { watched = length-watched (length system.notes) 0 system.threads rows; tabled = kept-long how system horizon rows show.Both }
+kept-accounts how system horizon rows show.Table = record { watched = length-watched (firsts_of system) 0 system.threads rows; tabled = kept-long how system horizon rows show.Table }
+kept-accounts how system horizon rows show.Both = record { watched = length-watched (firsts_of system) 0 system.threads rows; tabled = kept-long how system horizon rows show.Both }

@@ -30,10 +30,14 @@ system =
       call = 1;
       min_budget = 1;
       contexts = context (codes "l") 19 ∷ context (codes "h") 10 ∷ [];
-      notes = record { name = codes "x"; core = 0 } ∷ [];
+      notes = record { name = codes "x"; core = 0; word = 0 } ∷ [];
       threads = thread (codes "Low") 0 1 1 (Compute 3 ∷ Signal 0 1 ∷ []) ∷ thread (codes "High") 1 9 0 (Wait 0 ∷ Compute 2 ∷ []) ∷ [];
       orders = [];
       links = [];
+      servers = 0;
+      sources = [];
+      beats = [];
+      chains = [];
     }
 
 -- The high one waits from 1 on, and is woken at 5; its second round has not begun at 9.

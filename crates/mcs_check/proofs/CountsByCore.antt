@@ -1,5 +1,5 @@
 -- What cores count of their own rows is together what is counted of all rows.
-use Rattle.std.proofs.Common.{◌≡◌, ◌∙◌, ◌++◌, ◌∷◌, [], ℕ, zero, suc, ◌+◌, ◌-◌, ◌<◌, ◌≤◌, length, Bool, true, false, cond, if◌then◌else◌, nat_lt, ◌==◌, List, Option, Some, None, fold, append_assoc, ap, arith, refl, subst, sym}
+use Rattle.std.proofs.Common.{◌≡◌, ◌∙◌, ◌++◌, ◌∷◌, [], ℕ, zero, suc, ◌+◌, ◌-◌, ◌<◌, ◌≤◌, length, get_or, Bool, true, false, cond, if◌then◌else◌, nat_lt, ◌==◌, List, Option, Some, None, fold, append_assoc, ap, arith, refl, subst, sym}
 use Rattle.std.specs.List.{range_with_len}
 use Rattle.std.proofs.lemmas.Bool.{cond_both, eq-eqb}
 use Rattle.std.proofs.lemmas.Bool.Decides.{nat_tests}
@@ -17,7 +17,7 @@ use Rattle.mcs_verdict.specs.declared.finding.Finding.{Finding}
 use Rattle.mcs_verdict.specs.declared.finding.Found.{Found}
 use Rattle.mcs_verdict.specs.declared.held.Held.{Held}
 use Rattle.mcs_verdict.specs.Findings.{finding, found_at, found_in, past_of}
-use Rattle.mcs_verdict.specs.Words.{adds, held, held_after, merges, no_word}
+use Rattle.mcs_verdict.specs.Words.{adds, firsts_of, held, held_after, merges, no_word}
 use Rattle.mcs_verdict.specs.laws.ByCore.{rows_on, found_on, note_home_of, word_told, ComeHome, CoresAreWatched, IsAtHome}
 use Rattle.mcs_check.specs.declared.counts.Counts.{Counts}
 use Rattle.mcs_verdict_laws.proofs.Standings.{past-append}
@@ -160,13 +160,14 @@ module _ (system : System) where
   home-first past (r ∷ rows) more come = let rest = home-first (r ∷ past) rows more come.2 in ((come.0, come.1, rest.0), rest.1)
 
   -- the word of a notification of the core
-  held-on : (c note : ℕ) (past : List Row) → note_home_of system note ≡ c → AreHome past → held note (rows_on c past) ≡ held note past
-  held-on c note [] home h = refl
-  held-on c note (r ∷ past) home h =
-      let before = held-on c note past home h.1 in
-      cond_both (r.core == c) (r ∷ rows_on c past) (rows_on c past) (λ rows. held note rows ≡ held note (r ∷ past))
+  held-on : (first : Held) (c note : ℕ) (past : List Row) → note_home_of system note ≡ c → AreHome past
+      → held first note (rows_on c past) ≡ held first note past
+  held-on first c note [] home h = refl
+  held-on first c note (r ∷ past) home h =
+      let before = held-on first c note past home h.1 in
+      cond_both (r.core == c) (r ∷ rows_on c past) (rows_on c past) (λ rows. held first note rows ≡ held first note (r ∷ past))
       (λ e. ap (held_after note r.moment r.what) before)
-      (λ e. before ∙ sym (held_after-other note r.moment r.what (held note past) (λ t. grind (arith, nat_tests, h.0.note note t))))
+      (λ e. before ∙ sym (held_after-other note r.moment r.what (held first note past) (λ t. grind (arith, nat_tests, h.0.note note t))))
 
   -- whether a row of the core merges
   merges-on : (c : ℕ) (past : List Row) (what : What) → ((n : ℕ) → word_told what ≡ Some n → note_home_of system n ≡ c) → AreHome past
@@ -177,10 +178,13 @@ module _ (system : System) where
   merges-on c past (row.Signal x n badge) note h = refl
   merges-on c past (row.Arrive n badge maker) note h = refl
   merges-on c past (row.Wake x n word) note h = refl
-  merges-on c past (row.Hold n word) note h = ap (λ (held : Held). adds (cond (nat_lt n (length system.notes)) held no_word).word word) (held-on c n past (note n refl) h)
+  merges-on c past (row.Hold n word) note h =
+      let firsts = firsts_of system in
+      ap (λ (held : Held). adds (cond (nat_lt n (length firsts)) held no_word).word word) (held-on (get_or firsts n no_word) c n past (note n refl) h)
   merges-on c past (row.Got x n word) note h = refl
   merges-on c past (row.Round x number response) note h = refl
   merges-on c past (row.Order context) note h = refl
+  merges-on c past (row.Interrupt source n badge) note h = refl
 
   -- what is found at a row of the core
   module _ (watched : CoresAreWatched) (c : ℕ) (done : List Row) (r : Row) (here : r.core ≡ c) (come : ComeHome system [] (done ++ r ∷ [])) where

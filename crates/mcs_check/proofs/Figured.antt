@@ -29,6 +29,10 @@ system =
           record { name = codes "A"; context = 0; priority = 5; start = 0; rounds = 1; deadline = 10; script = Compute 5 ∷ [] } ∷ [];
       orders = [];
       links = [];
+      servers = 0;
+      sources = [];
+      beats = [];
+      chains = [];
     }
 
 -- what it came to in 20 ticks, of which it ran 5, where this is told of its rounds

@@ -26,7 +26,7 @@ use Rattle.mcs_verdict_laws.proofs.Order.{in_order}
 use Rattle.mcs_verdict_laws.proofs.Reached.{other-turn}
 use Rattle.mcs_verdict_laws.proofs.Signals.{wait_home, whole-turn}
 use Rattle.mcs_verdict_laws.proofs.Steps.{IsOther, AreOther}
-use Rattle.mcs_verdict_laws.proofs.Words.{IsStill, plain-still, posts-still, still-append, waits-still}
+use Rattle.mcs_verdict_laws.proofs.Words.{IsStill, enters-still, frees-still, plain-still, posts-still, still-append, waits-still}
 
 all-append : (P : Row → Type 0) (rows more : List Row) → AllByRecursion P rows → AllByRecursion P more → AllByRecursion P (rows ++ more)
 all-append P [] more here there = there
@@ -73,6 +73,8 @@ module _ (system : System) (c t : ℕ) where
         (λ notes made i plain. plain-still n made.rows plain.rows)
         (λ notes made part first second. still-append n made.rows (part made.core).rows first second)
         (λ m badge k home i. posts-still n system t m badge k (differs m home)) (λ y item m k waits home i. waits-still n system t y m k (differs m home))
+        (λ y m k served home i. enters-still n system t y m k (differs m home))
+        (λ y m k served home i. frees-still n system t y m k (differs m home))
         (filter (arrives_at system t c) (world system t).mails) (core_shown system (world system t) c) (mails-home system t c (world system t).mails)
         (runs-home system well 0 t c known) tt
         in

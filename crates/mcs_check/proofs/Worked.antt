@@ -1,5 +1,5 @@
 -- What is written of what is found, worked by hand.
-use Rattle.std.specs.Prelude.{◌≡◌, ◌++◌, ℕ, Bool, true, false, List, [], ◌∷◌, Some, None, codes, map, refl}
+use Rattle.std.specs.Prelude.{◌≡◌, ◌++◌, ℕ, Bool, true, false, List, [], ◌∷◌, Some, None, codes, map, replicate, refl}
 use Rattle.std.specs.Fmt.{digits}
 use Rattle.serde_json.proofs.OnLiterals.{serde_json_on_literals}
 use Rattle.mcs_script.specs.declared.item.Item.TheVariants.{Compute}
@@ -24,7 +24,7 @@ use Rattle.mcs_check.specs.Lines.{found_text, hint_text, job_text}
 use Rattle.mcs_check.specs.Told.{counts_with, found_lines}
 
 abbrev note : List ℕ → NotePart
-note name = record { name = name; core = 0 }
+note name = record { name = name; core = 0; word = 0 }
 
 abbrev thread : ℕ → ThreadPart
 thread deadline =
@@ -43,6 +43,10 @@ system deadline =
       threads = thread deadline ∷ [];
       orders = [];
       links = [];
+      servers = 0;
+      sources = [];
+      beats = [];
+      chains = [];
     }
 
 -- ready, running, throttled, blocked, woken
@@ -208,3 +212,10 @@ unknown = refl
 
 none_near : nearest_of [] (codes "tick") ≡ None
 none_near = refl
+
+-- A text of 64 bytes may be a name with slips in it, and one of 65 is none.
+near_to_short : nearest_of (note (codes "tick") ∷ []) (replicate 64 97) ≡ Some (codes "tick")
+near_to_short = refl
+
+none_near_to_long : nearest_of (note (codes "tick") ∷ []) (replicate 65 97) ≡ None
+none_near_to_long = refl

@@ -1,5 +1,5 @@
 -- The notifications at which lost signals are allowed, by name, and what is said of a name that none has.
-use Rattle.std.specs.Prelude.{ℕ, ◌≡◌, Bool, not, nat_lt, nat_eq, if◌then◌else◌, List, [], ◌∷◌, length, map, find, Option, Some, None, option_map, string_bytes, ⊤}
+use Rattle.std.specs.Prelude.{ℕ, ◌≡◌, Bool, not, nat_lt, nat_le, nat_eq, if◌then◌else◌, List, [], ◌∷◌, length, map, find, Option, Some, None, option_map, string_bytes, ⊤}
 use Rattle.std.specs.List.{list_any}
 use Rattle.std.specs.Str.{bytes_eq, chars}
 use Rattle.strsim.specs.Edits.{levenshtein_row}
@@ -38,9 +38,13 @@ abbrev pub nearest_from : List ℕ → Option (List ℕ) → List NotePart → O
 nearest_from name near [] = near
 nearest_from name near (part ∷ parts) = nearest_from name (Some (nearer name near part.name)) parts
 
--- the nearest one of these notifications' names, if there is one
+-- a text that may be a name with slips in it: a name has at most 32 bytes, and no name is near to a text of more than twice as many
+abbrev pub is_short : List ℕ → Bool
+is_short text = nat_le (length text) 64
+
+-- the nearest one of these notifications' names, if there is one, and the name that was given is short
 abbrev pub nearest_of : List NotePart → List ℕ → Option (List ℕ)
-nearest_of notes name = nearest_from name None notes
+nearest_of notes name = if is_short name then nearest_from name None notes else None
 
 -- the fault of a name that no notification has, or that there was no memory for its text
 abbrev pub IsUnknownFault : List NotePart → List ℕ → CheckFault → Type 0

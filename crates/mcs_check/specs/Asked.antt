@@ -8,7 +8,7 @@ use Rattle.mcs_system.specs.declared.part.ThreadPart.{ThreadPart}
 use Rattle.mcs_cli.specs.declared.fault.RunFault.TheVariants as run
 use Rattle.mcs_check.specs.declared.why_fault.WhyFault.{WhyFault}
 use Rattle.mcs_check.specs.declared.why_fault.WhyFault.TheVariants.{Run, NoThread, NoRound}
-use Rattle.mcs_check.specs.Allowed.{nearer}
+use Rattle.mcs_check.specs.Allowed.{is_short, nearer}
 
 -- the first thread with the name
 abbrev pub thread_named : List ThreadPart → List ℕ → Option ℕ
@@ -26,9 +26,9 @@ abbrev pub nearest_from : List ℕ → Option (List ℕ) → List ThreadPart →
 nearest_from name near [] = near
 nearest_from name near (part ∷ parts) = nearest_from name (Some (nearer name near part.name)) parts
 
--- the nearest one of these threads' names, if there is one
+-- the nearest one of these threads' names, if there is one, and the name that was given is short
 abbrev pub nearest_thread : List ThreadPart → List ℕ → Option (List ℕ)
-nearest_thread threads name = nearest_from name None threads
+nearest_thread threads name = if is_short name then nearest_from name None threads else None
 
 -- the fault of a name that no thread has, or that there was no memory for its text
 abbrev pub IsNoThread : List ThreadPart → List ℕ → WhyFault → Type 0

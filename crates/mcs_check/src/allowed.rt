@@ -2,13 +2,13 @@
 ghost use Rattle.std.specs.Prelude.{◌≡◌, map, IfOk, OnOk, OnErr, IfErr, IfSome, IsSome, None, option_map, string_bytes};
 ghost use Rattle.std.specs.List.{list_any};
 ghost use Rattle.std.specs.Str.{bytes_eq};
-ghost use Rattle.mcs_check.specs.Allowed.{IsUnknownFault, first_unknown, flags_of, is_known, is_named, nearer, nearest_of};
+ghost use Rattle.mcs_check.specs.Allowed.{IsUnknownFault, first_unknown, flags_of, is_known, is_named, is_short, nearer, nearest_from, nearest_of};
 
 use crate::CheckFault;
 use mcs_cli::RunFault;
 use mcs_system::SystemParts;
 use mcs_team::SimFault;
-use mcs_ticks::NoMemory;
+use mcs_ticks::{Limits, NoMemory};
 use std::alloc::{AllocError, Global};
 use strsim::levenshtein;
 
@@ -89,13 +89,36 @@ fn told(
     Ok((String::from_str(alloc, name)?, nearest))
 }
 
-/// The name of the notification whose name is nearest, the first of those that are as near.
+/// The name of the notification whose name is nearest, the first of those that are as near, and None where the name that was given is not
+/// short: to compare a long one with each takes long.
 fn nearest<'a>(
     alloc: Global,
     parts: &'a SystemParts,
     name: &str,
 ) -> Result<Option<&'a str>, AllocError>
     ensures { IfOk result (λ near. option_map (λ n. n.now) near ≡ nearest_of parts.now.notes name.now) }
+{
+    if is_short(name) {
+        nearest_of_all(alloc, parts, name)
+    } else {
+        Ok(None)
+    }
+}
+
+/// Whether a text may be a name with slips in it: a name has at most 32 bytes.
+pub(crate) fn is_short(text: &str) -> bool
+    ensures { result ≡ is_short text.now }
+{
+    text.len() <= 2 * Limits::NAME
+}
+
+/// The nearest of the names of all notifications.
+fn nearest_of_all<'a>(
+    alloc: Global,
+    parts: &'a SystemParts,
+    name: &str,
+) -> Result<Option<&'a str>, AllocError>
+    ensures { IfOk result (λ near. option_map (λ n. n.now) near ≡ nearest_from name.now None parts.now.notes) }
 {
     let mut near = None;
     for part in parts.notes.as_slice() {

@@ -1,9 +1,9 @@
 //! The round that is asked about.
-ghost use Rattle.std.specs.Prelude.{◌≡◌, ◌<◌, length, IfOk, IfSome, option_map, string_bytes};
-ghost use Rattle.mcs_check.specs.Asked.{IsNoThread, nearest_thread, round_number, thread_named};
+ghost use Rattle.std.specs.Prelude.{◌≡◌, ◌<◌, length, IfOk, IfSome, None, option_map, string_bytes};
+ghost use Rattle.mcs_check.specs.Asked.{IsNoThread, nearest_from, nearest_thread, round_number, thread_named};
 
 use crate::WhyFault;
-use crate::allowed::nearer;
+use crate::allowed::{is_short, nearer};
 use mcs_cli::RunFault;
 use mcs_system::SystemParts;
 use mcs_team::SimFault;
@@ -60,13 +60,29 @@ fn told(
     Ok((String::from_str(alloc, name)?, nearest))
 }
 
-/// The name of the thread whose name is nearest, the first of those that are as near.
+/// The name of the thread whose name is nearest, the first of those that are as near, and None where the name that was given is not short:
+/// to compare a long one with each takes long.
 fn nearest<'a>(
     alloc: Global,
     parts: &'a SystemParts,
     name: &str,
 ) -> Result<Option<&'a str>, AllocError>
     ensures { IfOk result (λ near. option_map (λ n. n.now) near ≡ nearest_thread parts.now.threads name.now) }
+{
+    if is_short(name) {
+        nearest_of_all(alloc, parts, name)
+    } else {
+        Ok(None)
+    }
+}
+
+/// The nearest of the names of all threads.
+fn nearest_of_all<'a>(
+    alloc: Global,
+    parts: &'a SystemParts,
+    name: &str,
+) -> Result<Option<&'a str>, AllocError>
+    ensures { IfOk result (λ near. option_map (λ n. n.now) near ≡ nearest_from name.now None parts.now.threads) }
 {
     let mut near = None;
     for part in parts.threads.as_slice() {

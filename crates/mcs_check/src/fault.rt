@@ -15,7 +15,7 @@ pub enum CheckFault {
     Unknown {
         /// The name that was asked for.
         name: String,
-        /// The first of the notifications whose names are nearest, or None where there is no notification.
+        /// The first of the notifications whose names are nearest, or None where there is no notification, or `name` has more than 64 bytes.
         nearest: Option<String>,
     },
     /// Findings and figures are asked for as rows of CSV, which are of one kind.

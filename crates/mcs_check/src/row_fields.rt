@@ -1,51 +1,93 @@
 //! A row of a schedule, as named values.
-ghost use Rattle.std.specs.Prelude.{◌≡◌, map};
+ghost use Rattle.std.specs.Prelude.{◌≡◌, if◌then◌else◌, map};
+ghost use Rattle.mcs_system.specs.System.{is_server as is_a_server};
 ghost use Rattle.mcs_fields.specs.Fields.{field_of, value_of};
 ghost use Rattle.mcs_text.specs.Text.{why_word};
-ghost use Rattle.mcs_check.specs.RowFields.{badge_of, charged_of, context_of, kind_of, maker_of, note_of, number_of, response_of, row_fields, thread_of, until_of, why_of, word_of};
+ghost use Rattle.mcs_check.specs.RowFields.{badge_of, charged_of, context_of, kind_of, maker_of, note_of, number_of, of_note, of_server, response_of, row_fields, server_of, source_of, thread_of, until_of, why_of, word_of};
 
 use mcs_fields::{Cell, Field};
 use mcs_system::System;
-use mcs_text::{context_name, note_name, thread_name};
-use mcs_ticks::{Row, What, Why};
+use mcs_text::{context_name, is_server, note_name, source_name, thread_name};
+use mcs_ticks::{NoteId, Row, What, Why};
 
 /// A row: what it tells, in the order of its line.
-pub(crate) fn row_fields<'s>(system: &'s System, row: &Row) -> [Field<'s>; 14]
+pub(crate) fn row_fields<'s>(system: &'s System, row: &Row) -> [Field<'s>; 16]
     ensures { map field_of result ≡ row_fields system.now row.now }
 {
     let what = &row.what;
     [
         ("moment", Cell::Number(row.moment.get())),
         ("core", Cell::Number(row.core.0 as u64)),
-        ("kind", Cell::Name(kind(what))),
+        ("kind", Cell::Name(kind(system, what))),
         ("thread", thread(system, what)),
         ("context", context(system, what)),
+        ("source", source(system, what)),
         ("why", why(what)),
         ("charged", charged(what)),
         ("until", until(what)),
         ("note", note(system, what)),
-        ("badge", badge(what)),
+        ("server", server(system, what)),
+        ("badge", badge(system, what)),
         ("from", maker(what)),
-        ("word", word(what)),
+        ("word", word(system, what)),
         ("number", number(what)),
         ("response", response(what)),
     ]
 }
 
-fn kind(what: &What) -> &'static str
-    ensures { result.now ≡ kind_of what.now }
+fn kind(system: &System, what: &What) -> &'static str
+    ensures { result.now ≡ kind_of system.now what.now }
 {
-    match what {
+    match *what {
         What::Release { .. } => "release",
         What::Run { .. } => "run",
         What::Stop { .. } => "stop",
-        What::Signal { .. } => "signal",
+        What::Signal { note, .. } => kind_at(system, note, "leave", "signal"),
         What::Arrive { .. } => "arrive",
-        What::Wake { .. } => "wake",
+        What::Wake { note, .. } => kind_at(system, note, "enter", "wake"),
         What::Hold { .. } => "hold",
-        What::Got { .. } => "got",
+        What::Got { note, .. } => kind_at(system, note, "enter", "got"),
         What::Round { .. } => "round",
         What::Order { .. } => "order",
+        What::Interrupt { .. } => "interrupt",
+    }
+}
+
+/// What a row at a note is called, by what it is called at a server, and at a notification.
+fn kind_at(
+    system: &System,
+    note: NoteId,
+    at_server: &'static str,
+    at_note: &'static str,
+) -> &'static str
+    ensures { result.now ≡ (if is_a_server system.now note then at_server.now else at_note.now) }
+{
+    if is_server(system, note) {
+        at_server
+    } else {
+        at_note
+    }
+}
+
+/// What stands only where a note is a server.
+fn of_server<'s>(system: &System, note: NoteId, cell: Cell<'s>) -> Cell<'s>
+    ensures { value_of result ≡ of_server system.now note (value_of cell.entry) }
+{
+    if is_server(system, note) {
+        cell
+    } else {
+        Cell::Empty
+    }
+}
+
+/// What stands only where a note is a notification.
+fn of_note<'s>(system: &System, note: NoteId, cell: Cell<'s>) -> Cell<'s>
+    ensures { value_of result ≡ of_note system.now note (value_of cell.entry) }
+{
+    if is_server(system, note) {
+        Cell::Empty
+    } else {
+        cell
     }
 }
 
@@ -73,6 +115,15 @@ fn context<'s>(system: &'s System, what: &What) -> Cell<'s>
     }
 }
 
+fn source<'s>(system: &'s System, what: &What) -> Cell<'s>
+    ensures { value_of result ≡ source_of system.now what.now }
+{
+    match *what {
+        What::Interrupt { source, .. } => Cell::Name(source_name(system, source)),
+        _ => Cell::Empty,
+    }
+}
+
 fn why<'s>(what: &What) -> Cell<'s>
     ensures { value_of result ≡ why_of what.now }
 {
@@ -89,6 +140,7 @@ fn why_word(why: Why) -> &'static str
         Why::Spent => "spent",
         Why::Yield => "yield",
         Why::Wait => "wait",
+        Why::Call => "call",
         Why::Done => "done",
         Why::Preempt => "preempt",
         Why::Order => "order",
@@ -120,20 +172,37 @@ fn note<'s>(system: &'s System, what: &What) -> Cell<'s>
     ensures { value_of result ≡ note_of system.now what.now }
 {
     match *what {
-        What::Signal { note, .. }
-        | What::Arrive { note, .. }
-        | What::Wake { note, .. }
-        | What::Hold { note, .. }
-        | What::Got { note, .. } => Cell::Name(note_name(system, note)),
+        What::Signal { note, .. } | What::Wake { note, .. } | What::Got { note, .. } => {
+            of_note(system, note, Cell::Name(note_name(system, note)))
+        }
+        What::Arrive { note, .. } | What::Hold { note, .. } | What::Interrupt { note, .. } => {
+            Cell::Name(note_name(system, note))
+        }
         _ => Cell::Empty,
     }
 }
 
-fn badge<'s>(what: &What) -> Cell<'s>
-    ensures { value_of result ≡ badge_of what.now }
+fn server<'s>(system: &'s System, what: &What) -> Cell<'s>
+    ensures { value_of result ≡ server_of system.now what.now }
 {
     match *what {
-        What::Signal { badge, .. } | What::Arrive { badge, .. } => Cell::Number(u64::from(badge)),
+        What::Signal { note, .. } | What::Wake { note, .. } | What::Got { note, .. } => {
+            of_server(system, note, Cell::Name(note_name(system, note)))
+        }
+        _ => Cell::Empty,
+    }
+}
+
+fn badge<'s>(system: &System, what: &What) -> Cell<'s>
+    ensures { value_of result ≡ badge_of system.now what.now }
+{
+    match *what {
+        What::Signal { note, badge, .. } => {
+            of_note(system, note, Cell::Number(u64::from(badge)))
+        }
+        What::Arrive { badge, .. } | What::Interrupt { badge, .. } => {
+            Cell::Number(u64::from(badge))
+        }
         _ => Cell::Empty,
     }
 }
@@ -147,13 +216,14 @@ fn maker<'s>(what: &What) -> Cell<'s>
     }
 }
 
-fn word<'s>(what: &What) -> Cell<'s>
-    ensures { value_of result ≡ word_of what.now }
+fn word<'s>(system: &System, what: &What) -> Cell<'s>
+    ensures { value_of result ≡ word_of system.now what.now }
 {
     match *what {
-        What::Wake { word, .. } | What::Hold { word, .. } | What::Got { word, .. } => Cell::Number(
-            u64::from(word),
-        ),
+        What::Wake { note, word, .. } | What::Got { note, word, .. } => {
+            of_note(system, note, Cell::Number(u64::from(word)))
+        }
+        What::Hold { word, .. } => Cell::Number(u64::from(word)),
         _ => Cell::Empty,
     }
 }

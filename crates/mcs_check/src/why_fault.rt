@@ -17,7 +17,7 @@ pub enum WhyFault {
     NoThread {
         /// The name that was asked for.
         name: String,
-        /// The first of the threads whose names are nearest, or None where there is no thread.
+        /// The first of the threads whose names are nearest, or None where there is no thread, or `name` has more than 64 bytes.
         nearest: Option<String>,
     },
     /// The thread has no such round.

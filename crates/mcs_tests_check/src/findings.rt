@@ -70,7 +70,7 @@ fn rounds_that_ended_are_written(rt: HostRuntime) -> Result<(), Fail> {
     Ok(())
 }
 
-/// A name of two lines is told in one.
+/// A name of two lines is told in one, and one of more than 64 bytes is near to none.
 #[test]
 fn names_that_are_not_known(rt: HostRuntime) -> Result<(), Fail> {
     for (system, name, want) in [
@@ -83,6 +83,16 @@ fn names_that_are_not_known(rt: HostRuntime) -> Result<(), Fail> {
             SIGNALS,
             "a\nb",
             "mcscheck: --allow-lost: no notification is called \"a\\nb\": the nearest is tick",
+        ),
+        (
+            SIGNALS,
+            "aaaaaaaaaaaaaaaaaaaaaaaaaaaaaaaaaaaaaaaaaaaaaaaaaaaaaaaaaaaaaaaa",
+            "mcscheck: --allow-lost: no notification is called \"aaaaaaaaaaaaaaaaaaaaaaaaaaaaaaaaaaaaaaaaaaaaaaaaaaaaaaaaaaaaaaaa\": the nearest is tick",
+        ),
+        (
+            SIGNALS,
+            "aaaaaaaaaaaaaaaaaaaaaaaaaaaaaaaaaaaaaaaaaaaaaaaaaaaaaaaaaaaaaaaaa",
+            "mcscheck: --allow-lost: no notification is called \"aaaaaaaaaaaaaaaaaaaaaaaaaaaaaaaaaaaaaaaaaaaaaaaaaaaaaaaaaaaaaaaaa\": there is none",
         ),
         (
             LATE,

@@ -2,7 +2,7 @@
 
 use mcs_hints::{Hint, hints};
 use mcs_load::load;
-use mcs_ticks::NoteId;
+use mcs_ticks::{CoreId, NoteId};
 use std::test::Fail;
 
 /// On a notification that is waited on and that no script signals.
@@ -21,6 +21,60 @@ thread = [{ name = "A", context = "a", priority = 5, script = ["wait tick", "com
     assert_eq!(rt;
         hints.as_slice(),
         [Hint::Unsignalled { note: NoteId(0) }].as_slice()
+    );
+    Ok(())
+}
+
+/// Three contexts take all of the core, and two have a part of it that is less than a millionth: more than all, though the shares,
+/// each rounded down, sum to less.
+#[test]
+fn a_core_that_is_granted_a_little_more_than_all(rt: HostRuntime) -> Result<(), Fail> {
+    let full = r#"
+version = 1
+cores = 1
+delay = 1
+context = [
+    { name = "a", core = 0, budget = 1, period = 3 },
+    { name = "b", core = 0, budget = 1, period = 3 },
+    { name = "c", core = 0, budget = 1, period = 3 },
+]
+thread = [
+    { name = "A", context = "a", priority = 1, script = ["compute 1"] },
+    { name = "B", context = "b", priority = 1, script = ["compute 1"] },
+    { name = "C", context = "c", priority = 1, script = ["compute 1"] },
+]
+"#;
+    let above = r#"
+version = 1
+cores = 1
+delay = 1
+context = [
+    { name = "a", core = 0, budget = 1, period = 3 },
+    { name = "b", core = 0, budget = 1, period = 3 },
+    { name = "c", core = 0, budget = 1, period = 3 },
+    { name = "d", core = 0, budget = 1, period = 1000001 },
+    { name = "e", core = 0, budget = 1, period = 1000001 },
+]
+thread = [
+    { name = "A", context = "a", priority = 1, script = ["compute 1"] },
+    { name = "B", context = "b", priority = 1, script = ["compute 1"] },
+    { name = "C", context = "c", priority = 1, script = ["compute 1"] },
+    { name = "D", context = "d", priority = 1, script = ["compute 1"] },
+    { name = "E", context = "e", priority = 1, script = ["compute 1"] },
+]
+"#;
+    let system = load(rt.alloc(), full.as_bytes())?;
+    let found = hints(rt.alloc(), &system)?;
+    assert_eq!(rt; found.len(), 0);
+    let system = load(rt.alloc(), above.as_bytes())?;
+    let found = hints(rt.alloc(), &system)?;
+    assert_eq!(rt;
+        found.as_slice(),
+        [Hint::Overcommitted {
+            core: CoreId(0),
+            millionths: 999_999
+        }]
+        .as_slice()
     );
     Ok(())
 }

@@ -69,6 +69,26 @@ const NOT_BEGUN: &str = "\
 {\"kind\":\"idle\",\"ticks\":0}
 ";
 
+/// T never gets to its wait: from its start on Busy runs.
+const STARVED: &str = r#"
+version = 1
+cores = 1
+delay = 1
+context = [{ name = "b", core = 0, budget = 50, period = 100 }, { name = "t", core = 0, budget = 50, period = 100 }]
+note = [{ name = "n", core = 0 }]
+thread = [
+    { name = "Busy", context = "b", priority = 5, script = ["compute 40"] },
+    { name = "T", context = "t", priority = 1, start = 3, script = ["wait n", "compute 1"] },
+]
+"#;
+
+const WHY_STARVED: &str = "\
+3 0 release T
+why T number 1 from 3 to 10 waited 7 activated - begun - ended -
+ran Busy 7
+idle 0
+";
+
 const NOT_SO: &str = "mcscheck: --why: not with --show, --strict, --allow-lost or --format csv";
 
 fn options(alloc: Global, horizon: u64, workers: usize) -> Options
@@ -103,7 +123,18 @@ fn written(
     options: &Options,
     question: &Question,
 ) -> Result<String, Fail> {
-    let mut source = FromRead::new(LOCK.as_bytes());
+    written_of(rt, alloc, LOCK, options, question)
+}
+
+/// And of a round of this system.
+fn written_of(
+    rt: &(impl Threads + Wait + Sync),
+    alloc: Global,
+    system: &str,
+    options: &Options,
+    question: &Question,
+) -> Result<String, Fail> {
+    let mut source = FromRead::new(system.as_bytes());
     let mut target = IntoWrite::new(Vec::with_capacity(alloc, 4096)?);
     let ended = explain(
         rt,
@@ -141,7 +172,23 @@ fn a_lock_is_told(rt: HostRuntime) -> Result<(), Fail> {
     Ok(())
 }
 
-/// A name of two lines is told in one.
+/// A thread that never reached the wait with which its rounds begin is told from its start on, and before it no round is.
+#[test]
+fn who_ran_before_a_first_wait(rt: HostRuntime) -> Result<(), Fail> {
+    let question = question(rt.alloc(), "T", "1")?;
+    let behind_its_start = options(rt.alloc(), 10, 1);
+    let text = written_of(&rt, rt.alloc(), STARVED, &behind_its_start, &question)?;
+    assert_eq!(rt; text.as_str(), WHY_STARVED);
+    let before_it = options(rt.alloc(), 2, 1);
+    let text = written_of(&rt, rt.alloc(), STARVED, &before_it, &question)?;
+    assert_eq!(rt;
+        text.as_str(),
+        "2 mcscheck: --why: no round \"1\" of T: there is none"
+    );
+    Ok(())
+}
+
+/// A name of two lines is told in one, and one of more than 64 bytes is near to none.
 #[test]
 fn rounds_that_are_not_there(rt: HostRuntime) -> Result<(), Fail> {
     for (thread, round, want) in [
@@ -154,6 +201,16 @@ fn rounds_that_are_not_there(rt: HostRuntime) -> Result<(), Fail> {
             "a\nb",
             "1",
             "2 mcscheck: --why: no thread is called \"a\\nb\": the nearest is Low",
+        ),
+        (
+            "aaaaaaaaaaaaaaaaaaaaaaaaaaaaaaaaaaaaaaaaaaaaaaaaaaaaaaaaaaaaaaaa",
+            "1",
+            "2 mcscheck: --why: no thread is called \"aaaaaaaaaaaaaaaaaaaaaaaaaaaaaaaaaaaaaaaaaaaaaaaaaaaaaaaaaaaaaaaa\": the nearest is Init",
+        ),
+        (
+            "aaaaaaaaaaaaaaaaaaaaaaaaaaaaaaaaaaaaaaaaaaaaaaaaaaaaaaaaaaaaaaaaa",
+            "1",
+            "2 mcscheck: --why: no thread is called \"aaaaaaaaaaaaaaaaaaaaaaaaaaaaaaaaaaaaaaaaaaaaaaaaaaaaaaaaaaaaaaaaa\": there is none",
         ),
         (
             "High",

@@ -8,7 +8,7 @@ use Rattle.mcs_hints.specs.Hints.{hints_of}
 use Rattle.mcs_verdict.specs.Findings.{UpTo, found_at_end, past_of}
 use Rattle.mcs_cli.specs.Devices.{AppendsPrefix}
 use Rattle.mcs_cli.specs.Flow.{AppendsBefore, IsWriteFault}
-use Rattle.mcs_cli.proofs.Flow.{before-all, before-longer, fault-longer, fault-then, prefix-before, prefix-longer}
+use Rattle.mcs_cli.proofs.Flow.{before-all, before-longer, before-none, fault-longer, fault-then, prefix-before, prefix-longer}
 use Rattle.mcs_check.specs.Allowed.{flags_of}
 use Rattle.mcs_check.specs.Check.{check_text, counts_of, names_of}
 use Rattle.mcs_check.specs.Counts.{no_counts, with_hints}
@@ -19,6 +19,12 @@ use Rattle.mcs_check.proofs.AllFound.{kept-accounts}
 use Rattle.mcs_check.proofs.Results.{ok-holds}
 use Rattle.mcs_check.proofs.Texts.{behind, counts-put, rest_text, text-is}
 use Rattle.mcs_check.proofs.run.write_check.Goals as goal
+
+pub returns-in_default-clause-fault : goal.returns-in_default-clause-fault
+returns-in_default-clause-fault g c = (c.requires, prefix-before _ _ _ _ (before-none (g.T.Target.contents c.args.target.now) _))
+
+pub returns-in_default-flags_of-clause-fault : goal.returns-in_default-flags_of-clause-fault
+returns-in_default-flags_of-clause-fault g c = (c.requires, prefix-before _ _ _ _ (before-none (g.T.Target.contents c.args.target.now) _))
 
 pub returns-in_err-all-clause-fault : goal.returns-in_err-all-clause-fault
 returns-in_err-all-clause-fault g c =
