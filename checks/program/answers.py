@@ -77,7 +77,9 @@ class Rounds:
         stops = [row for row in found.whole.of_thread(self.thread) if row.kind in ('release', 'run', 'stop', 'wake')]
         if stops and stops[-1].kind == 'stop' and stops[-1].what[2] == 'wait':
             return Span(number, stops[-1].moment, horizon, None, None, False)
-        return None
+        # on the way to its first wait
+        since = self.rows[-1].moment if self.rows else found.threads[self.thread].get('start', 0)
+        return Span(number, since, horizon, None, None, False) if since <= horizon else None
 
     def all(self) -> list[Span]:
         pending = self.pending()

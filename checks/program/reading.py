@@ -11,6 +11,7 @@ import functools
 import io
 import json
 from collections.abc import Iterator, Sequence
+from fractions import Fraction
 from typing import Any, NamedTuple, Optional
 
 Tables = dict[str, Any]
@@ -328,9 +329,9 @@ class Reading:
         yield from (f'hint context {name} has no thread' for name in self.contexts if name not in used)
         for core in range(self.cores):
             on_core = [context for name, context in self.contexts.items() if context['core'] == core and name in used]
-            granted = sum(c['budget'] * 1_000_000 // c['period'] for c in on_core if c['budget'] < c['period'])
-            if granted > 1_000_000:
-                yield f'hint core {core} grants {granted} of 1000000'
+            parts = [Fraction(c['budget'], c['period']) for c in on_core if c['budget'] < c['period']]
+            if sum(parts) > 1:
+                yield f'hint core {core} grants {sum(int(part * 1_000_000) for part in parts)} of 1000000'
 
     def wanted(self, allowed: Sequence[str] = (), show: str = 'findings', form: str = 'text') -> Wanted:
         """What is written of all this, where these notifications may lose signals: findings and hints, jobs, or figures, and what is counted."""
