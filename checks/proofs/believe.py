@@ -174,7 +174,7 @@ def constructors_in(file: str) -> dict[str, str]:
     return found
 
 
-USE = re.compile(r'^ *(?:ghost )?use Rattle\.([\w./-]+?)(?:\.\{([^}]*)\}| as (\w+));?$', re.M)
+USE = re.compile(r'^ *(?:ghost |pub )?use Rattle\.([\w./-]+?)(?:\.\{([^}]*)\}| as (\w+));?$', re.M)
 
 
 def names_in(text: str) -> Names:
@@ -190,8 +190,15 @@ def names_in(text: str) -> Names:
             if prefix:
                 names.prefixes[prefix] = kind and f'{file} {kind}' or file
             for name, here in listed(those):
-                names.places[here] = Place(file, made.get(name, name) if kind is None else kind)
+                place = Place(file, made.get(name, name) if kind is None else kind)
+                names.places[here] = handed_on_by(file).get(name, place) if file.endswith('.antt') else place
     return names
+
+
+@functools.lru_cache(maxsize=None)
+def handed_on_by(file: str) -> dict[str, Place]:
+    """The definitions of other files that a file of specs/ hands on under names of its own: those of its lines `pub use`."""
+    return names_in('\n'.join(line for line in read(file).splitlines() if line.startswith('pub use '))).places
 
 
 # names, and what stands between other marks; a name behind a dot is a field

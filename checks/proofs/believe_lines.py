@@ -37,6 +37,11 @@ SAYS = {
     'mcs_script/specs/Script.antt': {
         'is_wait': 'whether this is a wait',
         'cost_at': 'the ticks that the item costs, where there is one',
+        'is_enter': 'whether a server is entered here',
+        'is_left_open': 'whether a server is entered with this number, last or directly before a handler',
+        'AreNotBare': 'of the items before the n-th no wait, other than the first of several items, stands last or directly before a handler',
+        'next_of': 'the next item of a thread that is here, or none where the round ends',
+        'move_after': 'what follows a finished item: the next item, the end of the round, or the end of the last round',
     },
     'mcs_notify/specs/Note.antt': {
         'Note': 'a notification: its word, and the threads that wait on it in the order in which they began to wait',
@@ -54,14 +59,18 @@ SAYS = {
         'context_part': 'the context with this number',
         'note_part': 'the notification with this number',
         'thread_part': 'the thread with this number',
+        'no_source': 'the same for sources',
+        'source_part': 'the source with this number',
     },
     'mcs_system/specs/WellFormed.antt': {
         'IsContext': 'a context is on a core that there is, has a configuration that SchedControl accepts, and a mode of its kind',
-        'IsNote': 'a notification is on a core that there is',
-        'IsThread': 'a thread is bound to a context that there is, its numbers are within their limits, and its script has 1 to 1,024 items, the last no wait',
+        'IsNote': 'a notification or a server is on a core that there is',
+        'IsThread': 'a thread is bound to a context that there is, its numbers are within their limits, and its script is one, of items that may be',
         'IsOrder': 'an order is for a context that there is, whose kind it keeps, and has a configuration that SchedControl accepts',
         'IsLink': 'a link goes from a core that there is to another one, with a delay within its limits',
         'IsWellFormed': 'a well-formed system: all numbers are within their limits, all names differ, and each part is one that may be',
+        'IsServer': 'this is a server of this core',
+        'AreChains': 'there are at most 4,096 chains, with names of their own, and each is one that may be',
     },
     'mcs_core/specs/Contexts.antt': {
         'held': 'the context with this number, where the core holds it',
@@ -83,6 +92,13 @@ SAYS = {
         'opening_releases': 'so at first the release queue has the threads of core c, in file order, each with its start',
         'opening_contexts': 'at first each context of core c has its whole budget, from the start of its thread on',
         'opening_core': 'core c at first: nothing runs, no thread is ready, and nothing was posted',
+    },
+    'mcs_core/specs/Alarms.antt': {
+        'is_at_home': 'whether the dates are of a source whose notification is at home on core c',
+        'alarms_of': 'the alarms of core c at first, in file order',
+        'has_come': 'whether a date has come by moment t',
+        'rings': 'whether an alarm rings at t',
+        'past': 'the alarms when t has passed: those that rang have their next dates',
     },
     'mcs_core/specs/Turn.antt': {
         'silent': 'a part that changes the core and makes no row and no signal',
@@ -113,6 +129,9 @@ SAYS = {
         'chooses_of': 'where none runs, the best ready thread is chosen, with no tick in use; in bandwidth mode its context is unblocked',
         'chooses': 'the best of the ready threads is chosen',
         'is_for_now': 'whether the order is of moment t and for a context of core c',
+        'given': 'the thread when its wait gave this word at moment t',
+        'frees': 'a thread leaves a server, with its row; the first waiter of greatest priority enters it, or it is free',
+        'after_entered': 'what follows a call: the thread blocks, or goes on in the server',
     },
     'mcs_core/specs/Clock.antt': {
         'opening_world': 'all cores at first, and no signal under way',
@@ -249,6 +268,7 @@ SAYS = {
         'schedule_text': 'the lines of all rows',
         'thread_line': 'the line of a thread: its report',
         'core_line': 'the line of a core: its report',
+        'source_name': 'the name of a source',
     },
     'mcs_cli/specs/Run.antt': {
         'IsRun': 'what a run does: all of the output for the bytes that were read; or it fails, and tells why',
@@ -260,6 +280,8 @@ SAYS = {
         'no_word': 'a word that nothing has set',
         'lost': 'what a signal tells that was held: that it is lost, where the word was what it is',
         'merges': 'whether a row tells of a signal that is merged',
+        'heard_at': 'of words of the notification the badges that leave something to do to a thread that waits first for it; none: each word does',
+        'firsts_of': 'the words that the notifications hold at first',
     },
     'mcs_verdict/specs/Misses.antt': {
         'is_reached': 'whether so many ticks are a deadline or more; the deadline 0 is none',
@@ -272,8 +294,11 @@ SAYS = {
     'mcs_verdict/specs/Jobs.antt': {
         'preemptions_of': 'how often the round of a thread of the system that is under way was preempted, 0 where none is',
     },
-    'mcs_verdict/specs/Rounds.antt': {
+    'mcs_verdict/specs/Calls.antt': {
         'waited_on': 'the notification on which an item waits, if it is a wait',
+        'bits_of': "of words of the thread's first wait the badges that leave something to do; none: each word does",
+    },
+    'mcs_verdict/specs/Rounds.antt': {
         'begun_of': 'when the round of a thread of the system that is under way began, if one is',
         'called_of': 'when the latest round of a thread of the system that a word began was activated, if there was one',
     },
@@ -287,13 +312,16 @@ SAYS = {
         'waits_on': 'an item waits on the notification',
         'signals': 'an item signals the notification',
         'unsignalled': 'the hint of a notification that is waited on and that nobody signals',
+        'interrupts': 'whether a source posts on the notification',
     },
     'mcs_hints/specs/Contexts.antt': {
         'unbound': 'the hint of a context without a thread',
         'share': "what a configuration grants of its core's time, in millionths",
+        'part_where': 'that part, where the context counts',
     },
     'mcs_hints/specs/Cores.antt': {
         'overcommitted': 'the hint of a core that grants more than all of its time',
+        'parts_of': "the parts of its time that a core's contexts with threads are granted",
     },
     'mcs_check/specs/Told.antt': {
         'is_miss': 'whether a finding is a miss',
@@ -329,6 +357,8 @@ SAYS = {
         'until_of': 'and when it is released, if it enters the release queue',
         'maker_of': 'the core that made a signal which arrives',
         'response_of': 'the response of a round that ended',
+        'of_note': 'the value, where the note is a notification',
+        'server_of': 'the server of a row, if it has one',
     },
     'mcs_check/specs/Why.antt': {
         'span_fields': 'that, with the thread',
@@ -349,6 +379,7 @@ SAYS = {
     'mcs_why/specs/Waits.antt': {
         'stopped': 'when the thread stopped last, by all rows',
         'waited_of': 'the same of a thread of a system',
+        'free': "when the thread's latest round ended, or else when it starts",
     },
     'mcs_why/specs/Spans.antt': {
         'span_if': 'the span of a round that ended, where it is the one that is sought',
@@ -404,6 +435,7 @@ WORDS = {
         'min': 'the lesser of two numbers',
         'max': 'the greater of two numbers',
         'bit_or': 'bits of either number',
+        'bit_and': 'bits of both numbers',
         '◌==◌': 'whether two numbers are equal, computed',
         'nat_eq': 'whether two numbers are equal, computed',
         'nat_lt': 'whether the first number is less, computed',

@@ -23,6 +23,8 @@ ALWAYS_TRIED = (
     'mcs_core/stops_leave_to_front_enters_at_the_back',
     'mcs_core/choice_gives_way_to_an_equal',
     'mcs_core/next_soonest_forgets_the_arrival',
+    'mcs_core/next_soonest_forgets_the_alarm',
+    'mcs_core/posts_free_wakes_nobody',
     # signals
     'mcs_mail/mailbox_put_takes_arrivals_in_settling_order',
     'mcs_window/delivery_deliver_reserved_drops_signals',
