@@ -21,11 +21,12 @@ use std::thread::Threads;
 use std::{fmt, io};
 
 /// The folders of systems.
-static PARTS: [&str; 7] = [
+static PARTS: [&str; 8] = [
     "examples",
     "worked",
     "turns",
     "orders",
+    "events",
     "random_one",
     "random_several",
     "files",

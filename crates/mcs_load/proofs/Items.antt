@@ -2,7 +2,8 @@
 use Rattle.std.proofs.Common.{◌≡◌, ℕ, ◌-◌, ◌^◌, ◌<◌, ◌≤◌, nat_le, Bool, true, false, cond, ◌&&◌, List, [], ◌∷◌, Some, None, Ok, Err, refl, subst, arith}
 use Rattle.std.proofs.lemmas.Bool.{and_parts, leb-true}
 use Rattle.mcs_script.specs.declared.fault.ItemFault.TheVariants.{UnknownWord}
-use Rattle.mcs_script.specs.Raw.{Raw, Compute, Signal, Wait, Yield, On, Call, Spin, parts, is_numeral, value_of, number_up_to, with_number, compute_of, signal_of, wait_of, yield_of, item_of, read_as}
+use Rattle.mcs_script.specs.Raw.{Raw, Compute, Signal, Wait, Yield, On, Call, Spin, parts, is_numeral, value_of, number_up_to, with_number, compute_of, signal_of, wait_of, yield_of, on_of, call_of, spin_of, item_of, new_item_of, read_as, read_new_as}
+use Rattle.mcs_load.specs.Script.{read_text}
 
 -- the numbers of an item are within their limits
 abbrev pub IsRaw : Raw → Type 0
@@ -10,9 +11,9 @@ IsRaw (Compute ticks) = (1 ≤ ticks) × (ticks ≤ 2 ^ 40)
 IsRaw (Signal name badge) = (1 ≤ badge) × (badge < 2 ^ 32)
 IsRaw (Wait name) = Unit {0}
 IsRaw Yield = Unit {0}
-IsRaw (On badges) = ⊥
-IsRaw (Call name badge) = ⊥
-IsRaw Spin = ⊥
+IsRaw (On badges) = (1 ≤ badges) × (badges < 2 ^ 32)
+IsRaw (Call name badge) = Unit {0}
+IsRaw Spin = Unit {0}
 
 same_raw : (a b : Raw) → a ≡ b → IsRaw a → IsRaw b
 same_raw a b e h = let P : Raw → Type 0 = λ r. IsRaw r in subst P e h
@@ -60,5 +61,33 @@ item_raw : (parts : List (List ℕ)) (raw : Raw) → item_of parts ≡ Ok raw �
 item_raw [] raw h = cc
 item_raw (word ∷ others) raw h = word_raw _ _ _ _ others raw h
 
-pub reads_raw : (text : List ℕ) (raw : Raw) → read_as text ≡ Ok raw → IsRaw raw
-reads_raw text raw h = item_raw (parts text) raw h
+on_raw : (others : List (List ℕ)) (raw : Raw) → on_of others ≡ Ok raw → IsRaw raw
+on_raw [] raw h = cc
+on_raw (badges ∷ []) raw h = number_raw On (2 ^ 32 - 1) (λ n low high. (low, omega arith)) badges raw h
+on_raw (badges ∷ extra ∷ others) raw h = cc
+
+call_raw : (others : List (List ℕ)) (raw : Raw) → call_of others ≡ Ok raw → IsRaw raw
+call_raw [] raw h = cc
+call_raw (server ∷ []) raw h = cc
+call_raw (server ∷ badge ∷ []) raw h = number_raw (Call server) (2 ^ 32 - 1) (λ n low high. tt) badge raw h
+call_raw (server ∷ badge ∷ extra ∷ others) raw h = cc
+
+spin_raw : (others : List (List ℕ)) (raw : Raw) → spin_of others ≡ Ok raw → IsRaw raw
+spin_raw [] raw h = same_raw Spin raw (cc) tt
+spin_raw (extra ∷ others) raw h = cc
+
+new_word_raw : (ons calls spins : Bool) (word : List ℕ) (others : List (List ℕ)) (raw : Raw)
+    → cond ons (on_of others) (cond calls (call_of others) (cond spins (spin_of others) (item_of (word ∷ others)))) ≡ Ok raw → IsRaw raw
+new_word_raw true calls spins word others raw h = on_raw others raw h
+new_word_raw false true spins word others raw h = call_raw others raw h
+new_word_raw false false true word others raw h = spin_raw others raw h
+new_word_raw false false false word others raw h = item_raw (word ∷ others) raw h
+
+new_item_raw : (parts : List (List ℕ)) (raw : Raw) → new_item_of parts ≡ Ok raw → IsRaw raw
+new_item_raw [] raw h = cc
+new_item_raw (word ∷ others) raw h = new_word_raw _ _ _ word others raw h
+
+-- in a file of any version
+pub text_raw : (is_new : Bool) (text : List ℕ) (raw : Raw) → read_text is_new text ≡ Ok raw → IsRaw raw
+text_raw true text raw h = new_item_raw (parts text) raw h
+text_raw false text raw h = item_raw (parts text) raw h

@@ -15,7 +15,7 @@ use Rattle.mcs_load.specs.declared.spot.Section.{Section}
 use Rattle.mcs_load.specs.Checks.{Test, Checked, first_failed}
 use Rattle.mcs_load.specs.Keys.{key_name}
 use Rattle.mcs_system.specs.Names.{is_name}
-use Rattle.mcs_load.specs.Words.{each, if_there, is_in_range, number_or, number, whole_number, number_with_default, new_name, text, is_among, place_of, item_count, items_or_none, rows}
+use Rattle.mcs_load.specs.Words.{each, each_from, if_there, is_in_range, number_or, number, whole_number, number_with_default, new_name, text, is_among, place_of, item_count, items_or_none, rows}
 use Rattle.mcs_load.specs.Script.{place_or_first}
 
 pub passed_test : (b : Bool) (fault : LoadFault) (r : Option LoadFault) → cond b r (Some fault) ≡ None → (b ≡ true) × (r ≡ None)
@@ -38,6 +38,15 @@ each_keeps step Q keeps no_items earlier q h = q
 each_keeps step Q keeps (item d others) earlier q h =
     let p = both_passed (step earlier d).tests (each step (earlier ++ (step earlier d).value ∷ []) others).tests h in
     each_keeps step Q keeps others (earlier ++ (step earlier d).value ∷ []) (keeps earlier d q p.0) p.1
+
+-- and of a walk that keeps what it has read so far
+pub each_from_keeps : {A : Type 0} (step : A → Data → Checked A) (Q : A → Type 0)
+    → ((before : A) (d : Data) → Q before → first_failed (step before d).tests ≡ None → Q (step before d).value)
+    → (items : Items) (before : A) → Q before → first_failed (each_from step before items).tests ≡ None → Q (each_from step before items).value
+each_from_keeps step Q keeps no_items before q h = q
+each_from_keeps step Q keeps (item d others) before q h =
+    let p = both_passed (step before d).tests (each_from step (step before d).value others).tests h in
+    each_from_keeps step Q keeps others (step before d).value (keeps before d q p.0) p.1
 
 -- one thing is read of each item
 pub each_length : {A : Type 0} (step : List A → Data → Checked A) (items : Items) (earlier : List A) → length (each step earlier items).value ≡ length earlier + item_count items

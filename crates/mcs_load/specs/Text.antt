@@ -20,6 +20,9 @@ section_name section.Note = codes "note"
 section_name section.Thread = codes "thread"
 section_name section.Order = codes "order"
 section_name section.Link = codes "link"
+section_name section.Source = codes "source"
+section_name section.Server = codes "server"
+section_name section.Chain = codes "chain"
 
 -- a row that is meant, behind a space
 abbrev pub row_text : ℕ → List ℕ
@@ -59,6 +62,8 @@ kind_text kind.KindChange = codes "kind change"
 kind_text kind.SelfLink = codes "self link"
 kind_text kind.DoubleLink = codes "double link"
 kind_text kind.ModeOfSlice = codes "mode of slice"
+kind_text kind.OnWithoutWait = codes "on without wait"
+kind_text kind.NoWait = codes "no wait"
 kind_text kind.NoMemory = codes "no memory"
 
 -- a fault and its place; being out of memory has none

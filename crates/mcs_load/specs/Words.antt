@@ -21,6 +21,11 @@ spot at key = record { section = at.section; row = at.row; key = key; item = 0 }
 abbrev pub must_at : At → Key → FaultKind → Bool → Checked (Unit {0})
 must_at at key kind passes = must passes kind (spot at key)
 
+-- a test of the item with this number, from 1, of the array at a key
+abbrev pub must_in : At → Key → ℕ → FaultKind → Bool → Checked (Unit {0})
+must_in at key number kind passes =
+    must passes kind (record { section = at.section; row = at.row; key = key; item = number })
+
 -- a test of what is there; with nothing there it can't be put, and counts as passed
 abbrev pub if_there : {A : Type 0} → (A → Bool) → Option A → Bool
 if_there test None = true
@@ -129,6 +134,14 @@ module _ {A : Type 0} (step : List A → Data → Checked A) where
   each earlier (item d others) = do
     one ← step earlier d
     each (earlier ++ one ∷ []) others
+
+-- each of the items in order, behind what was read of those before
+module _ {A : Type 0} (step : A → Data → Checked A) where
+  abbrev pub each_from : A → Items → Checked A
+  each_from before no_items = reads before
+  each_from before (item d others) = do
+    next ← step before d
+    each_from next others
 
 -- a row is a table, and is read as one
 abbrev pub row : {A : Type 0} → Section → (At → List A → Members → Checked A) → List A → Data → Checked A

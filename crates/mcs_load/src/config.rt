@@ -3,7 +3,7 @@
 ghost use Rattle.std.specs.Prelude.{◌≡◌};
 ghost use Rattle.toml.specs.View.{table_view};
 ghost use Rattle.mcs_load.specs.Checks.{Tells};
-ghost use Rattle.mcs_load.specs.Walk.{config, accepts, accepted_config, key_of, named_mode, mode, takes_mode, settings};
+ghost use Rattle.mcs_load.specs.Walk.{default_mode, config, accepts, accepted_config, key_of, named_mode, mode, takes_mode, settings};
 ghost use Rattle.mcs_control.specs.Control.{checked, kind_of};
 
 use crate::at::At;
@@ -79,13 +79,23 @@ fn named_mode(name: &str) -> Option<Mode>
     }
 }
 
-/// The mode of a row: `Sporadic` where it says none.
+/// The mode where a row says none: in version 3 a context that is not round robin has `Bandwidth`.
+fn default_mode(is_new: bool, kind: Kind) -> Mode
+    ensures { result ≡ default_mode is_new kind }
+{
+    match kind {
+        Kind::Sporadic if is_new => Mode::Bandwidth,
+        _ => Mode::Sporadic,
+    }
+}
+
+/// The mode of a row, or this one where it says none.
 #[tactic(auto, unfolding(crate::specs::Walk::mode))]
-fn mode(row: &Table, at: At) -> Result<Mode, LoadFault>
-    ensures { Tells (λ x. x) result (mode at (table_view row.now)) }
+fn mode(row: &Table, at: At, default: Mode) -> Result<Mode, LoadFault>
+    ensures { Tells (λ x. x) result (mode default at (table_view row.now)) }
 {
     let Some(value) = find(row, Key::Mode) else {
-        return Ok(Mode::Sporadic);
+        return Ok(default);
     };
     let name = value
         .as_str()
@@ -104,12 +114,18 @@ fn take_mode(at: At, kind: Kind, mode: Mode) -> Result<(), LoadFault>
 }
 
 /// The configuration of a context's row, which passes Config::check, and its mode.
-pub(crate) fn read_settings(row: &Table, at: At, min_budget: u64) -> Result<Settings, LoadFault>
-    ensures { Tells (λ x. x) result (settings min_budget at (table_view row.now)) }
+pub(crate) fn read_settings(
+    row: &Table,
+    at: At,
+    min_budget: u64,
+    is_new: bool,
+) -> Result<Settings, LoadFault>
+    ensures { Tells (λ x. x) result (settings is_new min_budget at (table_view row.now)) }
 {
     let config = config(row, at)?;
-    let mode = mode(row, at)?;
+    let kind = config.kind();
+    let mode = mode(row, at, default_mode(is_new, kind))?;
     accept(at, min_budget, config)?;
-    take_mode(at, config.kind(), mode)?;
+    take_mode(at, kind, mode)?;
     Ok(Settings { config, mode })
 }

@@ -1,23 +1,23 @@
-#![tactic(auto, using(crate::proofs::Steps::steps), unfolding(crate::specs::Walk::listed_context_keys, crate::specs::Walk::context, crate::specs::Walk::contexts, crate::specs::Walk::known, crate::specs::Walk::known_context))]
+#![tactic(auto, using(crate::proofs::Steps::steps), unfolding(crate::specs::Walk::listed_context_keys, crate::specs::Walk::context, crate::specs::Walk::contexts))]
 
 ghost use Rattle.std.specs.Prelude.{◌≡◌, ◌<◌, ◌≤◌, IfOk, length, map, []};
 ghost use Rattle.toml.specs.View.{table_view};
-ghost use Rattle.mcs_load.specs.Checks.{Gives, Tells};
-ghost use Rattle.mcs_load.specs.Walk.{context, contexts, known, known_context, listed_context_keys, part_at};
+ghost use Rattle.mcs_load.specs.Checks.{Gives};
+ghost use Rattle.mcs_load.specs.Walk.{context, contexts, listed_context_keys, part_at};
 
 use crate::at::At;
 use crate::config::{Settings, read_settings};
-use crate::fault::{FaultKind, LoadFault};
+use crate::fault::LoadFault;
 use crate::names::Names;
 use crate::reader::{RowReader, read_array};
 use crate::spot::{Key, Section};
-use crate::values::{new_name, only_keys, text, whole_number};
+use crate::values::{new_name, only_keys, whole_number};
 use mcs_system::{ContextPart, Name};
 use mcs_ticks::CoreId;
 use std::alloc::Global;
 use toml::Table;
 
-/// The keys of a context. The first is of version 2 alone.
+/// The keys of a context. The first is of versions 2 and 3.
 const CONTEXT_KEYS: [Key; 6] = [
     Key::Mode,
     Key::Name,
@@ -27,7 +27,7 @@ const CONTEXT_KEYS: [Key; 6] = [
     Key::ExtraRefills,
 ];
 
-/// The keys that a context may have: modes are of version 2 alone.
+/// The keys that a context may have: modes are of versions 2 and 3.
 fn listed_keys(has_modes: bool) -> &'static [Key]
     ensures { result.now ≡ listed_context_keys has_modes }
 {
@@ -42,8 +42,10 @@ fn listed_keys(has_modes: bool) -> &'static [Key]
 #[derive(Drop)]
 pub(crate) struct ContextReader<'a> {
     pub alloc: Global,
-    /// Whether contexts may have modes, as they may in files of version 2.
+    /// Whether contexts may have modes, as they may in files of versions 2 and 3.
     pub has_modes: bool,
+    /// Whether the file is of version 3.
+    pub is_new: bool,
     pub cores: u64,
     pub min_budget: u64,
     pub names: Names<'a>,
@@ -52,16 +54,21 @@ pub(crate) struct ContextReader<'a> {
 impl<'a> RowReader<'a> for ContextReader<'a> {
     type Part = ContextPart;
 
-    ghost reads = { λ reader. context reader.has_modes reader.cores reader.min_budget };
+    ghost reads = { λ reader. context reader.has_modes reader.is_new reader.cores reader.min_budget };
 
     ghost keeps = { λ reader earlier.
         (1 ≤ reader.cores) × (reader.cores ≤ 64) × (reader.names ≡ map (λ c. c.name) earlier) };
 
-    fn read(&mut self, row: &'a Table, at: At) -> Result<ContextPart, LoadFault> {
+    fn read(
+        &mut self,
+        row: &'a Table,
+        at: At,
+        _earlier: &[ContextPart],
+    ) -> Result<ContextPart, LoadFault> {
         only_keys(row, at, listed_keys(self.has_modes))?;
         let name = new_name(row, at, &mut self.names)?;
         let core = whole_number(row, at, Key::Core, 0, self.cores - 1)?;
-        let Settings { config, mode } = read_settings(row, at, self.min_budget)?;
+        let Settings { config, mode } = read_settings(row, at, self.min_budget, self.is_new)?;
         Ok(ContextPart {
             name: Name::new(String::from_str(self.alloc, name)?),
             core: CoreId(core as usize),
@@ -79,33 +86,10 @@ pub(crate) fn contexts<'a>(
     requires range { (1 ≤ reader.old.cores) × (reader.old.cores ≤ 64) }
     requires empty { reader.old.names ≡ [] }
     ensures gives { Gives (λ v. v.items) result
-        (contexts reader.old.has_modes reader.old.cores reader.old.min_budget (table_view file.now)) }
+        (contexts reader.old.has_modes reader.old.is_new reader.old.cores reader.old.min_budget (table_view file.now)) }
     ensures kept { IfOk result (λ v. reader.new.names ≡ map (λ c. c.name) v.items) }
 {
     read_array(reader.alloc, file, Section::Context, Key::Context, reader)
-}
-
-/// The place of the context that has this name.
-fn known<'a>(at: At, names: &Names<'a>, name: &'a str) -> Result<usize, LoadFault>
-    ensures gives { Tells (λ n. n) result (known at names.now name.now) }
-    ensures within { IfOk result (λ n. n < length names.now) }
-{
-    names
-        .find(name)
-        .ok_or(at.fault(Key::Context, FaultKind::UnknownName))
-}
-
-/// The place of the context that the row names.
-pub(crate) fn known_context<'a>(
-    row: &'a Table,
-    at: At,
-    names: &Names<'a>,
-) -> Result<usize, LoadFault>
-    ensures gives { Tells (λ n. n) result (known_context names.now at (table_view row.now)) }
-    ensures within { IfOk result (λ n. n < length names.now) }
-{
-    let name = text(row, at, Key::Context)?;
-    known(at, names, name)
 }
 
 /// The core of a context.

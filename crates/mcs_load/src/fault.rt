@@ -19,25 +19,26 @@ pub enum FaultKind {
     MissingKey,
     /// A value of another kind than the key's.
     WrongKind,
-    /// A number outside its range, a text that is no mode, or a script without an item.
+    /// A number outside its range, a text that is no mode, a script without an item, or a number of `at` that does not rise.
     OutOfRange,
-    /// More rows than 4,096, or more items than 1,024.
+    /// More rows than 4,096, more items, steps or numbers of `at` than 1,024, or more numbers of all sources than 4,096.
     TooMany,
     /// A text that is not 1 to 32 characters of `A-Z a-z 0-9 _ -`.
     BadName,
-    /// A name that an earlier row of the array has.
+    /// A name that an earlier row of the array has, or a server's that a notification has.
     DoubleName,
-    /// A name that no context, or no notification, has.
+    /// A name that nothing has that may be named there.
     UnknownName,
     /// A text that is no item of a script.
     BadItem(ItemFault),
-    /// A script whose last item is a wait.
+    /// A wait, other than the first of several items, that stands last or directly before a handler.
     WaitLast,
     /// A configuration that SchedControl refuses.
     Control(ControlFault),
     /// A context that an earlier thread has.
     ContextTaken,
-    /// A wait on another core's notification, or an order through another core's SchedControl capability.
+    /// A wait on another core's notification, a call of another core's server, or an order through another core's SchedControl
+    /// capability.
     OtherCore,
     /// An order that makes a context round robin, or ends its being so.
     KindChange,
@@ -47,6 +48,10 @@ pub enum FaultKind {
     DoubleLink,
     /// Bandwidth mode of a round robin context.
     ModeOfSlice,
+    /// A handler in a script whose first item is no wait.
+    OnWithoutWait,
+    /// A chain to a thread that never waits, or one of badges to a thread whose first item is no wait.
+    NoWait,
     /// A growth for which there was no memory.
     NoMemory,
 }
@@ -74,6 +79,8 @@ impl fmt::Display for FaultKind {
             FaultKind::SelfLink => f.write_str("self link"),
             FaultKind::DoubleLink => f.write_str("double link"),
             FaultKind::ModeOfSlice => f.write_str("mode of slice"),
+            FaultKind::OnWithoutWait => f.write_str("on without wait"),
+            FaultKind::NoWait => f.write_str("no wait"),
             FaultKind::NoMemory => f.write_str("no memory"),
         }
     }

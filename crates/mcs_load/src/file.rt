@@ -1,11 +1,13 @@
-#![tactic(auto, using(crate::proofs::Steps::steps), unfolding(crate::specs::Walk::listed_keys, crate::specs::Walk::document, crate::specs::Walk::numbers, crate::specs::Walk::walk, crate::specs::Walk::file))]
+#![tactic(auto, using(crate::proofs::Steps::steps), unfolding(crate::specs::Walk::listed_keys, crate::specs::Walk::document, crate::specs::Walk::numbers, crate::specs::Walk::base, crate::specs::Walk::others, crate::specs::Walk::walk, crate::specs::Walk::file))]
 
 ghost use Rattle.std.specs.Prelude.{◌≡◌, ◌≤◌, IfOk};
 ghost use Rattle.toml.specs.View.{table_view};
 ghost use Rattle.mcs_load.specs.Checks.{Gives, Tells};
-ghost use Rattle.mcs_load.specs.Walk.{is_version_2, listed_keys, document, numbers, walk, file};
+ghost use Rattle.mcs_load.specs.Walk.{is_version_2_or_3, is_version_3, listed_keys, document, numbers, base, system_of, others, walk, file};
+ghost use Rattle.mcs_load.specs.stored.Bases.{base_view, HasNames};
 
 use crate::at::At;
+use crate::chain::chains;
 use crate::context::{ContextReader, contexts};
 use crate::fault::LoadFault;
 use crate::link::links;
@@ -13,19 +15,25 @@ use crate::names::Names;
 use crate::note::{NoteReader, notes};
 use crate::numbers::Numbers;
 use crate::order::orders;
+use crate::server::{Server, all_notes, servers};
+use crate::source::{Source, all_beats, source_parts, sources};
 use crate::spot::{Key, Section};
 use crate::thread::threads;
 use crate::values::{find, number_with_default, only_keys, whole_number};
-use mcs_system::{System, SystemParts};
+use mcs_control::Order;
+use mcs_system::{ChainPart, ContextPart, Link, NotePart, System, SystemParts, ThreadPart};
 use mcs_ticks::{Limits, Sequence};
-use std::alloc::Global;
+use std::alloc::{AllocError, Global};
 use toml::Table;
 
 /// The newest version of the format.
-const NEWEST: u64 = 2;
+const NEWEST: u64 = 3;
 
-/// The keys at the top. The first is of version 2 alone.
-const TOP_KEYS: [Key; 10] = [
+/// The keys at the top. The first three are of version 3 alone, and the next is of versions 2 and 3.
+const TOP_KEYS: [Key; 13] = [
+    Key::Chain,
+    Key::Source,
+    Key::Server,
     Key::Link,
     Key::Version,
     Key::Cores,
@@ -38,24 +46,36 @@ const TOP_KEYS: [Key; 10] = [
     Key::Order,
 ];
 
-/// Whether the version of the file is the integer 2.
-fn is_version_2(file: &Table) -> bool
-    ensures { result ≡ is_version_2 (table_view file.now) }
+/// Whether the version of the file is the integer 2 or 3.
+fn is_version_2_or_3(file: &Table) -> bool
+    ensures { result ≡ is_version_2_or_3 (table_view file.now) }
 {
     let Some(version) = find(file, Key::Version) else {
         return false;
     };
-    version.as_integer() == Some(2)
+    matches!(version.as_integer(), Some(2 | 3))
 }
 
-/// The keys at the top that a file of its version may have: links are of version 2 alone.
+/// Whether the version of the file is the integer 3.
+fn is_version_3(file: &Table) -> bool
+    ensures { result ≡ is_version_3 (table_view file.now) }
+{
+    let Some(version) = find(file, Key::Version) else {
+        return false;
+    };
+    matches!(version.as_integer(), Some(3))
+}
+
+/// The keys at the top that a file of its version may have.
 fn listed_keys(file: &Table) -> &'static [Key]
     ensures { result.now ≡ listed_keys (table_view file.now) }
 {
-    if is_version_2(file) {
+    if is_version_3(file) {
         &TOP_KEYS
+    } else if is_version_2_or_3(file) {
+        &TOP_KEYS[3..]
     } else {
-        &TOP_KEYS[1..]
+        &TOP_KEYS[4..]
     }
 }
 
@@ -93,60 +113,128 @@ fn numbers(file: &Table) -> Result<Numbers, LoadFault>
     })
 }
 
-/// What the file describes: the numbers at the top, then links, contexts, notifications, threads and orders.
-fn walk(alloc: Global, file: &Table) -> Result<SystemParts, LoadFault>
-    ensures { Gives (λ s. s) result (walk (table_view file.now)) }
+/// What is read before the threads, with the names that later rows name.
+#[derive(Drop)]
+struct Start<'a> {
+    top: Numbers,
+    links: Vec<Link>,
+    contexts: Vec<ContextPart>,
+    context_names: Names<'a>,
+    notes: Vec<NotePart>,
+    note_names: Names<'a>,
+    servers: Vec<Server>,
+    server_names: Names<'a>,
+}
+
+/// The numbers at the top, links, contexts, notifications and servers.
+fn base<'a>(alloc: Global, file: &'a Table) -> Result<Start<'a>, LoadFault>
+    ensures names { IfOk result (λ start. HasNames start) }
+    ensures gives { Gives (λ start. base_view start) result (base (table_view file.now)) }
 {
-    let Numbers {
-        cores,
-        delay,
-        call,
-        min_budget,
-    } = numbers(file)?;
-    let links = links(alloc, file, cores)?;
+    let top = numbers(file)?;
+    let is_new = is_version_3(file);
+    let links = links(alloc, file, top.cores)?;
     let mut of_contexts = ContextReader {
         alloc,
-        has_modes: is_version_2(file),
-        cores,
-        min_budget,
+        has_modes: is_version_2_or_3(file),
+        is_new,
+        cores: top.cores,
+        min_budget: top.min_budget,
         names: Names::new(alloc),
     };
     let contexts = contexts(file, &mut of_contexts)?;
     let mut of_notes = NoteReader {
         alloc,
-        cores,
+        is_new,
+        cores: top.cores,
         names: Names::new(alloc),
     };
     let notes = notes(file, &mut of_notes)?;
-    let context_names = &of_contexts.names;
-    let threads = threads(
-        alloc,
-        file,
-        &contexts,
-        context_names,
-        &notes,
-        &of_notes.names,
-    )?;
-    let orders = orders(alloc, file, cores, min_budget, &contexts, context_names)?;
-    Ok(SystemParts {
-        cores: cores as usize,
-        delay,
-        call,
-        min_budget,
-        contexts: Sequence::new(contexts),
-        notes: Sequence::new(notes),
-        servers: 0,
-        threads: Sequence::new(threads),
-        orders: Sequence::new(orders),
-        links: Sequence::new(links),
-        sources: Sequence::new(Vec::new(alloc)),
-        beats: Sequence::new(Vec::new(alloc)),
-        chains: Sequence::new(Vec::new(alloc)),
+    let (servers, server_names) = servers(alloc, file, top.cores, &notes, &of_notes.names)?;
+    Ok(Start {
+        top,
+        links,
+        contexts,
+        context_names: of_contexts.names,
+        notes,
+        note_names: of_notes.names,
+        servers,
+        server_names,
     })
 }
 
+/// The parts of the system that they make.
+fn parts(
+    alloc: Global,
+    start: Start<'_>,
+    threads: Vec<ThreadPart>,
+    sources: Vec<Source>,
+    orders: Vec<Order>,
+    chains: Vec<ChainPart>,
+) -> Result<SystemParts, AllocError>
+    ensures { IfOk result (λ s. s
+        ≡ system_of (base_view start.entry) threads.items sources.items orders.items chains.items) }
+{
+    let server_count = start.servers.len();
+    let notes = all_notes(start.notes, start.servers)?;
+    let beats = all_beats(alloc, &sources)?;
+    let sources = source_parts(alloc, sources)?;
+    Ok(SystemParts {
+        cores: start.top.cores as usize,
+        delay: start.top.delay,
+        call: start.top.call,
+        min_budget: start.top.min_budget,
+        contexts: Sequence::new(start.contexts),
+        notes: Sequence::new(notes),
+        servers: server_count,
+        threads: Sequence::new(threads),
+        orders: Sequence::new(orders),
+        links: Sequence::new(start.links),
+        sources: Sequence::new(sources),
+        beats: Sequence::new(beats),
+        chains: Sequence::new(chains),
+    })
+}
+
+/// What stands behind them: threads, sources, orders and chains.
+fn others<'a>(alloc: Global, file: &'a Table, start: Start<'a>) -> Result<SystemParts, LoadFault>
+    requires { HasNames start }
+    ensures { Gives (λ s. s) result (others (base_view start.entry) (table_view file.now)) }
+{
+    let (threads, thread_names) = threads(
+        alloc,
+        file,
+        &start.contexts,
+        &start.context_names,
+        &start.notes,
+        &start.note_names,
+        &start.servers,
+        &start.server_names,
+        is_version_3(file),
+    )?;
+    let (sources, source_names) = sources(alloc, file, &start.note_names)?;
+    let orders = orders(
+        alloc,
+        file,
+        start.top.cores,
+        start.top.min_budget,
+        &start.contexts,
+        &start.context_names,
+    )?;
+    let chains = chains(alloc, file, &source_names, &threads, &thread_names)?;
+    Ok(parts(alloc, start, threads, sources, orders, chains)?)
+}
+
+/// What the file describes.
+fn walk(alloc: Global, file: &Table) -> Result<SystemParts, LoadFault>
+    ensures { Gives (λ s. s) result (walk (table_view file.now)) }
+{
+    let start = base(alloc, file)?;
+    others(alloc, file, start)
+}
+
 /// The system that the text of a file describes, or the first fault of the walk: the text as TOML, the keys and numbers at the top,
-/// then links, contexts, notifications, threads and orders, each array row by row. `NoMemory` is answered, as
+/// then links, contexts, notifications, servers, threads, sources, orders and chains, each array row by row. `NoMemory` is answered, as
 /// [`FaultKind::NoMemory`](crate::FaultKind::NoMemory), where a growth was refused, before any later fault.
 pub fn load(alloc: Global, text: &[u8]) -> Result<System, LoadFault>
     ensures { Gives (λ s. s) result (file text.now) }

@@ -32,6 +32,13 @@ pub(crate) fn name_of(key: Key) -> &'static str
         Key::Maker => "maker",
         Key::Home => "home",
         Key::Mode => "mode",
+        Key::Word => "word",
+        Key::Source => "source",
+        Key::Server => "server",
+        Key::Chain => "chain",
+        Key::Badges => "badges",
+        Key::Badge => "badge",
+        Key::Count => "count",
         Key::Other => "?",
         Key::Whole => "",
     }

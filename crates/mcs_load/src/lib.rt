@@ -5,6 +5,7 @@
 #![tactic(auto)]
 
 mod at;
+mod chain;
 mod config;
 mod context;
 mod fault;
@@ -18,6 +19,8 @@ mod numbers;
 mod order;
 mod reader;
 mod script;
+mod server;
+mod source;
 mod spot;
 mod thread;
 mod values;

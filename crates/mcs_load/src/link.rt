@@ -55,7 +55,7 @@ impl<'a> RowReader<'a> for LinkReader {
     ghost keeps = { λ reader earlier.
         (1 ≤ reader.cores) × (reader.cores ≤ 64) × AreMarked reader.has_link earlier };
 
-    fn read(&mut self, row: &'a Table, at: At) -> Result<Link, LoadFault> {
+    fn read(&mut self, row: &'a Table, at: At, _earlier: &[Link]) -> Result<Link, LoadFault> {
         let link = link_numbers(row, at, self.cores)?;
         if link.maker == link.home {
             return Err(at.fault(Key::Home, FaultKind::SelfLink));

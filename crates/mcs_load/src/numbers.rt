@@ -13,7 +13,7 @@ pub(crate) struct Numbers {
 
 /// The moment with this number of ticks before it.
 pub(crate) fn moment(ticks: u64) -> Tick
-    requires { ticks ≤ 2 ^ 40 }
+    requires { ticks ≤ 2 ^ 41 }
     ensures { result ≡ ticks }
 {
     Tick::new(ticks).unwrap()

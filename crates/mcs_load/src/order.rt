@@ -11,13 +11,13 @@ ghost use Rattle.mcs_load.specs.Walk.{part_at, ordered_context, keeps_kind, orde
 
 use crate::at::At;
 use crate::config::accepted_config;
-use crate::context::{core_of_part, known_context};
+use crate::context::core_of_part;
 use crate::fault::{FaultKind, LoadFault};
 use crate::names::Names;
 use crate::numbers::moment;
 use crate::reader::{RowReader, read_array};
 use crate::spot::{Key, Section};
-use crate::values::{only_keys, whole_number};
+use crate::values::{known_name, only_keys, whole_number};
 use mcs_control::{Config, Order};
 use mcs_system::ContextPart;
 use mcs_ticks::{ContextId, CoreId, Limits};
@@ -48,7 +48,7 @@ fn ordered_context<'a>(
     ensures within { IfOk result (λ n. n < length contexts.now) }
 {
     let core = whole_number(row, at, Key::Core, 0, cores - 1)?;
-    let context = known_context(row, at, names)?;
+    let context = known_name(row, at, Key::Context, names)?;
     if core_of_part(contexts, context) != CoreId(core as usize) {
         return Err(at.fault(Key::Core, FaultKind::OtherCore));
     }
@@ -89,7 +89,7 @@ impl<'c, 'n, 'a> RowReader<'a> for OrderReader<'c, 'n, 'a> {
     ghost keeps = { λ reader _.
         (1 ≤ reader.cores) × (reader.cores ≤ 64) × (reader.names.now ≡ map (λ c. c.name) reader.contexts.now) };
 
-    fn read(&mut self, row: &'a Table, at: At) -> Result<Order, LoadFault> {
+    fn read(&mut self, row: &'a Table, at: At, _earlier: &[Order]) -> Result<Order, LoadFault> {
         only_keys(row, at, &ORDER_KEYS)?;
         let ticks = whole_number(row, at, Key::At, 0, Limits::ORDER_MOMENT)?;
         let context = ordered_context(row, at, self.cores, self.contexts, self.names)?;

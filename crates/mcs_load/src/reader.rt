@@ -1,6 +1,6 @@
 #![tactic(auto, using(crate::proofs::Steps::steps), unfolding(crate::specs::Words::array_of))]
 
-ghost use Rattle.std.specs.Prelude.{◌≡◌, IfOk, List, suc, length, [], ◌∷◌, ◌++◌};
+ghost use Rattle.std.specs.Prelude.{◌≡◌, ◌<◌, ◌≤◌, IfOk, List, suc, length, [], ◌∷◌, ◌++◌};
 ghost use Rattle.toml.specs.Data.{Members};
 ghost use Rattle.toml.specs.View.{table_view, view, items_view};
 ghost use Rattle.mcs_load.specs.declared.at.At.{At};
@@ -22,28 +22,33 @@ pub(crate) trait RowReader<'a> {
 
     ghost keeps: { Self → List Self.Part → Type 0 };
 
-    /// The part that a row gives.
-    fn read(&mut self, row: &'a Table, at: At) -> Result<Self::Part, LoadFault>
-        requires { (earlier : List Self.Part) × keeps self.old earlier }
-        ensures gives { (earlier : List Self.Part) → keeps self.old earlier
-            → Gives (λ x. x) result (reads self.old at earlier (table_view row.now)) }
-        ensures kept { (earlier : List Self.Part) → keeps self.old earlier
-            → IfOk result (λ x. keeps self.new (earlier ++ x ∷ [])) }
+    /// The part that a row gives, behind the earlier ones.
+    fn read(
+        &mut self,
+        row: &'a Table,
+        at: At,
+        earlier: &[Self::Part],
+    ) -> Result<Self::Part, LoadFault>
+        requires few { length earlier.now < 4096 }
+        requires keeps { keeps self.old earlier.now }
+        ensures gives { Gives (λ x. x) result (reads self.old at earlier.now (table_view row.now)) }
+        ensures kept { IfOk result (λ x. keeps self.new (earlier.now ++ x ∷ [])) }
         ensures same { IfOk result (λ _. reads self.new ≡ reads self.old) };
 }
 
-/// The part that a value of the array gives; `number` is that of its row, from 1.
+/// The part that a value of the array gives, behind the earlier ones; `number` is that of its row, from 1.
 fn read_row<'a, R: RowReader<'a>>(
     value: &'a Value,
     section: Section,
     number: usize,
+    earlier: &[R::Part],
     reader: &mut R,
 ) -> Result<R::Part, LoadFault>
-    requires { (earlier : List R.Part) × R.keeps reader.old earlier }
-    ensures gives { (earlier : List R.Part) → R.keeps reader.old earlier → number ≡ suc (length earlier)
-        → Gives (λ x. x) result (row section (R.reads reader.old) earlier (view value.now)) }
-    ensures kept { (earlier : List R.Part) → R.keeps reader.old earlier
-        → IfOk result (λ x. R.keeps reader.new (earlier ++ x ∷ [])) }
+    requires few { length earlier.now < 4096 }
+    requires keeps { R.keeps reader.old earlier.now }
+    requires number { number ≡ suc (length earlier.now) }
+    ensures gives { Gives (λ x. x) result (row section (R.reads reader.old) earlier.now (view value.now)) }
+    ensures kept { IfOk result (λ x. R.keeps reader.new (earlier.now ++ x ∷ [])) }
     ensures same { IfOk result (λ _. R.reads reader.new ≡ R.reads reader.old) }
 {
     let at = At {
@@ -51,23 +56,26 @@ fn read_row<'a, R: RowReader<'a>>(
         row: number,
     };
     let row = row_table(value, at)?;
-    reader.read(row, at)
+    reader.read(row, at, earlier)
 }
 
 /// The parts that the rows give, in order.
-fn read_rows<'a, R: RowReader<'a>>(
+pub(crate) fn read_rows<'a, R: RowReader<'a>>(
     alloc: Global,
     rows: &'a [Value],
     section: Section,
     reader: &mut R,
 ) -> Result<Vec<R::Part>, LoadFault>
-    requires { R.keeps reader.old [] }
+    requires few { length rows.now ≤ 4096 }
+    requires keeps { R.keeps reader.old [] }
     ensures gives { Gives (λ v. v.items) result (each (row section (R.reads reader.old)) [] (items_view rows.now)) }
     ensures kept { IfOk result (λ v. R.keeps reader.new v.items) }
+    ensures count { IfOk result (λ v. length v.items ≡ length rows.now) }
 {
     let mut parts = Vec::with_capacity(alloc, rows.len())?;
     for (i, value) in rows.iter().enumerate() {
-        parts.push_reserved(read_row(value, section, i + 1, reader)?);
+        let part = read_row(value, section, i + 1, parts.as_slice(), reader)?;
+        parts.push_reserved(part);
     }
     Ok(parts)
 }
@@ -83,6 +91,7 @@ pub(crate) fn read_array<'a, R: RowReader<'a>>(
     requires { R.keeps reader.old [] }
     ensures gives { Gives (λ v. v.items) result (array_of section key (R.reads reader.old) (table_view file.now)) }
     ensures kept { IfOk result (λ v. R.keeps reader.new v.items) }
+    ensures few { IfOk result (λ v. length v.items ≤ 4096) }
 {
     let rows = rows(file, section, key)?;
     read_rows(alloc, rows, section, reader)

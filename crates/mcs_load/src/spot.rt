@@ -23,6 +23,12 @@ pub enum Section {
     Order,
     /// The array `link`.
     Link,
+    /// The array `source`.
+    Source,
+    /// The array `server`.
+    Server,
+    /// The array `chain`.
+    Chain,
 }
 
 /// A key of a file, one for each name.
@@ -52,6 +58,13 @@ pub enum Key {
     Maker,
     Home,
     Mode,
+    Word,
+    Source,
+    Server,
+    Chain,
+    Badges,
+    Badge,
+    Count,
     /// A key that is not listed.
     Other,
     /// No key: the array, the row or the file.
@@ -65,7 +78,7 @@ pub struct Spot {
     /// The row of the section's array, from 1, or 0 where no row is meant.
     pub row: usize,
     pub key: Key,
-    /// The item of the script, from 1, or 0 where no item is meant.
+    /// The item of the script, or the number of `at`, from 1, or 0 where none is meant.
     pub item: usize,
 }
 
@@ -81,6 +94,9 @@ impl fmt::Display for Section {
             Section::Thread => f.write_str("thread"),
             Section::Order => f.write_str("order"),
             Section::Link => f.write_str("link"),
+            Section::Source => f.write_str("source"),
+            Section::Server => f.write_str("server"),
+            Section::Chain => f.write_str("chain"),
         }
     }
 }

@@ -1,12 +1,13 @@
 //! Reading the values of the tree: of a key, of a row and of an array.
-#![tactic(auto, using(crate::proofs::Steps::steps, crate::proofs::Members::item_count_view), unfolding(crate::specs::Words::number, crate::specs::Words::whole_number, crate::specs::Words::number_with_default, crate::specs::Words::text, crate::specs::Words::row_table, crate::specs::Words::only_keys, crate::specs::Words::new_name, crate::specs::Words::rows))]
+#![tactic(auto, using(crate::proofs::Steps::steps, crate::proofs::Members::item_count_view), unfolding(crate::specs::Words::number, crate::specs::Words::whole_number, crate::specs::Words::number_with_default, crate::specs::Words::text, crate::specs::Words::row_table, crate::specs::Words::only_keys, crate::specs::Words::new_name, crate::specs::Words::rows, crate::specs::Walk::known, crate::specs::Walk::known_name))]
 
-ghost use Rattle.std.specs.Prelude.{◌≡◌, ◌<◌, ◌≤◌, option_map, Option, IfOk, [], ◌∷◌, ◌++◌};
+ghost use Rattle.std.specs.Prelude.{◌≡◌, ◌<◌, ◌≤◌, false, length, option_map, Option, IfOk, [], ◌∷◌, ◌++◌};
 ghost use Rattle.toml.specs.Data.{get_member};
 ghost use Rattle.toml.specs.View.{view, table_view, items_view};
 ghost use Rattle.mcs_load.specs.Keys.{key_name};
 ghost use Rattle.mcs_load.specs.Checks.{Gives, Tells};
-ghost use Rattle.mcs_load.specs.Words.{has_only, is_listed, only_keys, number, whole_number, number_with_default, text, row_table, new_name, rows};
+ghost use Rattle.mcs_load.specs.Words.{has_only, is_listed, only_keys, number, whole_number, number_with_default, text, row_table, new_name, rows, is_among};
+ghost use Rattle.mcs_load.specs.Walk.{known, known_name};
 
 use crate::at::At;
 use crate::fault::{FaultKind, LoadFault};
@@ -17,7 +18,7 @@ use mcs_system::Name;
 use mcs_ticks::Limits;
 use toml::{Table, Value};
 
-/// The rows of an array of tables, which is the limit for contexts, notifications, threads, orders and links alike.
+/// The rows of an array of tables, which is the limit for contexts, notifications, threads, orders and the like.
 const MOST_ROWS: usize = Limits::CONTEXTS;
 
 /// What a table has at a key.
@@ -155,9 +156,54 @@ pub(crate) fn new_name<'a>(
     Ok(name)
 }
 
+/// The name of a row, which is none of the others and no earlier row has.
+pub(crate) fn unused_name<'a>(
+    table: &'a Table,
+    at: At,
+    others: &Names<'a>,
+    earlier: &Names<'a>,
+) -> Result<&'a str, LoadFault>
+    ensures gives { Tells (λ s. s.now) result (new_name at (others.now ++ earlier.now) (table_view table.now)) }
+    ensures new { IfOk result (λ s. is_among s.now earlier.now ≡ false) }
+{
+    let name = text(table, at, Key::Name)?;
+    if !Name::accepts(name) {
+        return Err(at.fault(Key::Name, FaultKind::BadName));
+    }
+    if others.has(name) || earlier.has(name) {
+        return Err(at.fault(Key::Name, FaultKind::DoubleName));
+    }
+    Ok(name)
+}
+
+/// The place of a name among those that are known.
+fn known<'a>(at: At, key: Key, names: &Names<'a>, name: &'a str) -> Result<usize, LoadFault>
+    ensures gives { Tells (λ n. n) result (known key at names.now name.now) }
+    ensures within { IfOk result (λ n. n < length names.now) }
+{
+    names
+        .find(name)
+        .ok_or(at.fault(key, FaultKind::UnknownName))
+}
+
+/// The place of the name at a key among those that are known.
+pub(crate) fn known_name<'a>(
+    row: &'a Table,
+    at: At,
+    key: Key,
+    names: &Names<'a>,
+) -> Result<usize, LoadFault>
+    ensures gives { Tells (λ n. n) result (known_name key names.now at (table_view row.now)) }
+    ensures within { IfOk result (λ n. n < length names.now) }
+{
+    let name = text(row, at, key)?;
+    known(at, key, names, name)
+}
+
 /// The rows at a key: the values of its array, or none.
 pub(crate) fn rows(table: &Table, section: Section, key: Key) -> Result<&[Value], LoadFault>
-    ensures { Tells (λ v. items_view v.now) result (rows section key (table_view table.now)) }
+    ensures gives { Tells (λ v. items_view v.now) result (rows section key (table_view table.now)) }
+    ensures few { IfOk result (λ v. length v.now ≤ 4096) }
 {
     let at = At::array(section);
     let Some(value) = find(table, key) else {

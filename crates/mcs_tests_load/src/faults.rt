@@ -35,7 +35,7 @@ static AT_THE_TOP: [(&str, &str); 13] = [
         "wrong kind at top version",
     ),
     (
-        "version = 3\ncores = 0\ndelay = 1\n",
+        "version = 4\ncores = 0\ndelay = 1\n",
         "out of range at top version",
     ),
     ("version = 1\ndelay = 0\n", "missing key at top cores"),

@@ -16,4 +16,8 @@ mod modes;
 #[cfg(test)]
 mod most;
 #[cfg(test)]
+mod servers;
+#[cfg(test)]
+mod sources;
+#[cfg(test)]
 mod whole;

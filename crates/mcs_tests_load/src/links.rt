@@ -7,10 +7,11 @@ use std::test::Fail;
 /// The numbers at the top of a file of version 2, which lie within their limits.
 const TOP: &str = "version = 2\ncores = 2\ndelay = 1\n";
 
-static OF_VERSIONS: [(&str, &str); 9] = [
+static OF_VERSIONS: [(&str, &str); 11] = [
     ("version = 2\ncores = 2\ndelay = 1\n", "accepted"),
+    ("version = 3\ncores = 2\ndelay = 1\n", "accepted"),
     (
-        "version = 3\ncores = 2\ndelay = 1\n",
+        "version = 4\ncores = 2\ndelay = 1\n",
         "out of range at top version",
     ),
     (
@@ -23,6 +24,10 @@ static OF_VERSIONS: [(&str, &str); 9] = [
     ),
     (
         "version = 3\ncores = 2\ndelay = 1\nlink = []\n",
+        "accepted",
+    ),
+    (
+        "version = 4\ncores = 2\ndelay = 1\nlink = []\n",
         "unknown key at top ?",
     ),
     (

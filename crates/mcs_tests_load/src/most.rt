@@ -39,7 +39,7 @@ struct Rows {
     want: &'static str,
 }
 
-static ROWS: [Rows; 4] = [
+static ROWS: [Rows; 10] = [
     Rows {
         begin: TOP,
         pieces: CONTEXTS,
@@ -71,7 +71,74 @@ static ROWS: [Rows; 4] = [
         end: "]}]\n",
         want: "too many at thread 1 script",
     },
+    Rows {
+        begin: NOTES,
+        pieces: &["[[server]]\nname = 'v", "'\ncore = 0\npriority = 5\nscript = ['yield']\n"],
+        most: 4_095,
+        end: "",
+        want: "too many at server",
+    },
+    Rows {
+        begin: NOTES,
+        pieces: &["[[source]]\nname = 's", "'\nnote = 'n'\nbadge = 1\nperiod = 1\n"],
+        most: 4_096,
+        end: "",
+        want: "too many at source",
+    },
+    Rows {
+        begin: OFFSETS,
+        pieces: &["", ","],
+        most: 1_024,
+        end: "]}]\n",
+        want: "too many at source 1 at",
+    },
+    Rows {
+        begin: FULL_OFFSETS,
+        pieces: &["{name='s", "',note='n',badge=1,period=5000},"],
+        most: 4_093,
+        end: "]\n",
+        want: "too many at source 4095 at",
+    },
+    Rows {
+        begin: SERVER,
+        pieces: &["'yield',"],
+        most: 1_022,
+        end: CALL,
+        want: "too many at thread 1 script item 1",
+    },
+    Rows {
+        begin: CALLER,
+        pieces: &["'call v 1',"],
+        most: 341,
+        end: "'yield']}]\n",
+        want: "too many at thread 1 script item 342",
+    },
 ];
+
+/// A notification.
+const NOTES: &str = "version = 3\ncores = 1\ndelay = 1\n[[note]]\nname = 'n'\ncore = 0\n";
+
+/// A source of which the numbers of `at` are to come.
+const OFFSETS: &str = "version = 3\ncores = 1\ndelay = 1\nnote = [{name='n',core=0}]
+source = [{name='s',note='n',badge=1,period=5000,at=[";
+
+/// A source with three numbers in `at`; of each of the sources behind it `at` is absent, which counts one.
+const FULL_OFFSETS: &str = "version = 3\ncores = 1\ndelay = 1\nnote = [{name='n',core=0}]
+source = [{name='f',note='n',badge=1,period=5000,at=[0,1,2]},";
+
+/// A server of which the items are to come.
+const SERVER: &str = "version = 3\ncores = 1\ndelay = 1
+context = [{name='a',core=0,budget=2,period=5}]
+server = [{name='v',core=0,priority=5,script=[";
+
+/// The end of the server, and a thread that calls it: two steps more.
+const CALL: &str = "]}]\nthread = [{name='A',context='a',priority=5,script=['call v 1']}]\n";
+
+/// A thread that calls a server, where each call becomes three steps.
+const CALLER: &str = "version = 3\ncores = 1\ndelay = 1
+context = [{name='a',core=0,budget=2,period=5}]
+server = [{name='v',core=0,priority=5,script=['yield','on 2','yield']}]
+thread = [{name='A',context='a',priority=5,script=[";
 
 const CONTEXTS: &[&str] = &[
     "[[context]]\nname = 'c",
