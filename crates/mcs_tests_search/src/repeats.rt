@@ -23,6 +23,42 @@ thread = [
 ]
 "#;
 
+/// A timer that interrupts a loop once in each period of 10, from 0 on.
+const TIMER: &str = r#"
+version = 3
+cores = 1
+delay = 1
+context = [{ name = "a", core = 0, budget = 4, period = 10 }]
+note = [{ name = "tick", core = 0 }]
+source = [{ name = "timer", note = "tick", badge = 1, period = 10 }]
+thread = [{ name = "Loop", context = "a", priority = 9, deadline = 5, script = ["wait tick", "on 1", "compute 2"] }]
+"#;
+
+/// The same timer, but with three dates in all: 0, 10 and 20.
+const THREE_TICKS: &str = r#"
+version = 3
+cores = 1
+delay = 1
+context = [{ name = "a", core = 0, budget = 4, period = 10 }]
+note = [{ name = "tick", core = 0 }]
+source = [{ name = "timer", note = "tick", badge = 1, period = 10, count = 3 }]
+thread = [{ name = "Loop", context = "a", priority = 9, deadline = 5, script = ["wait tick", "on 1", "compute 2"] }]
+"#;
+
+/// Two timers, with periods of 10 and 15, of which the second one interrupts nobody who waits.
+const TWO_TIMERS: &str = r#"
+version = 3
+cores = 1
+delay = 1
+context = [{ name = "a", core = 0, budget = 4, period = 10 }]
+note = [{ name = "tick", core = 0 }, { name = "other", core = 0 }]
+source = [
+    { name = "timer", note = "tick", badge = 1, period = 10 },
+    { name = "slow", note = "other", badge = 1, period = 15 },
+]
+thread = [{ name = "Loop", context = "a", priority = 9, deadline = 5, script = ["wait tick", "on 1", "compute 2"] }]
+"#;
+
 /// A thread that computes for a tick, and no more.
 const RESTS: &str = r#"
 version = 1
@@ -89,5 +125,33 @@ fn nothing_repeats_before_the_last_order(rt: HostRuntime) -> Result<(), Fail> {
     assert!(rt; told(found.as_slice(), 0) == (101, 1));
     let found = repeats_up_to(rt.alloc(), ORDERED, 100)?;
     assert!(rt; told(found.as_slice(), 0) == (0, 0));
+    Ok(())
+}
+
+/// The core repeats with the period of its source.
+#[test]
+fn a_timer_and_its_loop_repeat_with_their_period(rt: HostRuntime) -> Result<(), Fail> {
+    let found = repeats_up_to(rt.alloc(), TIMER, 1000)?;
+    assert_eq!(rt; found.len(), 1);
+    assert!(rt; told(found.as_slice(), 0).1 == 10);
+    Ok(())
+}
+
+/// The third tick wakes the loop at 20, its round ends at 22, and it waits from 23 on. So nothing happens from 24 on, and before that a date is
+/// to come.
+#[test]
+fn a_timer_without_a_date_to_come_is_at_rest(rt: HostRuntime) -> Result<(), Fail> {
+    let found = repeats_up_to(rt.alloc(), THREE_TICKS, 1000)?;
+    assert_eq!(rt; found.len(), 1);
+    assert!(rt; told(found.as_slice(), 0) == (24, 1));
+    Ok(())
+}
+
+/// Both sources have their dates again after 30 ticks, and no sooner.
+#[test]
+fn two_timers_repeat_with_a_common_multiple(rt: HostRuntime) -> Result<(), Fail> {
+    let found = repeats_up_to(rt.alloc(), TWO_TIMERS, 1000)?;
+    assert_eq!(rt; found.len(), 1);
+    assert!(rt; told(found.as_slice(), 0).1 == 30);
     Ok(())
 }
