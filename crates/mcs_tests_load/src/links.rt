@@ -22,10 +22,7 @@ static OF_VERSIONS: [(&str, &str); 11] = [
         "version = 1\ncores = 2\ndelay = 1\nlink = [{maker=0,home=1,delay=1}]\n",
         "unknown key at top ?",
     ),
-    (
-        "version = 3\ncores = 2\ndelay = 1\nlink = []\n",
-        "accepted",
-    ),
+    ("version = 3\ncores = 2\ndelay = 1\nlink = []\n", "accepted"),
     (
         "version = 4\ncores = 2\ndelay = 1\nlink = []\n",
         "unknown key at top ?",

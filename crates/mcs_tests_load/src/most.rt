@@ -73,14 +73,20 @@ static ROWS: [Rows; 10] = [
     },
     Rows {
         begin: NOTES,
-        pieces: &["[[server]]\nname = 'v", "'\ncore = 0\npriority = 5\nscript = ['yield']\n"],
+        pieces: &[
+            "[[server]]\nname = 'v",
+            "'\ncore = 0\npriority = 5\nscript = ['yield']\n",
+        ],
         most: 4_095,
         end: "",
         want: "too many at server",
     },
     Rows {
         begin: NOTES,
-        pieces: &["[[source]]\nname = 's", "'\nnote = 'n'\nbadge = 1\nperiod = 1\n"],
+        pieces: &[
+            "[[source]]\nname = 's",
+            "'\nnote = 'n'\nbadge = 1\nperiod = 1\n",
+        ],
         most: 4_096,
         end: "",
         want: "too many at source",

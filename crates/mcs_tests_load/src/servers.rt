@@ -25,10 +25,7 @@ static OF_WORDS: [(&str, &str); 6] = [
     ),
     ("{name='n',core=0,word=-1}", "out of range at note 1 word"),
     ("{name='n',core=0,word='1'}", "wrong kind at note 1 word"),
-    (
-        "{name='n',core=9,word='1'}",
-        "out of range at note 1 core",
-    ),
+    ("{name='n',core=9,word='1'}", "out of range at note 1 core"),
 ];
 
 static OF_SERVERS: [(&str, &str); 16] = [

@@ -28,12 +28,18 @@ static OF_SOURCES: [(&str, &str); 28] = [
     ("note=1,badge=0", "wrong kind at source 1 note"),
     ("note='v',badge=0", "unknown name at source 1 note"),
     ("note='n',period=0", "missing key at source 1 badge"),
-    ("note='n',badge=0,period=0", "out of range at source 1 badge"),
+    (
+        "note='n',badge=0,period=0",
+        "out of range at source 1 badge",
+    ),
     (
         "note='n',badge=4294967296,period=0",
         "out of range at source 1 badge",
     ),
-    ("note='n',badge=1,start=-1", "missing key at source 1 period"),
+    (
+        "note='n',badge=1,start=-1",
+        "missing key at source 1 period",
+    ),
     (
         "note='n',badge=1,period=0,start=-1",
         "out of range at source 1 period",
@@ -54,8 +60,14 @@ static OF_SOURCES: [(&str, &str); 28] = [
         "note='n',badge=1,period=5,count=1.0,at=1",
         "wrong kind at source 1 count",
     ),
-    ("note='n',badge=1,period=5,at=1", "wrong kind at source 1 at"),
-    ("note='n',badge=1,period=5,at=[]", "out of range at source 1 at"),
+    (
+        "note='n',badge=1,period=5,at=1",
+        "wrong kind at source 1 at",
+    ),
+    (
+        "note='n',badge=1,period=5,at=[]",
+        "out of range at source 1 at",
+    ),
     (
         "note='n',badge=1,period=5,at=[0,'1',9]",
         "wrong kind at source 1 at item 2",
@@ -86,7 +98,10 @@ static OF_SOURCES: [(&str, &str); 28] = [
         "note='n',badge=1,period=5},{name='n',note='n',badge=1,period=5",
         "accepted",
     ),
-    ("note='n',badge=1,period=5},1,{name='x'", "wrong kind at source 2"),
+    (
+        "note='n',badge=1,period=5},1,{name='x'",
+        "wrong kind at source 2",
+    ),
     (
         "note='n',badge=1,period=5},{name='k',note='s'",
         "unknown name at source 2 note",
@@ -125,8 +140,14 @@ static OF_CHAINS: [(&str, &str); 16] = [
         "wrong kind at chain 1 deadline",
     ),
     ("source='s',thread='C'", "no wait at chain 1 thread"),
-    ("source='s',thread='C',badges=1", "no wait at chain 1 thread"),
-    ("source='s',thread='B',badges=1", "no wait at chain 1 badges"),
+    (
+        "source='s',thread='C',badges=1",
+        "no wait at chain 1 thread",
+    ),
+    (
+        "source='s',thread='B',badges=1",
+        "no wait at chain 1 badges",
+    ),
     (
         "source='s',thread='A'},{name='e'",
         "double name at chain 2 name",

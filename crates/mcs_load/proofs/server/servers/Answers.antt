@@ -27,6 +27,6 @@ returns-in_err-servers-clause-gives c =
     let are = c.in_ok-values.ensures.gives.1 in
     rw (p.1, p.2)
     (λ h.
-        fails_later values.tests _ c.in_ok-values.ensures.gives.0
-        ∙ (fails_later (few_notes c.args.notes.now values.value).tests _ (ap (λ (v : Items). first_failed (few_notes c.args.notes.now v).tests) are ∙ c.in_ok-few_notes.ensures.0)
-        ∙ (ap (λ (v : Items). first_failed (each step [] v).tests) are ∙ c.in_err-servers.ensures.gives h)))
+    fails_later values.tests _ c.in_ok-values.ensures.gives.0
+    ∙ (fails_later (few_notes c.args.notes.now values.value).tests _ (ap (λ (v : Items). first_failed (few_notes c.args.notes.now v).tests) are ∙ c.in_ok-few_notes.ensures.0)
+    ∙ (ap (λ (v : Items). first_failed (each step [] v).tests) are ∙ c.in_err-servers.ensures.gives h)))

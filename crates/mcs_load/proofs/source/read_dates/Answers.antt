@@ -20,8 +20,8 @@ returns-in_err-offsets-clause-gives c =
     let found = offsets c.args.taken period.value at row in
     rw (p.1, p.2)
     (λ h.
-        fails_later period.tests _ c.in_ok-period.ensures.gives.0
-        ∙ (fails_later start.tests _ c.in_ok-start.ensures.gives.0
-        ∙ (fails_later count.tests _ c.in_ok-count.ensures.gives.0
-        ∙ fails_first found.tests _ c.in_err-offsets.field-0.0
-            (ap (λ n. first_failed (offsets c.args.taken n at row).tests) c.in_ok-period.ensures.gives.1 ∙ c.in_err-offsets.ensures.gives h))))
+    fails_later period.tests _ c.in_ok-period.ensures.gives.0
+    ∙ (fails_later start.tests _ c.in_ok-start.ensures.gives.0
+    ∙ (fails_later count.tests _ c.in_ok-count.ensures.gives.0
+    ∙ fails_first found.tests _ c.in_err-offsets.field-0.0
+    (ap (λ n. first_failed (offsets c.args.taken n at row).tests) c.in_ok-period.ensures.gives.1 ∙ c.in_err-offsets.ensures.gives h))))
