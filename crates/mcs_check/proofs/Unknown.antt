@@ -8,7 +8,7 @@ use Rattle.mcs_cli.specs.declared.fault.RunFault.TheVariants as run
 use Rattle.mcs_check_words.specs.declared.asked.Options.{Options}
 use Rattle.mcs_check.specs.declared.fault.CheckFault.{CheckFault}
 use Rattle.mcs_check.specs.declared.fault.CheckFault.TheVariants.{Run, Unknown, Mixed}
-use Rattle.mcs_check.specs.Allowed.{IsUnknownFault, first_unknown}
+use Rattle.mcs_check.specs.Allowed.{IsUnknownFault, first_unknown, notifications}
 use Rattle.mcs_check.specs.Check.{IsFault, names_of}
 
 keeps : (w : Option (List ℕ)) → Keeps w w
@@ -17,7 +17,7 @@ keeps (Some xs) = refl
 
 module _ (read_old read_new : Option (List ℕ)) (given_old given_new : ℕ) (read_failed : Bool) (held : Option (List ℕ)) (failed : Bool) (options : Options)
     (system : System) (read : IsRead read_old read_new given_old given_new system) where
-  unknown-name : (name : List ℕ) (f : CheckFault) → first_unknown system.notes (names_of options) ≡ Some name → IsUnknownFault system.notes name f
+  unknown-name : (name : List ℕ) (f : CheckFault) → first_unknown (notifications system) (names_of options) ≡ Some name → IsUnknownFault (notifications system) name f
       → IsFault read_old read_new given_old given_new read_failed held held failed options f
   unknown-name name (Unknown given nearest) first is = (keeps held, (system, read, name, first, is))
   unknown-name name (Run (run.Sim s)) first is = (system, read, (0, Appends-nil held))
@@ -26,8 +26,8 @@ module _ (read_old read_new : Option (List ℕ)) (given_old given_new : ℕ) (re
   unknown-name name (Run run.Write) first is = absurd is
   unknown-name name Mixed first is = absurd is
 
-  pub unknown-fault : (o : Option (List ℕ)) (f : CheckFault) → first_unknown system.notes (names_of options) ≡ o → IsSome o
-      → IfSome o (λ name. IsUnknownFault system.notes name f)
+  pub unknown-fault : (o : Option (List ℕ)) (f : CheckFault) → first_unknown (notifications system) (names_of options) ≡ o → IsSome o
+      → IfSome o (λ name. IsUnknownFault (notifications system) name f)
       → IsFault read_old read_new given_old given_new read_failed held held failed options f
   unknown-fault (Some name) f first some is = unknown-name name f first is
   unknown-fault None f first some is = cc

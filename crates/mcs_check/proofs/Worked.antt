@@ -15,7 +15,7 @@ use Rattle.mcs_verdict.specs.declared.job.Job.{Job}
 use Rattle.mcs_verdict.specs.declared.standing.Stood.{Stood}
 use Rattle.mcs_check_words.specs.declared.asked.Format.TheVariants as format
 use Rattle.mcs_check_words.specs.declared.asked.Show.TheVariants as show
-use Rattle.mcs_check.specs.Allowed.{first_unknown, flags_of, nearest_of}
+use Rattle.mcs_check.specs.Allowed.{first_unknown, flags_of, nearest_of, notifications}
 use Rattle.mcs_check.specs.Check.{check_text}
 use Rattle.mcs_check.specs.Counts.{is_clean, no_counts}
 use Rattle.mcs_check.specs.Fields.{found_fields, job_fields}
@@ -209,6 +209,11 @@ known = refl
 
 unknown : first_unknown (note (codes "tick") ∷ note (codes "tock") ∷ []) (codes "tock" ∷ codes "tack" ∷ codes "tuck" ∷ []) ≡ Some (codes "tack")
 unknown = refl
+
+-- A server is no notification.
+server_apart : notifications (record (system 10) { servers = 1 }) ≡ note (codes "tick") ∷ []
+unfolding system
+server_apart = refl
 
 none_near : nearest_of [] (codes "tick") ≡ None
 none_near = refl

@@ -1,9 +1,10 @@
 -- The notifications at which lost signals are allowed, by name, and what is said of a name that none has.
-use Rattle.std.specs.Prelude.{ℕ, ◌≡◌, Bool, not, nat_lt, nat_le, nat_eq, if◌then◌else◌, List, [], ◌∷◌, length, map, find, Option, Some, None, option_map, string_bytes, ⊤}
+use Rattle.std.specs.Prelude.{ℕ, ◌≡◌, ◌-◌, Bool, not, nat_lt, nat_le, nat_eq, if◌then◌else◌, List, [], ◌∷◌, length, map, take, find, Option, Some, None, option_map, string_bytes, ⊤}
 use Rattle.std.specs.List.{list_any}
 use Rattle.std.specs.Str.{bytes_eq, chars}
 use Rattle.strsim.specs.Edits.{levenshtein_row}
 use Rattle.mcs_system.specs.declared.part.NotePart.{NotePart}
+use Rattle.mcs_system.specs.System.{System}
 use Rattle.mcs_cli.specs.declared.fault.RunFault.TheVariants as run
 use Rattle.mcs_check.specs.declared.fault.CheckFault.{CheckFault}
 use Rattle.mcs_check.specs.declared.fault.CheckFault.TheVariants.{Run, Unknown}
@@ -15,6 +16,10 @@ is_named names name = list_any (λ other. bytes_eq other name) names
 -- of each notification whether its name is among these
 abbrev pub flags_of : List (List ℕ) → List NotePart → List Bool
 flags_of names notes = map (λ part. is_named names part.name) notes
+
+-- the notifications of a system: its notes without the servers, which are the last ones
+abbrev pub notifications : System → List NotePart
+notifications system = take (length system.notes - system.servers) system.notes
 
 -- a notification has the name
 abbrev pub is_known : List NotePart → List ℕ → Bool

@@ -18,7 +18,7 @@ use Rattle.mcs_check_words.specs.declared.asked.Show.TheVariants as show
 use Rattle.mcs_check.specs.declared.counts.Counts.{Counts}
 use Rattle.mcs_check.specs.declared.fault.CheckFault.{CheckFault}
 use Rattle.mcs_check.specs.declared.fault.CheckFault.TheVariants.{Run, Unknown, Mixed}
-use Rattle.mcs_check.specs.Allowed.{IsUnknownFault, first_unknown, flags_of}
+use Rattle.mcs_check.specs.Allowed.{IsUnknownFault, first_unknown, flags_of, notifications}
 use Rattle.mcs_check.specs.Counts.{no_counts}
 use Rattle.mcs_check.specs.Formats.{counts_line, head_text, hint_line, is_mixed}
 use Rattle.mcs_check.specs.Figures.{table_lines}
@@ -68,7 +68,7 @@ module _ (read_old read_new : Option (List ℕ)) (given_old given_new : ℕ) (re
     abbrev pub IsDone : Counts → Type 0
     IsDone counts = (system : System) × IsRead read_old read_new given_old given_new system
         × (is_mixed options.format options.show ≡ false)
-        × (first_unknown system.notes (names_of options) ≡ None)
+        × (first_unknown (notifications system) (names_of options) ≡ None)
         × Appends write_old write_new (check_text (names_of options) system options.horizon options.format options.show)
         × (counts ≡ counts_of (names_of options) system options.horizon)
 
@@ -80,8 +80,8 @@ module _ (read_old read_new : Option (List ℕ)) (given_old given_new : ℕ) (re
     -- a name that is asked for is not known: the first of them, and the nearest that is
     abbrev pub IsUnknown : CheckFault → Type 0
     IsUnknown fault = (system : System) × IsRead read_old read_new given_old given_new system
-        × (name : List ℕ) × (first_unknown system.notes (names_of options) ≡ Some name)
-        × IsUnknownFault system.notes name fault
+        × (name : List ℕ) × (first_unknown (notifications system) (names_of options) ≡ Some name)
+        × IsUnknownFault (notifications system) name fault
 
     -- What cannot be written so is refused first, then the file is to blame, then a name, and in all three cases nothing is written. A device is blamed only where it has failed.
     abbrev pub IsFault : CheckFault → Type 0

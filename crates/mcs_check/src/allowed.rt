@@ -2,11 +2,11 @@
 ghost use Rattle.std.specs.Prelude.{◌≡◌, map, IfOk, OnOk, OnErr, IfErr, IfSome, IsSome, None, option_map, string_bytes};
 ghost use Rattle.std.specs.List.{list_any};
 ghost use Rattle.std.specs.Str.{bytes_eq};
-ghost use Rattle.mcs_check.specs.Allowed.{IsUnknownFault, first_unknown, flags_of, is_known, is_named, is_short, nearer, nearest_from, nearest_of};
+ghost use Rattle.mcs_check.specs.Allowed.{IsUnknownFault, first_unknown, flags_of, is_known, is_named, is_short, nearer, nearest_from, nearest_of, notifications};
 
 use crate::CheckFault;
 use mcs_cli::RunFault;
-use mcs_system::SystemParts;
+use mcs_system::{NotePart, SystemParts};
 use mcs_team::SimFault;
 use mcs_ticks::{Limits, NoMemory};
 use std::alloc::{AllocError, Global};
@@ -36,11 +36,18 @@ fn is_among(names: &[String], name: &str) -> bool
     names.iter().any(|other| other.as_str() == name)
 }
 
-/// Whether a notification has this name.
-fn is_known(parts: &SystemParts, name: &str) -> bool
-    ensures { result ≡ is_known parts.now.notes name.now }
+/// The notifications of a system: its notes without the servers, which are the last ones.
+fn notifications(parts: &SystemParts) -> &[NotePart]
+    ensures { result.now ≡ notifications parts.now }
 {
     let notes = parts.notes.as_slice();
+    &notes[..notes.len().saturating_sub(parts.servers)]
+}
+
+/// Whether a notification has this name.
+fn is_known(notes: &[NotePart], name: &str) -> bool
+    ensures { result ≡ is_known notes.now name.now }
+{
     notes.iter().any(|part| part.name.as_str() == name)
 }
 
@@ -51,24 +58,25 @@ pub fn refuse_unknown(
     parts: &SystemParts,
     names: &[String],
 ) -> Result<(), CheckFault>
-    ensures known { OnOk result (first_unknown parts.now.notes (map (λ name. string_bytes name) names.now) ≡ None) }
-    ensures unknown { IfErr result (λ fault. IfSome (first_unknown parts.now.notes (map (λ name. string_bytes name) names.now))
-        (λ name. IsUnknownFault parts.now.notes name fault)) }
-    ensures some { OnErr result (IsSome (first_unknown parts.now.notes (map (λ name. string_bytes name) names.now))) }
+    ensures known { OnOk result (first_unknown (notifications parts.now) (map (λ name. string_bytes name) names.now) ≡ None) }
+    ensures unknown { IfErr result (λ fault. IfSome (first_unknown (notifications parts.now) (map (λ name. string_bytes name) names.now))
+        (λ name. IsUnknownFault (notifications parts.now) name fault)) }
+    ensures some { OnErr result (IsSome (first_unknown (notifications parts.now) (map (λ name. string_bytes name) names.now))) }
 {
+    let notes = notifications(parts);
     for name in names {
-        if !is_known(parts, name.as_str()) {
-            return Err(unknown(alloc, parts, name.as_str()));
+        if !is_known(notes, name.as_str()) {
+            return Err(unknown(alloc, notes, name.as_str()));
         }
     }
     Ok(())
 }
 
 /// The fault of a name that no notification has, or that there was no memory for its text.
-fn unknown(alloc: Global, parts: &SystemParts, name: &str) -> CheckFault
-    ensures { IsUnknownFault parts.now.notes name.now result }
+fn unknown(alloc: Global, notes: &[NotePart], name: &str) -> CheckFault
+    ensures { IsUnknownFault notes.now name.now result }
 {
-    match told(alloc, parts, name) {
+    match told(alloc, notes, name) {
         Ok((name, nearest)) => CheckFault::Unknown { name, nearest },
         Err(_) => CheckFault::Run(RunFault::Sim(SimFault::NoMemory)),
     }
@@ -77,12 +85,12 @@ fn unknown(alloc: Global, parts: &SystemParts, name: &str) -> CheckFault
 /// The name, and the nearest one.
 fn told(
     alloc: Global,
-    parts: &SystemParts,
+    notes: &[NotePart],
     name: &str,
 ) -> Result<(String, Option<String>), AllocError>
-    ensures { IfOk result (λ t. (string_bytes t.0 ≡ name.now) × (option_map string_bytes t.1 ≡ nearest_of parts.now.notes name.now)) }
+    ensures { IfOk result (λ t. (string_bytes t.0 ≡ name.now) × (option_map string_bytes t.1 ≡ nearest_of notes.now name.now)) }
 {
-    let nearest = match nearest(alloc, parts, name)? {
+    let nearest = match nearest(alloc, notes, name)? {
         Some(near) => Some(String::from_str(alloc, near)?),
         None => None,
     };
@@ -93,13 +101,13 @@ fn told(
 /// short: to compare a long one with each takes long.
 fn nearest<'a>(
     alloc: Global,
-    parts: &'a SystemParts,
+    notes: &'a [NotePart],
     name: &str,
 ) -> Result<Option<&'a str>, AllocError>
-    ensures { IfOk result (λ near. option_map (λ n. n.now) near ≡ nearest_of parts.now.notes name.now) }
+    ensures { IfOk result (λ near. option_map (λ n. n.now) near ≡ nearest_of notes.now name.now) }
 {
     if is_short(name) {
-        nearest_of_all(alloc, parts, name)
+        nearest_of_all(alloc, notes, name)
     } else {
         Ok(None)
     }
@@ -115,13 +123,13 @@ pub(crate) fn is_short(text: &str) -> bool
 /// The nearest of the names of all notifications.
 fn nearest_of_all<'a>(
     alloc: Global,
-    parts: &'a SystemParts,
+    notes: &'a [NotePart],
     name: &str,
 ) -> Result<Option<&'a str>, AllocError>
-    ensures { IfOk result (λ near. option_map (λ n. n.now) near ≡ nearest_from name.now None parts.now.notes) }
+    ensures { IfOk result (λ near. option_map (λ n. n.now) near ≡ nearest_from name.now None notes.now) }
 {
     let mut near = None;
-    for part in parts.notes.as_slice() {
+    for part in notes {
         near = Some(nearer(alloc, name, near, part.name.as_str())?);
     }
     Ok(near)

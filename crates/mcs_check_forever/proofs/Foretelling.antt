@@ -9,7 +9,7 @@ use Rattle.mcs_cli.specs.Run.{IsRead}
 use Rattle.mcs_cli.specs.declared.fault.RunFault.{RunFault}
 use Rattle.mcs_cli.specs.declared.fault.RunFault.TheVariants as run
 use Rattle.mcs_check_words.specs.declared.asked.Options.{Options}
-use Rattle.mcs_check.specs.Allowed.{IsUnknownFault, first_unknown}
+use Rattle.mcs_check.specs.Allowed.{IsUnknownFault, first_unknown, notifications}
 use Rattle.mcs_check.specs.Check.{names_of}
 use Rattle.mcs_check.specs.declared.fault.CheckFault.{CheckFault}
 use Rattle.mcs_check.specs.declared.fault.CheckFault.TheVariants as check
@@ -25,8 +25,8 @@ keeps (Some xs) = refl
 
 module _ (options : Options) (system : System) where
   -- nothing is told where a name is not known, or there is no memory for its text
-  pub unknown-told : (a : Option (List ℕ)) (failed : Bool) (f : CheckFault) (asked : List ℕ) → first_unknown system.notes (names_of options) ≡ Some asked
-      → IsUnknownFault system.notes asked f → IsTold a a failed options system (Err (Check f))
+  pub unknown-told : (a : Option (List ℕ)) (failed : Bool) (f : CheckFault) (asked : List ℕ) → first_unknown (notifications system) (names_of options) ≡ Some asked
+      → IsUnknownFault (notifications system) asked f → IsTold a a failed options system (Err (Check f))
   unknown-told a failed (check.Unknown name nearest) asked none is = (keeps a, asked, none, is)
   unknown-told a failed (check.Run (run.Sim s)) asked none is = keeps a
   unknown-told a failed (check.Run run.Read) asked none is = absurd is
@@ -34,8 +34,8 @@ module _ (options : Options) (system : System) where
   unknown-told a failed (check.Run run.Write) asked none is = absurd is
   unknown-told a failed check.Mixed asked none is = absurd is
 
-  pub refused-told : (a : Option (List ℕ)) (failed : Bool) (f : CheckFault) (o : Option (List ℕ)) → first_unknown system.notes (names_of options) ≡ o
-      → IsSome o → IfSome o (λ name. IsUnknownFault system.notes name f) → IsTold a a failed options system (Err (Check f))
+  pub refused-told : (a : Option (List ℕ)) (failed : Bool) (f : CheckFault) (o : Option (List ℕ)) → first_unknown (notifications system) (names_of options) ≡ o
+      → IsSome o → IfSome o (λ name. IsUnknownFault (notifications system) name f) → IsTold a a failed options system (Err (Check f))
   refused-told a failed f (Some name) first some is = unknown-told a failed f name first is
   refused-told a failed f None first some is = cc
 

@@ -9,7 +9,7 @@ use Rattle.mcs_cli.specs.declared.fault.RunFault.TheVariants as run
 use Rattle.mcs_check_words.specs.declared.asked.Format.{Format}
 use Rattle.mcs_check_words.specs.declared.asked.Format.TheVariants as format
 use Rattle.mcs_check_words.specs.declared.asked.Options.{Options}
-use Rattle.mcs_check.specs.Allowed.{IsUnknownFault, first_unknown}
+use Rattle.mcs_check.specs.Allowed.{IsUnknownFault, first_unknown, notifications}
 use Rattle.mcs_check.specs.Check.{names_of}
 use Rattle.mcs_check.specs.declared.fault.CheckFault.TheVariants.{Unknown, Run}
 use Rattle.mcs_check_forever.specs.declared.forever_fault.ForeverFault.{ForeverFault}
@@ -37,8 +37,8 @@ module _ (write_old write_new : Option (List ℕ)) (write_failed : Bool) (option
       × (verdict : Verdict) × (text : List ℕ) × IsForetold (names_of options) system options.horizon options.format verdict text
       × AppendsPrefix write_old write_new text
   IsTold system (Err (Check (Unknown name nearest))) = Keeps write_old write_new
-      × (asked : List ℕ) × (first_unknown system.notes (names_of options) ≡ Some asked)
-      × IsUnknownFault system.notes asked (Unknown name nearest)
+      × (asked : List ℕ) × (first_unknown (notifications system) (names_of options) ≡ Some asked)
+      × IsUnknownFault (notifications system) asked (Unknown name nearest)
   IsTold system (Err _) = ⊥
 
   -- the bytes that a source knows before and after, and how many it has given by then; whether it has failed

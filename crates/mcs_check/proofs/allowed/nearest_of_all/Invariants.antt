@@ -3,4 +3,4 @@ use Rattle.mcs_check.specs.Allowed.{nearest_from}
 use Rattle.mcs_check.proofs.allowed.nearest_of_all.Given as goal
 
 abbrev pub invariant-loop-part : goal.invariant-loop-part
-invariant-loop-part l = nearest_from l.name (option_map (λ n. n.now) l.near) (drop l.part-index l.parts.notes) ≡ nearest_from l.name None l.parts.notes
+invariant-loop-part l = nearest_from l.name (option_map (λ n. n.now) l.near) (drop l.part-index l.notes) ≡ nearest_from l.name None l.notes

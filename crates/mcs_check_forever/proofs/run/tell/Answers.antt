@@ -4,7 +4,7 @@ use Rattle.std.specs.Io.KnownBytes.{Appends}
 use Rattle.mcs_cli.specs.Devices.{AppendsPrefix}
 use Rattle.mcs_cli.specs.declared.fault.RunFault.TheVariants as run
 use Rattle.mcs_team.specs.declared.run.SimFault.TheVariants as memory
-use Rattle.mcs_check.specs.Allowed.{IsUnknownFault, first_unknown}
+use Rattle.mcs_check.specs.Allowed.{IsUnknownFault, first_unknown, notifications}
 use Rattle.mcs_check.specs.Check.{names_of}
 use Rattle.mcs_check.specs.declared.fault.CheckFault.TheVariants as check
 use Rattle.mcs_check_forever.specs.declared.forever_fault.ForeverFault.TheVariants.{Check}
@@ -20,13 +20,13 @@ returns-in_err-refuse_unknown-clause-told g c =
     let result_is : c.from_residual.result ≡ Err (Check fault) = search rules in
     let system_is : c.parts.result.now ≡ system = search rules in
     let names_are : c.as_slice.result.now ≡ options.allowed.items = search rules in
-    let unknown = subst (λ names. IfSome (first_unknown c.parts.result.now.notes (map (λ name. string_bytes name) names))
-    (λ name. IsUnknownFault c.parts.result.now.notes name fault)) names_are c.in_err-refuse_unknown.ensures.unknown in
-    let some = subst (λ names. IsSome (first_unknown c.parts.result.now.notes (map (λ name. string_bytes name) names))) names_are c.in_err-refuse_unknown.ensures.some in
-    let own = subst (λ s. IfSome (first_unknown s.notes (names_of options)) (λ name. IsUnknownFault s.notes name fault)) system_is unknown in
-    let there = subst (λ s. IsSome (first_unknown s.notes (names_of options))) system_is some in
+    let unknown = subst (λ names. IfSome (first_unknown (notifications c.parts.result.now) (map (λ name. string_bytes name) names))
+    (λ name. IsUnknownFault (notifications c.parts.result.now) name fault)) names_are c.in_err-refuse_unknown.ensures.unknown in
+    let some = subst (λ names. IsSome (first_unknown (notifications c.parts.result.now) (map (λ name. string_bytes name) names))) names_are c.in_err-refuse_unknown.ensures.some in
+    let own = subst (λ s. IfSome (first_unknown (notifications s) (names_of options)) (λ name. IsUnknownFault (notifications s) name fault)) system_is unknown in
+    let there = subst (λ s. IsSome (first_unknown (notifications s) (names_of options))) system_is some in
     subst (IsTold (g.T.Target.contents c.args.target.now) (g.T.Target.contents c.args.target.now) (g.T.Target.has_failed c.args.target.now) options system)
-    (sym result_is) (refused-told options system _ _ fault (first_unknown system.notes (names_of options)) refl there own)
+    (sym result_is) (refused-told options system _ _ fault (first_unknown (notifications system) (names_of options)) refl there own)
 
 pub returns-in_default-clause-told : goal.returns-in_default-clause-told
 returns-in_default-clause-told g c = memory-told c.args.options.now c.args.system _ _ _ memory.NoMemory (ap Err c.no_memory.ensures)
