@@ -57,9 +57,10 @@ LEFT = re.compile(r'(sweep: \d+ values? (is|are) left at most, .*\n)?')
 SOURCES = ('.toml', '.csv', '<<', '--random')
 # a block that writes files is run elsewhere
 WRITES = ' -o '
-GUIDES = [TOP / 'docs' / name for name in ('CI.md', 'FOREVER.md', 'KERNEL.md', 'LEFT_OUT.md', 'MODELLING.md', 'SWEEPS.md', 'WAYS_IN.md')]
+GUIDE_NAMES = ('CI.md', 'FOREVER.md', 'FORMAT.md', 'KERNEL.md', 'LEFT_OUT.md', 'MODELLING.md', 'SWEEPS.md', 'WAYS_IN.md')
+GUIDES = [TOP / 'docs' / name for name in GUIDE_NAMES]
 # pages with blocks beside those that a command wrote
-SHOW_OTHERS = (pathlib.Path('README.md'), pathlib.Path('examples', 'README.md'), pathlib.Path('docs', 'CI.md'), pathlib.Path('docs', 'WAYS_IN.md'))
+SHOW_OTHERS = tuple(pathlib.Path(name) for name in ('README.md', 'examples/README.md', 'docs/CI.md', 'docs/FORMAT.md', 'docs/WAYS_IN.md'))
 
 
 def are_in(lines: Iterable[str], others: Iterable[str]) -> bool:
