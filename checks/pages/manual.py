@@ -24,6 +24,8 @@ COMPLETIONS = TOP / 'launcher' / 'completions'
 # the words of the launcher, which the programs do not know
 LAUNCHER = {'version', 'install', 'uninstall', 'prove'}
 RANGE = r'\b(\d+ to [\d^]+)'
+# what mandoc says of a page that another one names, where that is not installed
+NOT_INSTALLED = ' referenced manual not found: '
 
 # the names of an option's values, their default and their range, each None where there is none
 Option = tuple[Optional[str], Optional[str], Optional[str]]
@@ -100,7 +102,7 @@ def choices_of_help(text: str) -> list[str]:
 def keys_of_schema() -> dict[str, list[str]]:
     schema = json.loads((TOP / 'docs' / 'mcsim.schema.json').read_text())
     found = {'': sorted(schema['properties'])}
-    for name in ('context', 'note', 'thread', 'order', 'link'):
+    for name in ('context', 'note', 'server', 'thread', 'source', 'order', 'link', 'chain'):
         found[name] = sorted(schema['definitions'][name]['properties'])
     return found
 
@@ -161,7 +163,8 @@ class Trial:
 
     def lint(self, page: Page) -> None:
         if shutil.which('mandoc'):
-            self.same(f'mandoc -Tlint {page.name}.1', '', common.run(['mandoc', '-Tlint', page.source]).stdout.decode())
+            said = common.run(['mandoc', '-Tlint', page.source]).stdout.decode().splitlines(keepends=True)
+            self.same(f'mandoc -Tlint {page.name}.1', '', ''.join(line for line in said if NOT_INSTALLED not in line))
         else:
             self.count.skip(f'the look of mandoc at {page.name}.1, since it is not installed')
 
