@@ -311,9 +311,14 @@ def blocks_of(text: str) -> Iterator[Block]:
         at += 1
 
 
+def closes(line: str, indent: int) -> bool:
+    """Whether a line begins with the bracket that closes what a line so far from the edge has opened."""
+    return indent_of(line) == indent and line.lstrip().startswith(('}', ')', ']'))
+
+
 def goes_on(line: str, indent: int, name: str) -> bool:
     """Whether a line is one of the definition of this name, which stands so far from the edge."""
-    if indent_of(line) > indent:
+    if indent_of(line) > indent or closes(line, indent):
         return True
     parts = [part for part in name.split('◌') if part]
     return indent_of(line) == indent and not HEAD.match(line) and not line.lstrip().startswith(('--', 'module')) and parts[0] in line.split()
@@ -330,7 +335,7 @@ def clauses_of(block: Block) -> Iterator[tuple[str, bool]]:
     chunk: list[str] = []
     first = True
     for line in lines:
-        if chunk and indent_of(line) == indent:
+        if chunk and indent_of(line) == indent and not closes(line, indent):
             yield '\n'.join(chunk), not first
             chunk, first = [], False
         chunk.append(line)
@@ -367,26 +372,40 @@ def specs_of(file: str) -> dict[str, Definition]:
 
 
 TYPE = re.compile(r'^(?:pub(?:\(\w+\))? )?(?:struct|enum|trait) (\w+)')
+# a line of sources that brings in names of this repository, and whether it hands them on
+IMPORT = re.compile(r'^(pub )?use (crate|super|mcs_\w+)::(?:\w+::)*(?:\{([^}]*)\}|(\w+));', re.M)
+# a form of an enum, without what it holds
+FORM = re.compile(r'^    \w+', re.M)
+# a field, a parameter, a value or a call that the text of a type or a trait declares
+DECLARED = re.compile(r'\bfn (\w+)|\b(\w+):(?!:)')
+# lines of a type or a trait that say nothing of what it is
+ASIDE = ('ghost use', '#[', 'ghost inverse', 'ghost laws')
 
 
 @functools.lru_cache(maxsize=None)
-def types_in(crate: str) -> dict[str, str]:
-    """The file of each public type and trait of a crate."""
-    return {
-        name: str(path.relative_to(CRATES))
-        for path in sorted((CRATES / crate / 'src').rglob('*.rt'))
-        for name in re.findall(TYPE.pattern, path.read_text(), re.M)
-    }
+def types_in(crate: str) -> dict[str, Place]:
+    """The types and traits that the files of a crate declare, and those of other crates that they hand on."""
+    found: dict[str, Place] = {}
+    for path in sorted((CRATES / crate / 'src').rglob('*.rt')):
+        text = path.read_text()
+        for hands_on, other, those, single in IMPORT.findall(text):
+            if hands_on and other.startswith('mcs_'):
+                found.update(taken_from(types_in(other), those or single))
+        found.update((name, Place(str(path.relative_to(CRATES)), name)) for name in re.findall(TYPE.pattern, text, re.M))
+    return found
+
+
+def taken_from(types: dict[str, Place], names: str) -> Iterator[tuple[str, Place]]:
+    """Those of these types that a list of names brings in, by the names that they have there."""
+    return ((here, types[name]) for name, here in listed(names) if name in types)
 
 
 def types_known(file: str, text: str) -> dict[str, Place]:
-    """What the names of types mean in a file of sources."""
+    """What the names of types mean in a file of sources: those that it declares, and those that its lines `use` bring in."""
     crate = file.partition('/')[0]
-    known = {name: Place(where, name) for name, where in types_in(crate).items()}
-    for other, those, single in re.findall(r'^use (mcs_\w+)::(?:\{([^}]*)\}|(\w+));', text, re.M):
-        for name, here in listed(those or single):
-            if name in types_in(other):
-                known[here] = Place(types_in(other)[name], name)
+    known = {name: Place(file, name) for name in re.findall(TYPE.pattern, text, re.M)}
+    for _, other, those, single in IMPORT.findall(text):
+        known.update(taken_from(types_in(other if other.startswith('mcs_') else crate), those or single))
     return known
 
 
@@ -395,6 +414,17 @@ def until_closed(lines: Sequence[str], at: int) -> int:
     if lines[at].rstrip().endswith((';', '}')):
         return at + 1
     return next(end for end in range(at, len(lines)) if lines[end] == '}') + 1
+
+
+def cited_by_type(own: Sequence[str], model: Sequence[str], names: Names, known: dict[str, Place]) -> tuple[set[Place], set[Word]]:
+    """What a type or a trait cites: in its own text, where the names that this declares are bound, and in how contracts see it."""
+    text, seen = ('\n'.join(line for line in lines if not line.lstrip().startswith('//')) for lines in (own, model))
+    if re.search(r'\benum\b', own[0]):
+        text = FORM.sub(' ', text)
+    places, words = cited_in(text, {call or name for call, name in DECLARED.findall(text)}, names)
+    more_places, more_words = cited_in(seen, set(), names)
+    types = {known[token] for token in re.findall(r'\b[A-Z]\w*', f'{text}\n{seen}') if token in known}
+    return places | more_places | types, words | more_words
 
 
 def types_of(file: str) -> dict[str, Definition]:
@@ -411,17 +441,16 @@ def types_of(file: str) -> dict[str, Definition]:
         while lines[begin - 1].startswith(('///', '#[')):
             begin -= 1
         comment = tuple(part for part in lines[begin:at] if part.startswith('///'))
-        body = [*lines[at:until_closed(lines, at)]]
+        own = lines[at:until_closed(lines, at)]
+        model: list[str] = []
         for where, other in enumerate(lines):
             if re.match(rf'impl(?:<.*?>)? Model for {name}\b', other):
-                body += [other, *lines[where + 1:until_closed(lines, where)]]
-        names = names_in('\n'.join(body) + '\n' + '\n'.join(part for part in lines if part.startswith('ghost use')))
-        kept = [part for part in body if part.strip() and not part.lstrip().startswith(('ghost use', '#[', 'ghost inverse', 'ghost laws'))]
-        code = '\n'.join(part for part in kept if not part.lstrip().startswith('//'))
-        places, words = cited_in(code, set(), names)
-        places |= {known[token] for token in re.findall(r'\b[A-Z]\w*', code) if token in known}
+                model += lines[where:until_closed(lines, where)]
+        names = names_in('\n'.join((*own, *model, *(part for part in lines if part.startswith('ghost use')))))
+        own, model = ([part for part in those if part.strip() and not part.lstrip().startswith(ASIDE)] for those in (own, model))
+        places, words = cited_by_type(own, model, names, known)
         place = Place(file, name)
-        found[name] = Definition(place, comment, tuple(kept), (), frozenset(places - {place}), frozenset(words))
+        found[name] = Definition(place, comment, (*own, *model), (), frozenset(places - {place}), frozenset(words))
     return found
 
 

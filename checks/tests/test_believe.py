@@ -37,6 +37,10 @@ pub enum Kind {
     Small,
 }
 """
+KINDS = 'use Rattle.mcs_low.specs.declared.kind.Kind.TheVariants as kind'
+OTHER = """/// Another type.
+pub struct Other;
+"""
 CALL = """ghost use Rattle.mcs_high.specs.Claim.{IsAnswer};
 
 /// Doubles.
@@ -45,6 +49,16 @@ pub fn double(n: u64) -> u64
     ensures value { IsAnswer n result }
 {
     n + n
+}
+"""
+TRAIT = """ghost use Rattle.std.specs.Prelude.{◌≡◌, ℕ};
+ghost use Rattle.mcs_low.specs.Rules.{twice, thrice};
+
+/// Asks for a number.
+pub trait Ask {
+    ghost twice: { Self → ℕ };
+    fn ask(&self, thrice: u64) -> u64
+        ensures { result ≡ twice self.now };
 }
 """
 PAGE = 'Before.\n<!-- part: begins -->\n<!-- part: ends -->\nAfter.\n'
@@ -87,7 +101,7 @@ class Believe(unittest.TestCase):
 
     def run_it(self, *words: str) -> str:
         """What the script says."""
-        for cached in (believe.definitions_of, believe.types_in, believe.constructors_in, believe.floors):
+        for cached in (believe.definitions_of, believe.handed_on_by, believe.types_in, believe.constructors_in, believe.floors):
             getattr(cached, 'cache_clear')()
         said = io.StringIO()
         with mock.patch.object(sys, 'argv', ['believe.py', *words]), contextlib.redirect_stdout(said), contextlib.suppress(SystemExit):
@@ -183,6 +197,94 @@ class Believe(unittest.TestCase):
         self.assertIn('pub enum Kind', page)
         self.assertNotIn('derive', page)
         self.assertIn('`kind.` is before a form of `Kind`', page)
+
+    def test_a_field_of_a_record_is_not_cited(self) -> None:
+        for body in ('(record { thrice = twice n }).thrice', 'record { first = n; thrice = twice n }'):
+            with self.subTest(body):
+                self.claim(body)
+                self.assert_passes('--write')
+                self.assertNotIn('three times a number', self.page.read_text())
+
+    def test_a_field_of_a_type_is_not_cited(self) -> None:
+        # the file's contracts use a definition of this name, which speaks of the type: each would have to stand behind the other
+        for fields in ('Small { thrice: u64 },', 'Small {\n        thrice: u64,\n    },'):
+            with self.subTest(fields):
+                self.put('crates/mcs_low/src/kind.rt', 'ghost use Rattle.mcs_low.specs.Rules.{thrice};\n\n' + KIND.replace('Small,', fields))
+                self.put('crates/mcs_low/specs/Rules.antt', RULES.replace('thrice n = n', 'thrice n = kind.Small n').replace('\n\n', '\n' + KINDS + '\n\n', 1))
+                self.claim('twice kind.Small')
+                self.assert_passes('--write')
+                self.assertNotIn('three times a number', self.page.read_text())
+
+    def test_a_name_is_cited_by_how_contracts_see_a_type(self) -> None:
+        self.put('crates/mcs_low/src/kind.rt', """ghost use Rattle.mcs_low.specs.Rules.{thrice};
+
+/// What is asked for.
+pub struct Kind {
+    thrice: u64,
+}
+
+impl Model for Kind {
+    ghost view = { λ a. thrice a.thrice };
+}
+""")
+        self.claim('twice kind.Small')
+        self.assert_passes('--write')
+        self.assertIn('three times a number', self.page.read_text())
+
+    def test_what_a_trait_declares_is_not_cited(self) -> None:
+        self.put('crates/mcs_low/src/ask.rt', TRAIT)
+        self.put('crates/mcs_high/src/lib.rt', CALL.replace('/// D', 'use mcs_low::Ask;\n\n/// D').replace('double(', 'double<A: Ask>('))
+        self.claim('n')
+        with mock.patch.object(believe, 'WORDS', {'std': {'ℕ': 'a number', '◌≡◌': 'equal'}}):
+            self.assert_passes('--write')
+        page = self.page.read_text()
+        self.assertIn('pub trait Ask', page)
+        self.assertNotIn('twice a number', page)
+        self.assertNotIn('three times a number', page)
+
+    def test_a_form_is_not_the_type_of_its_name(self) -> None:
+        self.put('crates/mcs_low/src/other.rt', OTHER)
+        for forms, is_there in (
+            ('Other,', False),
+            ('Other { n: u64 },', False),
+            ('Small,\n    Other(u64),', False),
+            ('Other(Other),', True),
+            ('Small { one: Other },', True),
+        ):
+            with self.subTest(forms):
+                self.put('crates/mcs_low/src/kind.rt', 'use crate::other::Other;\n\n' + KIND.replace('Small,', forms))
+                self.claim('twice kind.Small')
+                self.assert_passes('--write')
+                self.assertIs('pub struct Other' in self.page.read_text(), is_there)
+
+    def test_a_type_is_cited_if_its_file_brings_it_in(self) -> None:
+        self.put('crates.txt', 'mcs_base: thiserror\nmcs_low: mcs_base\nmcs_high: mcs_low\n')
+        self.put('crates/mcs_base/src/other.rt', OTHER)
+        # its crate hands on a type of another
+        self.put('crates/mcs_low/src/lib.rt', 'pub use mcs_base::{Nothing, Other};\n')
+        self.put('crates/mcs_low/src/near.rt', OTHER.replace('Other', 'Near').replace('Another', 'A near'))
+        for line, is_there, is_near in (
+            ('use crate::{Kind, Other};', True, False),
+            ('use super::Other;', True, False),
+            ('use mcs_base::Other;', True, False),
+            ('use crate::near::{\n    Near, Nearer,\n};', False, True),
+            ('use std::other::Other;', False, False),
+            ('', False, False),
+        ):
+            with self.subTest(line):
+                self.put('crates/mcs_low/src/kind.rt', f'{line}\n\n' + KIND.replace('Small,', 'Small(Other, Near),'))
+                self.claim('twice kind.Small')
+                self.assert_passes('--write')
+                page = self.page.read_text()
+                self.assertIs('pub struct Other' in page, is_there)
+                self.assertIs('pub struct Near' in page, is_near)
+
+    def test_a_bracket_at_the_edge_ends_a_definition(self) -> None:
+        self.put('crates/mcs_high/specs/Claim.antt', CLAIM.replace('answer ≡ BODY', 'answer ≡ record {\n  first = twice n;\n} thrice n'))
+        self.assert_passes('--write')
+        page = self.page.read_text()
+        self.assertIn('  first = twice n;\n} thrice n\n```', page)
+        self.assertIn('three times a number', page)
 
 
 if __name__ == '__main__':
