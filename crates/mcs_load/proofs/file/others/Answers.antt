@@ -48,7 +48,7 @@ returns-in_err-chains c =
     let second = rw c.requires.notes at c.in_ok-sources.ensures.gives in
     let third = rw c.deref-4.ensures.value at c.in_ok-orders.ensures.0 in
     let names : c.in_ok-sources.source_names ≡ map (λ (s : Source). s.name) of_sources.value =
-        c.in_ok-sources.ensures.kept ∙ ap (map (λ (s : Source). s.name)) (sym second.1) in
+    c.in_ok-sources.ensures.kept ∙ ap (map (λ (s : Source). s.name)) (sym second.1) in
     let read = c.deref-5.ensures.value ∙ sym first.1 in
     rw (p.1, p.2)
     (λ h.
