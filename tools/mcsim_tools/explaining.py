@@ -20,17 +20,28 @@ TOOLS = pathlib.Path(__file__).resolve().parent.parent
 # in the repository, and as it is installed
 SCHEMAS = (TOOLS.parent / 'docs' / 'mcsim.schema.json', TOOLS.parents[2] / 'share' / 'mcsim' / 'mcsim.schema.json')
 LINE = re.compile(
-    r'mcsim: (?P<kind>.+?) at (?P<section>file|top|context|note|thread|order|link)'
+    r'mcsim: (?P<kind>.+?) at (?P<section>file|top|context|note|thread|order|link|source|server|chain)'
     r'(?: (?P<row>\d+))?(?: (?P<key>[a-z_]+|\?))?(?: item (?P<item>\d+))?'
 )
 # what a row of each section is called
-ROWS = {'top': 'the top', 'context': 'a context', 'note': 'a notification', 'thread': 'a thread', 'order': 'an order', 'link': 'a link'}
-# keys that are listed in version 2 alone
-OF_VERSION_2 = {('top', 'link'), ('context', 'mode')}
+ROWS = {
+    'top': 'the top', 'context': 'a context', 'note': 'a notification', 'server': 'a server', 'thread': 'a thread', 'source': 'a source',
+    'order': 'an order', 'link': 'a link', 'chain': 'a chain',
+}
+# the first version that lists a key, for keys that version 1 does not list
+SINCE = {
+    ('top', 'link'): 2, ('context', 'mode'): 2, ('top', 'server'): 3, ('top', 'source'): 3, ('top', 'chain'): 3, ('note', 'word'): 3,
+}
 # keys whose values number cores
 CORES = ('core', 'maker', 'home')
-ITEMS = {'compute': 'compute N', 'signal': 'signal NOTE BADGE', 'wait': 'wait NOTE', 'yield': 'yield'}
-NUMBERS = {'compute': 'N is 1 to 2^40', 'signal': 'BADGE is 1 to 4,294,967,295'}
+OLD_ITEMS = {'compute': 'compute N', 'signal': 'signal NOTE BADGE', 'wait': 'wait NOTE', 'yield': 'yield'}
+NEW_ITEMS = {'on': 'on BADGES', 'call': 'call SERVER BADGE', 'spin': 'spin'}
+NUMBERS = {
+    'compute': 'N is 1 to 2^40', 'signal': 'BADGE is 1 to 4,294,967,295', 'on': 'BADGES is 1 to 4,294,967,295',
+    'call': 'BADGE is 1 to 4,294,967,295',
+}
+# what is named by a row of each section
+WHAT = {'note': 'notification'}
 KINDS = {'integer': 'an integer', 'string': 'a text', 'array': 'an array'}
 NEAR = 0.5
 # a word that is longer has no nearest one; names and unknown keys that are told; bytes up to which Python's reader of TOML is asked
@@ -153,8 +164,12 @@ class Case:
         """The keys that a section lists, that of the fault where none is given, with what the schema says of them."""
         section = section or self.fault.section
         listed = self.schema['properties'] if section == 'top' else self.schema['definitions'][section]['properties']
-        is_two = self.setting('version') == 2
-        return {key: part for key, part in listed.items() if is_two or (section, key) not in OF_VERSION_2}
+        version = self.setting('version') or 0
+        return {key: part for key, part in listed.items() if SINCE.get((section, key), 1) <= max(version, 1)}
+
+    def items(self) -> dict[str, str]:
+        """The items of the file's version."""
+        return OLD_ITEMS | NEW_ITEMS if self.setting('version') == 3 else OLD_ITEMS
 
     def unknown_keys(self) -> list[str]:
         return [key for key in self.row.keys if key not in self.properties()] if self.row else []
@@ -180,6 +195,8 @@ class Case:
             return f'{kind}, {amount(part["minimum"])} to {amount(part["maximum"])}'
         if key == 'script':
             return f'{kind} of texts, 1 to 1,024 of them'
+        if key == 'at' and part.get('type') == 'array':
+            return f'{kind} of integers, 1 to 1,024 of them'
         if part.get('type') == 'array':
             return f'{kind} of tables, at most {amount(part["maxItems"])}'
         return f'{kind} of 1 to 32 characters of A-Z a-z 0-9 _ -' if 'pattern' in part else kind
@@ -241,10 +258,13 @@ def line_of(text: bytes, said: str) -> Optional[int]:
 def unknown_key(case: Case) -> Iterator[str]:
     listed = case.properties()
     for key in case.unknown_keys()[:MOST_UNKNOWN]:
-        if (case.fault.section, key) in OF_VERSION_2:
-            yield f'{key} is a key of version 2 alone, and this file says version = {case.setting("version")}'
+        since = SINCE.get((case.fault.section, key))
+        if since:
+            versions = 'versions 2 and 3' if since == 2 else 'version 3 alone'
+            yield f'{key} is a key of {versions}, and this file says version = {case.setting("version")}'
             continue
-        others = [what for section, what in ROWS.items() if key in case.properties(section)]
+        sections = {'top', *case.properties('top')}
+        others = [what for section, what in ROWS.items() if section in sections and key in case.properties(section)]
         if others:
             yield f'{key} is no key of {ROWS[case.fault.section]}, but of {" and of ".join(others)}'
             continue
@@ -263,7 +283,10 @@ def missing_key(case: Case) -> Iterator[str]:
 def wrong_kind(case: Case) -> Iterator[str]:
     fault = case.fault
     if fault.item:
-        yield f'an item is a text in quotes: {named(ITEMS.values())}'
+        if fault.key == 'at':
+            yield 'each number of at is an integer'
+        else:
+            yield f'an item is a text in quotes: {named(case.items().values())}'
     elif fault.key:
         node = case.value(fault.key)
         yield f'{fault.key} is {case.wanted(fault.key)}' + (f'; here stands {kind_of(node)}' if node else '')
@@ -273,8 +296,25 @@ def wrong_kind(case: Case) -> Iterator[str]:
         yield f'{fault.section} is an array of tables: [[{fault.section}]] with two brackets, or {fault.section} = [{{ .. }}, ..]'
 
 
+def out_of_at(case: Case, at: Node) -> Iterator[str]:
+    number = case.fault.item
+    if not number:
+        yield 'at has one number or more'
+        return
+    here = at.items[number - 1].text if number <= len(at.items) else ''
+    before = number_of(at.items[number - 2]) if 1 < number <= len(at.items) + 1 else None
+    period = number_of(case.value('period'))
+    yield f'each number of at lies below the period{f", {amount(period)}" if period is not None else ""}; here stands {here}'
+    if before is not None:
+        yield f'and each is above the one before, which is {amount(before)}'
+
+
 def out_of_range(case: Case) -> Iterator[str]:
     key = case.fault.key or ''
+    at = case.value('at')
+    if case.fault.section == 'source' and key == 'at' and at:
+        yield from out_of_at(case, at)
+        return
     node = case.value(key)
     yield f'{key} is {case.wanted(key)}' + (f'; here stands {node.text}' if node and node.text else '')
     if key == 'mode':
@@ -285,13 +325,23 @@ def out_of_range(case: Case) -> Iterator[str]:
         yield case.meaning(key)
 
 
+def count_of(array: Optional[Node]) -> int:
+    return array.count if array else 0
+
+
 def too_many(case: Case) -> Iterator[str]:
-    if case.fault.key == 'script':
-        script = case.value('script')
-        yield f'a script has at most 1,024 items; this one has {amount(script.count if script else 0)}'
+    fault = case.fault
+    if fault.key == 'script' and fault.item:
+        yield 'a script has at most 1,024 steps: one for each item, and for a call those of the server for its badge and two more'
+    elif fault.key == 'script':
+        yield f'a script has at most 1,024 items; this one has {amount(count_of(case.value("script")))}'
+    elif fault.key == 'at':
+        yield 'a source has at most 1,024 numbers in at, and all sources together 4,096; an absent at counts 1'
+    elif fault.section == 'server':
+        together = sum(count_of(case.root.get(section)) for section in ('note', 'server'))
+        yield f'notifications and servers together are at most 4,096; here are {amount(together)}'
     else:
-        array = case.root.get(case.fault.section)
-        yield f'there are at most 4,096 rows; here are {amount(array.count if array else 0)}'
+        yield f'there are at most 4,096 rows; here are {amount(count_of(case.root.get(fault.section)))}'
 
 
 def bad_name(case: Case) -> Iterator[str]:
@@ -303,34 +353,63 @@ def bad_name(case: Case) -> Iterator[str]:
 
 def double_name(case: Case) -> Iterator[str]:
     name = text_of(case.value('name'))
-    yield f'the name {name} stands first in line {case.earlier(lambda row: text_of(row.get("name")) == name)}'
+    line = case.earlier(lambda row: text_of(row.get('name')) == name)
+    if line is None:
+        note = row_named(case, 'note', name)
+        where = f', in line {case.tree.position(note.at).line}' if note else ''
+        yield f'a notification has the name {name}{where}: notifications and servers have one name space'
+        return
+    yield f'the name {name} stands first in line {line}'
 
 
 def unknown_name(case: Case) -> Iterator[str]:
-    if case.fault.key == 'context':
-        section, what, name = 'context', 'context', text_of(case.value('context'))
+    key = case.fault.key or ''
+    words = case.item.split()
+    if key != 'script':
+        section, name = key, text_of(case.value(key))
     else:
-        section, what, name = 'note', 'notification', ''.join(case.item.split()[1:2])
-    names = [text_of(row.get('name')) for row in case.rows(section)]
+        section, name = 'server' if words[:1] == ['call'] else 'note', ''.join(words[1:2])
+    what = WHAT.get(section, section)
+    known = case.rows(section)
+    if section == 'server' and case.fault.section == 'server':
+        what, known = 'earlier server', known[: case.fault.row - 1]
+    names = [text_of(row.get('name')) for row in known]
     yield f'no {what} has the name {name}{meant(name, names)}'
     yield f'names of {what}s: {named(names)}'
 
 
 def unknown_word(case: Case) -> Iterator[str]:
     word = ''.join(case.item.split(' ')[:1])
-    yield f'{word or "nothing"} is no word of an item{meant(word, ITEMS)}'
-    yield f'items: {named(ITEMS.values())}'
+    if word in NEW_ITEMS and word not in case.items():
+        yield f'{word} is a word of version 3 alone, and this file says version = {case.setting("version")}'
+    else:
+        yield f'{word or "nothing"} is no word of an item{meant(word, case.items())}'
+    yield f'items: {named(case.items().values())}'
 
 
 def bad_parts(case: Case) -> Iterator[str]:
     word = (case.item.split() or [''])[0]
-    yield f'the item is {ITEMS.get(word, word)}; here stands {case.item.strip()}'
+    yield f'the item is {case.items().get(word, word)}; here stands {case.item.strip()}'
     if word in NUMBERS:
         yield f'{NUMBERS[word]}, in digits without a sign and without a leading zero'
 
 
 def wait_is_last(case: Case) -> Iterator[str]:
     yield 'the last item of a script is no wait: put the wait first, which waits for each round in its turn, or let an item follow it'
+    if case.setting('version') == 3:
+        yield 'nor does a wait stand directly before an on, but where it is the first item'
+
+
+def on_without_wait(case: Case) -> Iterator[str]:
+    yield 'on begins a handler for a badge of the word that the first item waits for: the first item of the script is to be a wait'
+
+
+def no_wait(case: Case) -> Iterator[str]:
+    thread = text_of(case.value('thread'))
+    if case.fault.key == 'badges':
+        yield f'the badges of a chain are those of the word that begins a round: the first item of {thread} is to be a wait, or badges 0'
+    else:
+        yield f'{thread} never waits, so no interrupt can begin one of its rounds'
 
 
 def of_control(case: Case) -> Iterator[str]:
@@ -363,9 +442,17 @@ def other_core(case: Case) -> Iterator[str]:
     if case.fault.section == 'order':
         yield f'the context {text_of(case.value("context"))} is on core {core}, and the order on core {text_of(case.value("core"))}'
         return
-    note = ''.join(case.item.split()[1:2])
+    words = case.item.split()
+    note = ''.join(words[1:2])
+    if case.fault.section == 'server':
+        core = text_of(case.value('core'))
+    runs = f'the {case.fault.section} runs on core {core}'
+    if words[:1] == ['call']:
+        server = row_named(case, 'server', note)
+        yield f'{note} is on core {text_of(server.get("core") if server else None)}, and {runs}: a server is called on its own core alone'
+        return
     home = row_named(case, 'note', note)
-    yield f'{note} is at home on core {text_of(home.get("core") if home else None)}, and the thread runs on core {core}: a thread waits at home alone'
+    yield f'{note} is at home on core {text_of(home.get("core") if home else None)}, and {runs}: a {case.fault.section} waits at home alone'
     yield 'put the notification on the core of the thread that waits; threads of any core may signal it'
 
 
@@ -395,7 +482,7 @@ FACTS: dict[str, Callable[[Case], Iterator[str]]] = {
     'unknown key': unknown_key, 'missing key': missing_key, 'wrong kind': wrong_kind, 'out of range': out_of_range, 'too many': too_many,
     'bad name': bad_name, 'double name': double_name, 'unknown name': unknown_name, 'wait is last': wait_is_last, 'control': of_control,
     'context taken': context_taken, 'other core': other_core, 'kind change': kind_change, 'self link': self_link, 'double link': double_link,
-    'mode of slice': mode_of_slice, 'bad item: unknown word': unknown_word, 'bad item': bad_parts,
+    'mode of slice': mode_of_slice, 'on without wait': on_without_wait, 'no wait': no_wait, 'bad item: unknown word': unknown_word, 'bad item': bad_parts,
 }
 
 

@@ -13,6 +13,7 @@ import unittest
 SECONDS = 600
 TOOLS = pathlib.Path(__file__).resolve().parent.parent
 HEAD = 'version = 1\ncores = 2\ndelay = 1\n'
+NEW = 'version = 3\ncores = 2\ndelay = 1\n'
 CONTEXTS = 'context = [{ name = "a", core = 0, budget = 2, period = 5 }, { name = "b", core = 1, budget = 2, period = 5 }]\n'
 NOTE = 'note = [{ name = "tick", core = 0 }]\n'
 
@@ -51,7 +52,62 @@ class Explained(unittest.TestCase):
     def test_a_key_of_version_2_is_told_as_such(self) -> None:
         lines = self.told(HEAD + '[[context]]\nmode = "bandwidth"\n', 'unknown key at context 1 ?')
         self.assertEqual(lines[0], 'system.toml:5:1: unknown key at context 1 ?')
-        self.assertEqual(lines[3], '  mode is a key of version 2 alone, and this file says version = 1')
+        self.assertEqual(lines[3], '  mode is a key of versions 2 and 3, and this file says version = 1')
+
+    def test_a_key_of_version_3_is_told_as_such(self) -> None:
+        lines = self.told('version = 2\ncores = 1\ndelay = 1\n[[source]]\nname = "s"\n', 'unknown key at top ?')
+        self.assertEqual(lines[3], '  source is a key of version 3 alone, and this file says version = 2')
+
+    def test_a_word_of_version_3_is_told_as_such(self) -> None:
+        text = 'version = 2\ncores = 1\ndelay = 1\n[[thread]]\nscript = ["wait n", "on 1"]\n'
+        lines = self.told(text, 'bad item: unknown word at thread 1 script item 2')
+        self.assertEqual(lines[0], 'system.toml:5:21: bad item: unknown word at thread 1 script item 2')
+        self.assertEqual(lines[3:], [
+            '  on is a word of version 3 alone, and this file says version = 2', '  items: compute N, signal NOTE BADGE, wait NOTE, yield',
+        ])
+
+    def test_a_call_of_a_later_server_names_the_earlier_ones(self) -> None:
+        text = NEW + '[[server]]\nname = "clock"\n[[server]]\nname = "timer"\nscript = ["call later 1"]\n[[server]]\nname = "later"\n'
+        self.assertEqual(self.told(text, 'unknown name at server 2 script item 1')[3:], [
+            '  no earlier server has the name later', '  names of earlier servers: clock',
+        ])
+
+    def test_a_call_of_another_core_names_both(self) -> None:
+        text = NEW + CONTEXTS + '[[server]]\nname = "v"\ncore = 1\n[[thread]]\ncontext = "a"\nscript = ["call v 1"]\n'
+        lines = self.told(text, 'other core at thread 1 script item 1')
+        self.assertEqual(lines[3:], ['  v is on core 1, and the thread runs on core 0: a server is called on its own core alone'])
+
+    def test_a_number_of_at_is_told_with_the_one_before(self) -> None:
+        text = NEW + '[[source]]\nperiod = 10\nat = [0, 7, 7]\n'
+        lines = self.told(text, 'out of range at source 1 at item 3')
+        self.assertEqual(lines[0], 'system.toml:6:13: out of range at source 1 at item 3')
+        self.assertEqual(lines[3:], [
+            '  each number of at lies below the period, 10; here stands 7', '  and each is above the one before, which is 7',
+        ])
+
+    def test_a_server_that_has_a_notification_s_name(self) -> None:
+        lines = self.told(NEW + NOTE + '[[server]]\nname = "tick"\n', 'double name at server 1 name')
+        self.assertEqual(lines[3], '  a notification has the name tick, in line 4: notifications and servers have one name space')
+
+    def test_too_much_of_what_version_3_adds(self) -> None:
+        text = NEW + NOTE + 'server = [{ name = "v" }, { name = "w" }]\n[[thread]]\nscript = ["call v 1"]\n[[source]]\nat = [0, 1]\n'
+        self.assertEqual(self.told(text, 'too many at server')[3:], ['  notifications and servers together are at most 4,096; here are 3'])
+        lines = self.told(text, 'too many at thread 1 script item 1')
+        self.assertEqual(lines[0], 'system.toml:7:11: too many at thread 1 script item 1')
+        self.assertEqual(lines[3:], ['  a script has at most 1,024 steps: one for each item, and for a call those of the server for its badge and two more'])
+        self.assertEqual(self.told(text, 'too many at source 1 at')[3:], [
+            '  a source has at most 1,024 numbers in at, and all sources together 4,096; an absent at counts 1',
+        ])
+
+    def test_handlers_and_chains_want_a_wait(self) -> None:
+        text = NEW + '[[thread]]\nname = "A"\nscript = ["yield", "on 1"]\n[[chain]]\nthread = "A"\nbadges = 1\n'
+        self.assertEqual(self.told(text, 'on without wait at thread 1 script item 2')[3:], [
+            '  on begins a handler for a badge of the word that the first item waits for: the first item of the script is to be a wait',
+        ])
+        self.assertEqual(self.told(text, 'no wait at chain 1 thread')[3:], ['  A never waits, so no interrupt can begin one of its rounds'])
+        self.assertEqual(self.told(text, 'no wait at chain 1 badges')[3:], [
+            '  the badges of a chain are those of the word that begins a round: the first item of A is to be a wait, or badges 0',
+        ])
 
     def test_a_key_of_another_table_is_told_as_such(self) -> None:
         lines = self.told(HEAD + '[[thread]]\ncore = 1\n', 'unknown key at thread 1 ?')
@@ -69,7 +125,7 @@ class Explained(unittest.TestCase):
 
     def test_a_value_of_another_kind(self) -> None:
         lines = self.told('version = 1.0\n', 'wrong kind at top version')
-        self.assertEqual(lines[3], '  version is an integer: 1 or 2; here stands no integer, 1.0')
+        self.assertEqual(lines[3], '  version is an integer: 1 or 2 or 3; here stands no integer, 1.0')
 
     def test_a_table_in_place_of_an_array(self) -> None:
         lines = self.told(HEAD + '[context]\nname = "a"\n', 'wrong kind at context')
