@@ -93,8 +93,8 @@ class Told:
             self.tell(f'{here}.words.{row.words[1]}', row.moment, f'{int(row.words[2]):b}')
         if word == 'got':
             self.tell(f'{here}.words.{row.words[2]}', row.moment, '0')
-        if word == 'arrive':
-            self.events.setdefault(f'{here}.arrivals.{row.words[1]}', set()).add(row.moment)
+        if word in ('arrive', 'interrupt'):
+            self.events.setdefault(f'{here}.arrivals.{row.words[1 if word == "arrive" else 2]}', set()).add(row.moment)
 
 
 def value_at(changes: Changes, moment: int) -> str:

@@ -132,6 +132,9 @@ class Picture:
         said = f'{name} {STANDINGS[standing]} {stood.begin:,} to {stood.end:,}: {stood.end - stood.begin:,}'
         if standing == THROTTLED:
             said += ', ' + STOPPED_BY.get(stood.why, f'after a stop by {stood.why}')
+        elif standing == BLOCKED and stood.why == 'call':
+            said += ', its call waits for a server'
+            self.drawn['call'] += 1
         colour = f' c{self.lanes.colour[name]}' if standing in (RUNNING, READY) else ''
         height = HEIGHT[standing]
         return self.bar(STANDINGS[standing] + colour, stood.begin, stood.end, self.lanes.base[name] - height, height, said)
@@ -172,7 +175,8 @@ class Picture:
 
     def post(self, post: Post) -> None:
         maker, thread, base = post.maker, post.thread, self.lanes.base
-        said = f'signal of {maker.name if maker else f"core {post.core}"} at {post.made:,} to {post.note}, badge {post.badge}'
+        what = f'interrupt of {post.source}' if post.source else f'signal of {maker.name if maker else f"core {post.core}"}'
+        said = f'{what} at {post.made:,} to {post.note}, badge {post.badge}'
         said += f', arrives at {post.arrived:,}' * (post.arrived > post.made) + ': ' + SAID_OF[post.outcome].format(thread.name if thread else 'nobody')
         if maker and maker.name in base:
             self.mark(maker.name, 'made', 'ink', post.made, said)
@@ -182,6 +186,8 @@ class Picture:
             self.mark(thread.name, 'hold', 'soft', post.arrived, said)
         elif post.outcome == LOST:
             self.mark(thread.name, 'lost', 'bad', post.arrived, said)
+        elif post.source:
+            self.mark(thread.name, 'interrupt', 'ink', post.arrived, said)
         if maker and maker.name in base and maker is not thread and post.made >= self.begin and post.arrived <= self.end:
             self.joins.append(self.join(post, base[maker.name], base[thread.name], said))
 
@@ -348,7 +354,8 @@ class Picture:
                 self.drawn[sign] += 1
                 small = '-s' if is_crowded and sign in style.SMALL else ''
                 x, title = number(self.scale.x(mark.moment)), f'<title>{escaped(mark.said)}</title>'
-                uses.append(f'<use class="m {mark.look}" href="#{sign}{small}" x="{x}" y="{mark.base}">{title}</use>')
+                form = style.LOOKS.get(sign, sign)
+                uses.append(f'<use class="m {mark.look}" href="#{form}{small}" x="{x}" y="{mark.base}">{title}</use>')
             parts.append(f'<g class="M" data-name="{escaped(name)}">{"".join(uses)}</g>')
         return ''.join(parts)
 

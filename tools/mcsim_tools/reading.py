@@ -1,9 +1,10 @@
 """One pass over the rows of a schedule, which tells a listener what they say of threads, rounds, signals and budgets.
 
 Words are those of mcscheck. A round is *activated* where its script's first wait has its word: when that word was first set since it was 0,
-or at the wake; without a first wait, in the first tick in which the thread is ready or runs. A *miss* is a round that ended more than its deadline after its
+or at the wake; without a first wait, in the first tick in which the thread is ready or runs. Only bits count for which a handler has something to do: a
+word without such a bit activates nothing, given or held. A *miss* is a round that ended more than its deadline after its
 activation; *overdue* is one that is activated and not ended at the horizon, a deadline later or more. A signal is *lost* where it leaves a
-held word as it was, and *merged* where it adds bits to one.
+held word as it was, and *merged* where it adds bits to one; so is an interrupt. A thread that waits for a server is *blocked*, from its stop until it enters.
 
 Of a row nothing is kept but what is open: a record for each thread, the signals under way, the words of notifications, and what each context
 holds, which tells at a wake whether the thread is ready or throttled."""
@@ -21,7 +22,9 @@ from .system import Context, System, Thread
 PENDING, READY, RUNNING, THROTTLED, BLOCKED, DONE = range(6)
 STANDINGS = ('pending', 'ready', 'running', 'throttled', 'blocked', 'done')
 WOKE, HELD, MERGED, LOST = 'woke', 'held', 'merged', 'lost'
-REASONS = {'spent', 'yield', 'wait', 'done', 'preempt', 'order'}
+REASONS = {'spent', 'yield', 'wait', 'call', 'done', 'preempt', 'order'}
+# for a signal, and for a server that is taken
+BLOCKING = ('wait', 'call')
 
 
 class Stood(NamedTuple):
@@ -61,7 +64,8 @@ class Round(NamedTuple):
 
 
 class Post(NamedTuple):
-    """A signal that took effect: who made it where and when, and whom it woke or for whom it is held, where scripts tell."""
+    """A signal that took effect: who made it where and when, and whom it woke or for whom it is held, where scripts tell. An interrupt has a source, and is
+    made where and when it arrives."""
 
     note: str
     badge: int
@@ -71,15 +75,17 @@ class Post(NamedTuple):
     arrived: int
     thread: Optional[Thread]
     outcome: str
+    source: str = ''
 
 
 class UnderWay(NamedTuple):
-    """A signal that has not arrived."""
+    """A signal that has not arrived, or has not taken effect yet."""
 
     maker: Optional[Thread]
     made: int
     core: int
     badge: int
+    source: str = ''
 
 
 class Holding(NamedTuple):
@@ -142,6 +148,10 @@ class Account:
         """Some ticks have passed as it stands: a thread without a first wait that was ready or ran in one was activated."""
         self.was_activated = self.was_activated or self.activated_by is None and self.standing in (READY, RUNNING)
 
+    def is_activated_by(self, word: int) -> bool:
+        """Whether a word that the thread is given activates a round."""
+        return self.activated_by is not None and self.begun is None and self.thread.has_work_for(word)
+
     def end(self) -> None:
         self.begun = self.activated = None
 
@@ -160,8 +170,10 @@ class Reading:
     def __init__(self, system: System, listener: Listener) -> None:
         self.system, self.listener = system, listener
         self.accounts = {name: Account(thread) for name, thread in system.threads.items()}
-        self.words: dict[str, int] = dict.fromkeys(system.home_of, 0)
-        self.first_set: dict[str, int] = {}
+        self.words: dict[str, int] = dict(system.words)
+        # since when a word has a bit that leaves something to do
+        self.first_set: dict[str, int] = dict.fromkeys(system.home_of, 0)
+        self.taken_by: dict[str, Optional[str]] = dict.fromkeys(system.servers)
         self.signals: dict[tuple[int, str], collections.deque[UnderWay]] = collections.defaultdict(collections.deque)
         self.arriving: Optional[UnderWay] = None
         self.refills = {
@@ -173,7 +185,8 @@ class Reading:
     def read(self, lines: Iterable[str], horizon: Optional[int]) -> None:
         heard = {
             'release': self.release, 'run': self.run, 'stop': self.stop, 'signal': self.signal, 'arrive': self.arrive, 'wake': self.wake,
-            'hold': self.hold, 'got': self.got, 'round': self.round, 'order': self.order,
+            'hold': self.hold, 'got': self.got, 'round': self.round, 'order': self.order, 'interrupt': self.interrupt, 'enter': self.enter_server,
+            'leave': self.leave_server,
         }
         for name in self.accounts:
             self.tell_held(name, 0, False)
@@ -216,7 +229,7 @@ class Reading:
             raise ValueError
         if len(words) == 8:
             standing = THROTTLED
-        elif why == 'wait':
+        elif why in BLOCKING:
             standing = BLOCKED
         elif why == 'done':
             standing = DONE
@@ -254,25 +267,40 @@ class Reading:
         queue = self.signals[int(words[6]), words[3]]
         self.arriving = queue.popleft() if queue else UnderWay(None, moment, int(words[6]), int(words[4]))
 
+    def interrupt(self, moment: int, core: int, words: list[str]) -> None:
+        if self.system.sources[words[3]] != words[4]:
+            raise ValueError
+        self.arriving = UnderWay(None, moment, core, int(words[5]), words[3])
+
     def wake(self, moment: int, core: int, words: list[str]) -> None:
-        account, own = self.accounts[words[3]], self.refills[words[3]]
-        if account.standing != BLOCKED:
+        account = self.accounts[words[3]]
+        if account.standing != BLOCKED or account.why == 'call':
             raise ValueError
         self.post(words[4], moment, account.thread, WOKE)
-        if account.activated_by and account.begun is None:
+        if account.is_activated_by(int(words[5])):
             account.begin(moment, moment)
-        if not own.is_bandwidth:
-            own.unblock(moment)
-        if own.is_ready(moment):
-            self.enter(account, moment, READY)
-        else:
-            self.enter(account, moment, THROTTLED, 'wake')
-        self.tell_held(words[3], moment, False)
+        self.resume(account, moment)
+
+    def enter_server(self, moment: int, core: int, words: list[str]) -> None:
+        account, server = self.accounts[words[3]], words[4]
+        if self.taken_by[server] is not None:
+            raise ValueError
+        self.taken_by[server] = words[3]
+        # a thread that runs goes on; one that waits for the server is let in by the one that leaves it
+        if account.standing == BLOCKED and account.why == 'call':
+            self.resume(account, moment)
+        elif account.standing != RUNNING:
+            raise ValueError
+
+    def leave_server(self, moment: int, core: int, words: list[str]) -> None:
+        if self.accounts[words[3]].standing != RUNNING or self.taken_by[words[4]] != words[3]:
+            raise ValueError
+        self.taken_by[words[4]] = None
 
     def hold(self, moment: int, core: int, words: list[str]) -> None:
         note, word = words[3], int(words[4])
         was, self.words[note] = self.words[note], word
-        if not was:
+        if not self.system.is_set(note, was):
             self.first_set[note] = moment
         self.listener.word(note, moment, word)
         waiters = self.system.waiters[note]
@@ -282,8 +310,8 @@ class Reading:
         account, note = self.accounts[words[3]], words[4]
         self.words[note] = 0
         self.listener.word(note, moment, 0)
-        if account.activated_by and account.begun is None:
-            account.begin(moment, self.first_set.get(note, moment))
+        if account.is_activated_by(int(words[5])):
+            account.begin(moment, self.first_set[note])
 
     def order(self, moment: int, core: int, words: list[str]) -> None:
         context = self.system.contexts[words[3]]
@@ -297,6 +325,18 @@ class Reading:
             self.tell_held(thread.name, moment, False)
 
     # ---- what rows come to
+
+    def resume(self, account: Account, moment: int) -> None:
+        """A thread that was blocked goes on, once its context has budget."""
+        name = account.thread.name
+        own = self.refills[name]
+        if not own.is_bandwidth:
+            own.unblock(moment)
+        if own.is_ready(moment):
+            self.enter(account, moment, READY)
+        else:
+            self.enter(account, moment, THROTTLED, 'wake')
+        self.tell_held(name, moment, False)
 
     def enter(self, account: Account, moment: int, standing: int, why: str = '') -> None:
         self.tell_stood(account, moment)
@@ -315,9 +355,9 @@ class Reading:
             self.listener.holds(Holding(self.accounts[name].thread, self.refills[name].list, moment, is_used))
 
     def post(self, note: str, moment: int, thread: Optional[Thread], outcome: str) -> None:
-        maker, made, core, badge = self.arriving or UnderWay(None, moment, self.system.home_of[note], 0)
+        maker, made, core, badge, source = self.arriving or UnderWay(None, moment, self.system.home_of[note], 0)
         self.arriving = None
-        self.listener.posted(Post(note, badge, maker, made, core, moment, thread, outcome))
+        self.listener.posted(Post(note, badge, maker, made, core, moment, thread, outcome, source))
 
     def close(self) -> None:
         """What is open at the end."""
@@ -331,7 +371,7 @@ class Reading:
     def close_round(self, account: Account) -> None:
         """A round under way, or the word that is held for the next one."""
         activated, note, was_activated = account.activated, account.activated_by, account.was_activated
-        if account.begun is None and note and self.words[note] and account.standing != DONE:
+        if account.begun is None and note and account.standing != DONE and self.words[note] and account.thread.has_work_for(self.words[note]):
             activated, was_activated = self.first_set[note], True
         # no tick follows the horizon, in which the thread could be ready or run
         is_too_late = note is None and activated == self.end

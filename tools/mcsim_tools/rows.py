@@ -8,6 +8,7 @@ from .faults import Fault
 # how many words a row of each kind has, its moment and core among them
 SHAPES = {
     'release': (4,), 'run': (4,), 'stop': (6, 8), 'signal': (6,), 'arrive': (7,), 'wake': (6,), 'hold': (5,), 'got': (6,), 'round': (6,), 'order': (4,),
+    'interrupt': (6,), 'enter': (5,), 'leave': (5,),
 }
 # the lines of `--show reports`, which are passed over: their first word, and how many they have
 REPORTS = {('thread', 20), ('core', 6)}

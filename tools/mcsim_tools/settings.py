@@ -16,11 +16,16 @@ TOP = ('delay', 'call', 'min_budget')
 KEYS = {
     'context': ('core', 'budget', 'period', 'extra_refills', 'mode'),
     'thread': ('priority', 'start', 'rounds', 'deadline', 'script'),
-    'note': ('core',),
+    'note': ('core', 'word'),
     'order': ('at', 'core', 'budget', 'period', 'extra_refills'),
     'link': ('delay',),
+    'server': ('core', 'priority', 'script'),
+    'source': ('badge', 'period', 'start', 'count'),
+    'chain': ('badges', 'deadline'),
 }
 SCRIPT = 'script'
+# items whose last part is a number
+NUMBERED = ('compute', 'signal', 'on', 'call')
 RANGE = re.compile(r'[0-9]+:[0-9]+(?::[0-9]+)?')
 
 
@@ -64,7 +69,7 @@ def place_of(text: str, tables: Tables) -> Place:
     if key not in KEYS[section]:
         raise Fault(f'{text}: the key {key!r} of a {section} is none of {", ".join(KEYS[section])}')
     if key == SCRIPT:
-        return Place(text, section, row, key, item_of(text, rest[2:], tables['thread'][row][SCRIPT]))
+        return Place(text, section, row, key, item_of(text, rest[2:], tables[section][row][SCRIPT]))
     if len(rest) > 2:
         raise Fault(f'{text}: nothing stands behind {section}.{rest[0]}.{key}')
     return Place(text, section, row, key)
@@ -88,7 +93,7 @@ def item_of(text: str, rest: list[str], script: list[str]) -> int:
     number = digits.number(rest[0], 1, len(script)) if len(rest) == 1 else None
     if number is None:
         raise Fault(f'{text}: behind script stands the number of an item, 1 to {len(script)}')
-    if script[number - 1].split()[0] not in ('compute', 'signal'):
+    if script[number - 1].split()[0] not in NUMBERED:
         raise Fault(f'{text}: the item {script[number - 1]!r} has no number')
     return number - 1
 

@@ -54,7 +54,9 @@ SIGNS = f"""<pattern id="hatch0" width="5" height="5" patternUnits="userSpaceOnU
 <path id="order" d="M0 -{BAR + 9}L4.5 -{BAR + 3}L0 -{BAR - 3}L-4.5 -{BAR + 3}Z"/>"""
 # which signs crowded lanes have in another form, and which they leave out where nothing is wrong
 SMALL = ('up', 'down', 'hold', 'lost', 'end', 'endlate')
-LEFT_OUT = ('made', 'down')
+LEFT_OUT = ('made', 'interrupt', 'down')
+# signs that look like another
+LOOKS = {'interrupt': 'made'}
 # signs that stand above a bar, or reach over it
 ABOVE = ('up', 'down', 'hold', 'lost')
 

@@ -4,12 +4,13 @@ sweep SYSTEM --greatest PLACE=A:B --horizon N [--of THREAD ..]
 sweep SYSTEM --set PLACE=VALUES .. --horizon N --emit DIR; sweep --run FILE ..; sweep --collect DIR
 
 Runs a system with each combination of settings, and writes one CSV: the settings, the exit code of mcscheck and its fault, what was missed, lost,
-overdue and never activated, and the greatest response of each thread with a deadline, empty where it ended no round. A combination that is refused is
+overdue and never activated, with chains also what was slow and unanswered, and the greatest response of each thread with a deadline, empty where it ended no round. A combination that is refused is
 a line with the exit code 1 and the fault. A run that fails in another way ends the sweep: it is no answer about the system.
 
 A PLACE is context.NAME.KEY, thread.NAME.KEY, note.NAME.KEY, thread.NAME.script.K (the number of item K, from 1), order.K.KEY (the K-th order),
-link.MAKER-HOME.delay, or delay, call or min_budget. VALUES are A:B:STEP with B in it, A:B, or a list with commas. --of looks at the findings of these
-threads alone, and at signals lost where they wait. A sweep with -o that was interrupted goes on where it was, by the same words and the same programs:
+link.MAKER-HOME.delay, or delay, call or min_budget, and in version 3 server.NAME.KEY, server.NAME.script.K, source.NAME.KEY and chain.NAME.KEY. VALUES are
+A:B:STEP with B in it, A:B, or a list with commas. --of looks at the findings of these threads alone, at signals lost where they wait, and at chains that
+end with them. A sweep with -o that was interrupted goes on where it was, by the same words and the same programs:
 what is done stands in FILE.csv.part.
 
 --least tells the least value of a range under which nothing is found, and --greatest the greatest. Each value is tried, from that end on, since more is

@@ -17,7 +17,7 @@ from typing import Any
 from . import settings, system, workers, writing
 from .faults import Fault
 from .settings import Value
-from .verdict import KINDS, Programs, Result, check_names
+from .verdict import Programs, Result, check_names, kinds_of
 
 MOST = 10**6
 GREATEST = 'greatest '
@@ -59,7 +59,7 @@ class Sweep:
         self.count = math.prod(len(values) for _, values in self.settings)
         if self.count > MOST:
             raise Fault(f'{self.count} combinations, of at most {MOST}')
-        self.columns = columns(self.places, [name for name, thread in known.threads.items() if thread.deadline])
+        self.columns = columns(self.places, kinds_of(known), [name for name, thread in known.threads.items() if thread.deadline])
 
     def head(self, programs: Programs) -> dict[str, Any]:
         """What a journal of this sweep begins with."""
@@ -85,15 +85,14 @@ class Sweep:
         return workers.in_order(work, map(self.trial, combinations), jobs)
 
 
-def columns(places: Sequence[str], threads: Sequence[str]) -> list[str]:
-    return [*places, 'status', 'fault', *KINDS, *(f'{GREATEST}{name}' for name in threads)]
+def columns(places: Sequence[str], kinds: Sequence[str], threads: Sequence[str]) -> list[str]:
+    return [*places, 'status', 'fault', *kinds, *(f'{GREATEST}{name}' for name in threads)]
 
 
 def line_of(columns: Sequence[str], values: Sequence[object], result: Result) -> list[object]:
     """A line of the table. What a run does not tell, as the response of a thread that never ended a round, is empty."""
-    threads = [column.removeprefix(GREATEST) for column in columns[len(values) + 2 + len(KINDS):]]
-    counts, greatest = result.counts, result.greatest
-    return [*values, result.status, result.fault, *(counts.get(kind, '') for kind in KINDS), *(greatest.get(name, '') for name in threads)]
+    told = {**result.counts, **{f'{GREATEST}{name}': greatest for name, greatest in result.greatest.items()}}
+    return [*values, result.status, result.fault, *(told.get(column, '') for column in columns[len(values) + 2:])]
 
 
 def csv_text(rows: Iterable[Sequence[object]]) -> str:

@@ -3,7 +3,7 @@ from __future__ import annotations
 
 import pathlib
 import re
-from collections.abc import Mapping
+from collections.abc import Iterable, Iterator, Mapping, Sequence
 from dataclasses import dataclass, field
 from typing import Any, Optional
 
@@ -12,8 +12,13 @@ from .faults import Fault, why
 
 LONGEST = 2**26
 GREATEST = 2**40
+GREATEST_WORD = 2**32 - 1
+# the version of files with handlers, servers and sources, in which contexts are in bandwidth mode unless they say otherwise
+VERSION_3 = 3
 NAME = re.compile(r'[A-Za-z0-9_-]{1,32}')
 Tables = Mapping[str, Any]
+# an item of a script: its word and the parts behind it
+Item = Sequence[str]
 
 
 @dataclass(frozen=True)
@@ -44,7 +49,7 @@ class Order:
 
 @dataclass(frozen=True, eq=False)
 class Thread:
-    """A thread, with what its script says of waiting."""
+    """A thread, with what its script says of waiting, in the servers that it calls too."""
 
     number: int
     name: str
@@ -55,10 +60,16 @@ class Thread:
     waits: tuple[str, ...]
     # the notification whose word activates a round, where the script begins with a wait
     activated_by: Optional[str]
+    # the bits of which such a word has to have one, where nothing but handlers follows that wait; None: each word will do
+    bits: Optional[int] = None
 
     @property
     def core(self) -> int:
         return self.context.core
+
+    def has_work_for(self, word: int) -> bool:
+        """Whether a word that is not 0 leaves the thread something to do when its script's first wait gives it."""
+        return self.bits is None or word & self.bits != 0
 
 
 @dataclass(frozen=True)
@@ -72,6 +83,12 @@ class System:
     threads: dict[str, Thread]
     # for each context its orders as they will be applied: by moment, within one moment as in the file
     orders: dict[str, list[Order]]
+    # the word that each notification holds at first
+    words: dict[str, int] = field(default_factory=dict)
+    servers: frozenset[str] = frozenset()
+    # for each source the notification that it signals, and for each chain the thread at its end
+    sources: dict[str, str] = field(default_factory=dict)
+    chains: dict[str, str] = field(default_factory=dict)
     thread_of: dict[str, Thread] = field(init=False)
     waiters: dict[str, list[Thread]] = field(init=False)
 
@@ -82,6 +99,10 @@ class System:
                 waiters[note].append(thread)
         object.__setattr__(self, 'thread_of', {thread.context.name: thread for thread in self.threads.values()})
         object.__setattr__(self, 'waiters', waiters)
+
+    def is_set(self, note: str, word: int) -> bool:
+        """Whether a notification's word leaves something to do to a thread whose script begins with a wait for it."""
+        return word != 0 and any(thread.activated_by == note and thread.has_work_for(word) for thread in self.waiters[note])
 
     def by_core(self) -> dict[int, list[Thread]]:
         """The threads of each core that has some, by priority, so that preemption reads downward."""
@@ -106,19 +127,81 @@ def name_of(table: Tables) -> str:
     return name
 
 
-def context_of(table: Tables, cores: int) -> Context:
-    is_bandwidth = table.get('mode', 'sporadic') == 'bandwidth'
+def part_of(parts: Mapping[str, object], name: str) -> str:
+    """The name of a part that is there."""
+    parts[name]
+    return name
+
+
+def context_of(table: Tables, cores: int, version: object) -> Context:
     period = whole(table, 'period', least=1)
     budget = whole(table, 'budget', least=1, most=period)
+    default = 'bandwidth' if version == VERSION_3 and budget < period else 'sporadic'
+    is_bandwidth = table.get('mode', default) == 'bandwidth'
     return Context(name_of(table), whole(table, 'core', most=cores - 1), budget, period, whole(table, 'extra_refills', 0), is_bandwidth)
 
 
-def thread_of(number: int, table: Tables, contexts: Mapping[str, Context]) -> Thread:
-    items = [item.split() for item in table['script']]
-    waits = tuple(dict.fromkeys(item[1] for item in items if item[0] == 'wait'))
-    first = waits[0] if items[0][0] == 'wait' else None
+class Waits:
+    """The notifications for which scripts wait, in the servers that they call too. A server is called after it was added."""
+
+    def __init__(self) -> None:
+        self.scripts: dict[str, list[Item]] = {}
+        self.known: dict[tuple[str, int], tuple[str, ...]] = {}
+
+    def of(self, items: Iterable[Item]) -> tuple[str, ...]:
+        """The notifications for which these items wait, each once."""
+        found: dict[str, None] = {}
+        for item in items:
+            if item[0] == 'wait':
+                found[item[1]] = None
+            elif item[0] == 'call':
+                found.update(dict.fromkeys(self.in_server(item[1], int(item[2]))))
+        return tuple(found)
+
+    def in_server(self, server: str, badge: int) -> tuple[str, ...]:
+        key = server, badge
+        if key not in self.known:
+            self.known[key] = self.of(items_for(self.scripts[server], badge))
+        return self.known[key]
+
+    def add(self, server: str, items: list[Item]) -> None:
+        # what it calls is looked up now, so that no look-up goes deep
+        self.of(items)
+        self.scripts[server] = items
+
+
+def items_for(items: Iterable[Item], badge: int) -> Iterator[Item]:
+    """The items of a server's script that are gone through for a call with this badge."""
+    is_passed_over = False
+    for item in items:
+        if item[0] == 'on':
+            is_passed_over = not int(item[1]) & badge
+        elif not is_passed_over:
+            yield item
+
+
+def bits_of(items: Sequence[Item]) -> Optional[int]:
+    """The badges of the handlers behind the first item that have an item, where nothing but handlers stands there; None: something stands before them."""
+    rest = items[1:]
+    if rest and rest[0][0] != 'on':
+        return None
+    bits = 0
+    for item, following in zip(rest, rest[1:]):
+        if item[0] == 'on' and following[0] != 'on':
+            bits |= int(item[1])
+    return bits
+
+
+def items_of(table: Tables) -> list[Item]:
+    return [item.split() for item in table['script']]
+
+
+def thread_of(number: int, table: Tables, contexts: Mapping[str, Context], waits: Waits) -> Thread:
+    items = items_of(table)
+    first = items[0][1] if items[0][0] == 'wait' else None
     start, deadline = whole(table, 'start', 0), whole(table, 'deadline', 0)
-    return Thread(number, name_of(table), contexts[table['context']], whole(table, 'priority'), start, deadline, waits, first)
+    bits = None if first is None else bits_of(items)
+    return Thread(number, name_of(table), contexts[table['context']], whole(table, 'priority'), start, deadline, waits.of(items), first, bits)
 
 
 def orders_of(tables: Tables, contexts: Mapping[str, Context]) -> dict[str, list[Order]]:
@@ -131,11 +214,18 @@ def orders_of(tables: Tables, contexts: Mapping[str, Context]) -> dict[str, list
 
 def system_of(tables: Tables) -> System:
     cores = whole(tables, 'cores', least=1, most=64)
-    contexts = {table['name']: context_of(table, cores) for table in tables.get('context', [])}
-    threads = [thread_of(number, table, contexts) for number, table in enumerate(tables.get('thread', []))]
+    contexts = {table['name']: context_of(table, cores, tables.get('version')) for table in tables.get('context', [])}
+    waits = Waits()
+    for table in tables.get('server', []):
+        waits.add(name_of(table), items_of(table))
+    threads = [thread_of(number, table, contexts, waits) for number, table in enumerate(tables.get('thread', []))]
     home_of = {name_of(table): whole(table, 'core', most=cores - 1) for table in tables.get('note', [])}
+    words = {table['name']: whole(table, 'word', 0, most=GREATEST_WORD) for table in tables.get('note', [])}
+    sources = {name_of(table): part_of(home_of, table['note']) for table in tables.get('source', [])}
     by_name = {thread.name: thread for thread in threads}
-    return System(cores, whole(tables, 'min_budget', 1), contexts, home_of, by_name, orders_of(tables, contexts))
+    chains = {name_of(table): part_of(by_name, table['thread']) for table in tables.get('chain', [])}
+    orders = orders_of(tables, contexts)
+    return System(cores, whole(tables, 'min_budget', 1), contexts, home_of, by_name, orders, words, frozenset(waits.scripts), sources, chains)
 
 
 def read_bytes(path: pathlib.Path) -> bytes:

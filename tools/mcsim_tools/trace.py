@@ -4,8 +4,8 @@ Turns a schedule into Chrome's trace events (JSON), which https://ui.perfetto.de
 keeps nothing of a row.
 
 Cores are processes, and their threads are threads. How a thread stands is a slice; rounds that missed their deadline or are overdue are slices of a
-track of their own below it; a signal is a flow from its maker's slice to that of the thread which it wakes, or for which it is held; lost signals
-and orders are instants; --budgets adds a counter of what each context may use. A flow begins a quarter of a tick before its signal and ends a quarter
+track of their own below it; a signal is a flow from its maker's slice to that of the thread which it wakes, or for which it is held; interrupts, lost
+signals and orders are instants; --budgets adds a counter of what each context may use. A flow begins a quarter of a tick before its signal and ends a quarter
 after its arrival, so that viewers find it in the slice of the thread that ran, and in the one that the arrival begins."""
 from __future__ import annotations
 
@@ -94,7 +94,8 @@ class Trace(Listener):
 
     def stood(self, stood: Stood) -> None:
         if stood.standing not in (PENDING, DONE):
-            words = f'"ticks":{stood.end - stood.begin}' + (f',"after":"{stood.why}"' if stood.standing == THROTTLED else '')
+            tells_why = stood.standing == THROTTLED or stood.why == 'call'
+            words = f'"ticks":{stood.end - stood.begin}' + (f',"after":"{stood.why}"' if tells_why else '')
             self.slice(STANDINGS[stood.standing], 'standing', stood.thread, track(stood.thread), stood.begin, stood.end, COLOURS[stood.standing], words)
 
     def round_ended(self, ended: Round) -> None:
@@ -118,6 +119,8 @@ class Trace(Listener):
         # a thread that has not begun, or is done, has no slice in which a flow could end
         if post.maker and post.thread and self.reading.accounts[post.thread.name].standing not in (PENDING, DONE):
             self.newest.append(post)
+        if post.source:
+            self.instant(f'interrupt {post.source}', 'interrupt', post.core, post.thread, post.arrived)
         if post.outcome == LOST:
             self.instant(f'lost {post.note}', 'lost', self.system.home_of[post.note], post.thread, post.arrived)
 

@@ -19,8 +19,10 @@ from .reading import Listener, Reading, Round
 from .system import System
 
 KINDS = ('missed', 'lost', 'overdue', 'never')
+# what is found of chains, in a system that has one
+OF_CHAINS = ('slow', 'unanswered')
 # the word of a finding, and what it counts as
-COUNTED = {'miss': 'missed', 'lost': 'lost', 'overdue': 'overdue', 'never': 'never'}
+COUNTED = {'miss': 'missed', **dict(zip(KINDS[1:], KINDS[1:])), **dict(zip(OF_CHAINS, OF_CHAINS))}
 # exit codes of mcscheck that are answers: nothing found, the system is refused, something found
 NOTHING, REFUSED, FOUND = 0, 1, 5
 # exit codes of mcscheck that are none: its options, reading or writing, memory
@@ -151,18 +153,26 @@ class Programs:
         return Result(FOUND if any(counts.values()) else NOTHING, '', counts, greatest)
 
 
+def kinds_of(system: System) -> tuple[str, ...]:
+    """The kinds of what can be found in a system."""
+    return (*KINDS, *OF_CHAINS) if system.chains else KINDS
+
+
 def counted(lines: Sequence[str], system: System, of: Collection[str]) -> dict[str, int]:
-    """How much was found of each kind; of threads where some are given, with the signals that were lost at notifications for which they wait."""
+    """How much was found of each kind; of threads where some are given, with the signals that were lost at notifications for which they wait, and the
+    chains that end with them."""
     notes = {note for name in of for note in system.threads[name].waits}
+    chains = {chain for chain, name in system.chains.items() if name in of}
+    wanted = {'lost': notes, **dict.fromkeys(OF_CHAINS, chains)}
     counts: collections.Counter[str] = collections.Counter()
     for line in lines:
         words = line.split()
         if len(words) < 4 or not words[0].isdigit() or words[2] not in COUNTED:
             continue
         kind, name = words[2], words[3]
-        if not of or name in (notes if kind == 'lost' else of):
+        if not of or name in wanted.get(kind, of):
             counts[COUNTED[kind]] += 1
-    return {kind: counts[kind] for kind in KINDS}
+    return {kind: counts[kind] for kind in kinds_of(system)}
 
 
 def check_names(of: Sequence[str], system: System) -> None:

@@ -9,8 +9,8 @@ writes while it reads. For each core there is a scope, in which stand
     rounds.T    an event at the end of each round of T
     misses.T    an event at the end of each round that missed the deadline of T, where it has one
     words.N     the word of notification N
-    arrivals.N  an event at each moment at which a signal of another core arrives for N
-    losses.N    an event at each moment at which a signal for N is lost
+    arrivals.N  an event at each moment at which a signal of another core, or an interrupt, arrives for N
+    losses.N    an event at each moment at which a signal or an interrupt for N is lost
 
 A wave has one value at a moment: that after all rows of the moment. It ends at the horizon, or with the rows."""
 from __future__ import annotations
@@ -71,7 +71,7 @@ def waves_of(system: System, core: int) -> Iterator[Wave]:
     yield from (Wave(core, 'until', thread.name, NUMBER, DATE, number(None), f'{thread.name} until') for thread in threads)
     yield from (Wave(core, 'rounds', thread.name, EVENT, 1, None, f'{thread.name} rounds') for thread in threads)
     yield from (Wave(core, 'misses', thread.name, EVENT, 1, None, f'{thread.name} misses') for thread in threads if thread.deadline)
-    yield from (Wave(core, 'words', note, NUMBER, WORD, number(0), f'{note} word') for note in notes)
+    yield from (Wave(core, 'words', note, NUMBER, WORD, number(system.words[note]), f'{note} word') for note in notes)
     yield from (Wave(core, 'arrivals', note, EVENT, 1, None, f'{note} arrives') for note in notes)
     yield from (Wave(core, 'losses', note, EVENT, 1, None, f'{note} lost') for note in notes)
 
@@ -167,7 +167,7 @@ class Dump(Listener):
 
     def posted(self, post: Post) -> None:
         home = self.system.home_of[post.note]
-        if post.core != home:
+        if post.core != home or post.source:
             self.happen(post.arrived, home, 'arrivals', post.note)
         if post.outcome == LOST:
             self.happen(post.arrived, home, 'losses', post.note)

@@ -3,9 +3,9 @@ from __future__ import annotations
 
 import unittest
 
-from worked import LOOP, LOOP_ROWS, ONE, ONE_ROWS, PAIR, PAIR_ROWS, heard
+from worked import BUSY, BUSY_ROWS, HANDLERS, HANDLERS_ROWS, LOOP, LOOP_ROWS, ONE, ONE_ROWS, PAIR, PAIR_ROWS, TAKEN, TAKEN_ROWS, heard, system
 from mcsim_tools.faults import Fault
-from mcsim_tools.reading import BLOCKED, DONE, HELD, LOST, MERGED, READY, RUNNING, THROTTLED, WOKE
+from mcsim_tools.reading import BLOCKED, DONE, HELD, LOST, MERGED, PENDING, READY, RUNNING, THROTTLED, WOKE
 
 STARVED = '''
 version = 1
@@ -51,6 +51,63 @@ SPENT_ROWS = '''
 5 0 arrive n 1 from 1
 5 0 wake A n 1
 '''
+# of the word 6 that n holds at first the handler of badge 2 alone takes a bit
+FIRST_WORD = '''
+version = 3
+cores = 1
+delay = 1
+context = [{ name = "w", core = 0, budget = 5, period = 20 }]
+note = [{ name = "n", core = 0, word = 6 }]
+thread = [{ name = "W", context = "w", priority = 5, deadline = 2, script = ["wait n", "on 1", "compute 1", "on 2", "compute 2"] }]
+'''
+FIRST_WORD_ROWS = '''
+0 0 release W
+0 0 run W
+1 0 got W n 6
+3 0 round W 1 2
+4 0 stop W wait 4
+'''
+# nobody takes the badge of k, and of s in the second half
+NOBODY = '''
+version = 3
+cores = 1
+delay = 1
+context = [{ name = "d", core = 0, budget = 9, period = 20 }]
+note = [{ name = "n", core = 0 }]
+thread = [{ name = "D", context = "d", priority = 5, deadline = 5, script = ["wait n", "on 1", "compute 2", "on 2", "on 8", "compute 1"] }]
+source = [
+    { name = "k", note = "n", badge = 4, period = 10, start = 2, count = 1 },
+    { name = "e", note = "n", badge = 2, period = 10, start = 4, count = 1 },
+    { name = "s", note = "n", badge = 1, period = 10, start = 6, count = 1 },
+]
+'''
+NOBODY_ROWS = '''
+0 0 release D
+0 0 run D
+1 0 stop D wait 1
+2 0 interrupt k n 4
+2 0 wake D n 4
+2 0 run D
+3 0 stop D wait 1
+4 0 interrupt e n 2
+4 0 wake D n 2
+4 0 run D
+5 0 stop D wait 1
+6 0 interrupt s n 1
+6 0 wake D n 1
+6 0 run D
+8 0 round D 1 2
+9 0 stop D wait 3
+'''
+# the same devices while D has not begun
+HELD_ROWS = '''
+2 0 interrupt k n 4
+2 0 hold n 4
+4 0 interrupt e n 2
+4 0 hold n 6
+6 0 interrupt s n 1
+6 0 hold n 7
+'''
 ORDERED = '''
 version = 1
 cores = 1
@@ -84,6 +141,48 @@ class Standings(unittest.TestCase):
     def test_a_woken_thread_with_budget_is_ready(self) -> None:
         more = SPENT.replace('budget = 2', 'budget = 3')
         self.assertEqual(self.stands(more, SPENT_ROWS, 8, 'A'), [(RUNNING, 0, 2), (BLOCKED, 2, 5), (READY, 5, 8)])
+
+
+    def test_a_call_of_a_server_that_is_taken_blocks(self) -> None:
+        self.assertEqual(self.stands(TAKEN, TAKEN_ROWS, 24, 'H'), [(PENDING, 0, 4), (RUNNING, 4, 5), (BLOCKED, 5, 21), (RUNNING, 21, 24)])
+        whys = [one.why for one in heard(TAKEN, TAKEN_ROWS, 24)[0].stands if one.standing == BLOCKED]
+        self.assertEqual(whys, ['call'])
+
+    def test_a_thread_that_runs_enters_and_leaves_and_goes_on(self) -> None:
+        wanted = [(RUNNING, 0, 3), (THROTTLED, 3, 10), (RUNNING, 10, 13), (THROTTLED, 13, 20), (RUNNING, 20, 21), (DONE, 21, 24)]
+        self.assertEqual(self.stands(TAKEN, TAKEN_ROWS, 24, 'L'), wanted)
+
+    def test_a_thread_that_is_let_in_may_wait_for_budget(self) -> None:
+        # H has used its only tick at 5, which comes back at 104; L leaves at 21
+        few = TAKEN.replace('budget = 20, period = 100', 'budget = 1, period = 100')
+        rows = TAKEN_ROWS.replace('21 0 run H', '')
+        self.assertEqual(self.stands(few, rows, 24, 'H')[2:], [(BLOCKED, 5, 21), (THROTTLED, 21, 24)])
+
+    def test_contexts_of_version_3_are_in_bandwidth_mode_unless_they_say_otherwise(self) -> None:
+        text = 'version = 3\ncores = 1\ndelay = 1\n[[context]]\nname = "a"\ncore = 0\nbudget = 2\nperiod = 5\n'
+        for given, wanted in ((text, True), (text + 'mode = "sporadic"', False), (text.replace('budget = 2', 'budget = 5'), False),
+                              (text.replace('version = 3', 'version = 2'), False), (text.replace('version = 3', 'version = 2') + 'mode = "bandwidth"', True)):
+            self.assertEqual(system(given).contexts['a'].is_bandwidth, wanted, given)
+
+    def test_in_bandwidth_mode_the_choice_unblocks(self) -> None:
+        # woken at 4 and chosen at 6: in bandwidth mode the two ticks that are left move to 6, else to 4
+        text = '''
+version = 3
+cores = 1
+delay = 1
+context = [{ name = "a", core = 0, budget = 3, period = 20 }, { name = "h", core = 0, budget = 9, period = 9 }]
+note = [{ name = "n", core = 0 }]
+thread = [
+    { name = "A", context = "a", priority = 5, script = ["wait n", "compute 1"] },
+    { name = "H", context = "h", priority = 9, start = 3, rounds = 1, script = ["compute 3"] },
+]
+source = [{ name = "s", note = "n", badge = 1, period = 20, start = 4 }]
+'''
+        rows = '0 0 release A\n0 0 run A\n1 0 stop A wait 1\n3 0 release H\n3 0 run H\n4 0 interrupt s n 1\n4 0 wake A n 1\n6 0 round H 1 3\n' \
+               '6 0 stop H done 3\n6 0 run A'
+        for mode, wanted in (('', [[6, 2], [20, 1]]), (', mode = "sporadic"', [[4, 2], [20, 1]])):
+            listener, _ = heard(text.replace('period = 20 }, {', f'period = 20{mode} }}, {{'), rows, 7, ('A',))
+            self.assertEqual(listener.holdings[-1], (6, wanted, True), mode)
 
 
 class Rounds(unittest.TestCase):
@@ -126,6 +225,48 @@ class Rounds(unittest.TestCase):
         listener, _ = heard(STARVED, STARVED_ROWS, 2)
         self.assertEqual((listener.nevers, [one.thread.name for one in listener.open]), (['Ctl'], ['Hog']))
 
+    def test_a_handler_s_round_is_activated_by_its_word(self) -> None:
+        # the second word was held at 2, and taken at 5
+        self.assertEqual(self.rounds(HANDLERS, HANDLERS_ROWS, 12), [('D', 1, 2, 2, False), ('D', 2, 2, 6, True)])
+        self.assertEqual([(one.activated, one.begun) for one in heard(HANDLERS, HANDLERS_ROWS, 12)[0].open], [(12, 12)])
+
+    def test_bits_that_no_handler_takes_activate_nothing(self) -> None:
+        # from 3 on the word has the bit of k alone; that of s is set at 4
+        self.assertEqual(self.rounds(BUSY, BUSY_ROWS, 13), [('D', 1, 2, 5, False), ('D', 2, 4, 9, True)])
+        self.assertEqual([(one.activated, one.begun) for one in heard(BUSY, BUSY_ROWS, 13)[0].open], [(8, 13)])
+
+    def test_words_that_no_handler_takes_begin_no_round(self) -> None:
+        self.assertEqual(self.rounds(NOBODY, NOBODY_ROWS, 9), [('D', 1, 6, 2, False)])
+        up_to_5 = NOBODY_ROWS[:NOBODY_ROWS.index('6 0')]
+        listener, _ = heard(NOBODY, up_to_5, 5)
+        self.assertEqual((listener.rounds, listener.open, listener.nevers), ([], [], ['D']))
+
+    def test_a_held_word_that_no_handler_takes_activates_no_round(self) -> None:
+        later = NOBODY.replace('priority = 5', 'start = 20, priority = 5')
+        listener, _ = heard(later, HELD_ROWS[:HELD_ROWS.index('6 0')], 5)
+        self.assertEqual((listener.open, listener.nevers), ([], ['D']))
+        listener, _ = heard(later, HELD_ROWS, 12)
+        self.assertEqual([(one.activated, one.is_overdue) for one in listener.open], [(6, True)])
+        self.assertEqual(listener.nevers, [])
+
+    def test_a_first_word_activates_at_0(self) -> None:
+        self.assertEqual(self.rounds(FIRST_WORD, FIRST_WORD_ROWS, 9), [('W', 1, 0, 3, True)])
+        # the bit 4 alone is nobody's
+        self.assertEqual(heard(FIRST_WORD.replace('word = 6', 'word = 4'), '', 3)[0].nevers, ['W'])
+        self.assertEqual([one.activated for one in heard(FIRST_WORD, '', 3)[0].open], [0])
+
+    def test_which_bits_leave_something_to_do(self) -> None:
+        for script, wanted in (
+            ('"wait n", "compute 1"', None), ('"compute 1", "wait n", "compute 1"', None), ('"wait n", "compute 1", "on 4", "compute 1"', None),
+            ('"wait n", "on 1", "compute 2", "on 2", "compute 3"', 3), ('"wait n", "on 1", "on 2", "compute 3", "on 4"', 2), ('"wait n", "on 3"', 0),
+        ):
+            text = NOBODY.replace('"wait n", "on 1", "compute 2", "on 2", "on 8", "compute 1"', script)
+            self.assertEqual(system(text).threads['D'].bits, wanted, script)
+
+    def test_calls_leave_rounds_as_they_are(self) -> None:
+        self.assertEqual(self.rounds(TAKEN, TAKEN_ROWS, 24), [('L', 1, 0, 21, False)])
+        self.assertEqual([(one.thread.name, one.activated, one.is_overdue) for one in heard(TAKEN, TAKEN_ROWS, 24)[0].open], [('H', 4, True)])
+
     def test_a_round_that_begins_at_the_horizon_is_not_activated(self) -> None:
         # no tick follows in which the thread could be ready or run
         rows = '0 0 release Hog\n0 0 run Hog\n100 0 round Hog 1 100'
@@ -145,6 +286,47 @@ class Signals(unittest.TestCase):
 
     def test_those_under_way_at_the_horizon(self) -> None:
         self.assertEqual(heard(PAIR, PAIR_ROWS, 4)[0].signals, ['n', 'n'])
+
+
+    def test_interrupts(self) -> None:
+        found = [(one.arrived, one.source, one.badge, one.outcome) for one in heard(BUSY, BUSY_ROWS, 13)[0].posts]
+        self.assertEqual(found, [
+            (2, 's', 1, WOKE), (3, 'k', 4, HELD), (4, 's', 1, MERGED), (6, 's', 1, LOST), (8, 's', 1, HELD), (10, 's', 1, LOST), (12, 's', 1, LOST),
+        ])
+        self.assertEqual({(one.maker, one.made == one.arrived, one.thread and one.thread.name) for one in heard(BUSY, BUSY_ROWS, 13)[0].posts}, {(None, True, 'D')})
+
+    def test_a_signal_behind_an_interrupt_has_its_maker(self) -> None:
+        rows = PAIR_ROWS.replace('4 0 arrive n 1 from 1', '4 0 interrupt i n 8\n4 0 hold n 8\n4 0 arrive n 1 from 1').replace('4 0 hold n 1', '4 0 hold n 9')
+        listener, _ = heard(PAIR + 'source = [{ name = "i", note = "n", badge = 8, period = 50, start = 4 }]', rows, 4)
+        self.assertEqual([(one.source, one.maker and one.maker.name, one.outcome) for one in listener.posts], [('', 'D', WOKE), ('i', None, HELD), ('', 'D', MERGED)])
+
+    def test_who_waits_in_servers_and_handlers(self) -> None:
+        notes = ', '.join(f'{{ name = "{name}", core = 0 }}' for name in 'abcd')
+        text = f'''
+version = 3
+cores = 1
+delay = 1
+context = [{{ name = "l", core = 0, budget = 3, period = 10 }}, {{ name = "h", core = 0, budget = 3, period = 10 }}]
+note = [{notes}]
+server = [
+    {{ name = "u", core = 0, priority = 1, script = ["wait a", "on 1", "wait b", "on 2", "wait c"] }},
+    {{ name = "v", core = 0, priority = 1, script = ["call u 2"] }},
+]
+thread = [
+    {{ name = "L", context = "l", priority = 1, script = ["wait d", "on 1", "call u 5", "on 2", "call v 1"] }},
+    {{ name = "H", context = "h", priority = 1, script = ["call v 7"] }},
+]
+'''
+        found = system(text)
+        self.assertEqual({name: thread.waits for name, thread in found.threads.items()}, {'L': ('d', 'a', 'b', 'c'), 'H': ('a', 'c')})
+        self.assertEqual({note: [thread.name for thread in threads] for note, threads in found.waiters.items()},
+                         {'a': ['L', 'H'], 'b': ['L'], 'c': ['L', 'H'], 'd': ['L']})
+        self.assertEqual([thread.activated_by for thread in found.threads.values()], ['d', None])
+
+    def test_servers_may_call_each_other_as_deep_as_a_script_has_steps(self) -> None:
+        deep = ', '.join(f'{{ name = "v{n}", core = 0, priority = 1, script = ["{f"call v{n - 1} 1" if n else "wait n"}"] }}' for n in range(511))
+        found = system(NOBODY.replace('"wait n", "on 1", "compute 2", "on 2", "on 8", "compute 1"', '"call v510 1"') + f'server = [{deep}]')
+        self.assertEqual(found.threads['D'].waits, ('n',))
 
 
 class Budgets(unittest.TestCase):
@@ -192,6 +374,21 @@ class NoSchedule(unittest.TestCase):
         self.refused('0 0 release A\n0 0 run A\n2 0 stop A bored 2', 'line 3 ')
         self.refused('0 0 release A\n0 0 run A\n3 0 stop A preempt 3', 'line 3 ')
         self.refused('0 0 release A\n0 0 run A\n2 0 round A 1 3', 'line 3 ')
+
+    def test_rows_of_version_3_that_no_schedule_has(self) -> None:
+        wrong = (
+            # a server and a source that there are not, and another's notification
+            (ONE, '0 0 release A\n0 0 run A\n1 0 enter A v', 3), (ONE, '0 0 interrupt s n 1', 1), (HANDLERS, '2 0 interrupt s m 1', 1),
+            # who has left it, or is not in it; who enters one that is taken, or without a call, or does not run
+            (TAKEN, TAKEN_ROWS.replace('21 0 enter H v', '21 0 leave L v'), 14), (TAKEN, TAKEN_ROWS.replace('21 0 leave L v', ''), 13),
+            (TAKEN, TAKEN_ROWS.replace('10 0 release L', '10 0 enter L v'), 8), (TAKEN, '0 0 release L\n0 0 enter L v', 2),
+            (TAKEN, TAKEN_ROWS.replace('5 0 stop H call 1', '5 0 stop H wait 1'), 14),
+            # who waits for a server is woken by no signal
+            (TAKEN + 'note = [{ name = "n", core = 0 }]', TAKEN_ROWS.replace('21 0 enter H v', '21 0 wake H n 1'), 14),
+        )
+        for text, rows, line in wrong:
+            with self.assertRaisesRegex(Fault, f'line {line} is no row'):
+                heard(text, rows, 40)
 
     def test_reports_are_passed_over(self) -> None:
         reports = 'thread A ran 3 rounds 0 least 0 greatest 0 total 0 late 0 spent 1 throttled 3 longest 3\ncore 0 busy 3 idle 3'

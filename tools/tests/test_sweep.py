@@ -35,6 +35,22 @@ thread = [
 order = [{ at = 9, core = 0, context = "a", budget = 1, period = 5 }]
 link = [{ maker = 1, home = 0, delay = 3 }]
 '''
+NEW_SYSTEM = '''
+version = 3
+cores = 1
+delay = 1
+context = [{ name = "a", core = 0, budget = 2, period = 5 }, { name = "b", core = 0, budget = 2, period = 5 }]
+note = [{ name = "n", core = 0, word = 4 }]
+server = [{ name = "v", core = 0, priority = 9, script = ["on 1", "compute 3"] }]
+thread = [
+    { name = "A", context = "a", priority = 5, deadline = 10, script = ["wait n", "on 2", "call v 1"] },
+    { name = "B", context = "b", priority = 5, script = ["spin"] },
+]
+source = [{ name = "s", note = "n", badge = 1, period = 10 }]
+chain = [{ name = "e", source = "s", thread = "A", deadline = 8 }, { name = "f", source = "s", thread = "B" }]
+'''
+# what is found of chains: the earliest origin of an answer that came late, and one that has none
+CHAINED = ['12 0 slow e 9 deadline 8 origin 3', '22 0 slow e 9 deadline 8 origin 13', '30 0 unanswered f deadline 8 origin 4']
 MISS = '11 0 miss A 1 11 deadline 10 activated 0 queued 0 ready 0 running 5 throttled 6 blocked 0 woken 0'
 LOST = '12 0 lost n 1'
 OTHER = '20 1 overdue B deadline 5 activated 0 queued 0 ready 20 running 0 throttled 0 blocked 0 woken 0'
@@ -138,6 +154,18 @@ class Lines(Case):
                          [['1', '5', '', '1', '2', '0'], ['2', '5', '', '1', '0', '0'], ['3', '0', '', '0', '0', '0']])
         told = self.ran(self.file, '--set', 'context.a.budget=1:3', '--of', 'B')
         self.assertEqual([line.split(',')[1] for line in told.stdout.splitlines()[1:]], ['0', '5', '5'])
+
+    def test_a_system_with_chains_has_columns_for_them(self) -> None:
+        self.file.write_text(NEW_SYSTEM)
+        (self.programs / '1.out').write_text(''.join(f'{line}\n' for line in [*CHAINED, COUNTS]))
+        told = self.ran(self.file, '--set', 'context.a.budget=1,4,6')
+        self.assertEqual((told.status, told.stdout), (0, """context.a.budget,status,fault,missed,lost,overdue,never,slow,unanswered,greatest A
+1,5,,0,0,0,0,2,1,7
+4,0,,0,0,0,0,0,0,7
+6,1,control: budget over period at context 1 budget,,,,,,,
+"""))
+        for name, wanted in (('A', '1,5,,0,0,0,0,2,0,7'), ('B', '1,5,,0,0,0,0,0,1,7')):
+            self.assertEqual(self.ran(self.file, '--set', 'context.a.budget=1', '--of', name).stdout.splitlines()[1], wanted)
 
     def test_results_do_not_depend_on_the_jobs(self) -> None:
         words = (self.file, '--set', 'context.a.budget=1:6', '--set', 'delay=1:4', '--jobs')
@@ -364,11 +392,11 @@ VALUES = 'A:B, A:B:STEP with A at most B, or a list with commas, of numbers up t
 
 
 class Places(unittest.TestCase):
-    def edited(self, text: str) -> list[dict[str, Any]]:
-        place, values = settings.setting(text, tomllib.loads(SYSTEM))
+    def edited(self, text: str, system: str = SYSTEM) -> list[dict[str, Any]]:
+        place, values = settings.setting(text, tomllib.loads(system))
         found = []
         for value in values:
-            tables = tomllib.loads(SYSTEM)
+            tables = tomllib.loads(system)
             place.put(tables, value)
             found.append(tables)
         return found
@@ -386,9 +414,24 @@ class Places(unittest.TestCase):
         for text, look, wanted in cases:
             self.assertEqual([look(tables) for tables in self.edited(text)], wanted)
 
+    def test_places_of_version_3(self) -> None:
+        cases: tuple[tuple[str, Callable[[Tables], object], list[object]], ...] = (
+            ('note.n.word=0,7', lambda tables: tables['note'][0]['word'], [0, 7]),
+            ('server.v.priority=3', lambda tables: tables['server'][0]['priority'], [3]),
+            ('server.v.script.2=1:2', lambda tables: tables['server'][0]['script'], [['on 1', 'compute 1'], ['on 1', 'compute 2']]),
+            ('thread.A.script.2=4', lambda tables: tables['thread'][0]['script'], [['wait n', 'on 4', 'call v 1']]),
+            ('thread.A.script.3=2', lambda tables: tables['thread'][0]['script'], [['wait n', 'on 2', 'call v 2']]),
+            ('source.s.start=2', lambda tables: tables['source'][0], [{'name': 's', 'note': 'n', 'badge': 1, 'period': 10, 'start': 2}]),
+            ('chain.e.deadline=5', lambda tables: tables['chain'][0]['deadline'], [5]),
+        )
+        for text, look, wanted in cases:
+            self.assertEqual([look(tables) for tables in self.edited(text, NEW_SYSTEM)], wanted)
+        with self.assertRaisesRegex(Fault, "thread.B.script.1: the item 'spin' has no number"):
+            self.edited('thread.B.script.1=1', NEW_SYSTEM)
+
     def test_no_place(self) -> None:
         for text, wanted in (
-            ('budget=1', "budget: 'budget' is none of context, thread, note, order, link, delay, call, min_budget"),
+            ('budget=1', "budget: 'budget' is none of context, thread, note, order, link, server, source, chain, delay, call, min_budget"),
             ('context.a=1', 'context.a: a place is context.NAME.KEY'),
             ('context.aa.budget=1', "context.aa.budget: there is no context 'aa': the nearest is a"),
             ('context.a.budge=1', "context.a.budge: the key 'budge' of a context is none of core, budget, period, extra_refills, mode"),

@@ -10,7 +10,7 @@ import tempfile
 import unittest
 from typing import Any
 
-from worked import ONE, ONE_ROWS, PAIR, PAIR_ROWS, TOOLS, told
+from worked import BUSY, BUSY_ROWS, ONE, ONE_ROWS, PAIR, PAIR_ROWS, TAKEN, TAKEN_ROWS, TOOLS, told
 from mcsim_tools.trace import Trace
 
 
@@ -44,6 +44,21 @@ class Events(unittest.TestCase):
     def test_a_lost_signal_is_an_instant(self) -> None:
         found = [(one['name'], one['ts'], one['tid']) for one in events(PAIR, PAIR_ROWS, 12) if one['ph'] == 'i']
         self.assertEqual(found, [('lost n', 6, 1)])
+
+    def test_interrupts_are_instants_of_the_thread_that_waits(self) -> None:
+        found = events(BUSY, BUSY_ROWS, 6)
+        instants = [(one['name'], one['ts'], one['tid']) for one in found if one['ph'] == 'i']
+        self.assertEqual(instants, [('interrupt s', 2, 1), ('interrupt k', 3, 1), ('interrupt s', 4, 1), ('interrupt s', 6, 1), ('lost n', 6, 1)])
+        self.assertEqual([one for one in found if one['ph'] in 'sf'], [])
+
+    def test_an_interrupt_for_which_nobody_waits_is_an_instant_of_the_core(self) -> None:
+        text = BUSY.replace('"wait n", "on 1", "compute 5"', '"compute 5"')
+        instants = [(one['name'], one['ts'], one['tid'], one['s']) for one in events(text, '2 0 interrupt s n 1\n2 0 hold n 1', 3) if one['ph'] == 'i']
+        self.assertEqual(instants, [('interrupt s', 2, 0, 'p')])
+
+    def test_a_thread_that_waits_for_a_server_is_blocked_after_its_call(self) -> None:
+        found = [(one['ts'], one['dur'], one['args']) for one in events(TAKEN, TAKEN_ROWS, 22) if one['name'] == 'blocked']
+        self.assertEqual(found, [(5, 16, {'ticks': 16, 'after': 'call'})])
 
     def test_late_slices(self) -> None:
         found = [(one['name'], one['ts'], one['dur']) for one in events(PAIR, PAIR_ROWS, 12) if one.get('cat') == 'late']

@@ -12,7 +12,7 @@ import tempfile
 import unittest
 import xml.etree.ElementTree as ElementTree
 
-from worked import ONE, ONE_ROWS, PAIR, PAIR_ROWS, TOOLS, told
+from worked import BUSY, BUSY_ROWS, HANDLERS, HANDLERS_ROWS, ONE, ONE_ROWS, PAIR, PAIR_ROWS, TAKEN, TAKEN_ROWS, TOOLS, told
 from mcsim_tools import view
 from mcsim_tools.faults import Fault
 from mcsim_tools.scale import Clock, Scale, step_of
@@ -85,6 +85,27 @@ class SingleThings(unittest.TestCase):
         self.assertEqual([sign for sign in signs(svg, 'D') if sign[0] == 'made'], [('made', at(k)) for k in range(1, 6)])
         self.assertEqual(len([path for path in svg.iter(f'{SVG}path') if path.get('class') == 'join' and path.find(f'{SVG}title') is not None]), 5)
 
+    def test_interrupts_arrive_in_the_lane_of_the_thread_that_waits(self) -> None:
+        svg = drawn(BUSY, BUSY_ROWS, '--horizon', '13')
+        found = signs(svg, 'D')
+        arrived = [('made', 2), ('hold', 3), ('hold', 4), ('lost', 6), ('hold', 8), ('lost', 10), ('lost', 12)]
+        self.assertEqual([sign for sign in found if sign[0] in ('made', 'hold', 'lost')], [(sign, at(moment)) for sign, moment in arrived])
+        # the word of 3 activates no round, that of 4 does
+        self.assertEqual([sign for sign in found if sign[0] == 'up'], [('up', at(2)), ('up', at(4)), ('up', at(8))])
+        titles = [title.text for title in svg.iter(f'{SVG}title')]
+        self.assertIn('interrupt of s at 2 to n, badge 1: wakes D', titles)
+        self.assertIn('interrupt of s at 6 to n, badge 1: is lost: its bits were there already', titles)
+        legend = text_of(svg, f"./{SVG}g[@id='legend']")
+        self.assertIn('interrupt that wakes a thread', legend)
+        self.assertNotIn('signal made', legend)
+        self.assertNotIn('a server', legend)
+
+    def test_who_waits_for_a_server_is_blocked(self) -> None:
+        svg = drawn(TAKEN, TAKEN_ROWS, '--horizon', '22')
+        self.assertIn(('blocked', at(5), 16 * 34), bars(svg, 'H'))
+        self.assertIn('H blocked 5 to 21: 16, its call waits for a server', [title.text for title in svg.iter(f'{SVG}title')])
+        self.assertIn('blocked: waits for a signal or a server', text_of(svg, f"./{SVG}g[@id='legend']"))
+
     def test_what_is_queued_stands_before_the_round(self) -> None:
         own = bars(drawn(PAIR, PAIR_ROWS, '--horizon', '12'), 'W')
         # the second round was activated at 4, took its word at 7, and ended at 10, 2 after its deadline; the third is overdue at 12
@@ -149,6 +170,12 @@ class Pages(unittest.TestCase):
         # 2 rounds, greatest response 6, deadline 4, margin -2, 1 missed, overdue, 1 lost, 1 merged; it ran 10 ticks of 12
         cells = re.findall(r'<t[hd][^>]*>([^<]*)</t[hd]>', row)
         self.assertEqual(cells, ['W', '0', '5', '20/20', '100.0%', '83.3%', '2', '6', '4', '-2', '1', 'overdue', '1', '1'])
+
+    def test_the_findings_of_handlers(self) -> None:
+        found = re.findall('<b>(.*?)</b> ([^<]*)<', paged(HANDLERS, HANDLERS_ROWS, '--horizon', '12'))
+        self.assertEqual(found, [('miss', '8 D: round 2 took 6, deadline 5')])
+        found = re.findall('<b>(.*?)</b> ([^<]*)<', paged(BUSY, BUSY_ROWS, '--horizon', '10'))
+        self.assertEqual(found, [('lost', f'{moment} n: badge 1 was there already, for D') for moment in (6, 10)])
 
     def test_the_findings(self) -> None:
         found = re.findall('<b>(.*?)</b> ([^<]*)<', paged(PAIR, PAIR_ROWS, '--horizon', '12'))

@@ -9,7 +9,7 @@ import tempfile
 import unittest
 from typing import Optional
 
-from worked import ONE, ONE_ROWS, PAIR, PAIR_ROWS, TOOLS, told
+from worked import BUSY, BUSY_ROWS, ONE, ONE_ROWS, PAIR, PAIR_ROWS, TAKEN, TAKEN_ROWS, TOOLS, told
 from mcsim_tools.waves import Dump, code_of, saved_view
 
 
@@ -64,6 +64,25 @@ class Waves(unittest.TestCase):
         self.assertEqual({moment: told_ for moment, told_ in notes.items() if told_}, {
             '#3': [arrives], '#4': [arrives, f'{word} 1'], '#5': [arrives, f'{word} 11'], '#6': [arrives, loses], '#7': [arrives, f'{word} 1'], '#11': [f'{word} 0'],
         })
+
+    def test_interrupts_arrive_and_are_lost(self) -> None:
+        found = changes(dump(BUSY, BUSY_ROWS, 13))
+        notes = {moment: [one for one in told_ if '.n' in one] for moment, told_ in found.items()}
+        arrives, loses, word = 'core0.arrivals.n', 'core0.losses.n', 'core0.words.n'
+        self.assertEqual({moment: told_ for moment, told_ in notes.items() if told_}, {
+            '#2': [arrives], '#3': [arrives, f'{word} 100'], '#4': [arrives, f'{word} 101'], '#6': [arrives, loses], '#8': [arrives, f'{word} 1'],
+            '#10': [arrives, loses], '#12': [arrives, loses],
+        })
+
+    def test_a_first_word(self) -> None:
+        lines = dump(BUSY.replace('name = "n", core = 0', 'name = "n", core = 0, word = 6'), '', 3)
+        code = next(line.split()[3] for line in lines if line.startswith('$var reg 32') and line.split()[4] == 'n')
+        self.assertIn(f'b110 {code}', lines[lines.index('$dumpvars'):lines.index('#3')])
+
+    def test_a_thread_that_waits_for_a_server(self) -> None:
+        found = changes(dump(TAKEN, TAKEN_ROWS, 22))
+        stands = {moment: [one.split()[1] for one in told_ if one.startswith('core0.threads.H')] for moment, told_ in found.items()}
+        self.assertEqual({moment: told_ for moment, told_ in stands.items() if told_}, {'#4': ['running'], '#5': ['blocked'], '#21': ['running']})
 
     def test_a_tick_may_be_longer(self) -> None:
         self.assertEqual([line for line in dump(ONE, ONE_ROWS, 12, 1000) if line.startswith('#')], ['#0', '#2000', '#5000', '#7000', '#10000', '#11000', '#12000'])

@@ -97,6 +97,97 @@ PAIR_ROWS = '''
 10 0 round W 2 3
 11 0 got W n 1
 '''
+# two devices interrupt at 2, and the first one again at 12; D has a handler for each badge
+HANDLERS = '''
+version = 3
+cores = 1
+delay = 1
+context = [{ name = "d", core = 0, budget = 9, period = 20, mode = "sporadic" }]
+note = [{ name = "n", core = 0 }]
+thread = [{ name = "D", context = "d", priority = 5, deadline = 5, script = ["wait n", "on 1", "compute 2", "on 2", "compute 3"] }]
+source = [{ name = "s", note = "n", badge = 1, period = 10, start = 2 }, { name = "k", note = "n", badge = 2, period = 10, start = 2, count = 1 }]
+'''
+HANDLERS_ROWS = '''
+0 0 release D
+0 0 run D
+1 0 stop D wait 1
+2 0 interrupt s n 1
+2 0 wake D n 1
+2 0 interrupt k n 2
+2 0 hold n 2
+2 0 run D
+4 0 round D 1 2
+5 0 got D n 2
+8 0 round D 2 3
+9 0 stop D wait 7
+12 0 interrupt s n 1
+12 0 wake D n 1
+12 0 run D
+'''
+# s interrupts every other tick from 2 on, and each handling of it takes 5; no handler takes the badge of k, which comes at 3
+BUSY = '''
+version = 3
+cores = 1
+delay = 1
+context = [{ name = "d", core = 0, budget = 20, period = 20 }]
+note = [{ name = "n", core = 0 }]
+thread = [{ name = "D", context = "d", priority = 5, deadline = 8, script = ["wait n", "on 1", "compute 5"] }]
+source = [{ name = "s", note = "n", badge = 1, period = 2, start = 2 }, { name = "k", note = "n", badge = 4, period = 100, start = 3 }]
+'''
+BUSY_ROWS = '''
+0 0 release D
+0 0 run D
+1 0 stop D wait 1
+2 0 interrupt s n 1
+2 0 wake D n 1
+2 0 run D
+3 0 interrupt k n 4
+3 0 hold n 4
+4 0 interrupt s n 1
+4 0 hold n 5
+6 0 interrupt s n 1
+6 0 hold n 5
+7 0 round D 1 5
+8 0 got D n 5
+8 0 interrupt s n 1
+8 0 hold n 1
+10 0 interrupt s n 1
+10 0 hold n 1
+12 0 interrupt s n 1
+12 0 hold n 1
+13 0 round D 2 5
+'''
+# L has the server v and no budget when H calls it
+TAKEN = '''
+version = 3
+cores = 1
+delay = 1
+context = [{ name = "l", core = 0, budget = 3, period = 10, mode = "sporadic" }, { name = "h", core = 0, budget = 20, period = 100, mode = "sporadic" }]
+server = [{ name = "v", core = 0, priority = 40, script = ["compute 5"] }]
+thread = [
+    { name = "L", context = "l", priority = 10, rounds = 1, script = ["call v 1"] },
+    { name = "H", context = "h", priority = 30, start = 4, rounds = 1, deadline = 9, script = ["call v 1"] },
+]
+'''
+TAKEN_ROWS = '''
+0 0 release L
+0 0 run L
+1 0 enter L v
+3 0 stop L spent 3 until 10
+4 0 release H
+4 0 run H
+5 0 stop H call 1
+10 0 release L
+10 0 run L
+13 0 stop L spent 3 until 20
+20 0 release L
+20 0 run L
+21 0 leave L v
+21 0 enter H v
+21 0 round L 1 21
+21 0 stop L done 1
+21 0 run H
+'''
 
 
 def system(text: str) -> System:
