@@ -55,6 +55,7 @@ CHECKS = (
     Check('program', 'traces'),
     Check('program', 'views'),
     Check('program', 'bandwidth'),
+    Check('program', 'rules'),
     Check('program', 'analyses'),
     Check('program', 'engines'),
     Check('program', 'refused_runs'),

@@ -28,6 +28,7 @@ from checks.common import DATA, TOP, Count
 from checks.measure import forever_rows
 from checks.measure.measured import run_measured
 from checks.program import analyses, forever_reading as forever, verdicts
+from checks.random_systems import text_of
 
 sys.path.insert(0, str(TOP / 'tools'))
 from mcsim_tools import writing
@@ -46,7 +47,7 @@ COUNTING = ('valgrind', '--tool=callgrind', '--callgrind-out-file=/dev/null')
 def texts(many: int, seed: int) -> Iterator[tuple[str, str, str]]:
     """The kind, the name and the text of each system."""
     for number in range(many):
-        yield 'random', f'random {number}', verdicts.text_of(verdicts.tables_of(random.Random(f'{seed} {number}')))
+        yield 'random', f'random {number}', text_of(verdicts.tables_of(random.Random(f'{seed} {number}')))
     for number in range(many // 3):
         form = analyses.form_of(random.Random(f'{seed} {number}'), True)
         yield 'periodic tasks', f'tasks {number}', writing.system_text(form.tables())

@@ -23,6 +23,7 @@ from checks.program import forever_reading as forever, reading, verdicts
 from checks.program.forever_reading import Claim, Told
 from checks.program.reading import Tables, Values
 from checks.program.verdicts import System, allowing, differing
+from checks.random_systems import text_of
 
 SYSTEMS = TOP / 'examples' / 'systems'
 # systems with their horizon, how many sets repeat, and the kinds of what is found
@@ -182,7 +183,7 @@ def random_system(name: str) -> tuple[System, list[str], list[str]]:
     notes = [note['name'] for note in tables.get('note', [])]
     allowed = [note for note in notes if rng.random() < 0.5] if rng.random() < 0.3 else []
     words = [*allowing(allowed), *['--workers=2'] * (rng.random() < 0.3)]
-    return System(name.replace(' ', '-'), verdicts.text_of(tables), rng.choice(HORIZONS)), words, allowed
+    return System(name.replace(' ', '-'), text_of(tables), rng.choice(HORIZONS)), words, allowed
 
 
 def main() -> None:

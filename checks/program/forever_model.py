@@ -24,6 +24,7 @@ from checks.common import Count
 from checks.program import forever_reading as forever, verdicts
 from checks.program.forever_reading import Claim, CoreSet
 from checks.program.model import Core, Row, System, World
+from checks.random_systems import text_of
 
 STANDINGS = {'release': 'ready', 'run': 'running', 'wake': 'woken'}
 STOPPED = {'wait': 'blocked', 'done': 'done'}
@@ -172,7 +173,7 @@ class Comparing:
 
     def is_same(self, before: Core, after: Core) -> bool:
         def ready(core: Core) -> list[int]:
-            return sorted(core.ready, key=self.system.priority, reverse=True)
+            return sorted(core.ready, key=core.priority, reverse=True)
 
         releases = [(thread, date + self.by) for thread, date in before.releases] == after.releases
         stand = all(of_thread(before, thread) == of_thread(after, thread) for thread in before.threads)
@@ -325,7 +326,7 @@ def main() -> None:
     words = parser.parse_args()
     trial = Trial(words)
     for number in range(words.systems):
-        text = verdicts.text_of(verdicts.tables_of(random.Random(f'{words.seed} {number}')))
+        text = text_of(verdicts.tables_of(random.Random(f'{words.seed} {number}')))
         trial.look(f'random {words.seed} {number}', text)
     print(f'missed {trial.missed}')
     trial.count.end()

@@ -8,12 +8,13 @@ from typing import Any, NamedTuple, Optional
 
 from checks.program.reading import Tables
 
-# an item of a script: its word, and what stands behind it, a notification by its number
+# a step of a script: its word, and what stands behind it, a notification or a server by its number
 Item = tuple[Any, ...]
+NEVER = 2**64 - 1
 
 
 class Row(NamedTuple):
-    """A row of a schedule; threads, notifications and contexts are told by their numbers."""
+    """A row of a schedule; threads, notifications, contexts, servers and sources are told by their numbers."""
 
     moment: int
     core: int
@@ -35,16 +36,50 @@ class System:
     def __init__(self, tables: Tables) -> None:
         self.cores, self.delay, self.call, self.least = tables['cores'], tables['delay'], tables.get('call', 1), tables.get('min_budget', 1)
         self.contexts, self.notes, self.threads = (tables.get(name, []) for name in ('context', 'note', 'thread'))
-        self.orders = tables.get('order', [])
+        self.orders, self.servers, self.sources = (tables.get(name, []) for name in ('order', 'server', 'source'))
+        self.mode = 'bandwidth' if tables['version'] == 3 else 'sporadic'
         self.delays = {(link['maker'], link['home']): link['delay'] for link in tables.get('link', [])}
         self.note_number = {note['name']: number for number, note in enumerate(self.notes)}
         self.context_number = {context['name']: number for number, context in enumerate(self.contexts)}
+        self.server_number = {server['name']: number for number, server in enumerate(self.servers)}
         self.context_of = [self.context_number[thread['context']] for thread in self.threads]
         self.core_of = [self.contexts[number]['core'] for number in self.context_of]
-        self.scripts = [[self.item(text.split()) for text in thread['script']] for thread in self.threads]
+        steps = [self.steps(thread['script'], thread['priority']) for thread in self.threads]
+        # the steps of each thread, and the priority of each step
+        self.scripts = [[item for item, _ in own] for own in steps]
+        self.priorities = [[priority for _, priority in own] for own in steps]
+
+    def steps(self, script: list[str], priority: int) -> list[tuple[Item, int]]:
+        """The steps of items at a priority, and their priorities: a call is the steps of the server that it calls."""
+        found = []
+        for text in script:
+            match text.split():
+                case ['call', name, badge]:
+                    number = self.server_number[name]
+                    within = self.servers[number]['priority']
+                    inside = self.steps(self.served(number, int(badge)), within)
+                    found += [(('enter', number), priority), *inside, (('leave', number), within)]
+                case words:
+                    found.append((self.item(words), priority))
+        return found
+
+    def served(self, server: int, badge: int) -> list[str]:
+        """The items of a server's script for a badge."""
+        found, is_passed_over = [], False
+        for text in self.servers[server]['script']:
+            word, *rest = text.split()
+            if word == 'on':
+                is_passed_over = not int(rest[0]) & badge
+            elif not is_passed_over:
+                found.append(text)
+        return found
 
     def item(self, words: list[str]) -> Item:
         match words:
+            case ['on', badges]:
+                return 'on', int(badges)
+            case ['spin']:
+                return ('spin',)
             case ['compute', ticks]:
                 return 'compute', int(ticks)
             case ['signal', note, badge]:
@@ -54,13 +89,10 @@ class System:
         return ('yield',)
 
     def cost(self, item: Item) -> int:
-        return int(item[1] if item[0] == 'compute' else self.call)
+        return {'compute': item[-1], 'spin': NEVER}.get(item[0], self.call)
 
     def home(self, note: int) -> int:
         return int(self.notes[note]['core'])
-
-    def priority(self, thread: int) -> int:
-        return int(self.threads[thread]['priority'])
 
     def rounds(self, thread: int) -> int:
         return int(self.threads[thread].get('rounds', 0))
@@ -72,11 +104,41 @@ class System:
         return int(self.threads[thread].get('start', 0))
 
     def is_bandwidth(self, context: int) -> bool:
-        return bool(self.contexts[context].get('mode') == 'bandwidth')
+        part = self.contexts[context]
+        return bool(part['budget'] < part['period'] and part.get('mode', self.mode) == 'bandwidth')
 
     def first_wait(self, thread: int) -> Optional[int]:
         word, *rest = self.scripts[thread][0]
         return rest[0] if word == 'wait' else None
+
+    def heard(self, thread: int, word: int) -> int:
+        """A word cut to the badges that some handler of the thread takes."""
+        return sum(bit for bit in (1 << place for place in range(32)) if word & bit and any(item[0] == 'on' and item[1] & bit for item in self.scripts[thread]))
+
+    def next_item(self, thread: int, item: int, word: int) -> Optional[int]:
+        """The step behind this one, without those of handlers that the round's word passes over; None where the round ends."""
+        is_passed_over, script = False, self.scripts[thread]
+        for place in range(item + 1, len(script)):
+            if script[place][0] == 'on':
+                is_passed_over = not script[place][1] & word
+            elif not is_passed_over:
+                return place
+        # a wait ends no round: the thread waits again
+        return item if script[item][0] == 'wait' else None
+
+    def interrupts(self, source: int, moment: int) -> bool:
+        """Whether a moment is a date of a source."""
+        part = self.sources[source]
+        at, count = part.get('at', [0]), part.get('count', 0)
+        turns, offset = divmod(moment - part.get('start', 0), part['period'])
+        return turns >= 0 and offset in at and (not count or turns * len(at) + at.index(offset) < count)
+
+    def is_silent(self, source: int, moment: int) -> bool:
+        """Whether a source has no date from a moment on."""
+        part = self.sources[source]
+        at, count = part.get('at', [0]), part.get('count', 0)
+        last = part.get('start', 0) + (count - 1) // len(at) * part['period'] + at[(count - 1) % len(at)]
+        return bool(count) and last < moment
 
 
 def head_of(dates: list[int]) -> int:
@@ -150,11 +212,19 @@ class Thread:
     standing: str = 'pending'
     round: int = 1
     item: int = 0
+    # the round's word
+    word: int = 0
 
 
 @dataclass
 class Note:
     word: int = 0
+    waiters: list[int] = field(default_factory=list)
+
+
+@dataclass
+class Server:
+    taken: Optional[int] = None
     waiters: list[int] = field(default_factory=list)
 
 
@@ -169,7 +239,13 @@ class Core:
         self.ready: list[int] = []
         self.releases = [(thread, system.start(thread)) for thread in own]
         self.contexts = {number: Context(part, starts.get(number, 0)) for number, part in enumerate(system.contexts) if part['core'] == core}
-        self.notes = {number: Note() for number, note in enumerate(system.notes) if note['core'] == core}
+        self.notes = {number: Note(note.get('word', 0)) for number, note in enumerate(system.notes) if note['core'] == core}
+        self.servers = {number: Server() for number, server in enumerate(system.servers) if server['core'] == core}
+        self.priorities = system.priorities
+
+    def priority(self, thread: int) -> int:
+        """That of the step at which the thread is."""
+        return self.priorities[thread][self.threads[thread].item]
 
 
 class World:
@@ -193,12 +269,14 @@ class World:
         """Whether some core would do more at this moment than count a tick."""
         arrives = any(mail.arrives == self.moment for mail in self.mails)
         ordered = any(order['at'] == self.moment for order in self.system.orders)
-        return arrives or ordered or any(Turn(self, number, core).is_busy() for number, core in enumerate(self.cores))
+        interrupted = any(self.system.interrupts(source, self.moment) for source in range(len(self.system.sources)))
+        return arrives or ordered or interrupted or any(Turn(self, number, core).is_busy() for number, core in enumerate(self.cores))
 
     def is_at_rest(self) -> bool:
         """Whether no core ever does more again."""
         idle = all(core.running is None and not core.ready and not core.releases for core in self.cores)
-        return idle and not self.mails and all(order['at'] < self.moment for order in self.system.orders)
+        silent = all(self.system.is_silent(source, self.moment) for source in range(len(self.system.sources)))
+        return idle and silent and not self.mails and all(order['at'] < self.moment for order in self.system.orders)
 
 
 class Turn:
@@ -210,6 +288,11 @@ class Turn:
 
     def take(self) -> None:
         self.tick()
+        for number, source in enumerate(self.system.sources):
+            note = self.system.note_number[source['note']]
+            if self.system.home(note) == self.number and self.system.interrupts(number, self.moment):
+                self.says('interrupt', number, note, source['badge'])
+                self.post(note, source['badge'])
         for mail in self.arriving():
             self.world.mails.remove(mail)
             self.says('arrive', mail.note, mail.badge, mail.maker)
@@ -265,23 +348,29 @@ class Turn:
 
     def moves(self, thread: int) -> bool:
         """The item is finished, and the thread goes on; whether it was the last one of its last round."""
-        state, script, rounds = self.core.threads[thread], self.system.scripts[thread], self.system.rounds(thread)
-        is_last = state.item + 1 == len(script)
-        if is_last:
+        state, rounds = self.core.threads[thread], self.system.rounds(thread)
+        item = self.system.next_item(thread, state.item, state.word)
+        if item is None:
             self.says('round', thread, state.round, self.moment - state.since)
             if rounds and rounds <= state.round:
                 return True
             state.round, state.since = state.round + 1, self.moment
-        state.item = 0 if is_last else state.item + 1
-        state.left = self.system.cost(script[state.item])
+        state.item = item or 0
+        state.word = state.word if item else 0
+        state.left = self.system.cost(self.system.scripts[thread][state.item])
         return False
 
-    def given(self, thread: int) -> None:
-        """The thread's wait gives its word."""
+    def given(self, thread: int, word: int) -> None:
+        """The thread's wait gives a word."""
         state = self.core.threads[thread]
         if state.item == 0:
-            state.since = self.moment
+            state.since, state.word = self.moment, self.system.heard(thread, word)
         self.moves(thread)
+
+    def resumes(self, thread: int) -> None:
+        """What a thread waited for has come."""
+        if not self.system.is_bandwidth(self.system.context_of[thread]):
+            self.context(thread).unblock(self.moment)
 
     def post(self, note: int, badge: int) -> None:
         state = self.core.notes[note]
@@ -289,13 +378,25 @@ class Turn:
             state.word |= badge
             self.says('hold', note, state.word)
             return
-        thread = max(state.waiters, key=self.system.priority)
+        thread = max(state.waiters, key=self.core.priority)
         state.waiters.remove(thread)
         self.says('wake', thread, note, badge)
-        if not self.system.is_bandwidth(self.system.context_of[thread]):
-            self.context(thread).unblock(self.moment)
-        self.given(thread)
+        self.resumes(thread)
+        self.given(thread, badge)
         self.enters(thread)
+
+    def leave(self, thread: int, number: int) -> None:
+        """The thread leaves a server, and lets in the one that waits for it first, which enters at the front."""
+        server = self.core.servers[number]
+        self.says('leave', thread, number)
+        server.taken = None
+        if server.waiters:
+            other = server.taken = max(server.waiters, key=self.core.priority)
+            server.waiters.remove(other)
+            self.says('enter', other, number)
+            self.resumes(other)
+            self.moves(other)
+            self.enters(other, is_front=True)
 
     def signal(self, thread: int, note: int, badge: int) -> None:
         self.says('signal', thread, note, badge)
@@ -313,11 +414,12 @@ class Turn:
             return
         thread, using = self.core.running[0], self.core.running[1] + 1
         self.core.running = thread, using
-        self.core.threads[thread].left -= 1
-        why = self.finish(thread) if self.core.threads[thread].left == 0 else None
-        if why in ('wait', 'done'):
+        state = self.core.threads[thread]
+        state.left -= state.left != NEVER
+        why = self.finish(thread) if state.left == 0 else None
+        if why in ('wait', 'call', 'done'):
             self.is_charged(thread, using)
-            self.stops(thread, why, using, {'wait': 'blocked', 'done': 'done'}[why])
+            self.stops(thread, why, using, 'done' if why == 'done' else 'blocked')
         elif why == 'yield' or using == self.context(thread).amount():
             ticks = self.context(thread).amount()
             self.is_charged(thread, ticks)
@@ -332,9 +434,18 @@ class Turn:
                 state.waiters.append(thread)
                 return 'wait'
             self.says('got', thread, rest[0], state.word)
-            state.word = 0
-            self.given(thread)
+            given, state.word = state.word, 0
+            self.given(thread, given)
             return None
+        if word == 'enter':
+            server = self.core.servers[rest[0]]
+            if server.taken is not None:
+                server.waiters.append(thread)
+                return 'call'
+            self.says('enter', thread, rest[0])
+            server.taken = thread
+        if word == 'leave':
+            self.leave(thread, *rest)
         if word == 'signal':
             self.signal(thread, *rest)
         if self.moves(thread):
@@ -361,8 +472,8 @@ class Turn:
             self.core.ready.append(thread)
 
     def choose(self) -> None:
-        best = max(self.core.ready, key=self.system.priority, default=None)
-        if self.core.running and best is not None and self.system.priority(self.core.running[0]) < self.system.priority(best):
+        best = max(self.core.ready, key=self.core.priority, default=None)
+        if self.core.running and best is not None and self.core.priority(self.core.running[0]) < self.core.priority(best):
             thread, using = self.core.running
             self.is_charged(thread, using)
             self.stops(thread, 'preempt', using, is_front=True)
@@ -394,6 +505,10 @@ def text_of(row: Row, system: System) -> str:
             words = [note(place), word]
         case 'order', (number,):
             words = [system.contexts[number]['name']]
+        case 'interrupt', (number, place, badge):
+            words = [system.sources[number]['name'], note(place), badge]
+        case ('enter' | 'leave'), (number, place):
+            words = [thread(number), system.servers[place]['name']]
         case _, (number, *rest):
             words = [thread(number), *rest]
     return ' '.join(map(str, [row.moment, row.core, row.kind, *words]))

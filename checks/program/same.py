@@ -27,8 +27,8 @@ sys.dont_write_bytecode = True
 sys.path[0] = str(pathlib.Path(__file__).resolve().parents[2])
 from checks import common
 from checks.common import NO_ANSWER, PROGRAMS, Ran, Tally
-from checks.program.verdicts import tables_of, text_of
-from checks.random_systems import system_of
+from checks.program.verdicts import tables_of
+from checks.random_systems import random_text, text_of
 
 WORKERS = ('1', '4')
 SIMULATED = ('schedule', 'reports', 'both')
@@ -58,7 +58,7 @@ class System(NamedTuple):
 
 def system_of_seed(seed: int) -> System:
     rng = random.Random(f'same {seed}')
-    text = text_of(tables_of(rng)) if seed % 2 else system_of(rng).text()
+    text = text_of(tables_of(rng)) if seed % 2 else random_text(rng)
     threads = re.findall(r'\[\[thread\]\]\nname = "(.*?)"', text)
     notes = re.findall(r'\[\[note\]\]\nname = "(.*?)"', text)
     if seed % SPOILED == 0:

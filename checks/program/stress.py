@@ -23,7 +23,7 @@ sys.dont_write_bytecode = True
 sys.path[0] = str(pathlib.Path(__file__).resolve().parents[2])
 from checks import common
 from checks.common import Count, Ran, Word
-from checks.random_systems import system_of
+from checks.random_systems import random_text
 
 # a user of no other process: the limit doesn't hold for the superuser, and it counts all that the user runs
 STRANGER = 60001
@@ -117,7 +117,7 @@ class Trial:
 
     def __init__(self, program: pathlib.Path, rng: random.Random, file: pathlib.Path, seconds: float) -> None:
         self.program, self.file, self.seconds = program, file, seconds
-        self.text = system_of(rng).text()
+        self.text = random_text(rng)
         self.horizon = rng.choice([0, 10, 60, 200, 200, 3000])
         self.workers = str(rng.randint(2, 8))
         self.leaves = rng.random() < LEAVING

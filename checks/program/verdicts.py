@@ -10,7 +10,6 @@ was seen nowhere is a failure: a test that sees nothing of it tells nothing."""
 from __future__ import annotations
 
 import collections
-import json
 import pathlib
 import random
 import sys
@@ -25,7 +24,7 @@ from checks import common
 from checks.common import DATA, TOP, Count, Ran
 from checks.program import answers, reading
 from checks.program.reading import Reading, Tables, Wanted
-from checks.random_systems import system_of
+from checks.random_systems import NEW, system_of, text_of, with_version_3
 
 NAMES = ('tick', 'ticks', 'frames', '-n', 'irq', 'fire_irq', 'N', 'pet')
 # systems, with the kinds of what is found in them
@@ -61,16 +60,6 @@ SEEN = (
 )
 
 
-def text_of(tables: Tables) -> str:
-    """The TOML text of a system's tables: numbers and texts at the top, and tables of them and of lists of texts."""
-    lists = {name: rows for name, rows in tables.items() if isinstance(rows, list)}
-    lines = [f'{name} = {json.dumps(value)}' for name, value in tables.items() if name not in lists]
-    for name, rows in lists.items():
-        for row in rows:
-            lines += [f'[[{name}]]', *(f'{key} = {json.dumps(value)}' for key, value in row.items())]
-    return '\n'.join(lines) + '\n'
-
-
 def order_of(rng: random.Random, context: dict[str, Any]) -> dict[str, Any]:
     """An order for a context that may be refused, since its budget is too great, or it makes the context round robin."""
     period = rng.randint(2, 20)
@@ -103,7 +92,7 @@ def tables_of(rng: random.Random) -> Tables:
         tables['thread'].pop(rng.randrange(len(tables['thread'])))
     if rng.random() < 0.2:
         tables['order'] = [order_of(rng, rng.choice(tables['context'])) for _ in range(rng.randint(1, 3))]
-    return tables
+    return with_version_3(rng, tables) if rng.random() < NEW else tables
 
 
 def allowing(notes: Sequence[str]) -> list[str]:

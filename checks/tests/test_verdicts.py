@@ -13,6 +13,7 @@ from unittest import mock
 from checks import common
 from checks.common import Ran
 from checks.program import answers, reading, verdicts
+from checks.random_systems import text_of
 
 # A is woken at 1 and has a tick to wait; its next word is set at 3, left as it is at 5, and added to at 6, and A takes it at 8. C stops in the tick in
 # which it runs, so it is never ready or running.
@@ -192,7 +193,7 @@ class WrongCheckers(unittest.TestCase):
 class Systems(unittest.TestCase):
     def test_a_text_is_that_of_its_tables(self) -> None:
         tables = tomllib.loads(TEXT)
-        self.assertEqual(tomllib.loads(verdicts.text_of(tables)), tables)
+        self.assertEqual(tomllib.loads(text_of(tables)), tables)
 
     def test_items_have_other_names_and_few_badges(self) -> None:
         self.assertEqual(verdicts.renamed('wait n3', random.Random(1)), f'wait {verdicts.NAMES[3]}')
