@@ -14,11 +14,12 @@ from checks.program.reading import Past, Reading, Row, Values, distance, line_of
 WORDS = {
     'release': ('thread',), 'run': ('thread',), 'stop': ('thread', 'why', 'charged'), 'signal': ('thread', 'note', 'badge'),
     'arrive': ('note', 'badge', 'from'), 'wake': ('thread', 'note', 'word'), 'hold': ('note', 'word'), 'got': ('thread', 'note', 'word'),
-    'round': ('thread', 'number', 'response'), 'order': ('context',),
+    'round': ('thread', 'number', 'response'), 'order': ('context',), 'interrupt': ('source', 'note', 'badge'), 'enter': ('thread', 'server'),
+    'leave': ('thread', 'server'),
 }
 # and in what order they stand in an object
-ORDER = ('thread', 'context', 'why', 'charged', 'until', 'note', 'badge', 'from', 'word', 'number', 'response')
-NAMES = ('thread', 'context', 'why', 'note')
+ORDER = ('thread', 'context', 'source', 'why', 'charged', 'until', 'note', 'server', 'badge', 'from', 'word', 'number', 'response')
+NAMES = ('thread', 'context', 'source', 'why', 'note', 'server')
 MIXED = 'mcscheck: --why: not with --show, --strict, --allow-lost or --format csv\n'
 
 
@@ -50,7 +51,7 @@ class Rounds:
         """Since when the thread waited for the word that began its latest round, where it was woken by it."""
         own = [row for row in past.of_thread(self.thread) if row.kind in ('got', 'wake', 'round', 'stop')]
         last = max((place for place, row in enumerate(own) if row.kind == 'round'), default=-1)
-        begins = next((place for place, row in enumerate(own) if place > last and row.kind in ('got', 'wake')), None)
+        begins = next((place for place, row in enumerate(own) if place > last and self.found.begins(row)), None)
         if self.found.first_wait(self.thread) is None or begins is None or own[begins].kind == 'got':
             return None
         return next((row.moment for row in reversed(own[:begins]) if row.kind == 'stop'), None)
@@ -71,10 +72,10 @@ class Rounds:
             begin = round_.begun if activated is None else activated if since is None else min(activated, since)
             return Span(number, begin, horizon, activated, round_.begun, False) if round_.begun <= horizon else None
         note = found.first_wait(self.thread)
-        since = found.whole.word(note)[1] if note else None
+        since = found.whole.word(note)[1] if note and found.is_held(self.thread, note) else None
         if since is not None:
             return Span(number, since, horizon, since, None, False)
-        stops = [row for row in found.whole.of_thread(self.thread) if row.kind in ('release', 'run', 'stop', 'wake')]
+        stops = [row for row in found.whole.of_thread(self.thread) if row.tells]
         if stops and stops[-1].kind == 'stop' and stops[-1].what[2] == 'wait':
             return Span(number, stops[-1].moment, horizon, None, None, False)
         # on the way to its first wait

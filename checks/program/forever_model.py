@@ -10,6 +10,7 @@ from __future__ import annotations
 import collections
 import argparse
 import copy
+import functools
 import pathlib
 import random
 import sys
@@ -26,8 +27,8 @@ from checks.program.forever_reading import Claim, CoreSet
 from checks.program.model import Core, Row, System, World
 from checks.random_systems import text_of
 
-STANDINGS = {'release': 'ready', 'run': 'running', 'wake': 'woken'}
-STOPPED = {'wait': 'blocked', 'done': 'done'}
+STANDINGS = {'release': 'ready', 'run': 'running', 'wake': 'woken', 'enter': 'woken'}
+STOPPED = {'wait': 'blocked', 'call': 'blocked', 'done': 'done'}
 WOKEN = {'release': 'throttled', 'run': 'ready'}
 
 
@@ -37,7 +38,8 @@ class Account:
 
     def __init__(self, system: System, thread: int) -> None:
         self.waits = system.first_wait(thread)
-        self.standing, self.since = 'pending', 0
+        self.has_work = functools.partial(has_work, system, thread)
+        self.standing, self.why, self.since = 'pending', '', 0
         self.called: Optional[int] = None
         self.preemptions = 0
         self.begins(None if self.waits is not None else system.start(thread))
@@ -47,9 +49,9 @@ class Account:
         self.active: Optional[int] = None
         self.stood: collections.Counter[str] = collections.Counter()
 
-    def given(self, moment: int, called: int) -> None:
+    def given(self, moment: int, called: int, word: int) -> None:
         """A word begins a round, where one is to begin by it."""
-        if self.waits is not None and self.begun is None:
+        if self.waits is not None and self.begun is None and self.has_work(word):
             self.called = called
             self.begins(moment)
 
@@ -73,10 +75,10 @@ class Account:
         self.passed(row.kind, row.moment)
         self.since = row.moment
         if row.kind != 'stop':
-            self.standing = STANDINGS[row.kind]
+            self.standing, self.why = STANDINGS[row.kind], ''
             return
         _, why, _, until = row.what
-        self.standing = STOPPED.get(why, 'ready' if until is None else 'throttled')
+        self.standing, self.why = STOPPED.get(why, 'ready' if until is None else 'throttled'), why
         if why == 'done':
             self.ends(None)
         self.preemptions += why == 'preempt' and self.begun is not None
@@ -87,6 +89,11 @@ class Account:
         return self.standing, self.preemptions, self.stood, self.since + by, *(None if moment is None else moment + by for moment in moments)
 
 
+def has_work(system: System, thread: int, word: int) -> bool:
+    """Whether a word of the script's first wait leaves the thread something to do."""
+    return word != 0 and system.next_item(thread, 0, system.heard(thread, word)) != 0
+
+
 class Watch:
     """What is kept of rows: an account of each thread, the word of each notification with the moment since which it is set, and what the rows since some
     moment did."""
@@ -94,8 +101,12 @@ class Watch:
     def __init__(self, system: System) -> None:
         self.system = system
         self.accounts = [Account(system, thread) for thread in range(len(system.threads))]
-        self.words = [(0, 0)] * len(system.notes)
+        self.words = [(note.get('word', 0), 0) for note in system.notes]
         self.clear()
+
+    def is_heard(self, note: int, word: int) -> bool:
+        """Whether a word of a notification leaves something to do to a thread that waits for it first."""
+        return any(account.waits == note and account.has_work(word) for account in self.accounts)
 
     def clear(self) -> None:
         """Of what the rows did: threads whose context or whose round was compared with now, that ended a round, or are told of at all; words that were
@@ -111,29 +122,30 @@ class Watch:
         if row.kind == 'hold':
             note, word = row.what
             before, since = self.words[note]
-            self.words[note] = word, since if before else row.moment
+            self.words[note] = word, since if self.is_heard(note, before) else row.moment
             self.held.add(note)
-        elif row.kind not in ('signal', 'arrive', 'order'):
+        elif row.kind not in ('signal', 'arrive', 'order', 'interrupt', 'leave'):
             self.see_thread(row, row.what[0], self.accounts[row.what[0]])
 
     def see_thread(self, row: Row, thread: int, account: Account) -> None:
         self.told.add(thread)
+        is_let_in = row.kind == 'enter' and account.why == 'call'
         if row.kind == 'got':
             note = row.what[1]
-            account.given(row.moment, self.words[note][1])
+            account.given(row.moment, self.words[note][1], row.what[2])
             self.words[note] = 0, self.words[note][1]
             self.taken.add(note)
         elif row.kind == 'round':
             account.ends(row.moment if account.waits is None else None)
             self.ended.add(thread)
-        else:
+        elif row.kind != 'enter' or is_let_in:
             account.told(row)
         if row.kind == 'wake':
-            account.given(row.moment, row.moment)
-        if row.kind in ('wake', 'got', 'round'):
+            account.given(row.moment, row.moment, row.what[2])
+        if row.kind in ('wake', 'got', 'round', 'enter'):
             self.rounds.add(thread)
         until = row.kind == 'stop' and row.what[3] is not None
-        if until or row.kind == 'wake' or row.kind == 'run' and self.system.is_bandwidth(self.system.context_of[thread]):
+        if until or row.kind == 'wake' or is_let_in or row.kind == 'run' and self.system.is_bandwidth(self.system.context_of[thread]):
             self.contexts.add(thread)
 
 
@@ -152,9 +164,9 @@ class Repeats(NamedTuple):
     ends_recur: bool
 
 
-def of_thread(core: Core, thread: int) -> tuple[str, int, int]:
+def of_thread(core: Core, thread: int) -> tuple[str, int, int, int]:
     state = core.threads[thread]
-    return state.standing, state.item, state.left
+    return state.standing, state.item, state.left, state.word
 
 
 class Comparing:
@@ -168,7 +180,7 @@ class Comparing:
 
     def recurs(self) -> bool:
         cores = [(self.kept.world.cores[core], self.world.cores[core]) for core in self.group.cores]
-        same = all(self.is_same(before, after) for before, after in cores) and self.mails_are_later()
+        same = all(self.is_same(before, after) for before, after in cores) and self.mails_are_later() and self.interrupts_are_later()
         return same and all(self.threads_are_later(*pair) and self.contexts_are_later(*pair) for pair in cores) and self.findings_recur()
 
     def is_same(self, before: Core, after: Core) -> bool:
@@ -177,11 +189,23 @@ class Comparing:
 
         releases = [(thread, date + self.by) for thread, date in before.releases] == after.releases
         stand = all(of_thread(before, thread) == of_thread(after, thread) for thread in before.threads)
-        return releases and stand and before.running == after.running and before.notes == after.notes and ready(before) == ready(after)
+        same = before.running == after.running and before.notes == after.notes and before.servers == after.servers
+        return releases and stand and same and ready(before) == ready(after)
 
     def mails_are_later(self) -> bool:
         before, after = ([mail for mail in world.mails if mail.note in self.notes] for world in (self.kept.world, self.world))
         return [mail._replace(arrives=mail.arrives + self.by, made=mail.made + self.by) for mail in before] == after
+
+    def interrupts_are_later(self) -> bool:
+        """Each number of a source's `at` has dates without end, of which the first has come and whose period goes into the time between, or has none to come."""
+        for number, source in enumerate(self.system.sources):
+            if self.system.note_number[source['note']] not in self.notes:
+                continue
+            endless = not source.get('count', 0)
+            begun = all(source.get('start', 0) + offset <= self.kept.moment for offset in source.get('at', [0]))
+            if not (begun and self.by % source['period'] == 0 if endless else self.system.is_silent(number, self.kept.moment)):
+                return False
+        return True
 
     def threads_are_later(self, before: Core, after: Core) -> bool:
         """The rounds, of which no more end where there is a last one; the beginning of one may lag unless it was compared with now."""

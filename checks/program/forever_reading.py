@@ -34,7 +34,8 @@ def core_sets(tables: Tables) -> list[CoreSet]:
     """For each core the least set with it that no core outside signals, each once, in order of the first core of which it is the least."""
     home = {note['name']: note['core'] for note in tables.get('note', [])}
     place = {context['name']: context['core'] for context in tables.get('context', [])}
-    items = [(place[thread['context']], item.split()) for thread in tables.get('thread', []) for item in thread['script']]
+    found = Reading(tables, '', 0)
+    items = [(place[thread['context']], words) for thread in tables.get('thread', []) for words in found.items(thread['script'])]
     signals = {(core, home[words[1]]) for core, words in items if words[0] == 'signal'}
 
     def least(core: int) -> tuple[int, ...]:
@@ -163,6 +164,7 @@ class Told:
             yield f'a period of {period} from {start} on was looked for up to {self.horizon}'
         if any(start <= order['at'] for order in self.tables.get('order', [])):
             yield f'an order comes from {start} on'
+        yield from (f'the last interrupt of {name} comes at {last}' for name, last in self.last_interrupts() if start <= last)
         for number in range(1, PERIODS):
             first, later = self.as_first(0), self.as_first(number)
             if first != later:
@@ -177,6 +179,14 @@ class Told:
                     yield f'{kind} in period {number}: {self.many(kind, number)}, and in the first one {self.many(kind, 0)}'
         if self.claim.is_clean:
             yield from self.not_clean(allowed)
+
+    def last_interrupts(self) -> Iterator[tuple[str, int]]:
+        """Of the set's sources that end the moments of their last dates."""
+        for source in self.tables.get('source', []):
+            is_own = any(note['name'] == source['note'] and note['core'] in self.group.cores for note in self.tables['note'])
+            if is_own and (count := source.get('count', 0)):
+                turns, place = divmod(count - 1, len(at := source.get('at', [0])))
+                yield source['name'], source.get('start', 0) + turns * source['period'] + at[place]
 
     # ---- what is found
 

@@ -10,7 +10,7 @@ import csv
 import functools
 import io
 import json
-from collections.abc import Iterator, Sequence
+from collections.abc import Callable, Iterator, Sequence
 from fractions import Fraction
 from typing import Any, NamedTuple, Optional
 
@@ -19,7 +19,7 @@ Tables = dict[str, Any]
 Values = dict[str, Any]
 
 TELLING = ('release', 'run', 'stop', 'wake')
-OF_THREADS = (*TELLING, 'got', 'round')
+OF_THREADS = (*TELLING, 'got', 'round', 'enter', 'leave')
 PARTS = ('ready', 'running', 'throttled', 'blocked', 'woken')
 STANDINGS = ('pending', *PARTS, 'done')
 KINDS = ('missed', 'overdue', 'lost', 'never', 'merged', 'allowed', 'hints')
@@ -38,16 +38,22 @@ HINTS = {'note': 'unsignalled', 'context': 'unbound', 'core': 'overcommitted'}
 
 
 class Row(NamedTuple):
-    """A row of a schedule: its place among all of them, its moment, its core, and its further words."""
+    """A row of a schedule: its place among all of them, its moment, its core, its further words, and whether a thread that waited for a server enters it."""
 
     place: int
     moment: int
     core: int
     what: list[str]
+    is_let_in: bool = False
 
     @property
     def kind(self) -> str:
         return self.what[0]
+
+    @property
+    def tells(self) -> bool:
+        """Whether it tells how its thread stands from then on: that one that runs enters a server does not."""
+        return self.kind in TELLING or self.is_let_in
 
     @property
     def thread(self) -> Optional[str]:
@@ -60,8 +66,17 @@ class Row(NamedTuple):
 
 
 def rows_of(text: str) -> list[Row]:
-    lines = (line.split() for line in text.splitlines())
-    return [Row(place, int(moment), int(core), what) for place, (moment, core, *what) in enumerate(lines)]
+    rows: list[Row] = []
+    # for each thread its last stop for a server that was taken, until it enters
+    calling: set[str] = set()
+    for place, (moment, core, *what) in enumerate(line.split() for line in text.splitlines()):
+        is_let_in = what[0] == 'enter' and what[1] in calling
+        if what[0] == 'stop' and what[2] == 'call':
+            calling.add(what[1])
+        elif is_let_in:
+            calling.remove(what[1])
+        rows.append(Row(place, int(moment), int(core), what, is_let_in))
+    return rows
 
 
 def standing_after(row: Row, following: Optional[Row]) -> str:
@@ -70,11 +85,11 @@ def standing_after(row: Row, following: Optional[Row]) -> str:
         return 'running'
     if row.kind == 'release':
         return 'ready'
-    if row.kind == 'wake':
+    if row.kind in ('wake', 'enter'):
         return {'release': 'throttled', 'run': 'ready'}.get(following.kind, 'woken') if following else 'woken'
     why = row.what[2]
-    if why in ('wait', 'done'):
-        return {'wait': 'blocked', 'done': 'done'}[why]
+    if why in ('wait', 'call', 'done'):
+        return 'done' if why == 'done' else 'blocked'
     # with `until` and a date
     return 'throttled' if len(row.what) == 6 else 'ready'
 
@@ -96,7 +111,7 @@ class Past:
 
     def standings(self, thread: str, begin: int, end: int) -> list[str]:
         """How the thread stands in each tick of [begin, end)."""
-        telling = [row for row in self.of_thread(thread) if row.kind in TELLING]
+        telling = [row for row in self.of_thread(thread) if row.tells]
         moments = [row.moment for row in telling]
 
         def at(tick: int) -> str:
@@ -110,18 +125,22 @@ class Past:
         return any(row.kind == 'stop' and row.what[2] == 'done' for row in self.of_thread(thread))
 
     def word(self, note: str) -> tuple[int, Optional[int]]:
-        """The notification's word, and since when it is not 0."""
+        """The notification's word, and since when it has a bit for which somebody who waits for it first has something to do."""
         told = self.of_note(note)
         taken = next((place for place in reversed(range(len(told))) if told[place].kind == 'got'), -1)
-        holds = told[taken + 1:]
-        return (int(holds[-1].what[2]), holds[0].moment) if holds else (0, None)
+        words = [(row.moment, int(row.what[2])) for row in told[taken + 1:]]
+        if taken < 0 and self.schedule.firsts[note]:
+            words = [(0, self.schedule.firsts[note]), *words]
+        since = next((moment for moment, word in words if self.schedule.is_heard(note, word)), None)
+        return words[-1][1] if words else 0, since
 
 
 class Schedule:
-    """The rows of a schedule, and those of each thread and of each notification."""
+    """The rows of a schedule, and those of each thread and of each notification; the words that notifications hold at first, and whether a word of one
+    leaves something to do to a thread that waits for it first."""
 
-    def __init__(self, text: str) -> None:
-        self.rows = rows_of(text)
+    def __init__(self, text: str, firsts: dict[str, int], is_heard: Callable[[str, int], bool]) -> None:
+        self.rows, self.firsts, self.is_heard = rows_of(text), firsts, is_heard
         self.of_thread: dict[str, list[Row]] = collections.defaultdict(list)
         self.of_note: dict[str, list[Row]] = collections.defaultdict(list)
         for row in self.rows:
@@ -173,13 +192,16 @@ class Reading:
     """A system and the rows of its schedule up to a horizon."""
 
     def __init__(self, tables: Tables, text: str, horizon: int) -> None:
-        self.schedule, self.horizon = Schedule(text), horizon
-        self.rows, self.whole = self.schedule.rows, Past(self.schedule, len(self.schedule.rows))
         self.contexts = {context['name']: context for context in tables.get('context', [])}
         self.threads = {thread['name']: thread for thread in tables.get('thread', [])}
+        self.servers = {server['name']: server['script'] for server in tables.get('server', [])}
         self.notes = [note['name'] for note in tables.get('note', [])]
+        self.signalled = {source['note'] for source in tables.get('source', [])}
         self.cores = tables['cores']
         self.ordered = {order['context'] for order in tables.get('order', [])}
+        firsts = {note['name']: note.get('word', 0) for note in tables.get('note', [])}
+        self.schedule, self.horizon = Schedule(text, firsts, self.is_heard), horizon
+        self.rows, self.whole = self.schedule.rows, Past(self.schedule, len(self.schedule.rows))
 
     def past(self, row: Row) -> Past:
         return Past(self.schedule, row.place)
@@ -191,6 +213,34 @@ class Reading:
         """The notification on which the thread's script waits first, where it begins with a wait."""
         word, *rest = self.threads[thread]['script'][0].split()
         return rest[0] if word == 'wait' else None
+
+    def has_work(self, thread: str, word: int) -> bool:
+        """Whether a word of the script's first wait leaves an item behind it, in no handler or in one for a bit of the word."""
+        is_passed_over = word == 0
+        for item in self.threads[thread]['script'][1:]:
+            if item.split()[0] == 'on':
+                is_passed_over = not int(item.split()[1]) & word
+            elif not is_passed_over:
+                return True
+        return False
+
+    def is_heard(self, note: str, word: int) -> bool:
+        return any(self.first_wait(thread) == note and self.has_work(thread, word) for thread in self.threads)
+
+    def begins(self, row: Row) -> bool:
+        """Whether a row gives its thread a word that begins a round, where none is under way."""
+        return row.kind in ('got', 'wake') and self.has_work(row.what[1], int(row.what[3]))
+
+    def items(self, script: Sequence[str], badge: Optional[int] = None) -> Iterator[list[str]]:
+        """The items of a thread's script, or of a server's that is called with a badge, with those of the servers that it calls."""
+        is_passed_over = False
+        for word, *rest in map(str.split, script):
+            if word == 'on':
+                is_passed_over = badge is not None and not int(rest[0]) & badge
+            elif word == 'call' and not is_passed_over:
+                yield from self.items(self.servers[rest[0]], int(rest[1]))
+            elif not is_passed_over:
+                yield [word, *rest]
 
     def round_at(self, past: Past, thread: str, moment: int) -> Optional[Round]:
         """The round that is under way at a moment, by the rows so far."""
@@ -207,7 +257,7 @@ class Reading:
 
     def round_of_word(self, past: Past, thread: str, own: Sequence[Row], moment: int) -> Optional[Round]:
         """The same where the script begins with a wait, by the thread's rows after its last round."""
-        place = next((place for place, row in enumerate(own) if row.kind in ('got', 'wake')), None)
+        place = next((place for place, row in enumerate(own) if self.begins(row)), None)
         if place is None:
             return None
         first = own[place]
@@ -249,16 +299,20 @@ class Reading:
         """The round that can only miss its deadline, if there is one: under way, or yet to begin by a word that is held."""
         waits = self.first_wait(thread)
         pending = self.round_at(self.whole, thread, self.horizon)
-        if pending is None and waits and not self.whole.is_done(thread):
+        if pending is None and waits and not self.whole.is_done(thread) and self.is_held(thread, waits):
             pending = Round(self.horizon, self.whole.word(waits)[1], [], [])
         if pending is None or pending.activated is None:
             return None
         return pending if 0 < self.deadline(thread) <= self.horizon - pending.activated else None
 
+    def is_held(self, thread: str, note: str) -> bool:
+        """Whether the notification's word leaves the thread something to do."""
+        return self.has_work(thread, self.whole.word(note)[0])
+
     def was_activated(self, thread: str) -> bool:
         waits = self.first_wait(thread)
         if waits:
-            return self.whole.word(waits)[0] > 0 or any(row.kind in ('got', 'wake') for row in self.whole.of_thread(thread))
+            return self.is_held(thread, waits) or any(map(self.begins, self.whole.of_thread(thread)))
         return bool({'ready', 'running'} & set(self.whole.standings(thread, 0, self.horizon)))
 
     def found_at_end(self, thread: str) -> Optional[tuple[str, str]]:
@@ -321,10 +375,11 @@ class Reading:
         return [*map(self.figures, self.threads), *map(self.unused, self.contexts)]
 
     def hints(self) -> Iterator[str]:
-        items = [item.split() for thread in self.threads.values() for item in thread['script']]
+        items = [item for thread in self.threads.values() for item in self.items(thread['script'])]
         used = {thread['context'] for thread in self.threads.values()}
+        signalled = self.signalled | {item[1] for item in items if item[0] == 'signal'}
         for note in self.notes:
-            if ['wait', note] in items and not any(item[0] == 'signal' and item[1] == note for item in items):
+            if ['wait', note] in items and note not in signalled:
                 yield f'hint note {note} is waited on and no script signals it'
         yield from (f'hint context {name} has no thread' for name in self.contexts if name not in used)
         for core in range(self.cores):
