@@ -1,10 +1,10 @@
 #!/usr/bin/env python3
-"""Tells whether mcscheck --forever finds what a plain model finds that looks for repetitions at the same moments, as docs/FOREVER.md says what is compared.
+"""Tells whether what mcscheck --forever finds is so by a plain model, and how much of what the model finds it misses. docs/FOREVER.md says what is compared.
 
-The model (checks/program/model.py) takes random systems as of verdicts.py moment by moment. After 1, 2, 4, 8 and so on moments at which some core does more than
-count a tick, and behind the last order, a moment is kept, and each later one is compared with it. What the program claims and the model does not see is a
-failure: another moment, another period, or nothing that is ever found where the model can't tell. What the model sees and the program says nothing of, or
-says later, is counted as missed: nothing says that it has to be found. The last line is a count of sets of cores."""
+The model (checks/program/model.py) takes random systems as of verdicts.py moment by moment. A set that is said to repeat has to stand, a period after the
+moment from which on it does, as it stood before it. Where nothing is ever to be found, nothing is at any horizon of two periods. Then the model looks itself:
+after 1, 2, 4, 8 and so on moments at which some core does more than count a tick, and behind the last order, a moment is kept, and each later one is compared
+with it. What it finds and the program says nothing of is counted as missed: nothing says that it has to be found. The last line is a count of sets of cores."""
 from __future__ import annotations
 
 import collections
@@ -41,6 +41,7 @@ class Account:
         self.has_work = functools.partial(has_work, system, thread)
         self.standing, self.why, self.since = 'pending', '', 0
         self.called: Optional[int] = None
+        self.was_active = False
         self.preemptions = 0
         self.begins(None if self.waits is not None else system.start(thread))
 
@@ -62,6 +63,7 @@ class Account:
     def passed(self, kind: str, moment: int) -> None:
         """The ticks up to a row are counted."""
         standing = WOKEN.get(kind, 'woken') if self.standing == 'woken' else self.standing
+        self.was_active = self.was_active or self.since < moment and standing in ('ready', 'running')
         if self.begun is None:
             return
         first = max(self.since, self.begun)
@@ -83,6 +85,13 @@ class Account:
             self.ends(None)
         self.preemptions += why == 'preempt' and self.begun is not None
 
+    def activated(self, moment: int) -> Optional[int]:
+        """When the round that is under way was activated, if it was before a moment up to which no row tells more."""
+        if self.waits is not None or self.active is not None or self.begun is None:
+            return self.called if self.waits is not None else self.active
+        first = max(self.since, self.begun)
+        return first if first < moment and self.standing in ('ready', 'running') else None
+
     def kept(self, by: int) -> tuple[object, ...]:
         """All of it, with moments later."""
         moments = (self.begun, self.called, self.active)
@@ -102,6 +111,9 @@ class Watch:
         self.system = system
         self.accounts = [Account(system, thread) for thread in range(len(system.threads))]
         self.words = [(note.get('word', 0), 0) for note in system.notes]
+        # threads that missed a deadline, and notifications that lost a signal
+        self.missed: set[int] = set()
+        self.lost: set[int] = set()
         self.clear()
 
     def is_heard(self, note: int, word: int) -> bool:
@@ -122,6 +134,7 @@ class Watch:
         if row.kind == 'hold':
             note, word = row.what
             before, since = self.words[note]
+            self.lost |= {note} if before == word else set()
             self.words[note] = word, since if self.is_heard(note, before) else row.moment
             self.held.add(note)
         elif row.kind not in ('signal', 'arrive', 'order', 'interrupt', 'leave'):
@@ -136,6 +149,8 @@ class Watch:
             self.words[note] = 0, self.words[note][1]
             self.taken.add(note)
         elif row.kind == 'round':
+            activated, deadline = account.activated(row.moment), self.system.deadline(thread)
+            self.missed |= {thread} if activated is not None and 0 < deadline < row.moment - activated else set()
             account.ends(row.moment if account.waits is None else None)
             self.ended.add(thread)
         elif row.kind != 'enter' or is_let_in:
@@ -147,6 +162,18 @@ class Watch:
         until = row.kind == 'stop' and row.what[3] is not None
         if until or row.kind == 'wake' or is_let_in or row.kind == 'run' and self.system.is_bandwidth(self.system.context_of[thread]):
             self.contexts.add(thread)
+
+
+    def is_found(self, thread: int, horizon: int) -> bool:
+        """Whether something is found of a thread at a horizon, whose rows are the last ones: a missed deadline, one that can only be missed, or no activation."""
+        account, deadline = self.accounts[thread], self.system.deadline(thread)
+        held, since = (0, 0) if account.waits is None else self.words[account.waits]
+        pending = since if held and account.has_work(held) and account.standing != 'done' else None
+        activated = pending if account.begun is None else account.activated(horizon)
+        is_active = account.was_active or account.since < horizon and account.standing in ('ready', 'running')
+        once = is_active if account.waits is None else account.called is not None or held != 0 and account.has_work(held)
+        is_overdue = activated is not None and deadline <= horizon - activated
+        return deadline > 0 and (thread in self.missed or is_overdue or not once)
 
 
 class Kept(NamedTuple):
@@ -312,11 +339,36 @@ class Search:
         return self.told
 
 
+class Claimed:
+    """What the model sees of a set that is said to repeat."""
+
+    def __init__(self, system: System, group: CoreSet, claim: Claim) -> None:
+        self.search, self.group = Search(system, [group]), group
+        self.start, self.period = claim.repeats
+
+    def wrong(self, is_clean: bool) -> Optional[str]:
+        """What of the claim is not so, of which nothing being ever found may be a part."""
+        search = self.search
+        while search.world.moment < self.start:
+            search.turn()
+        search.keep()
+        for horizon in range(self.start, self.start + (2 if is_clean else 1) * self.period):
+            # the rows up to a horizon are those of the turns before the next moment
+            search.turn()
+            if is_clean and (found := self.found(horizon)):
+                return f'the model finds something at horizon {horizon}: {found}'
+            if horizon + 1 == self.start + self.period:
+                search.compare()
+        return 'the model sees no repetition' if search.told[0] is None else None
+
+    def found(self, horizon: int) -> list[str]:
+        """What is found up to a horizon of the threads and notifications that are told with the set."""
+        system, watch = self.search.world.system, self.search.watch
+        threads = [part['name'] for thread, part in enumerate(system.threads) if system.core_of[thread] in self.group.own and watch.is_found(thread, horizon)]
+        return [*threads, *(note['name'] for number, note in enumerate(system.notes) if note['core'] in self.group.own and number in watch.lost)]
+
+
 # ---- the program beside it
-
-
-def is_as_seen(claim: Claim, seen: Optional[Repeats]) -> bool:
-    return (claim.start, claim.period) == ((seen.start, seen.period) if seen else (None, None))
 
 
 class Trial:
@@ -332,13 +384,16 @@ class Trial:
         tables = tomllib.loads(text)
         claims, groups = forever.claims_of(ran.stdout.decode()), forever.core_sets(tables)
         self.count.expect(f'{name}: {ran}', len(claims) == len(groups))
-        for what, claim, seen in zip(self.names(name, groups), claims, Search(System(tables), groups).run(self.horizon)):
-            if seen and claim.start is None:
+        system = System(tables)
+        for what, group, claim, seen in zip(self.names(name, groups), groups, claims, Search(system, groups).run(self.horizon)):
+            if claim.start is not None:
+                wrong = Claimed(system, group, claim).wrong(claim.is_clean)
+                self.count.expect(f'{what}: {claim}: {wrong}', wrong is None)
+            elif seen:
                 self.missed += 1
                 print(f'missed: {what}: {seen}')
-                continue
-            is_good = is_as_seen(claim, seen) and (not claim.is_clean or seen is not None and seen.ends_recur)
-            self.count.expect(f'{what}: {claim}, and the model sees {seen}', is_good)
+            else:
+                self.count.add(passed=1)
 
     def names(self, name: str, groups: Sequence[CoreSet]) -> Iterator[str]:
         return (f'{name}, cores {group.name}' for group in groups)

@@ -11,7 +11,7 @@ import re
 from collections.abc import Iterator, Sequence
 from typing import NamedTuple, Optional
 
-from checks.program.reading import FOUND, Reading, Row, Tables, Values
+from checks.program.reading import FOUND, Reading, Row, Tables, Values, items_of, scripts_of
 
 # so many periods are looked at
 PERIODS = 4
@@ -34,8 +34,8 @@ def core_sets(tables: Tables) -> list[CoreSet]:
     """For each core the least set with it that no core outside signals, each once, in order of the first core of which it is the least."""
     home = {note['name']: note['core'] for note in tables.get('note', [])}
     place = {context['name']: context['core'] for context in tables.get('context', [])}
-    found = Reading(tables, '', 0)
-    items = [(place[thread['context']], words) for thread in tables.get('thread', []) for words in found.items(thread['script'])]
+    servers = scripts_of(tables)
+    items = [(place[thread['context']], words) for thread in tables.get('thread', []) for words in items_of(servers, thread['script'])]
     signals = {(core, home[words[1]]) for core, words in items if words[0] == 'signal'}
 
     def least(core: int) -> tuple[int, ...]:

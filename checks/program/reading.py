@@ -17,6 +17,8 @@ from typing import Any, NamedTuple, Optional
 Tables = dict[str, Any]
 # the values of a line by their names, of which some may be missing
 Values = dict[str, Any]
+# the scripts of servers by their names
+Scripts = dict[str, list[str]]
 
 TELLING = ('release', 'run', 'stop', 'wake')
 OF_THREADS = (*TELLING, 'got', 'round', 'enter', 'leave')
@@ -92,6 +94,22 @@ def standing_after(row: Row, following: Optional[Row]) -> str:
         return 'done' if why == 'done' else 'blocked'
     # with `until` and a date
     return 'throttled' if len(row.what) == 6 else 'ready'
+
+
+def scripts_of(tables: Tables) -> Scripts:
+    return {server['name']: server['script'] for server in tables.get('server', [])}
+
+
+def items_of(servers: Scripts, script: Sequence[str], badge: Optional[int] = None) -> Iterator[list[str]]:
+    """The items of a thread's script, or of a server's that is called with a badge, with those of the servers that it calls."""
+    is_passed_over = False
+    for word, *rest in map(str.split, script):
+        if word == 'on':
+            is_passed_over = badge is not None and not int(rest[0]) & badge
+        elif word == 'call' and not is_passed_over:
+            yield from items_of(servers, servers[rest[0]], int(rest[1]))
+        elif not is_passed_over:
+            yield [word, *rest]
 
 
 class Past:
@@ -194,7 +212,7 @@ class Reading:
     def __init__(self, tables: Tables, text: str, horizon: int) -> None:
         self.contexts = {context['name']: context for context in tables.get('context', [])}
         self.threads = {thread['name']: thread for thread in tables.get('thread', [])}
-        self.servers = {server['name']: server['script'] for server in tables.get('server', [])}
+        self.servers = scripts_of(tables)
         self.notes = [note['name'] for note in tables.get('note', [])]
         self.signalled = {source['note'] for source in tables.get('source', [])}
         self.cores = tables['cores']
@@ -230,17 +248,6 @@ class Reading:
     def begins(self, row: Row) -> bool:
         """Whether a row gives its thread a word that begins a round, where none is under way."""
         return row.kind in ('got', 'wake') and self.has_work(row.what[1], int(row.what[3]))
-
-    def items(self, script: Sequence[str], badge: Optional[int] = None) -> Iterator[list[str]]:
-        """The items of a thread's script, or of a server's that is called with a badge, with those of the servers that it calls."""
-        is_passed_over = False
-        for word, *rest in map(str.split, script):
-            if word == 'on':
-                is_passed_over = badge is not None and not int(rest[0]) & badge
-            elif word == 'call' and not is_passed_over:
-                yield from self.items(self.servers[rest[0]], int(rest[1]))
-            elif not is_passed_over:
-                yield [word, *rest]
 
     def round_at(self, past: Past, thread: str, moment: int) -> Optional[Round]:
         """The round that is under way at a moment, by the rows so far."""
@@ -375,7 +382,7 @@ class Reading:
         return [*map(self.figures, self.threads), *map(self.unused, self.contexts)]
 
     def hints(self) -> Iterator[str]:
-        items = [item for thread in self.threads.values() for item in self.items(thread['script'])]
+        items = [item for thread in self.threads.values() for item in items_of(self.servers, thread['script'])]
         used = {thread['context'] for thread in self.threads.values()}
         signalled = self.signalled | {item[1] for item in items if item[0] == 'signal'}
         for note in self.notes:

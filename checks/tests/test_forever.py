@@ -369,7 +369,8 @@ class Models(unittest.TestCase):
     def test_it_has_the_worked_rows(self) -> None:
         tried = 0
         # those of `files` are refused
-        for file in (file for folder in ('examples', 'orders', 'random_one', 'random_several', 'turns', 'worked') for file in DATA.glob(f'{folder}/*/schedule.stdout')):
+        folders = ('events', 'examples', 'orders', 'random_one', 'random_several', 'turns', 'worked')
+        for file in (file for folder in folders for file in DATA.glob(f'{folder}/*/schedule.stdout')):
             asked = file.with_suffix('.words').read_text().split()
             words = dict(zip(asked[::2], asked[1::2]))
             tables = tomllib.loads(file.parent.with_suffix('.toml').read_text())
@@ -384,7 +385,7 @@ class Models(unittest.TestCase):
                     found += new
                 self.assertEqual(found, file.read_text().splitlines(), file)
                 tried += 1
-        self.assertGreater(tried, 50)
+        self.assertGreater(tried, 80)
 
     def seen(self, text: str, horizon: int) -> list[tuple[int, int, bool] | None]:
         tables = tomllib.loads(text)
@@ -427,8 +428,15 @@ class Models(unittest.TestCase):
     def test_a_program_beside_it(self) -> None:
         self.assertEqual(self.failed(30, 10), (0, 0))
         self.assertEqual(self.failed(30, 10, is_clean=False), (0, 0))
-        self.assertEqual([self.failed(20, 10), self.failed(30, 20)], [(1, 0)] * 2)
+        # two periods are one too
+        self.assertEqual(self.failed(30, 20), (0, 0))
+        self.assertEqual([self.failed(12, 10), self.failed(30, 5)], [(1, 0)] * 2)
         self.assertEqual(self.failed(0, 0), (0, 1))
+
+    def test_a_finding_at_some_horizon_is_seen_where_none_is_claimed(self) -> None:
+        # a round is activated at 32, 42, .. and takes 2: with a deadline of 1 it is overdue at 33, and missed at 34
+        with mock.patch.object(sys.modules[__name__], 'LOOP', LATE):
+            self.assertEqual([self.failed(30, 10), self.failed(30, 10, is_clean=False)], [(1, 0), (0, 0)])
 
 
 if __name__ == '__main__':

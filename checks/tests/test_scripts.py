@@ -1,4 +1,5 @@
 """The scripts that try the built program, with programs that are wrong: each script has to see it."""
+import collections
 import contextlib
 import io
 import json
@@ -8,12 +9,13 @@ import random
 import subprocess
 import sys
 import tempfile
+import tomllib
 import unittest
 from unittest import mock
 
 from checks import common, everything, random_systems
 from checks.pages import manual, mended, pages
-from checks.program import analyses, bandwidth, faults, progress, refused_runs, stress, traces, views, waves
+from checks.program import analyses, bandwidth, faults, progress, refused_runs, rules, stress, traces, views, waves
 from checks.program.refusing import Answer
 from checks.proofs import theorems
 
@@ -103,11 +105,12 @@ class WrongPrograms(unittest.TestCase):
         self.assertEqual(self.tally('refused_runs', 'exit 0').failed, 1)
 
     def test_a_program_that_tells_its_workers_is_not_the_same_with_several(self) -> None:
-        found = self.tally('stress', 'echo "$6"', '--systems', '2')
+        # five ways for each of two systems, of which no reader leaves
+        found = self.tally('stress', 'echo "$6"', '--systems', '2', '--seed', '2')
         self.assertEqual((found.passed, found.failed), (0, 10))
 
     def test_a_program_that_is_the_same_with_several_workers_passes(self) -> None:
-        found = self.tally('stress', 'echo the same', '--systems', '2')
+        found = self.tally('stress', 'echo the same', '--systems', '2', '--seed', '2')
         self.assertEqual((found.passed, found.failed), (10, 0))
 
     def test_a_program_that_does_not_end_with_many_workers_fails(self) -> None:
@@ -115,7 +118,7 @@ class WrongPrograms(unittest.TestCase):
             return common.NO_ANSWER if '64' in command else common.Ran(0, b'', b'')
 
         self.program.touch(0o755)
-        words, out = ['stress.py', '--program', str(self.program), '--systems', '1'], io.StringIO()
+        words, out = ['stress.py', '--program', str(self.program), '--systems', '1', '--seed', '2'], io.StringIO()
         with mock.patch('checks.common.run', ran), mock.patch('sys.argv', words), mock.patch('tempfile.tempdir', str(self.program.parent)):
             with contextlib.redirect_stdout(out), self.assertRaises(SystemExit) as ended:
                 stress.main()
@@ -244,6 +247,52 @@ class Rules(unittest.TestCase):
             items = random_systems.script_of(random.Random(seed), notes, 1)
             self.assertNotIn('wait n0', items)
             self.assertFalse(items[-1].startswith('wait'))
+
+    def test_random_systems_of_version_3_have_all_that_it_adds(self) -> None:
+        seen: collections.Counter[str] = collections.Counter()
+        for seed in range(200):
+            rng = random.Random(seed)
+            tables = random_systems.with_version_3(rng, tomllib.loads(random_systems.system_of(rng).text()))
+            self.assertEqual((tables['version'], tomllib.loads(random_systems.text_of(tables))), (3, tables))
+            home = {note['name']: note['core'] for note in tables.get('note', [])}
+            place = {context['name']: context['core'] for context in tables['context']}
+            for thread in tables['thread']:
+                script = thread['script']
+                bare = [item for item, after in zip(script[1:], [*script[2:], 'on 1']) if item.startswith('wait ') and after.startswith('on ')]
+                self.assertEqual(bare, [])
+                self.assertTrue(all(home[item.split()[1]] == place[thread['context']] for item in script if item.startswith('wait ')))
+                self.assertTrue(script[0].startswith('wait ') or not any(item.startswith('on ') for item in script))
+            seen.update(item.split()[0] for thread in tables['thread'] for item in thread['script'])
+            seen.update(f'server {item.split()[0]}' for server in tables.get('server', []) for item in server['script'])
+            seen.update(name for name in ('server', 'source', 'chain') for _ in tables.get(name, []))
+            seen.update(key for rows in (tables.get('source', []), tables.get('note', [])) for row in rows for key in row)
+            seen.update(str(context.get('mode')) for context in tables['context'])
+        words = ('on', 'call', 'spin', 'server on', 'server call', 'server wait', 'server yield', 'server', 'source', 'chain', 'at', 'count', 'start', 'word')
+        self.assertEqual([word for word in (*words, 'sporadic', 'bandwidth', 'None') if not seen[word]], [])
+
+    def test_the_rules_see_a_row_that_differs(self) -> None:
+        text = (common.DATA / 'events' / 'handlers.toml').read_text()
+        good = (common.DATA / 'events' / 'handlers' / 'schedule.stdout').read_bytes()
+        for rows, status, failed in ((good, 0, 0), (good.replace(b'round D 1 2', b'round D 1 3'), 0, 1), (good[:-9], 0, 1), (good + good, 0, 1), (good, 4, 1),
+                                     (b'', 1, 0)):
+            trial = rules.Trial(pathlib.Path('mcsim'))
+            with tempfile.TemporaryDirectory() as folder, mock.patch('checks.common.run', lambda *_: common.Ran(status, rows, b'')):
+                with contextlib.redirect_stdout(io.StringIO()), mock.patch('tempfile.tempdir', folder):
+                    trial.look('handlers', text, 12)
+            self.assertEqual((trial.count.tally.failed, trial.count.tally.passed), (failed, int(not failed and status == 0)))
+
+    def test_a_program_that_says_nothing_shows_no_kind_of_row(self) -> None:
+        self.assertGreaterEqual(self.rules_of('exit 0').failed, 1)
+        # all is refused, and nothing is seen
+        self.assertEqual(self.rules_of('exit 1'), (0, len(rules.SEEN), 0))
+
+    def rules_of(self, program: str) -> common.Tally:
+        with tempfile.TemporaryDirectory() as folder:
+            file = pathlib.Path(folder, 'mcsim')
+            file.write_text(f'#!/bin/sh\n{program}\n')
+            file.chmod(0o755)
+            command = [sys.executable, rules.__file__, '--program', str(file), '--systems', '2']
+            return common.last_tally(common.run(command, env={**os.environ, 'TMPDIR': folder}).stdout.decode())
 
     def test_the_options_of_a_help(self) -> None:
         text = 'Options:\n  -h, --help  Help\n      --workers <W>  Threads, 1 to 64\n                     [default: 1]\n      --allow-lost <NOTE>  Lost\n\nRest'

@@ -72,6 +72,93 @@ PREEMPTS = '''0 0 release A
 HINTS = '''hint note x is waited on and no script signals it
 hint context n has no thread
 '''
+# s interrupts every other tick from 2 on, and each handling of it takes 5; no handler takes the badge of k, which comes at 3
+BUSY = '''version = 3
+cores = 1
+delay = 1
+context = [{ name = "d", core = 0, budget = 20, period = 20 }]
+note = [{ name = "n", core = 0 }]
+thread = [{ name = "D", context = "d", priority = 5, deadline = 8, script = ["wait n", "on 1", "compute 5"] }]
+source = [{ name = "s", note = "n", badge = 1, period = 2, start = 2 }, { name = "k", note = "n", badge = 4, period = 100, start = 3 }]
+'''
+BUSY_ROWS = '''0 0 release D
+0 0 run D
+1 0 stop D wait 1
+2 0 interrupt s n 1
+2 0 wake D n 1
+2 0 run D
+3 0 interrupt k n 4
+3 0 hold n 4
+4 0 interrupt s n 1
+4 0 hold n 5
+6 0 interrupt s n 1
+6 0 hold n 5
+7 0 round D 1 5
+8 0 got D n 5
+8 0 interrupt s n 1
+8 0 hold n 1
+10 0 interrupt s n 1
+10 0 hold n 1
+12 0 interrupt s n 1
+12 0 hold n 1
+13 0 round D 2 5
+'''
+BUSY_FOUND = '''6 0 lost n 5
+10 0 lost n 1
+12 0 lost n 1
+13 0 miss D 2 9 deadline 8 activated 4 queued 4 ready 0 running 5 throttled 0 blocked 0 woken 0
+missed 1 overdue 0 lost 3 never 0 merged 1 allowed 0 hints 0
+'''
+# D is given words that no handler takes at 2, and one that a handler without an item takes at 4
+NOBODY = (
+    BUSY.replace('"on 1", "compute 5"', '"on 1", "compute 5", "on 2"').replace('start = 3', 'start = 2')
+    .replace('name = "s", note = "n", badge = 1, period = 2, start = 2', 'name = "e", note = "n", badge = 2, period = 100, start = 4')
+)
+NOBODY_ROWS = '''0 0 release D
+0 0 run D
+1 0 stop D wait 1
+2 0 interrupt k n 4
+2 0 wake D n 4
+2 0 run D
+3 0 stop D wait 1
+4 0 interrupt e n 2
+4 0 wake D n 2
+4 0 run D
+5 0 stop D wait 1
+'''
+# L has the server v and no budget when H calls it
+TAKEN = '''version = 3
+cores = 1
+delay = 1
+context = [{ name = "l", core = 0, budget = 3, period = 10, mode = "sporadic" }, { name = "h", core = 0, budget = 20, period = 100, mode = "sporadic" }]
+note = [{ name = "x", core = 0 }, { name = "y", core = 0 }, { name = "z", core = 0 }]
+server = [
+    { name = "v", core = 0, priority = 40, script = ["compute 5", "on 2", "wait x", "on 4", "signal y 1"] },
+    { name = "w", core = 0, priority = 40, script = ["wait z"] },
+]
+thread = [
+    { name = "L", context = "l", priority = 10, rounds = 1, script = ["call v 1"] },
+    { name = "H", context = "h", priority = 30, start = 4, rounds = 1, deadline = 9, script = ["call v 1"] },
+]
+'''
+TAKEN_ROWS = '''0 0 release L
+0 0 run L
+1 0 enter L v
+3 0 stop L spent 3 until 10
+4 0 release H
+4 0 run H
+5 0 stop H call 1
+10 0 release L
+10 0 run L
+13 0 stop L spent 3 until 20
+20 0 release L
+20 0 run L
+21 0 leave L v
+21 0 enter H v
+21 0 round L 1 21
+21 0 stop L done 1
+21 0 run H
+'''
 
 
 def read(horizon: int = 9) -> reading.Reading:
@@ -130,6 +217,68 @@ class Readings(unittest.TestCase):
         self.assertEqual([reading.distance('tick', other) for other in ('tick', 'ticks', 'pick', 'kit', '')], [0, 1, 1, 3, 4])
         self.assertIn('called "tik": the nearest is tick\n', reading.unknown_note('tik', ['frames', 'tick', 'tig']))
         self.assertIn('called "n": there is none\n', reading.unknown_note('n', []))
+
+
+class NewReadings(unittest.TestCase):
+    """Handlers, servers and interrupts."""
+
+    def test_interrupts_and_bits_that_no_handler_takes(self) -> None:
+        found = reading.Reading(tomllib.loads(BUSY), BUSY_ROWS, 13)
+        self.assertEqual(found.wanted().text, BUSY_FOUND)
+        jobs = [job and (job.begun, job.activated) for job in found.ended.values()]
+        self.assertEqual(jobs, [(2, 2), (8, 4)])
+        self.assertEqual(found.whole.word('n'), (1, 8))
+
+    def test_a_word_that_is_nobodys_is_set_since_no_moment(self) -> None:
+        found = reading.Reading(tomllib.loads(BUSY), BUSY_ROWS[:BUSY_ROWS.index('4 0')], 3)
+        self.assertEqual(found.whole.word('n'), (4, None))
+
+    def test_words_that_no_handler_takes_begin_no_round(self) -> None:
+        found = reading.Reading(tomllib.loads(NOBODY), NOBODY_ROWS, 6)
+        self.assertEqual(found.wanted().text, '6 0 never D deadline 8\nmissed 0 overdue 0 lost 0 never 1 merged 0 allowed 0 hints 0\n')
+        last = answers.wanted(found, 'D', '1').stdout.decode().splitlines()[-2]
+        self.assertEqual(last, 'why D number 1 from 5 to 6 waited 1 activated - begun - ended -')
+
+    def test_a_first_word(self) -> None:
+        rows = '0 0 release D\n0 0 run D\n1 0 got D n 5\n6 0 round D 1 5\n'
+        found = reading.Reading(tomllib.loads(BUSY.replace('core = 0 }]\nthread', 'core = 0, word = 5 }]\nthread')), rows, 7)
+        self.assertEqual([job and (job.begun, job.activated) for job in found.ended.values()], [(1, 0)])
+        held = reading.Reading(tomllib.loads(BUSY.replace('core = 0 }]\nthread', 'core = 0, word = 1 }]\nthread')), '3 0 hold n 1\n', 8)
+        self.assertEqual(held.wanted().text.splitlines()[:2], [
+            '3 0 lost n 1', '8 0 overdue D deadline 8 activated 0 queued 8 ready 0 running 0 throttled 0 blocked 0 woken 0',
+        ])
+
+    def test_a_call_of_a_server_that_is_taken_blocks(self) -> None:
+        found = reading.Reading(tomllib.loads(TAKEN), TAKEN_ROWS, 22)
+        standings = [('pending', 4), ('running', 1), ('blocked', 16), ('running', 1)]
+        self.assertEqual(found.whole.standings('H', 0, 22), [standing for standing, many in standings for _ in range(many)])
+        self.assertEqual(found.whole.standings('L', 0, 4), ['running', 'running', 'running', 'throttled'])
+        self.assertEqual(found.wanted().text.splitlines()[0],
+                         '22 0 overdue H deadline 9 activated 4 queued 0 ready 0 running 2 throttled 0 blocked 16 woken 0')
+
+    def test_who_is_let_in_stands_as_its_next_row_says(self) -> None:
+        for rows, wanted in (('', 'woken'), ('30 0 run H\n', 'ready'), ('30 0 release H\n', 'throttled')):
+            found = reading.Reading(tomllib.loads(TAKEN), TAKEN_ROWS.replace('21 0 run H\n', rows), 31)
+            self.assertEqual(found.whole.standings('H', 20, 23), ['blocked', wanted, wanted])
+
+    def test_hints_look_into_servers_that_are_called(self) -> None:
+        def hinted(text: str) -> list[str]:
+            return [hint.split()[2] for hint in reading.Reading(tomllib.loads(text), '', 0).hints() if hint.startswith('hint note')]
+
+        # for badge 2 the server waits for x; nobody calls w
+        self.assertEqual(hinted(TAKEN), [])
+        self.assertEqual(hinted(TAKEN.replace('"call v 1"', '"call v 6"')), ['x'])
+        self.assertEqual(hinted(TAKEN.replace('"call v 1"', '"call w 1"')), ['z'])
+        self.assertEqual(hinted(TAKEN.replace('"call v 1"', '"wait y", "call v 4"')), [])
+        self.assertEqual(hinted(BUSY.replace('source = ', 'chain = []\n#')), ['n'])
+
+    def test_rows_as_objects(self) -> None:
+        found = reading.Reading(tomllib.loads(BUSY), BUSY_ROWS, 13)
+        self.assertEqual(answers.object_of(answers.values_of(found.rows[3])), '{"moment":2,"core":0,"kind":"interrupt","source":"s","note":"n","badge":1}\n')
+        found = reading.Reading(tomllib.loads(TAKEN), TAKEN_ROWS, 22)
+        self.assertEqual([answers.object_of(answers.values_of(found.rows[place])) for place in (2, 6)], [
+            '{"moment":1,"core":0,"kind":"enter","thread":"L","server":"v"}\n', '{"moment":5,"core":0,"kind":"stop","thread":"H","why":"call","charged":1}\n',
+        ])
 
 
 class WrongCheckers(unittest.TestCase):
