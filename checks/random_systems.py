@@ -119,7 +119,11 @@ def text_of(tables: Tables) -> str:
 
 def random_text(rng: random.Random) -> str:
     """The text of a system of version 2 or 3 without orders."""
-    system = system_of(rng)
+    return text_in_some_version(rng, system_of(rng))
+
+
+def text_in_some_version(rng: random.Random, system: System) -> str:
+    """The text of a system, or of what becomes of it in version 3."""
     return text_of(with_version_3(rng, tomllib.loads(system.text()))) if rng.random() < NEW else system.text()
 
 

@@ -1,7 +1,7 @@
 #!/usr/bin/env python3
 """Tells whether a thread in bandwidth mode runs within each stretch of one period for at most its budget, from the rows that the built program writes.
 
-Random systems without orders run twice: with all their contexts in bandwidth mode, where none may have more than the budget, and with none, where
+Random systems of versions 2 and 3 without orders run twice: with all their contexts in bandwidth mode, where none may have more than the budget, and with none, where
 some must, or else the systems show nothing. A context whose budget is its period is left out."""
 from __future__ import annotations
 
@@ -9,25 +9,27 @@ import collections
 import pathlib
 import random
 import sys
+import tomllib
 from collections.abc import Sequence
+from typing import Any
 
 sys.dont_write_bytecode = True
 sys.path[0] = str(pathlib.Path(__file__).resolve().parents[2])
 from checks import common
 from checks.common import Count
-from checks.random_systems import Context, System, system_of
+from checks.random_systems import Tables, random_text, text_of
 
 HORIZON = 200
 
 
-def in_mode(system: System, is_bandwidth: bool) -> System:
+def in_mode(tables: Tables, is_bandwidth: bool) -> Tables:
     """The system with each context that may be in bandwidth mode in that mode, or in the other."""
-    contexts = [context._replace(is_bandwidth=is_bandwidth and is_limited(context)) for context in system.contexts]
-    return system._replace(contexts=contexts)
+    mode = {'mode': 'bandwidth' if is_bandwidth else 'sporadic'}
+    return {**tables, 'context': [context | mode if is_limited(context) else context for context in tables['context']]}
 
 
-def is_limited(context: Context) -> bool:
-    return context.budget < context.period
+def is_limited(context: dict[str, Any]) -> bool:
+    return bool(context['budget'] < context['period'])
 
 
 def ticks_run(rows: str) -> dict[str, list[int]]:
@@ -55,13 +57,14 @@ def fullest(ticks: Sequence[int], period: int) -> int:
     return most
 
 
-def over_budget(program: pathlib.Path, system: System) -> list[str] | None:
+def over_budget(program: pathlib.Path, tables: Tables) -> list[str] | None:
     """The contexts whose threads run for more than their budget within a period, or None where the system is refused."""
-    ran = common.run([program, '--horizon', str(HORIZON)], system.text().encode())
+    ran = common.run([program, '--horizon', str(HORIZON)], text_of(tables).encode())
     if ran.status:
         return None
     ticks = ticks_run(ran.stdout.decode())
-    return [context.name for context in system.contexts if is_limited(context) and fullest(ticks[f't{context.name}'], context.period) > context.budget]
+    limited = [context for context in tables['context'] if is_limited(context)]
+    return [context['name'] for context in limited if fullest(ticks[f't{context["name"]}'], context['period']) > context['budget']]
 
 
 def main() -> None:
@@ -69,9 +72,9 @@ def main() -> None:
     program = common.built_program(words.program)
     count, over_sporadic = Count(), 0
     for number in range(words.systems):
-        system = system_of(random.Random(f'{words.seed} {number}'))
-        over_sporadic += bool(over_budget(program, in_mode(system, False)))
-        over = over_budget(program, in_mode(system, True))
+        tables = tomllib.loads(random_text(random.Random(f'{words.seed} {number}')))
+        over_sporadic += bool(over_budget(program, in_mode(tables, False)))
+        over = over_budget(program, in_mode(tables, True))
         if over is not None:
             count.expect(f'system {number} of seed {words.seed}: {over} run for more than their budget', not over)
     print(f'{over_sporadic} systems have a sporadic context that gives more than its budget within a period')

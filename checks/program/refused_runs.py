@@ -2,7 +2,7 @@
 """Tells whether the built programs answer well wherever memory is refused: the n-th growth, for n = 1, 2, .. until a run meets none, and then all
 growths from the n-th on.
 
-Worked systems run with 1 and 2 workers, and there are a malformed file and the help, and for mcscheck a name that no notification has. Each run gives
+Worked systems run with 1 and 2 workers, one of them for all time, and there are a malformed file and the help, and for mcscheck a name that no notification has. Each run gives
 the bytes and the status that it must give, or `mcsim: no memory` with status 4 and a first part of those bytes; where growths were refused only while
 the C library started a thread, it gives the bytes. Each kind of run has a line. It needs a C compiler, cc; without one all of it is skipped."""
 from __future__ import annotations
@@ -24,6 +24,8 @@ SYSTEMS = (
     ('examples/depletes_and_refills', 'short', 10),
     ('worked/delivery_in_order_of_making', 'schedule', 7),
     ('worked/ring_of_three_cores', 'schedule', 7),
+    ('events/handlers_of_a_server', 'schedule', 50),
+    ('events/callers_by_priority', 'schedule', 34),
 )
 FOR_EVER = 2**63
 # for the number of the first growth that is refused, that of the last
@@ -65,6 +67,12 @@ def kinds_of_simulator() -> Iterator[Kind]:
         schedule = (DATA / name / f'{run}.stdout').read_bytes()
         for workers in ('1', '2'):
             yield Kind('mcsim', f'{name}, {workers} workers', ['--horizon', str(horizon), '--workers', workers], file, 0, schedule, b'')
+
+
+def kinds_of_events(program: pathlib.Path) -> Iterator[Kind]:
+    """Handlers and interrupts, for all time."""
+    file, asked = (DATA / 'events' / 'handlers.toml').read_bytes(), ['--forever', '--horizon', '300']
+    yield Kind('mcscheck', 'handlers for all time', asked, file, *common.run([program, *asked], file))
 
 
 def kinds_of_checker() -> Iterator[Kind]:
@@ -127,7 +135,7 @@ def main() -> None:
     of_both = [kind for name, program in programs.items() for kind in kinds_of_both(name, program)]
     with tempfile.TemporaryDirectory() as folder:
         library = refusing.compiled(folder)
-        for kind in (*kinds_of_simulator(), *kinds_of_checker(), *of_both):
+        for kind in (*kinds_of_simulator(), *kinds_of_checker(), *kinds_of_events(programs['mcscheck']), *of_both):
             for way, last in WAYS.items():
                 found = tried([programs[kind.program], *kind.words], library, kind, last)
                 count.add(passed=found.runs - len(found.wrong), failed=len(found.wrong))

@@ -1,7 +1,7 @@
 #!/usr/bin/env python3
 """Tells whether tools/trace keeps the rules of the trace event format, which viewers enforce in silence, and shows what rows say.
 
-Over the examples and random systems, some with orders and a least budget: each event has the keys of its phase; slices of a track have a length and never overlap; a track has a name; a
+Over the examples and random systems of versions 2 and 3, some with orders and a least budget: each event has the keys of its phase; slices of a track have a length and never overlap; a track has a name; a
 flow has one beginning and one end, in this order and each inside a slice. The ticks of the running slices of a thread are those that the reports
 give, and moments are told in the ticks that were asked for. With --file a trace that is there is tried alone."""
 from __future__ import annotations
@@ -106,8 +106,8 @@ def ran_by_reports(program: pathlib.Path, system: bytes, horizon: int) -> dict[s
 
 
 def with_orders(rng: random.Random, system: random_systems.System) -> str:
-    """The text of a system with orders: what contexts hold can no longer be read off their configurations."""
-    text = system.text()
+    """The text of a system, of version 2 or 3, with orders: what contexts hold can no longer be read off their configurations."""
+    text = random_systems.text_in_some_version(rng, system)
     for _ in range(rng.randint(0, 6) if system.contexts else 0):
         context = rng.choice(system.contexts)
         period = rng.randint(2, 20)
