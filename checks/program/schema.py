@@ -1,10 +1,11 @@
 #!/usr/bin/env python3
 """Tells whether docs/mcsim.schema.json, which editors read, takes and refuses what the built program takes and refuses.
 
-Each example and each worked system that the program accepts is valid by the schema. Then each example is changed in one place: a required key is
+Each example and each worked system that the program accepts is valid by the schema. Then each example, and some worked systems of version 3, are changed
+in one place: a required key is
 taken out, a key is added, a value becomes one of another kind, or one past an end of its range. Whatever the program refuses for that, the schema
 refuses too. What a schema cannot say stays with the program alone: how values fit one another (a core within `cores`, a budget within its period,
-names that are defined once, a wait that is not last), and that 1.0 is no integer.
+names that are defined once, a wait that is not last, dates that rise), and that 1.0 is no integer.
 
 It needs the Python package jsonschema (Debian's python3-jsonschema); without it all of it is skipped."""
 from __future__ import annotations
@@ -30,7 +31,9 @@ else:
     LACKING = None
 
 SCHEMA = json.loads((TOP / 'docs' / 'mcsim.schema.json').read_text())
-TABLES = ('context', 'note', 'thread', 'order', 'link')
+TABLES = ('context', 'note', 'thread', 'order', 'link', 'server', 'source', 'chain')
+# systems of version 3 that are changed: together they have a server, sources and a chain
+CHANGED = ('at_and_count', 'chain_of_two_cores', 'handlers_of_a_server')
 # the line with which an example begins, by its folder
 BOUND = {
     DATA / 'examples': '#:schema ../../../../docs/mcsim.schema.json',
@@ -78,7 +81,10 @@ def wrong_values(part: Part) -> Iterator[object]:
     elif part['type'] == 'string':
         yield from (1, '', 'x!', 'x' * 33, 'ü')
     elif part['type'] == 'array':
-        yield from (1, ['x'], [1])
+        is_numbers = definition(part['items'])['type'] == 'integer'
+        yield from [1, ['x'], *([[-1], [1.5], [True], [[0]], [2**40], [0, 0]] if is_numbers else [[1]])]
+        if 'minItems' in part:
+            yield []
 
 
 # a place of a system: its name, its part of the schema, and what finds its table in a system
@@ -114,9 +120,9 @@ def changes_in(system: System, place: Place) -> Iterator[tuple[str, System]]:
             yield f'{where}: {key} = {text_of(value)}', changed(system, place, lambda table: table.update({key: value}))
 
 
-def one_thread(script: list[str]) -> System:
+def one_thread(script: list[str], version: int = 1) -> System:
     return {
-        'version': 1, 'cores': 1, 'delay': 1,
+        'version': version, 'cores': 1, 'delay': 1,
         'context': [{'name': 'a', 'core': 0, 'budget': 2, 'period': 5}],
         'note': [{'name': 'n', 'core': 0}],
         'thread': [{'name': 'A', 'context': 'a', 'priority': 5, 'script': script}],
@@ -127,6 +133,16 @@ ITEMS = [
     'compute 1', 'compute 5', '  yield ', 'compute  1099511627776', 'compute 1099511627777', 'compute 10995116277760', 'compute 0', 'compute 05', 'compute -1',
     'compute', 'compute 5 6', 'compute x', 'compute\t5', 'Compute 5', 'signal n 1', ' signal  n   4294967295  ', 'signal n 4294967296', 'signal n 0', 'signal n 01',
     'signal n', 'signal 1', 'signal n 0 x', 'signal n! 1', 'wait', 'wait n n', 'wait n!', 'yield 1', 'sleep 1', '', ' ',
+]
+NEW_ITEMS = [
+    'on 1', ' on  4294967295  ', 'on 4294967296', 'on 0', 'on 01', 'on -1', 'on', 'on 1 2', 'on x', 'On 1', 'call v 1', '  call  v   4294967295 ',
+    'call v 4294967296', 'call v 0', 'call v 01', 'call v', 'call 1', 'call', 'call v 1 2', 'call v! 1', 'spin', '  spin ', 'spin 1', 'Spin',
+]
+SERVER = {'name': 'v', 'core': 0, 'priority': 1, 'script': ['compute 1']}
+# what versions 2 and 3 add, in a system of one thread
+ADDED: list[Callable[[System], object]] = [
+    lambda system: system.update(link=[]), lambda system: system.update(server=[]), lambda system: system.update(source=[]),
+    lambda system: system.update(chain=[]), lambda system: system['context'][0].update(mode='sporadic'), lambda system: system['note'][0].update(word=0),
 ]
 
 
@@ -165,13 +181,28 @@ class Trial:
     def scripts(self) -> None:
         for item in ITEMS:
             self.agree(f'item {item!r}', one_thread([item, 'compute 1']))
+        for item in (*ITEMS, *NEW_ITEMS):
+            self.agree(f'item {item!r} in version 2', one_thread([item, 'compute 1'], 2))
+            # the first item is a wait, so that a handler may follow
+            script = ['wait n', item, 'compute 1']
+            self.agree(f'item {item!r} in version 3', one_thread(script, 3) | {'server': [SERVER]})
+            self.agree(f'item {item!r} of a server', one_thread(['compute 1'], 3) | {'server': [SERVER, SERVER | {'name': 'w', 'script': script}]})
         for items in (0, MOST_ITEMS, MOST_ITEMS + 1):
             self.agree(f'a script of {items} items', one_thread(['compute 1'] * items))
+            self.agree(f'a server of {items} items', one_thread(['compute 1'], 3) | {'server': [SERVER | {'script': ['compute 1'] * items}]})
+
+    def versions(self) -> None:
+        """What a version adds is refused by both in those before it."""
+        for version in (1, 2, 3):
+            for place, add in enumerate(ADDED):
+                system = one_thread(['compute 1'], version)
+                add(system)
+                self.agree(f'version {version} with addition {place}', system)
 
     def rows(self) -> None:
         """A row too many is refused by both."""
         for table in TABLES:
-            system = one_thread(['compute 1']) | {'version': 2, table: [{}] * (MOST_ROWS + 1)}
+            system = one_thread(['compute 1'], 3) | {table: [{}] * (MOST_ROWS + 1)}
             refused = self.fault_of(system) == f'mcsim: too many at {table}'
             self.count.expect(f'{MOST_ROWS + 1} rows of {table}', refused and not self.is_valid(system))
 
@@ -193,8 +224,9 @@ def main() -> None:
     trial = Trial(common.built_program(words.program))
     trial.files()
     trial.scripts()
+    trial.versions()
     trial.rows()
-    for file in sorted((DATA / 'examples').glob('*.toml')):
+    for file in [*sorted((DATA / 'examples').glob('*.toml')), *(DATA / 'events' / f'{name}.toml' for name in CHANGED)]:
         trial.changes(file)
     trial.count.end()
 
