@@ -35,8 +35,6 @@ UNKNOWN = f'{NAME}: --allow-lost: no notification is called "%s": %s\n'
 # a system without a thread, and one of two notifications of like names
 EMPTY = b'version = 1\ncores = 1\ndelay = 1\ncontext = [{ name = "a", core = 0, budget = 2, period = 5 }]\n'
 NOTES = EMPTY + b'note = [{ name = "tick", core = 0 }, { name = "tock", core = 0 }]\n'
-# a thread that starts late: its first round begins when it starts
-LATER = EMPTY + b'thread = [{ name = "A", context = "a", priority = 5, start = 5, script = ["compute 1"] }]\n'
 # so little that a text of this many bytes has no room
 SPACE, LARGE = 48 * 2**20, 40 * 2**20
 # a thread that misses its deadline once in some 10^6 ticks
@@ -157,14 +155,13 @@ def cases_of_rounds(folder: pathlib.Path) -> Iterator[Case]:
     for name, said in (('Lop', 'the nearest is Loop'), ('a\nb', 'the nearest is Loop'), ('clock', 'the nearest is Clock')):
         yield Case(f'a thread {name!r}', ['--why', name, 'none'], system, NOTHING, exactly(no_thread(name, said)), 2)
     yield Case('a thread where there is none', ['--why', 'A', '1'], EMPTY, NOTHING, exactly(no_thread('A', 'there is none')), 2)
+    # a thread that has started is on the way to its first wait, which is its first round
+    later = system.replace(b'priority = 9,', b'priority = 9, start = 2,')
     for number in ('0', '4', 'last', '18446744073709551617', ''):
-        for horizon, said in ((30, 'there are rounds 1 to 3'), (3, 'there is round 1'), (1, 'there is round 1')):
+        for text, horizon, said in ((system, 30, 'there are rounds 1 to 3'), (system, 3, 'there is round 1'), (system, 1, 'there is round 1'), (later, 1, 'there is none')):
             line = f'{NAME}: --why: no round "{number}" of Loop: {said}\n'.encode()
             asked = ['--horizon', str(horizon), '--why', 'Loop', number]
-            yield Case(f'round {number!r} up to {horizon}', asked, system, NOTHING, exactly(line), 2)
-    for horizon, said in ((4, 'there is none'), (5, 'there is round 1')):
-        line = f'{NAME}: --why: no round "2" of A: {said}\n'.encode()
-        yield Case(f'a thread that starts at 5, up to {horizon}', ['--horizon', str(horizon), '--why', 'A', '2'], LATER, NOTHING, exactly(line), 2)
+            yield Case(f'round {number!r} up to {horizon}: {said}', asked, text, NOTHING, exactly(line), 2)
     for wrong in (['--why', 'Loop'], ['--why=Loop'], ['--why', 'Loop', '1', '--why', 'Loop', '2']):
         yield Case(f'{wrong}', wrong, system, NOTHING, begins(b'error: ', b'--why'), 2)
     yield Case('a round on a full device', words, system, NOTHING, WRITE_FAILED, 3, '/dev/full')

@@ -112,6 +112,17 @@ def items_of(servers: Scripts, script: Sequence[str], badge: Optional[int] = Non
             yield [word, *rest]
 
 
+def has_work(script: Sequence[str], word: int) -> bool:
+    """Whether a word of the script's first wait leaves an item behind it, in no handler or in one for a bit of the word."""
+    is_passed_over = word == 0
+    for item in script[1:]:
+        if item.split()[0] == 'on':
+            is_passed_over = not int(item.split()[1]) & word
+        elif not is_passed_over:
+            return True
+    return False
+
+
 class Past:
     """The rows before a place of a schedule."""
 
@@ -233,14 +244,7 @@ class Reading:
         return rest[0] if word == 'wait' else None
 
     def has_work(self, thread: str, word: int) -> bool:
-        """Whether a word of the script's first wait leaves an item behind it, in no handler or in one for a bit of the word."""
-        is_passed_over = word == 0
-        for item in self.threads[thread]['script'][1:]:
-            if item.split()[0] == 'on':
-                is_passed_over = not int(item.split()[1]) & word
-            elif not is_passed_over:
-                return True
-        return False
+        return has_work(self.threads[thread]['script'], word)
 
     def is_heard(self, note: str, word: int) -> bool:
         return any(self.first_wait(thread) == note and self.has_work(thread, word) for thread in self.threads)

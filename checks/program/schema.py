@@ -202,7 +202,7 @@ class Trial:
     def rows(self) -> None:
         """A row too many is refused by both."""
         for table in TABLES:
-            system = one_thread(['compute 1'], 3) | {table: [{}] * (MOST_ROWS + 1)}
+            system: System = one_thread(['compute 1'], 3) | {table: [{}] * (MOST_ROWS + 1)}
             refused = self.fault_of(system) == f'mcsim: too many at {table}'
             self.count.expect(f'{MOST_ROWS + 1} rows of {table}', refused and not self.is_valid(system))
 

@@ -23,7 +23,7 @@ sys.dont_write_bytecode = True
 sys.path[0] = str(pathlib.Path(__file__).resolve().parents[2])
 from checks import common, random_systems
 from checks.common import DATA, TOP, Count, Word
-from checks.program import browser
+from checks.program import browser, reading
 from checks.program.browser import Browser
 
 HORIZONS = (12, 60, 300)
@@ -59,13 +59,18 @@ class Expected:
         tables = tomllib.loads(system.decode())
         self.threads = {thread['name']: thread for thread in tables['thread']}
         self.with_thread = {thread['context'] for thread in tables['thread']}
-        self.waited = {item.split()[1] for thread in self.threads.values() for item in thread['script'] if item.split()[0] == 'wait'}
+        servers = reading.scripts_of(tables)
+        items = (item for thread in self.threads.values() for item in reading.items_of(servers, thread['script']))
+        self.waited = {item[1] for item in items if item[0] == 'wait'}
+        self.firsts = {note['name']: note.get('word', 0) for note in tables.get('note', [])}
         self.rows = [line.split() for line in text.splitlines()]
         self.horizon = horizon
         self.count: collections.Counter[str] = collections.Counter()
         for name in self.threads:
-            own = [row for row in self.rows if row[2] in ('run', 'stop', 'release', 'wake', 'got', 'round') and row[3] == name]
-            self.stands(name, [row for row in own if row[2] in ('run', 'stop', 'release', 'wake')])
+            own = [row for row in self.rows if row[2] in ('run', 'stop', 'release', 'wake', 'enter') and row[3] == name]
+            # a thread that runs enters a server and stands as before
+            before: list[Row] = [[], *own]
+            self.stands(name, [row for row, last in zip(own, before) if row[2] != 'enter' or last[2] == 'stop' and last[4] == 'call'])
             self.rounds(name)
         self.signals()
         self.count['on'] = self.count['running']
@@ -73,10 +78,10 @@ class Expected:
     def standing(self, row: Row, after: Optional[Row]) -> Optional[str]:
         if row[2] in ('run', 'release'):
             return {'run': 'running', 'release': 'ready'}[row[2]]
-        if row[2] == 'wake':
+        if row[2] in ('wake', 'enter'):
             # what follows the wake says what it was; where nothing does, the page knows more than the rows
             return 'woken' if after is None else 'throttled' if after[2] == 'release' else 'ready'
-        return 'throttled' if len(row) == 8 else {'wait': 'blocked', 'done': None}.get(row[4], 'ready')
+        return 'throttled' if len(row) == 8 else {'wait': 'blocked', 'call': 'blocked', 'done': None}.get(row[4], 'ready')
 
     def stands(self, name: str, own: Sequence[Row]) -> None:
         """How a thread stands, as (begin, end, standing); the last one goes on beyond the horizon, which is a moment too."""
@@ -96,16 +101,20 @@ class Expected:
 
     def rounds(self, name: str) -> None:
         """Activations, deadlines and ends of a thread's rounds, and of the one that is open at the horizon."""
-        first = self.threads[name]['script'][0].split()
-        note = first[1] if first[0] == 'wait' else None
+        script = self.threads[name]['script']
+        note = script[0].split()[1] if script[0].startswith('wait ') else None
         begun, activated, first_set, is_done = self.segments[0][0] if self.segments else None, None, None, False
+        if note and self.is_heard(note, self.firsts[note]):
+            first_set = 0
+        word = self.firsts.get(note or '', 0)
         for moment, _, kind, *rest in self.rows:
-            if kind == 'hold' and rest[0] == note and first_set is None:
-                first_set = int(moment)
+            if kind == 'hold' and rest[0] == note:
+                word = int(rest[1])
+                first_set = int(moment) if first_set is None and self.is_heard(note, word) else first_set
             elif kind == 'got' and rest[1] == note:
-                activated = first_set if rest[0] == name and activated is None else activated
-                first_set = None
-            elif kind == 'wake' and rest[0] == name and note and activated is None:
+                activated = first_set if rest[0] == name and activated is None and reading.has_work(script, word) else activated
+                first_set, word = None, 0
+            elif kind == 'wake' and rest[0] == name and note and activated is None and reading.has_work(script, int(rest[2])):
                 activated = int(moment)
             elif kind == 'round' and rest[0] == name and begun is not None:
                 self.round(name, activated if note else self.first_ready(begun), int(moment))
@@ -116,9 +125,15 @@ class Expected:
             return
         if note:
             # a word that is held activates the round that is yet to begin, though the thread has not run at all
-            self.round(name, first_set if activated is None else activated, None)
+            held = first_set if reading.has_work(script, word) else None
+            self.round(name, held if activated is None else activated, None)
         elif begun is not None:
             self.round(name, self.first_ready(begun), None)
+
+    def is_heard(self, note: str, word: int) -> bool:
+        """Whether a word of a notification leaves something to do to a thread that waits for it first."""
+        scripts = [thread['script'] for thread in self.threads.values()]
+        return any(script[0].split() == ['wait', note] and reading.has_work(script, word) for script in scripts)
 
     def round(self, name: str, activated: Optional[int], end: Optional[int]) -> None:
         if activated is None:
@@ -133,9 +148,10 @@ class Expected:
             self.count['endlate' if is_bad else 'end'] += 1
 
     def signals(self) -> None:
-        words: collections.Counter[str] = collections.Counter()
-        for row in self.rows:
-            if row[2] == 'signal':
+        words = collections.Counter(self.firsts)
+        for before, row in zip([[''] * 3, *self.rows], self.rows):
+            # an interrupt that wakes is a sign in the lane of its thread
+            if row[2] == 'signal' or row[2] == 'wake' and before[2] == 'interrupt':
                 self.count['made'] += 1
             elif row[2] == 'hold':
                 if row[3] in self.waited:
@@ -269,7 +285,7 @@ def main() -> None:
             trial.look(file, 60)
         for number in range(words.systems):
             file = trial.folder / f'random_{number}.toml'
-            file.write_text(random_systems.system_of(rng).text())
+            file.write_text(random_systems.random_text(rng))
             trial.look(file, rng.choice(HORIZONS))
         try_live(page, program, trial.folder, trial.count)
     print(f'{trial.counted} bars and signs were counted')
