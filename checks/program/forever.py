@@ -60,7 +60,7 @@ SEEN = (
     'status 0', 'status 1', 'status 5', 'status 6', 'a set of several cores', 'a core of a larger set', 'repeats', 'open', 'at rest', 'rounds that go on',
     'miss in each period', 'miss before alone', 'miss so far', 'lost in each period', 'lost before alone', 'lost so far', 'overdue', 'overdue so far',
     'never', 'never so far', 'greatest', 'no greatest', 'throttled never', 'throttled', 'ends no round', 'ends rounds', 'clean', 'a lost signal that is allowed',
-    'an order',
+    'an order', 'interrupts without end', 'interrupts that ended',
 )
 
 
@@ -128,6 +128,9 @@ class Trial:
             self.seen['clean'] += each.claim.is_clean
             self.seen['a lost signal that is allowed'] += each.is_allowed(allowed)
             self.seen['an order'] += bool(each.tables.get('order')) and not so_far
+            self.seen['interrupts without end'] += not so_far and any(row.kind == 'interrupt' for row in each.rows_in(0))
+            self.seen['interrupts that ended'] += not so_far and bool(list(each.last_interrupts()))
+            self.seen['a server that is entered'] += not so_far and any(row.kind == 'enter' for row in each.rows_in(0))
             if not so_far:
                 self.seen['at rest'] += not each.rows_in(0)
                 self.seen['rounds that go on'] += bool(each.numbers(0))

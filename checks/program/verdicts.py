@@ -56,6 +56,7 @@ SEEN = (
     *(f'job {part}' for part in ('queued', 'preemptions', *reading.PARTS[:4])), 'jobs that are preempted twice',
     *(f'{show} as {form}' for show in ('findings', 'jobs', 'table') for form in ('csv', 'json')), 'table as text', 'both as text', 'both as json', 'both as csv',
     'margin above 0', 'margin 0', 'margin below 0', 'no margin', 'late', 'missed and not late', 'unused', 'unused is not known', 'a percentile below the greatest',
+    'an interrupt is lost', 'an interrupt is merged', 'a call waits', 'a caller is let in', 'a word is nobody\'s', 'a first word is taken',
     *(f'why {what}' for what in ('ended', 'waited', 'under way', 'not activated', 'word held', 'waits', 'no round', 'no thread', 'mixed', 'as json')),
 )
 
@@ -265,6 +266,7 @@ class Trial:
         for thread in found.threads:
             if (late := found.overdue(thread)) and not late.standings:
                 self.seen['yet to begin'] += 1
+        self.seen.update(what for row, before in zip(found.rows[1:], found.rows) for what in told_by(row, before, found))
         self.seen['activated late'] += sum(ended is not None and (ended.activated or 0) > ended.begun for ended in found.ended.values())
 
     def tell_parts(self, wanted: Wanted) -> None:
@@ -290,6 +292,20 @@ class Trial:
         self.count.expect(f'{system.name}: found {found}, status {ran.status}', (found, ran.status) == (kinds, 5 if kinds else 0))
         self.count.expect(f'{system.name}: {lines}', bool(kinds) or not lines)
         self.agrees(system, random.Random(system.name))
+
+
+def told_by(row: reading.Row, before: reading.Row, found: Reading) -> Iterator[str]:
+    """What a row of version 3 shows, behind the one before it."""
+    if row.kind == 'hold' and before.kind == 'interrupt' and (what := found.found(row)):
+        yield f'an interrupt is {what[0]}'
+    if row.kind == 'stop' and row.what[2] == 'call':
+        yield 'a call waits'
+    if row.is_let_in:
+        yield 'a caller is let in'
+    if row.kind in ('got', 'wake') and found.first_wait(row.what[1]) == row.what[2] and not found.begins(row):
+        yield 'a word is nobody\'s'
+    if row.kind == 'got' and found.schedule.firsts[row.what[2]] and not any(past.kind == 'got' for past in found.past(row).of_note(row.what[2])):
+        yield 'a first word is taken'
 
 
 def parted(text: str) -> tuple[str, dict[str, dict[str, int]]]:
