@@ -56,6 +56,7 @@ CHECKS = (
     Check('program', 'views'),
     Check('program', 'bandwidth'),
     Check('program', 'rules'),
+    Check('program', 'readers'),
     Check('program', 'analyses'),
     Check('program', 'engines'),
     Check('program', 'refused_runs'),

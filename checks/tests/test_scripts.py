@@ -15,7 +15,7 @@ from unittest import mock
 
 from checks import common, everything, random_systems
 from checks.pages import manual, mended, pages
-from checks.program import analyses, bandwidth, faults, progress, refused_runs, rules, stress, traces, views, waves
+from checks.program import analyses, bandwidth, faults, progress, readers, refused_runs, rules, stress, traces, views, waves
 from checks.program.refusing import Answer
 from checks.proofs import theorems
 
@@ -280,6 +280,22 @@ class Rules(unittest.TestCase):
                 with contextlib.redirect_stdout(io.StringIO()), mock.patch('tempfile.tempdir', folder):
                     trial.look('handlers', text, 12)
             self.assertEqual((trial.count.tally.failed, trial.count.tally.passed), (failed, int(not failed and status == 0)))
+
+    def test_the_readers_see_what_differs(self) -> None:
+        text = (common.DATA / 'events' / 'handlers.toml').read_text().replace('priority = 5', 'priority = 5\ndeadline = 5')
+        rows = (common.DATA / 'events' / 'handlers' / 'schedule.stdout').read_bytes()
+        # the second round was activated at 2 and ended at 8; D ran from 0 to 1 and from 2 to 9, and was blocked else
+        miss = '8 0 miss D 2 6 deadline 5 activated 2 queued 3 ready 0 running 3 throttled 0 blocked 0 woken 0\n'
+        stood = ' '.join(f'ticks_{what} {ticks}' for what, ticks in (('pending', 0), ('ready', 0), ('running', 8), ('throttled', 0), ('blocked', 4), ('woken', 0), ('done', 0)))
+        good = f'{miss}thread D core 0 {stood}\ncontext d unused 1\nmissed 1 overdue 0 lost 0 never 0 merged 0 allowed 0 hints 0\n'
+        for told, failed in ((good, 0), (good.replace(' 6 deadline', ' 3 deadline'), 1), (good.replace(miss, ''), 1), (good + '5 0 lost n 1\n', 1),
+                             (good.replace('merged 0', 'merged 1'), 1), (good.replace('running 8', 'running 7'), 1), (good.replace('ticks_ready 0', 'ticks_ready 1'), 1)):
+            trial = readers.Trial(pathlib.Path('mcsim'), pathlib.Path('mcscheck'))
+            answers = iter([common.Ran(0, rows, b''), common.Ran(5, told.encode(), b'')])
+            with tempfile.TemporaryDirectory() as folder, mock.patch('checks.common.run', lambda *_: next(answers)):
+                with contextlib.redirect_stdout(io.StringIO()), mock.patch('tempfile.tempdir', folder):
+                    trial.look('handlers', text, 12)
+            self.assertEqual(trial.count.tally.failed, failed, told)
 
     def test_a_program_that_says_nothing_shows_no_kind_of_row(self) -> None:
         self.assertGreaterEqual(self.rules_of('exit 0').failed, 1)

@@ -1,0 +1,144 @@
+#!/usr/bin/env python3
+"""Tells whether what the tools read off the rows of mcsim is what mcscheck finds, on random systems of versions 2 and 3.
+
+One pass over rows (tools/mcsim_tools/reading.py) is behind pictures, traces, waves and sweeps. Its rounds that missed their deadline, those that are overdue,
+threads that were never activated, lost and merged signals, and how many ticks each thread stood in each way are those that `mcscheck --show both` tells. Of
+a thread that was woken and not chosen up to the horizon the tools know whether it is ready or throttled, by its budget, and mcscheck does not. A kind of
+finding that was seen nowhere is a failure: a test that sees nothing of it tells nothing."""
+from __future__ import annotations
+
+import collections
+import pathlib
+import random
+import sys
+import tempfile
+import tomllib
+from collections.abc import Iterator
+
+sys.dont_write_bytecode = True
+sys.path[0] = str(pathlib.Path(__file__).resolve().parents[2])
+from checks import common
+from checks.common import TOP, Count
+from checks.program import verdicts
+from checks.random_systems import text_of
+
+sys.path.insert(1, str(TOP / 'tools'))
+from mcsim_tools import system as systems
+from mcsim_tools.reading import LOST, MERGED, STANDINGS, Listener, Post, Reading, Round, Stood
+from mcsim_tools.system import System, Thread
+
+# of a line of a finding how many words are compared: those behind them are sums of standings
+COMPARED = {'miss': 10, 'overdue': 8, 'never': 6, 'lost': 4}
+# what mcscheck tells apart, and the tools do not
+UNSETTLED = ('ready', 'throttled', 'woken')
+HORIZONS = (0, 10, 60, 60, 200, 400)
+SEEN = (*COMPARED, 'merged', 'woken', 'blocked', 'version 2', 'version 3')
+
+
+class Found(Listener):
+    """What the tools find, as the lines of mcscheck."""
+
+    def __init__(self, system: System, horizon: int) -> None:
+        self.system, self.horizon = system, horizon
+        self.lines: collections.Counter[str] = collections.Counter()
+        self.merged = 0
+        self.ticks: dict[str, collections.Counter[str]] = {name: collections.Counter() for name in system.threads}
+
+    def stood(self, stood: Stood) -> None:
+        self.ticks[stood.thread.name][STANDINGS[stood.standing]] += stood.end - stood.begin
+
+    def round_ended(self, ended: Round) -> None:
+        thread = ended.thread
+        if ended.is_missed:
+            how = f'deadline {thread.deadline} activated {ended.activated}'
+            self.lines[f'{ended.end} {thread.core} miss {thread.name} {ended.number} {ended.response} {how}'] += 1
+
+    def round_open(self, open_round: Round) -> None:
+        thread = open_round.thread
+        if open_round.is_overdue:
+            self.lines[f'{self.horizon} {thread.core} overdue {thread.name} deadline {thread.deadline} activated {open_round.activated}'] += 1
+
+    def never(self, thread: Thread, horizon: int) -> None:
+        self.lines[f'{horizon} {thread.core} never {thread.name} deadline {thread.deadline}'] += 1
+
+    def posted(self, post: Post) -> None:
+        if post.outcome == LOST:
+            self.lines[f'{post.arrived} {self.system.home_of[post.note]} lost {post.note}'] += 1
+        self.merged += post.outcome == MERGED
+
+
+class Told:
+    """What mcscheck tells of a system."""
+
+    def __init__(self, text: str) -> None:
+        self.lines: collections.Counter[str] = collections.Counter()
+        self.merged = 0
+        self.ticks: dict[str, dict[str, int]] = {}
+        for words in map(str.split, text.splitlines()):
+            if words[0].isdigit():
+                self.lines[' '.join(words[:COMPARED[words[2]]])] += 1
+            elif words[0] == 'thread':
+                values = dict(zip(words[::2], words[1::2]))
+                self.ticks[values['thread']] = {standing: int(values[f'ticks_{standing}']) for standing in (*STANDINGS, 'woken')}
+            elif words[0] == 'missed':
+                self.merged = int(words[words.index('merged') + 1])
+
+
+def differing(found: Found, told: Told) -> Iterator[str]:
+    """What the tools say otherwise."""
+    if found.lines != told.lines:
+        yield f'the tools find {[*(found.lines - told.lines)][:3]}, and mcscheck {[*(told.lines - found.lines)][:3]}'
+    if found.merged != told.merged:
+        yield f'{found.merged} merged signals, and not {told.merged}'
+    for name, own in found.ticks.items():
+        theirs = told.ticks[name]
+        settled = all(own[standing] == theirs[standing] for standing in STANDINGS if standing not in UNSETTLED)
+        more = [own[standing] - theirs[standing] for standing in UNSETTLED[:2]]
+        if not settled or min(more) < 0 or sum(more) != theirs['woken']:
+            yield f'{name} stood {dict(own)}, and not {theirs}'
+
+
+class Trial:
+    """The two programs, and what the systems have shown."""
+
+    def __init__(self, simulator: pathlib.Path, checker: pathlib.Path) -> None:
+        self.simulator, self.checker = simulator, checker
+        self.count = Count()
+        self.seen: collections.Counter[str] = collections.Counter()
+
+    def look(self, name: str, text: str, horizon: int) -> None:
+        rows = common.run([self.simulator, '--horizon', str(horizon)], text.encode())
+        if rows.status == 1:
+            return
+        ran = common.run([self.checker, '--horizon', str(horizon), '--show', 'both'], text.encode())
+        tables = tomllib.loads(text)
+        system = systems.system_of(tables)
+        found, told = Found(system, horizon), Told(ran.stdout.decode())
+        Reading(system, found).read(rows.stdout.decode().splitlines(), horizon)
+        wrong = list(differing(found, told))
+        if wrong:
+            file = pathlib.Path(tempfile.gettempdir(), f'readers-{name}.toml')
+            file.write_text(text)
+            name = str(file)
+        self.count.expect(f'{name} --horizon {horizon}: {wrong}', not wrong)
+        self.seen[f'version {tables["version"]}'] += 1
+        self.seen['merged'] += told.merged
+        self.seen.update(line.split()[2] for line in told.lines.elements())
+        self.seen.update(standing for ticks in told.ticks.values() for standing in ('woken', 'blocked') if ticks[standing])
+
+
+def main() -> None:
+    words = common.asking_random(__doc__, 500).parse_args()
+    simulator = common.built_program(words.program)
+    trial = Trial(simulator, common.beside(simulator, 'mcscheck'))
+    for number in range(words.systems):
+        rng = random.Random(f'readers {words.seed} {number}')
+        trial.look(f'{words.seed}-{number}', text_of(verdicts.tables_of(rng)), rng.choice(HORIZONS))
+    print(', '.join(f'{what} {trial.seen[what]}' for what in SEEN))
+    for what in SEEN:
+        trial.count.expect(f'no system shows: {what}', trial.seen[what] > 0)
+    trial.count.end()
+
+
+if __name__ == '__main__':
+    main()
