@@ -371,7 +371,7 @@ class Reading:
     def close_round(self, account: Account) -> None:
         """A round under way, or the word that is held for the next one."""
         activated, note, was_activated = account.activated, account.activated_by, account.was_activated
-        if account.begun is None and note and account.standing != DONE and self.words[note] and account.thread.has_work_for(self.words[note]):
+        if account.begun is None and note and account.standing != DONE and account.thread.has_work_for(self.words[note]):
             activated, was_activated = self.first_set[note], True
         # no tick follows the horizon, in which the thread could be ready or run
         is_too_late = note is None and activated == self.end

@@ -68,8 +68,13 @@ class Thread:
         return self.context.core
 
     def has_work_for(self, word: int) -> bool:
-        """Whether a word that is not 0 leaves the thread something to do when its script's first wait gives it."""
-        return self.bits is None or word & self.bits != 0
+        """Whether a word leaves the thread something to do when its script's first wait gives it."""
+        return has_one_of(word, self.bits)
+
+
+def has_one_of(word: int, bits: Optional[int]) -> bool:
+    """Whether a word has one of these bits, or any where all will do."""
+    return word != 0 if bits is None else word & bits != 0
 
 
 @dataclass(frozen=True)
@@ -91,6 +96,8 @@ class System:
     chains: dict[str, str] = field(default_factory=dict)
     thread_of: dict[str, Thread] = field(init=False)
     waiters: dict[str, list[Thread]] = field(init=False)
+    # for each notification the bits that leave something to do to a thread whose script begins with a wait for it
+    heard: dict[str, Optional[int]] = field(init=False)
 
     def __post_init__(self) -> None:
         waiters: dict[str, list[Thread]] = {note: [] for note in self.home_of}
@@ -99,10 +106,11 @@ class System:
                 waiters[note].append(thread)
         object.__setattr__(self, 'thread_of', {thread.context.name: thread for thread in self.threads.values()})
         object.__setattr__(self, 'waiters', waiters)
+        object.__setattr__(self, 'heard', {note: bits_of_all([thread for thread in own if thread.activated_by == note]) for note, own in waiters.items()})
 
     def is_set(self, note: str, word: int) -> bool:
         """Whether a notification's word leaves something to do to a thread whose script begins with a wait for it."""
-        return word != 0 and any(thread.activated_by == note and thread.has_work_for(word) for thread in self.waiters[note])
+        return has_one_of(word, self.heard[note])
 
     def by_core(self) -> dict[int, list[Thread]]:
         """The threads of each core that has some, by priority, so that preemption reads downward."""
@@ -110,6 +118,16 @@ class System:
         for thread in sorted(self.threads.values(), key=lambda thread: (thread.core, -thread.priority, thread.number)):
             found.setdefault(thread.core, []).append(thread)
         return found
+
+
+def bits_of_all(threads: Iterable[Thread]) -> Optional[int]:
+    """The bits that leave one of these threads something to do."""
+    bits = 0
+    for thread in threads:
+        if thread.bits is None:
+            return None
+        bits |= thread.bits
+    return bits
 
 
 def whole(table: Tables, key: str, default: Optional[int] = None, least: int = 0, most: int = GREATEST) -> int:

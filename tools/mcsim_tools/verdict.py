@@ -172,7 +172,9 @@ def counted(lines: Sequence[str], system: System, of: Collection[str]) -> dict[s
         kind, name = words[2], words[3]
         if not of or name in wanted.get(kind, of):
             counts[COUNTED[kind]] += 1
-    return {kind: counts[kind] for kind in kinds_of(system)}
+    # a checker that does not look at chains counts none of theirs
+    looked_at = {*KINDS, *counts, *(lines[-1].split() if lines else [])}
+    return {kind: counts[kind] for kind in kinds_of(system) if kind in looked_at}
 
 
 def check_names(of: Sequence[str], system: System) -> None:

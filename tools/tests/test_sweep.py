@@ -157,11 +157,15 @@ class Lines(Case):
 
     def test_a_system_with_chains_has_columns_for_them(self) -> None:
         self.file.write_text(NEW_SYSTEM)
-        (self.programs / '1.out').write_text(''.join(f'{line}\n' for line in [*CHAINED, COUNTS]))
-        told = self.ran(self.file, '--set', 'context.a.budget=1,4,6')
+        counts = f'{COUNTS} slow 2 unanswered 1'
+        (self.programs / '1.out').write_text(''.join(f'{line}\n' for line in [*CHAINED, counts]))
+        (self.programs / '3.out').write_text(f'{COUNTS} slow 0 unanswered 0\n')
+        # under a budget of 4 nothing is told of chains
+        told = self.ran(self.file, '--set', 'context.a.budget=1,3,4,6')
         self.assertEqual((told.status, told.stdout), (0, """context.a.budget,status,fault,missed,lost,overdue,never,slow,unanswered,greatest A
 1,5,,0,0,0,0,2,1,7
-4,0,,0,0,0,0,0,0,7
+3,0,,0,0,0,0,0,0,7
+4,0,,0,0,0,0,,,7
 6,1,control: budget over period at context 1 budget,,,,,,,
 """))
         for name, wanted in (('A', '1,5,,0,0,0,0,2,0,7'), ('B', '1,5,,0,0,0,0,0,1,7')):
