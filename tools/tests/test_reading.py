@@ -249,6 +249,25 @@ class Rounds(unittest.TestCase):
         self.assertEqual([(one.activated, one.is_overdue) for one in listener.open], [(6, True)])
         self.assertEqual(listener.nevers, [])
 
+    def test_a_word_is_set_by_the_first_bit_that_any_waiter_has_something_to_do_for(self) -> None:
+        text = '''
+version = 3
+cores = 1
+delay = 1
+context = [{ name = "a", core = 0, budget = 9, period = 9 }, { name = "b", core = 0, budget = 9, period = 9 }]
+note = [{ name = "n", core = 0 }]
+thread = [
+    { name = "A", context = "a", priority = 5, start = 5, script = ["wait n", "on 1", "compute 2"] },
+    { name = "B", context = "b", priority = 4, start = 20, script = ["wait n", "on 2", "compute 1"] },
+]
+source = [{ name = "s", note = "n", badge = 2, period = 50, start = 3 }, { name = "k", note = "n", badge = 1, period = 50, start = 4 }]
+'''
+        rows = '3 0 interrupt s n 2\n3 0 hold n 2\n4 0 interrupt k n 1\n4 0 hold n 3\n5 0 release A\n5 0 run A\n6 0 got A n 3\n8 0 round A 1 2'
+        self.assertEqual([one[2] for one in self.rounds(text, rows, 8)], [3])
+        # without B nobody has something to do for the first bit
+        alone = text.replace('"on 2", "compute 1"', '"on 4", "compute 1"')
+        self.assertEqual([one[2] for one in self.rounds(alone, rows, 8)], [4])
+
     def test_a_first_word_activates_at_0(self) -> None:
         self.assertEqual(self.rounds(FIRST_WORD, FIRST_WORD_ROWS, 9), [('W', 1, 0, 3, True)])
         # the bit 4 alone is nobody's
