@@ -1,0 +1,4 @@
+pub mod Dates
+pub mod Interrupts
+pub mod Schedules
+mod Worked
