@@ -27,7 +27,7 @@ past-map : (t : ℕ) (f : Beat → Alarm) (beats : List Beat) → past t (map f 
 past-map t f [] = refl
 past-map t f (beat ∷ beats) = ap (λ alarms. rung_if t (f beat) ∷ alarms) (past-map t f beats)
 
-before-map : (system : System) (beats : List Beat) (t : ℕ) → before_moment t (map (alarm_of system) beats) ≡ map (λ beat. alarm_before system beat t) beats
+pub before-map : (system : System) (beats : List Beat) (t : ℕ) → before_moment t (map (alarm_of system) beats) ≡ map (λ beat. alarm_before system beat t) beats
 before-map system beats zero = refl
 before-map system beats (suc t) = ap (past t) (before-map system beats t) ∙ past-map t (λ beat. alarm_before system beat t) beats
 

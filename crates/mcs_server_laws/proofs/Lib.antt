@@ -1,4 +1,7 @@
 pub mod Dates
+pub mod Nesting
+pub mod Exclusion
+pub mod Holders
 pub mod Interrupts
 pub mod Schedules
 mod Worked

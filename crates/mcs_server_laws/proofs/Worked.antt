@@ -1,18 +1,21 @@
 -- Values that were worked by hand from the rules, at the edges where a law that said a little more, or less, would fail.
-use Rattle.std.specs.Prelude.{◌≡◌, ℕ, List, [], ◌∷◌, None, refl}
+use Rattle.std.specs.Prelude.{◌≡◌, ℕ, Bool, true, false, List, [], ◌∷◌, map, None, refl}
 use Rattle.mcs_ticks.specs.declared.row.What.TheVariants as row
 use Rattle.mcs_ticks.specs.declared.row.Why.TheVariants as why
 use Rattle.mcs_control.specs.declared.config.Mode.TheVariants.{Sporadic}
 use Rattle.mcs_script.specs.declared.item.Item.{Item}
-use Rattle.mcs_script.specs.declared.item.Item.TheVariants.{Compute, Wait}
+use Rattle.mcs_script.specs.declared.item.Item.TheVariants.{Compute, Wait, On, Enter, Leave}
 use Rattle.mcs_system.specs.declared.part.Beat.{Beat}
 use Rattle.mcs_system.specs.declared.part.ContextPart.{ContextPart}
 use Rattle.mcs_system.specs.declared.part.NotePart.{NotePart}
 use Rattle.mcs_system.specs.declared.part.SourcePart.{SourcePart}
 use Rattle.mcs_system.specs.declared.part.ThreadPart.{ThreadPart}
 use Rattle.mcs_system.specs.System.{System}
-use Rattle.mcs_core.specs.Clock.{schedule, turn_of}
+use Rattle.mcs_core.specs.Core.{thread_of, note_of}
+use Rattle.mcs_core.specs.Clock.{schedule, turn_of, world, core_at}
 use Rattle.mcs_server_laws.specs.Interrupts.{dates_to, moments_told}
+use Rattle.mcs_server_laws.specs.Nesting.{inside, nests}
+use Rattle.mcs_server_laws.specs.Exclusion.{is_inside}
 
 abbrev context : ℕ → ℕ → ContextPart
 context budget period = record { name = []; core = 0; config = record { budget = budget; period = period; extra = 0 }; mode = Sporadic }
@@ -72,3 +75,68 @@ endless =
 
 no_last_date : dates_to endless 0 12 ≡ 0 ∷ 3 ∷ 6 ∷ 9 ∷ 12 ∷ []
 no_last_date = refl
+
+-- A script that calls server 1 within server 0, waits there, and calls server 1 once more in its handler.
+abbrev calls : List Item
+calls = Wait 5 ∷ On 1 ∷ Enter 0 30 ∷ Enter 1 40 ∷ Compute 2 ∷ Leave 1 30 ∷ Wait 6 ∷ Leave 0 10 ∷ On 2 ∷ Enter 1 40 ∷ Leave 1 10 ∷ []
+
+these_nest : nests calls ≡ true
+these_nest = refl
+
+-- it is in a server from the item behind the entering up to the leaving, and the inner one comes first
+in_them : map (λ item. inside item calls) (2 ∷ 3 ∷ 4 ∷ 5 ∷ 6 ∷ 7 ∷ 8 ∷ 10 ∷ [])
+    ≡ [] ∷ (0 ∷ []) ∷ (1 ∷ 0 ∷ []) ∷ (1 ∷ 0 ∷ []) ∷ (0 ∷ []) ∷ (0 ∷ []) ∷ [] ∷ (1 ∷ []) ∷ []
+in_them = refl
+
+-- these do not: the outer server is left first, a server is entered twice, a handler begins in a server, one is never left, and one never entered
+the_outer_first : nests (Enter 0 30 ∷ Enter 1 40 ∷ Leave 0 10 ∷ Leave 1 10 ∷ []) ≡ false
+the_outer_first = refl
+
+twice : nests (Enter 0 30 ∷ Enter 0 30 ∷ Leave 0 30 ∷ Leave 0 10 ∷ []) ≡ false
+twice = refl
+
+a_handler_in_a_server : nests (Wait 5 ∷ Enter 0 30 ∷ On 1 ∷ Leave 0 10 ∷ []) ≡ false
+a_handler_in_a_server = refl
+
+never_left : nests (Enter 0 30 ∷ Compute 1 ∷ []) ≡ false
+never_left = refl
+
+never_entered : nests (Compute 1 ∷ Leave 0 10 ∷ []) ≡ false
+never_entered = refl
+
+-- Server 0 of priority 40: a thread of priority 10 and budget 3 in 10 takes it from 1 to 21, and one of priority 30 waits for it from 5 on.
+abbrev served : System
+served =
+    one_core 1 (context 3 10 ∷ context 20 100 ∷ []) (note 1 ∷ [])
+    (thread 0 10 0 1 (Enter 0 40 ∷ Compute 5 ∷ Leave 0 10 ∷ []) ∷ thread 1 30 4 1 (Enter 0 40 ∷ Compute 5 ∷ Leave 0 30 ∷ []) ∷ [])
+    [] []
+
+-- the word of the server before a moment, and whether each of the two is in it
+abbrev found : System → ℕ → ℕ × Bool × Bool
+found system t =
+    let core = core_at system (world system t) 0 in
+    ((note_of core 0).word, is_inside system 0 0 (thread_of core 0), is_inside system 0 1 (thread_of core 1))
+
+free_at_first : found served 1 ≡ (1, false, false)
+free_at_first = refl
+
+taken_at_1 : found served 2 ≡ (0, true, false)
+taken_at_1 = refl
+
+-- its budget is spent, another thread waits: it keeps the server
+kept_while_throttled : found served 6 ≡ (0, true, false)
+kept_while_throttled = refl
+
+-- who waits has it as soon as it is left, and the thread that is done, at the item that left it, is in it no more
+handed_on_at_21 : found served 22 ≡ (0, false, true)
+handed_on_at_21 = refl
+
+-- Where a script leaves a server that it did not enter, two threads are in it.
+abbrev unpaired : System
+unpaired =
+    one_core 1 (context 20 100 ∷ context 20 100 ∷ []) (note 1 ∷ [])
+    (thread 0 10 0 1 (Enter 0 40 ∷ Compute 9 ∷ Leave 0 10 ∷ []) ∷ thread 1 50 2 1 (Leave 0 50 ∷ Enter 0 60 ∷ Compute 9 ∷ Leave 0 50 ∷ []) ∷ [])
+    [] []
+
+two_are_in_it : found unpaired 5 ≡ (0, true, true)
+two_are_in_it = refl

@@ -1,1 +1,3 @@
 pub mod Interrupts
+pub mod Nesting
+pub mod Exclusion

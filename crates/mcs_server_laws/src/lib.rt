@@ -4,6 +4,8 @@
 
 ghost use Rattle.mcs_system.specs.System.{System};
 ghost use Rattle.mcs_system.specs.WellFormed.{IsWellFormed};
+ghost use Rattle.mcs_server_laws.specs.Nesting.{ScriptsNest};
+ghost use Rattle.mcs_server_laws.specs.Exclusion.{ServersExclude, NoneEntersTwice};
 ghost use Rattle.mcs_server_laws.specs.Interrupts.{TurnsTellDates, SchedulesTellDates, InterruptsArePosted};
 
 /// A law of the clock: each interrupt is posted. The turn of a core tells of an interrupt for each beat of its own that has a date at the moment,
@@ -13,4 +15,12 @@ pub fn interrupts_are_posted()
     ensures turns { (system : System) → IsWellFormed system → TurnsTellDates system }
     ensures schedules { (system : System) → IsWellFormed system → SchedulesTellDates system }
     ensures posted { (system : System) → IsWellFormed system → InterruptsArePosted system }
+{}
+
+/// A law of the clock: each server is taken by at most one thread, if the threads' scripts enter and leave servers in pairs. At each moment either the
+/// word of the server is 1 and no thread is in it, or the word is 0 and one thread alone is. A thread is in a server from the item behind the one that
+/// enters it up to the item that leaves it, unless it is done. No thread comes to enter a server in which it is.
+pub fn servers_exclude()
+    ensures one_holder { (system : System) → IsWellFormed system → ScriptsNest system → ServersExclude system }
+    ensures no_circle { (system : System) → ScriptsNest system → NoneEntersTwice system }
 {}
