@@ -4,4 +4,5 @@ pub mod Exclusion
 pub mod Holders
 pub mod Interrupts
 pub mod Schedules
+pub mod Accepted
 mod Worked

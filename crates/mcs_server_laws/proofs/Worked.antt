@@ -1,5 +1,5 @@
 -- Values that were worked by hand from the rules, at the edges where a law that said a little more, or less, would fail.
-use Rattle.std.specs.Prelude.{◌≡◌, ℕ, Bool, true, false, List, [], ◌∷◌, map, None, refl}
+use Rattle.std.specs.Prelude.{◌≡◌, ℕ, Bool, true, false, List, [], ◌∷◌, ◌++◌, map, None, refl}
 use Rattle.mcs_ticks.specs.declared.row.What.TheVariants as row
 use Rattle.mcs_ticks.specs.declared.row.Why.TheVariants as why
 use Rattle.mcs_control.specs.declared.config.Mode.TheVariants.{Sporadic}
@@ -13,6 +13,7 @@ use Rattle.mcs_system.specs.declared.part.ThreadPart.{ThreadPart}
 use Rattle.mcs_system.specs.System.{System}
 use Rattle.mcs_core.specs.Core.{thread_of, note_of}
 use Rattle.mcs_core.specs.Clock.{schedule, turn_of, world, core_at}
+use Rattle.mcs_load.specs.Script.{call_steps}
 use Rattle.mcs_server_laws.specs.Interrupts.{dates_to, moments_told}
 use Rattle.mcs_server_laws.specs.Nesting.{inside, nests}
 use Rattle.mcs_server_laws.specs.Exclusion.{is_inside}
@@ -140,3 +141,16 @@ unpaired =
 
 two_are_in_it : found unpaired 5 ≡ (0, true, true)
 two_are_in_it = refl
+
+-- A call of server 1 with badge 1, whose handler of that badge calls server 0. The handler of the badge 2 is passed over.
+abbrev inner_call : List Item
+inner_call = call_steps 0 (record { name = []; core = 0; priority = 50; steps = Compute 1 ∷ [] }) 1 40
+
+abbrev outer_call : List Item
+outer_call = call_steps 1 (record { name = []; core = 0; priority = 40; steps = On 1 ∷ inner_call ++ On 2 ∷ Compute 9 ∷ [] }) 1 10
+
+unfolded : outer_call ≡ Enter 1 40 ∷ Enter 0 50 ∷ Compute 1 ∷ Leave 0 40 ∷ Leave 1 10 ∷ []
+unfolded = refl
+
+unfolded_nests : nests outer_call ≡ true
+unfolded_nests = refl

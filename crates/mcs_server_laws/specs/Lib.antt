@@ -1,3 +1,4 @@
 pub mod Interrupts
 pub mod Nesting
 pub mod Exclusion
+pub mod Accepted

@@ -6,6 +6,7 @@ ghost use Rattle.mcs_system.specs.System.{System};
 ghost use Rattle.mcs_system.specs.WellFormed.{IsWellFormed};
 ghost use Rattle.mcs_server_laws.specs.Nesting.{ScriptsNest};
 ghost use Rattle.mcs_server_laws.specs.Exclusion.{ServersExclude, NoneEntersTwice};
+ghost use Rattle.mcs_server_laws.specs.Accepted.{AcceptedScriptsNest, AcceptedServersExclude};
 ghost use Rattle.mcs_server_laws.specs.Interrupts.{TurnsTellDates, SchedulesTellDates, InterruptsArePosted};
 
 /// A law of the clock: each interrupt is posted. The turn of a core tells of an interrupt for each beat of its own that has a date at the moment,
@@ -23,4 +24,11 @@ pub fn interrupts_are_posted()
 pub fn servers_exclude()
     ensures one_holder { (system : System) → IsWellFormed system → ScriptsNest system → ServersExclude system }
     ensures no_circle { (system : System) → ScriptsNest system → NoneEntersTwice system }
+{}
+
+/// A law of files: in a file that the loader accepts the scripts enter and leave servers in pairs. So each server of it is taken by at most one thread,
+/// with no further premise.
+pub fn accepted_scripts_nest()
+    ensures nest { AcceptedScriptsNest }
+    ensures exclude { AcceptedServersExclude }
 {}
