@@ -6,7 +6,7 @@ use Rattle.std.proofs.lemmas.Bool.{cases_lt, cases_eq}
 use Rattle.std.proofs.lemmas.Bool.Decides.{nat_tests}
 use Rattle.std.proofs.lemmas.List.{get_or-set_same, get_or-set_other, get_or_past}
 use Rattle.std.proofs.Math.ListN.{length-set}
-use Rattle.mcs_ticks.specs.Queue.{by_priority, first_of, without}
+use Rattle.mcs_ticks.specs.Queue.{by_priority, first_of, rest_of, without, entered_back, entered_front}
 use Rattle.mcs_ticks.specs.declared.queue.Queued.{Queued}
 use Rattle.mcs_ticks.specs.declared.row.Why.{Why}
 use Rattle.mcs_ticks.specs.declared.row.Why.TheVariants as why
@@ -23,6 +23,7 @@ use Rattle.mcs_script.specs.declared.item.Item.{Item}
 use Rattle.mcs_script.specs.declared.item.Item.TheVariants.{Compute, Signal, Wait, Yield, On, Spin, Enter, Leave}
 use Rattle.mcs_script.specs.declared.moved.Moved.{Moved}
 use Rattle.mcs_script.specs.declared.moved.Moved.TheVariants.{Next, RoundEnds, AllDone}
+use Rattle.mcs_script.specs.declared.place.Place.{Place}
 use Rattle.mcs_script.specs.Script.{move_after, place_after}
 use Rattle.mcs_mail.specs.declared.mail.Mail.{Mail}
 use Rattle.mcs_system.specs.declared.part.ThreadPart.{ThreadPart}
@@ -84,18 +85,93 @@ waiters-set x (z ∷ zs) zero (suc m) note l = omega arith
 waiters-set x (z ∷ zs) (suc n) zero note l = omega arith
 waiters-set x (z ∷ zs) (suc n) (suc m) note l = waiters-set x zs n m note l
 
--- whether a thread is done, and its item
-abbrev pub spot : Core → ℕ → Bool × ℕ
-spot k x = (is_done (thread_of k x).standing, (thread_of k x).place.item)
+-- the ready threads by priority, each with that of its place
+abbrev IsEntry : List Thread → Queued → Type 0
+IsEntry threads entry = entry.priority ≡ (get_or threads entry.thread no_state).place.priority
+
+abbrev pub IsFalling : List Queued → Type 0
+IsFalling [] = Unit {0}
+IsFalling (first ∷ others) = AllByRecursion (λ (entry : Queued). entry.priority ≤ first.priority) others × IsFalling others
+
+abbrev pub IsLine : List Thread → List Queued → Type 0
+IsLine threads ready = AllByRecursion (IsEntry threads) ready × IsFalling ready
+
+entries-same : (threads later : List Thread) (ready : List Queued)
+    → ((x : ℕ) → (get_or later x no_state).place.priority ≡ (get_or threads x no_state).place.priority)
+    → AllByRecursion (IsEntry threads) ready → AllByRecursion (IsEntry later) ready
+entries-same threads later [] h all = tt
+entries-same threads later (entry ∷ ready) h all = (all.0 ∙ sym (h entry.thread), entries-same threads later ready h all.1)
+
+-- one thread that is not ready has another place
+entries-other : (y : ℕ) (threads later : List Thread) (ready : List Queued) → times_queued y ready ≡ 0
+    → ((x : ℕ) → x ≢ y → get_or later x no_state ≡ get_or threads x no_state)
+    → AllByRecursion (IsEntry threads) ready → AllByRecursion (IsEntry later) ready
+entries-other y threads later [] none h all = tt
+entries-other y threads later (entry ∷ ready) none h all =
+    let ne : entry.thread ≢ y = λ e. omega (arith, none, ap (λ b. let n : ℕ = cond b 1 0 in n) (subst (λ z. (entry.thread == z) ≡ true) e (itself entry.thread))) in
+    (all.0 ∙ sym (ap (λ (s : Thread). s.place.priority) (h entry.thread ne)), entries-other y threads later ready (omega (arith, none)) h all.1)
+
+all-less : (n m : ℕ) (ready : List Queued) → n ≤ m → AllByRecursion (λ (entry : Queued). entry.priority ≤ n) ready → AllByRecursion (λ (entry : Queued). entry.priority ≤ m) ready
+all-less n m [] l all = tt
+all-less n m (entry ∷ ready) l all = (omega (arith, l, all.0), all-less n m ready l all.1)
+
+all-if : (P : Queued → Type 0) (b : Bool) (xs ys : List Queued) → AllByRecursion P xs → AllByRecursion P ys → AllByRecursion P (cond b xs ys)
+all-if P true xs ys p q = p
+all-if P false xs ys p q = q
+
+all-back : (P : Queued → Type 0) (x : Queued) (ys : List Queued) → P x → AllByRecursion P ys → AllByRecursion P (entered_back x ys)
+all-back P x [] p all = (p, tt)
+all-back P x (y ∷ ys) p all = all-if P (nat_lt y.priority x.priority) (x ∷ y ∷ ys) (y ∷ entered_back x ys) (p, all) (all.0, all-back P x ys p all.1)
+
+all-front : (P : Queued → Type 0) (x : Queued) (ys : List Queued) → P x → AllByRecursion P ys → AllByRecursion P (entered_front x ys)
+all-front P x [] p all = (p, tt)
+all-front P x (y ∷ ys) p all = all-if P (nat_lt x.priority y.priority) (y ∷ entered_front x ys) (x ∷ y ∷ ys) (all.0, all-front P x ys p all.1) (p, all)
+
+less-is : (a b : ℕ) → nat_lt a b ≡ true → a < b
+less-is a b e = grind (arith, nat_tests)
+
+not-less : (a b : ℕ) → nat_lt a b ≡ false → b ≤ a
+not-less a b e = grind (arith, nat_tests)
+
+falling-back : (x : Queued) (ys : List Queued) → IsFalling ys → IsFalling (entered_back x ys)
+falling-back x [] f = (tt, tt)
+falling-back x (y ∷ ys) f = by (nat_lt y.priority x.priority) refl (falling-back x ys f.1)
+  where
+    by : (b : Bool) → nat_lt y.priority x.priority ≡ b → IsFalling (entered_back x ys) → IsFalling (cond b (x ∷ y ∷ ys) (y ∷ entered_back x ys))
+    by true e g =
+        let l = less-is y.priority x.priority e in
+        ((omega (arith, l), all-less y.priority x.priority ys (omega (arith, l)) f.0), f)
+    by false e g = (all-back (λ (entry : Queued). entry.priority ≤ y.priority) x ys (not-less y.priority x.priority e) f.0, g)
+
+falling-front : (x : Queued) (ys : List Queued) → IsFalling ys → IsFalling (entered_front x ys)
+falling-front x [] f = (tt, tt)
+falling-front x (y ∷ ys) f = by (nat_lt x.priority y.priority) refl (falling-front x ys f.1)
+  where
+    by : (b : Bool) → nat_lt x.priority y.priority ≡ b → IsFalling (entered_front x ys) → IsFalling (cond b (y ∷ entered_front x ys) (x ∷ y ∷ ys))
+    by true e g =
+        let l = less-is x.priority y.priority e in
+        (all-front (λ (entry : Queued). entry.priority ≤ y.priority) x ys (omega (arith, l)) f.0, g)
+    by false e g =
+        let l = not-less x.priority y.priority e in
+        ((l, all-less y.priority x.priority ys l f.0), f)
+
+rest-line : (threads : List Thread) (ready : List Queued) → IsLine threads ready → IsLine threads (rest_of ready)
+rest-line threads [] l = l
+rest-line threads (entry ∷ ready) l = (l.0.1, l.1.1)
+
+-- whether a thread is done, its item and its priority
+abbrev pub spot : Core → ℕ → Bool × ℕ × ℕ
+spot k x = (is_done (thread_of k x).standing, (thread_of k x).place.item, (thread_of k x).place.priority)
 
 -- a core with the same notifications, and each thread where it was
 record Still (k after : Core) : Type 0 where
   notes : after.notes ≡ k.notes
   many : length after.threads ≡ length k.threads
   spots : (x : ℕ) → spot after x ≡ spot k x
+  line : IsLine k.threads k.ready → IsLine after.threads after.ready
 
 still-then : (k j l : Core) → Still k j → Still j l → Still k l
-still-then k j l p q = record { notes = q.notes ∙ p.notes; many = q.many ∙ p.many; spots = λ x. q.spots x ∙ p.spots x }
+still-then k j l p q = record { notes = q.notes ∙ p.notes; many = q.many ∙ p.many; spots = λ x. q.spots x ∙ p.spots x; line = λ l. q.line (p.line l) }
 
 -- and no thread with more places
 record Calm (k after : Core) : Type 0 where
@@ -106,7 +182,7 @@ calm-then : (k j l : Core) → Calm k j → Calm j l → Calm k l
 calm-then k j l p q = record { still = still-then k j l p.still q.still; fewer = λ x. omega (arith, p.fewer x, q.fewer x) }
 
 calm-refl : (k : Core) → Calm k k
-calm-refl k = record { still = record { notes = refl; many = refl; spots = λ x. refl }; fewer = λ x. omega arith }
+calm-refl k = record { still = record { notes = refl; many = refl; spots = λ x. refl; line = λ l. l }; fewer = λ x. omega arith }
 
 calm-if : (k : Core) (b : Bool) (u v : Turn) → Calm k u.core → Calm k v.core → Calm k (cond b u v).core
 calm-if k true u v p q = p
@@ -118,8 +194,10 @@ stands-still y standing k e =
     record {
       notes = refl;
       many = length-set k.threads y _;
-      spots = λ x. view-set (λ (s : Thread). let pair : Bool × ℕ = (is_done s.standing, s.place.item) in pair) k.threads y x (record (thread_of k y) { standing = standing })
-          (ap (λ b. let pair : Bool × ℕ = (b, (thread_of k y).place.item) in pair) e);
+      spots = λ x. view-set (λ (s : Thread). let pair : Bool × ℕ × ℕ = (is_done s.standing, s.place.item, s.place.priority) in pair) k.threads y x (record (thread_of k y) { standing = standing })
+          (ap (λ b. let pair : Bool × ℕ × ℕ = (b, (thread_of k y).place.item, (thread_of k y).place.priority) in pair) e);
+      line = λ l.
+          (entries-same k.threads (stands y standing k).threads k.ready (λ x. view-set (λ (s : Thread). s.place.priority) k.threads y x (record (thread_of k y) { standing = standing }) refl) l.0, l.1);
     }
 
 -- a thread that enters a queue
@@ -136,7 +214,14 @@ back-entered : (y : ℕ) (date : Option ℕ) (k : Core) → is_done (thread_of k
 back-entered y None k e =
     let s = stands-still y Ready k (sym e) in
     record {
-      still = record { notes = s.notes; many = s.many; spots = s.spots };
+      still = record {
+        notes = s.notes;
+        many = s.many;
+        spots = s.spots;
+        line = λ l.
+            (let m = s.line l in
+            (all-back (IsEntry (stands y Ready k).threads) (turns.queued y k) k.ready (sym (ap (λ (z : Bool × ℕ × ℕ). z.2) (s.spots y))) m.0, falling-back (turns.queued y k) k.ready m.1));
+      };
       others = λ x h. thread-other y x _ k h;
       counts = λ x. omega (arith, times_queued-back x (turns.queued y k) k.ready);
       queued = omega (arith, times_queued-back y (turns.queued y k) k.ready, one-of y);
@@ -144,7 +229,7 @@ back-entered y None k e =
 back-entered y (Some date) k e =
     let s = stands-still y Pending k (sym e) in
     record {
-      still = record { notes = s.notes; many = s.many; spots = s.spots };
+      still = record { notes = s.notes; many = s.many; spots = s.spots; line = s.line };
       others = λ x h. thread-other y x _ k h;
       counts = λ x. omega (arith, times_dated-append x k.releases (record { thread = y; date = date }));
       queued = omega (arith, times_dated-append y k.releases (record { thread = y; date = date }), one-of y);
@@ -154,7 +239,14 @@ front-entered : (y : ℕ) (date : Option ℕ) (k : Core) → is_done (thread_of 
 front-entered y None k e =
     let s = stands-still y Ready k (sym e) in
     record {
-      still = record { notes = s.notes; many = s.many; spots = s.spots };
+      still = record {
+        notes = s.notes;
+        many = s.many;
+        spots = s.spots;
+        line = λ l.
+            (let m = s.line l in
+            (all-front (IsEntry (stands y Ready k).threads) (turns.queued y k) k.ready (sym (ap (λ (z : Bool × ℕ × ℕ). z.2) (s.spots y))) m.0, falling-front (turns.queued y k) k.ready m.1));
+      };
       others = λ x h. thread-other y x _ k h;
       counts = λ x. omega (arith, times_queued-front x (turns.queued y k) k.ready);
       queued = omega (arith, times_queued-front y (turns.queued y k) k.ready, one-of y);
@@ -162,7 +254,7 @@ front-entered y None k e =
 front-entered y (Some date) k e =
     let s = stands-still y Pending k (sym e) in
     record {
-      still = record { notes = s.notes; many = s.many; spots = s.spots };
+      still = record { notes = s.notes; many = s.many; spots = s.spots; line = s.line };
       others = λ x h. thread-other y x _ k h;
       counts = λ x. omega (arith, times_dated-append x k.releases (record { thread = y; date = date }));
       queued = omega (arith, times_dated-append y k.releases (record { thread = y; date = date }), one-of y);
@@ -185,7 +277,7 @@ module _ (system : System) (t : ℕ) where
       let charged = turns.charged system y n k in
       let s = back-entered y (turns.date_of system t y charged) (off charged) alive in
       record {
-        still = record { notes = s.still.notes; many = s.still.many; spots = s.still.spots };
+        still = record { notes = s.still.notes; many = s.still.many; spots = s.still.spots; line = s.still.line };
         fewer = λ x. omega (arith, s.counts x, off-places x y using k e);
       }
 
@@ -194,7 +286,7 @@ module _ (system : System) (t : ℕ) where
   stops_to_front-calm y using n cause k e alive =
       let s = front-entered y (turns.date_of system t y k) (off k) alive in
       record {
-        still = record { notes = s.still.notes; many = s.still.many; spots = s.still.spots };
+        still = record { notes = s.still.notes; many = s.still.many; spots = s.still.spots; line = s.still.line };
         fewer = λ x. omega (arith, s.counts x, off-places x y using k e);
       }
 
@@ -221,29 +313,29 @@ module _ (system : System) (t : ℕ) where
   runs-place y using k e = omega (arith, off-places y y using k e, one-of y)
 
   orders_running-still : (order : Order) (o : Option Chosen) (k : Core) → k.running ≡ o → Alive k → Still k (turns.orders_running by_priority system t order o k).core
-  orders_running-still order None k e alive = record { notes = refl; many = refl; spots = λ x. refl }
+  orders_running-still order None k e alive = record { notes = refl; many = refl; spots = λ x. refl; line = λ l. l }
   orders_running-still order (Some chosen) k e alive =
       let charged = turns.applied t order (turns.charged system chosen.thread chosen.using k) in
       let s = stops_to_front-calm chosen.thread chosen.using chosen.using why.Order charged e (alive chosen.thread (runs-place chosen.thread chosen.using k e)) in
       by ((turns.part_of system chosen.thread).context == order.context)
-      record { notes = s.still.notes; many = s.still.many; spots = s.still.spots }
+      record { notes = s.still.notes; many = s.still.many; spots = s.still.spots; line = s.still.line }
     where
       by : (b : Bool) → Still k (turns.stops_to_front by_priority system t chosen.thread why.Order chosen.using (turns.applied t order (turns.charged system chosen.thread chosen.using k))).core
           → Still k
           (cond b (turns.stops_to_front by_priority system t chosen.thread why.Order chosen.using (turns.applied t order (turns.charged system chosen.thread chosen.using k)))
           (silent (turns.applied t order k))).core
       by true s = s
-      by false s = record { notes = refl; many = refl; spots = λ x. refl }
+      by false s = record { notes = refl; many = refl; spots = λ x. refl; line = λ l. l }
 
   obeys-calm : (order : Order) (k : Core) → Alive k → Calm k (turns.obeys by_priority system t order k).core
   obeys-calm order k alive = record { still = orders_running-still order k.running k refl alive; fewer = λ x. obeys-held system t x order k }
 
   released-still : (ds : List Dated) (k : Core) → ((x : ℕ) → 1 ≤ times_dated x ds → is_done (thread_of k x).standing ≡ false) → Still k (each (turns.released by_priority) ds k).core
-  released-still [] k alive = record { notes = refl; many = refl; spots = λ x. refl }
+  released-still [] k alive = record { notes = refl; many = refl; spots = λ x. refl; line = λ l. l }
   released-still (due ∷ ds) k alive =
       let first = back-entered due.thread None k (alive due.thread (omega (arith, one-of due.thread))) in
       still-then k (turns.enters_back by_priority due.thread None k) (each (turns.released by_priority) ds (turns.enters_back by_priority due.thread None k)).core first.still
-      (released-still ds (turns.enters_back by_priority due.thread None k) (λ x l. ap (λ (s : Bool × ℕ). s.0) (first.still.spots x) ∙ alive x (omega (arith, l))))
+      (released-still ds (turns.enters_back by_priority due.thread None k) (λ x l. ap (λ (s : Bool × ℕ × ℕ). s.0) (first.still.spots x) ∙ alive x (omega (arith, l))))
 
   dated-filter : (x : ℕ) (p : Dated → Bool) (ds : List Dated) → times_dated x (filter p ds) ≤ times_dated x ds
   dated-filter x p [] = omega arith
@@ -257,7 +349,7 @@ module _ (system : System) (t : ℕ) where
   releases-calm k alive =
       let s = released-still (filter (is_due t) k.releases) (record k { releases = filter (λ dated. not (is_due t dated)) k.releases })
       (λ x l. alive x (omega (arith, l, dated-filter x (is_due t) k.releases))) in
-      record { still = record { notes = s.notes; many = s.many; spots = s.spots }; fewer = λ x. releases-held system t x k }
+      record { still = record { notes = s.notes; many = s.many; spots = s.spots; line = s.line }; fewer = λ x. releases-held system t x k }
 
   preempts-calm : (k : Core) → Alive k → Calm k (turns.preempts by_priority system t k).core
   preempts-calm k alive = by k.running refl (first_of k.ready)
@@ -268,7 +360,7 @@ module _ (system : System) (t : ℕ) where
       by (Some chosen) e (Some best) =
           let s = stops_to_front-calm chosen.thread chosen.using chosen.using why.Preempt (turns.charged system chosen.thread chosen.using k) e (alive chosen.thread (runs-place chosen.thread chosen.using k e)) in
           calm-if k (nat_lt (thread_of k chosen.thread).place.priority best.priority) (turns.stops_to_front by_priority system t chosen.thread why.Preempt chosen.using (turns.charged system chosen.thread chosen.using k)) (silent k)
-          record { still = record { notes = s.still.notes; many = s.still.many; spots = s.still.spots }; fewer = λ x. omega (arith, s.fewer x) }
+          record { still = record { notes = s.still.notes; many = s.still.many; spots = s.still.spots; line = s.still.line }; fewer = λ x. omega (arith, s.fewer x) }
           (calm-refl k)
 
   chooses-calm : (k : Core) → Alive k → Calm k (turns.chooses by_priority system t k).core
@@ -280,12 +372,70 @@ module _ (system : System) (t : ℕ) where
       by None e (Some best) f =
           let s = stands-still best.thread Running k (sym (alive best.thread (omega (arith, times_queued-rest best.thread best k.ready f, one-of best.thread)))) in
           record {
-            still = record { notes = s.notes; many = s.many; spots = s.spots };
+            still = record { notes = s.notes; many = s.many; spots = s.spots; line = λ l. rest-line (stands best.thread Running k).threads k.ready (s.line l) };
             fewer = λ x. omega (arith, times_queued-rest x best k.ready f, none x k.running e);
           }
         where
           none : (x : ℕ) (o : Option Chosen) → o ≡ None → times_running x o ≡ 0
           none x o g = ap (times_running x) g
+
+  -- no ready thread is above the one that runs
+  abbrev pub IsTop : Core → Type 0
+  IsTop k = (chosen : Chosen) → k.running ≡ Some chosen → AllByRecursion (λ (entry : Queued). entry.priority ≤ (thread_of k chosen.thread).place.priority) k.ready
+
+  none-runs : (k : Core) → k.running ≡ None → IsTop k
+  none-runs k e chosen f = let g : None ≡ Some chosen = sym e ∙ f in absurd (cc)
+
+  front-running : (y : ℕ) (date : Option ℕ) (k : Core) → (turns.enters_front by_priority y date k).running ≡ k.running
+  front-running y None k = refl
+  front-running y (Some date) k = refl
+
+  -- so it is when a thread gave way to a better one ..
+  pub preempts-top : (k : Core) → IsLine k.threads k.ready → IsTop (turns.preempts by_priority system t k).core
+  preempts-top k line = by k.running refl k.ready refl line.1
+    where
+      by : (o : Option Chosen) → k.running ≡ o → (ready : List Queued) → k.ready ≡ ready → IsFalling ready → IsTop (turns.preempts_by by_priority system t o (first_of ready) k).core
+      by None e ready f falling = none-runs k e
+      by (Some chosen) e [] f falling = λ other g. subst (AllByRecursion (λ (entry : Queued). entry.priority ≤ (thread_of k other.thread).place.priority)) (sym f) tt
+      by (Some chosen) e (best ∷ ready) f falling = test (nat_lt (thread_of k chosen.thread).place.priority best.priority) refl
+        where
+          charged : Core
+          charged = turns.charged system chosen.thread chosen.using k
+
+          test : (b : Bool) → nat_lt (thread_of k chosen.thread).place.priority best.priority ≡ b
+              → IsTop (cond b (turns.stops_to_front by_priority system t chosen.thread why.Preempt chosen.using charged) (silent k)).core
+          test true g =
+              none-runs (turns.stops_to_front by_priority system t chosen.thread why.Preempt chosen.using charged).core
+              (front-running chosen.thread (turns.date_of system t chosen.thread charged) (off charged))
+          test false g = λ other q.
+              let same : chosen ≡ other = some-is chosen other (sym e ∙ q) in
+              let l = not-less (thread_of k chosen.thread).place.priority best.priority g in
+              subst (λ (c : Chosen). AllByRecursion (λ (entry : Queued). entry.priority ≤ (thread_of k c.thread).place.priority) k.ready) same
+              (subst (AllByRecursion (λ (entry : Queued). entry.priority ≤ (thread_of k chosen.thread).place.priority)) (sym f)
+              (l, all-less best.priority (thread_of k chosen.thread).place.priority ready l falling.0))
+            where
+              some-is : (a b : Chosen) → Some a ≡ Some b → a ≡ b
+              some-is a b q = cc
+
+  -- .. and when the best one was chosen
+  pub chooses-top : (k : Core) → IsLine k.threads k.ready → IsTop k → IsTop (turns.chooses by_priority system t k).core
+  chooses-top k line top = by k.running refl k.ready refl line
+    where
+      by : (o : Option Chosen) → k.running ≡ o → (ready : List Queued) → k.ready ≡ ready → IsLine k.threads ready → IsTop (turns.chooses_of by_priority system t o (first_of ready) k).core
+      by (Some chosen) e ready f l = top
+      by None e [] f l = none-runs k e
+      by None e (best ∷ ready) f l = λ other q.
+          let one : Chosen = record { thread = best.thread; using = 0 } in
+          let same : one ≡ other = some-is one other q in
+          let after = (turns.chooses_of by_priority system t None (Some best) k).core in
+          let priority : (thread_of after best.thread).place.priority ≡ (thread_of k best.thread).place.priority = view-set (λ (s : Thread). s.place.priority) k.threads best.thread best.thread _ refl in
+          let first : best.priority ≡ (thread_of k best.thread).place.priority = l.0.0 in
+          subst (λ (c : Chosen). AllByRecursion (λ (entry : Queued). entry.priority ≤ (thread_of after c.thread).place.priority) after.ready) same
+          (subst (λ (rest : List Queued). AllByRecursion (λ (entry : Queued). entry.priority ≤ (thread_of after best.thread).place.priority) (rest_of rest)) (sym f)
+          (all-less best.priority (thread_of after best.thread).place.priority ready (omega (arith, priority, first)) l.1.0))
+        where
+          some-is : (a b : Chosen) → Some a ≡ Some b → a ≡ b
+          some-is a b q = cc
 
 -- a thread that waits for this note: it is at a wait, or at the entering of a server
 abbrev pub Awaits : Option Item → ℕ → Type 0
@@ -338,6 +488,10 @@ item-is system well x i item e =
     subst (IsItem system (core_of system (thread_part system x))) k.1 ((well.threads x no_thread (with-item system x i item e)).items i Yield k.0)
 
 module _ (system : System) (well : IsWellFormed system) (nested : (x : ℕ) → nests (thread_part system x).script ≡ true)
+    (Fits : ℕ → ℕ → ℕ → Type 0)
+    (fits-next : (x : ℕ) (item : Item) (place : Place) → slice_get (thread_part system x).script place.item ≡ Some item → Fits x place.item place.priority →
+    let later = place_after system.call (thread_part system x).script (move_after (thread_part system x).script (thread_part system x).rounds place) place in
+    Fits x later.item later.priority)
     (server : ℕ) (is : is_server system server ≡ true) where
   abbrev script : ℕ → List Item
   script x = (thread_part system x).script
@@ -351,10 +505,17 @@ module _ (system : System) (well : IsWellFormed system) (nested : (x : ℕ) → 
   at x i = is_in server (inside i (script x))
 
   now-spot : (k after : Core) (x : ℕ) → spot after x ≡ spot k x → now after x ≡ now k x
-  now-spot k after x e = ap (λ (s : Bool × ℕ). not s.0 && at x s.1) e
+  now-spot k after x e = ap (λ (s : Bool × ℕ × ℕ). not s.0 && at x s.1) e
 
   now-at : (k : Core) (x : ℕ) → is_done (thread_of k x).standing ≡ false → now k x ≡ at x (thread_of k x).place.item
   now-at k x e = ap (λ b. not b && at x (thread_of k x).place.item) e
+
+  -- what is known of the item and the priority of each thread
+  abbrev HasFit : Core → ℕ → Type 0
+  HasFit k x = Fits x (thread_of k x).place.item (thread_of k x).place.priority
+
+  fits-spot : (k after : Core) (x : ℕ) → spot after x ≡ spot k x → HasFit k x → HasFit after x
+  fits-spot k after x e h = subst (λ (s : Bool × ℕ × ℕ). Fits x s.1 s.2) (sym e) h
 
   -- what holds of a core: who waits stands at an item that does, and a thread has one place, and none when it is done
   pub record Kept (k : Core) : Type 0 where
@@ -363,6 +524,8 @@ module _ (system : System) (well : IsWellFormed system) (nested : (x : ℕ) → 
     pub alive : (x : ℕ) → 1 ≤ places x k → is_done (thread_of k x).standing ≡ false
     pub there : server < length k.notes
     pub many : length k.threads ≡ length system.threads
+    pub line : IsLine k.threads k.ready
+    pub fits : (x : ℕ) → Fits x (thread_of k x).place.item (thread_of k x).place.priority
 
   pub record Good (k : Core) : Type 0 where
     pub kept : Kept k
@@ -377,12 +540,14 @@ module _ (system : System) (well : IsWellFormed system) (nested : (x : ℕ) → 
   calm-kept : (k after : Core) → Calm k after → Kept k → Kept after
   calm-kept k after c h =
       record {
-        waits = λ n x l. subst (λ i. Awaits (slice_get (script x) i) n) (sym (ap (λ (s : Bool × ℕ). s.1) (c.still.spots x)))
+        waits = λ n x l. subst (λ i. Awaits (slice_get (script x) i) n) (sym (ap (λ (s : Bool × ℕ × ℕ). s.1) (c.still.spots x)))
             (h.waits n x (subst (λ (notes : List Note). 1 ≤ times_queued x (get_or notes n quiet_note).waiters) c.still.notes l));
         one = λ x. omega (arith, c.fewer x, h.one x);
-        alive = λ x l. ap (λ (s : Bool × ℕ). s.0) (c.still.spots x) ∙ h.alive x (omega (arith, c.fewer x, l));
+        alive = λ x l. ap (λ (s : Bool × ℕ × ℕ). s.0) (c.still.spots x) ∙ h.alive x (omega (arith, c.fewer x, l));
         there = subst (λ (notes : List Note). server < length notes) (sym c.still.notes) h.there;
         many = c.still.many ∙ h.many;
+        line = c.still.line h.line;
+        fits = λ x. fits-spot k after x (c.still.spots x) (h.fits x);
       }
 
   calm-good : (k after : Core) → Calm k after → Good k → Good after
@@ -402,6 +567,12 @@ module _ (system : System) (well : IsWellFormed system) (nested : (x : ℕ) → 
   -- of one that runs, and of one that waits
   runs-alone : (y using : ℕ) (k : Core) → Kept k → k.running ≡ Some (record { thread = y; using = using }) → times_waiting y k.notes ≡ 0
   runs-alone y using k h e = omega (arith, off-places y y using k e, one-of y, h.one y)
+
+  runs-unready : (y using : ℕ) (k : Core) → Kept k → k.running ≡ Some (record { thread = y; using = using }) → times_queued y k.ready ≡ 0
+  runs-unready y using k h e = omega (arith, off-places y y using k e, one-of y, h.one y)
+
+  waits-unready : (n x : ℕ) (k : Core) → Kept k → 1 ≤ times_queued x (note_of k n).waiters → times_queued x k.ready ≡ 0
+  waits-unready n x k h l = omega (arith, l, times_waiting-at x n k.notes, h.one x)
 
   waits-place : (n x : ℕ) (k : Core) → 1 ≤ times_queued x (note_of k n).waiters → 1 ≤ places x k
   waits-place n x k l = omega (arith, l, times_waiting-at x n k.notes)
@@ -437,6 +608,22 @@ module _ (system : System) (well : IsWellFormed system) (nested : (x : ℕ) → 
     moves-done y Next k = view-set (λ (s : Thread). is_done s.standing) k.threads y y _ refl
     moves-done y RoundEnds k = view-set (λ (s : Thread). is_done s.standing) k.threads y y _ refl
     moves-done y AllDone k = refl
+
+    moves-line : (y : ℕ) (m : Moved) (k : Core) → times_queued y k.ready ≡ 0 → IsLine k.threads k.ready
+        → IsLine (turns.moves system t y m k).core.threads (turns.moves system t y m k).core.ready
+    moves-line y Next k none l = (entries-other y k.threads (turns.moves system t y Next k).core.threads k.ready none (λ x ne. moves-others x y Next k ne) l.0, l.1)
+    moves-line y RoundEnds k none l = (entries-other y k.threads (turns.moves system t y RoundEnds k).core.threads k.ready none (λ x ne. moves-others x y RoundEnds k ne) l.0, l.1)
+    moves-line y AllDone k none l = l
+
+    moves-fit : (y : ℕ) (item : Item) (k : Core) → y < length k.threads → slice_get (script y) (thread_of k y).place.item ≡ Some item → HasFit k y
+        → HasFit (turns.moves_on system t y k).core y
+    moves-fit y item k l e h = by (turns.move_of system y k) (fits-next y item (thread_of k y).place e h)
+      where
+        by : (m : Moved) → Fits y (place_after system.call (script y) m (thread_of k y).place).item (place_after system.call (script y) m (thread_of k y).place).priority
+            → HasFit (turns.moves system t y m k).core y
+        by Next f = subst (λ (s : Thread). Fits y s.place.item s.place.priority) (sym (thread-own y _ k l)) f
+        by RoundEnds f = subst (λ (s : Thread). Fits y s.place.item s.place.priority) (sym (thread-own y _ k l)) f
+        by AllDone f = f
 
     -- behind its item it is in the server, or not
     abbrev IsBehind : ℕ → Item → Core → Moved → Type 0
@@ -481,12 +668,13 @@ module _ (system : System) (well : IsWellFormed system) (nested : (x : ℕ) → 
         → Good (turns.may_stop by_priority system t y using (turns.after_move (turns.move_of system y k) cause) (turns.moves_on system t y k).core).core
     finished y using item k cause stay b =
         by (turns.move_of system y k) (moves-behind y item k (known k y item b.kept b.at_item) b.at_item alive)
+        (moves-fit y item k (known k y item b.kept b.at_item) b.at_item (b.kept.fits y))
       where
         alive : is_done (thread_of k y).standing ≡ false
         alive = b.kept.alive y (runs-place system t y using k b.runs)
 
-        moved : (m : Moved) → IsBehind y item k m → now (turns.moves system t y m k).core y ≡ has b.holder y → Good (turns.moves system t y m k).core
-        moved m f own =
+        moved : (m : Moved) → IsBehind y item k m → HasFit (turns.moves system t y m k).core y → now (turns.moves system t y m k).core y ≡ has b.holder y → Good (turns.moves system t y m k).core
+        moved m f fit own =
             record {
               kept = record {
                 waits = λ n x l.
@@ -502,6 +690,12 @@ module _ (system : System) (well : IsWellFormed system) (nested : (x : ℕ) → 
                     ]);
                 there = subst (λ (notes : List Note). server < length notes) (sym (moves-notes y m k)) b.kept.there;
                 many = moves-many y m k ∙ b.kept.many;
+                line = moves-line y m k (runs-unready y using k b.kept b.runs) b.kept.line;
+                fits = λ x. (
+                    elim (cases_eq x y) as (λ c. HasFit (turns.moves system t y m k).core x) [
+                      | inl same ↦ subst (λ z. HasFit (turns.moves system t y m k).core z) (sym same) fit
+                      | inr other ↦ subst (λ (s : Thread). Fits x s.place.item s.place.priority) (sym (moves-others x y m k other)) (b.kept.fits x)
+                    ]);
               };
               holder = b.holder;
               held = record {
@@ -538,6 +732,8 @@ module _ (system : System) (well : IsWellFormed system) (nested : (x : ℕ) → 
                     ap (λ (s : Thread). is_done s.standing) (thread-other y x _ k ne) ∙ b.kept.alive x (omega (arith, fewer x, l)));
                 there = b.kept.there;
                 many = length-set k.threads y _ ∙ b.kept.many;
+                line = (entries-same k.threads k2.threads k.ready (λ x. view-set (λ (s : Thread). s.place.priority) k.threads y x _ refl) b.kept.line.0, b.kept.line.1);
+                fits = λ x. subst (λ (p : Place). Fits x p.item p.priority) (sym (view-set (λ (s : Thread). s.place) k.threads y x _ refl)) (b.kept.fits x);
               };
               holder = b.holder;
               held = record {
@@ -546,10 +742,10 @@ module _ (system : System) (well : IsWellFormed system) (nested : (x : ℕ) → 
               };
             }
 
-        by : (m : Moved) → IsBehind y item k m → Good (turns.may_stop by_priority system t y using (turns.after_move m cause) (turns.moves system t y m k).core).core
-        by AllDone f = ends f
-        by Next f = goes Next (moved Next f (f ∙ sym b.own))
-        by RoundEnds f = goes RoundEnds (moved RoundEnds f (f ∙ sym b.own))
+        by : (m : Moved) → IsBehind y item k m → HasFit (turns.moves system t y m k).core y → Good (turns.may_stop by_priority system t y using (turns.after_move m cause) (turns.moves system t y m k).core).core
+        by AllDone f fit = ends f
+        by Next f fit = goes Next (moved Next f fit (f ∙ sym b.own))
+        by RoundEnds f fit = goes RoundEnds (moved RoundEnds f fit (f ∙ sym b.own))
 
     -- a thread that has left the waiters of a note
     record Gone (w n : ℕ) (k after : Core) : Type 0 where
@@ -557,6 +753,7 @@ module _ (system : System) (well : IsWellFormed system) (nested : (x : ℕ) → 
       own : spot after w ≡ spot k w
       notes : after.notes ≡ set k.notes n (record { word = (note_of k n).word; waiters = without w (note_of k n).waiters })
       many : length after.threads ≡ length k.threads
+      ready : after.ready ≡ k.ready
 
     -- it has moved on, and entered a queue
     record Resumed (w n : ℕ) (item : Item) (k after : Core) : Type 0 where
@@ -583,6 +780,8 @@ module _ (system : System) (well : IsWellFormed system) (nested : (x : ℕ) → 
             alive = alive-after;
             there = let l = h.there in let e = ap (λ (ns : List Note). length ns) notes-are in omega (arith, l, e, length-set k.notes n left);
             many = entered.still.many ∙ moves-many w (turns.move_of system w j) j ∙ gone.many ∙ h.many;
+            line = entered.still.line (moves-line w (turns.move_of system w j) j (ap (times_queued w) gone.ready ∙ waits-unready n w k h waiting) line-there);
+            fits = fits;
           };
           others = others;
           own =
@@ -603,10 +802,10 @@ module _ (system : System) (well : IsWellFormed system) (nested : (x : ℕ) → 
         alive = h.alive w (waits-place n w k waiting)
 
         same-item : (thread_of j w).place.item ≡ (thread_of k w).place.item
-        same-item = ap (λ (s : Bool × ℕ). s.1) gone.own
+        same-item = ap (λ (s : Bool × ℕ × ℕ). s.1) gone.own
 
         alive-there : is_done (thread_of j w).standing ≡ false
-        alive-there = ap (λ (s : Bool × ℕ). s.0) gone.own ∙ alive
+        alive-there = ap (λ (s : Bool × ℕ × ℕ). s.0) gone.own ∙ alive
 
         at-item : slice_get (script w) (thread_of j w).place.item ≡ Some item
         at-item = ap (slice_get (script w)) same-item ∙ e
@@ -617,13 +816,28 @@ module _ (system : System) (well : IsWellFormed system) (nested : (x : ℕ) → 
         others : (x : ℕ) → x ≢ w → thread_of after x ≡ thread_of k x
         others x ne = entered.others x ne ∙ moves-others x w (turns.move_of system w j) j ne ∙ gone.others x ne
 
+        line-there : IsLine j.threads j.ready
+        line-there =
+            subst (IsLine j.threads) (sym gone.ready)
+            (entries-other w k.threads j.threads k.ready (waits-unready n w k h waiting) (λ x ne. gone.others x ne) h.line.0, h.line.1)
+
+        fits : (x : ℕ) → HasFit after x
+        fits x = by (cases_eq x w)
+          where
+            by : (x ≡ w) ⊎ (x ≢ w) → HasFit after x
+            by (inl same) =
+                subst (λ z. HasFit after z) (sym same)
+                (fits-spot moved after w (entered.still.spots w)
+                (moves-fit w item j (omega (arith, known k w item h e, gone.many)) at-item (fits-spot k j w gone.own (h.fits w))))
+            by (inr other) = subst (λ (s : Thread). Fits x s.place.item s.place.priority) (sym (others x other)) (h.fits x)
+
         alive-after : (x : ℕ) → 1 ≤ places x after → is_done (thread_of after x).standing ≡ false
         alive-after x l = by (cases_eq x w)
           where
             by : (x ≡ w) ⊎ (x ≢ w) → is_done (thread_of after x).standing ≡ false
             by (inl same) =
                 subst (λ z. is_done (thread_of after z).standing ≡ false) (sym same)
-                (ap (λ (s : Bool × ℕ). s.0) (entered.still.spots w) ∙ moves-done w (turns.move_of system w j) j ∙ alive-there)
+                (ap (λ (s : Bool × ℕ × ℕ). s.0) (entered.still.spots w) ∙ moves-done w (turns.move_of system w j) j ∙ alive-there)
             by (inr other) = ap (λ (s : Thread). is_done s.standing) (others x other) ∙ h.alive x (omega (arith, fewer x, l))
 
         waits : (m x : ℕ) → 1 ≤ times_queued x (note_of after m).waiters → Awaits (slice_get (script x) (thread_of after x).place.item) m
@@ -647,6 +861,8 @@ module _ (system : System) (well : IsWellFormed system) (nested : (x : ℕ) → 
           alive = λ x l. h.alive x (omega (arith, l, set-waiting x k.notes n note, fewer x));
           there = omega (arith, h.there, length-set k.notes n note);
           many = h.many;
+          line = h.line;
+          fits = h.fits;
         }
 
     other-note : (n : ℕ) (note : Note) (k : Core) → n ≢ server → note_of (with_note n note k) server ≡ note_of k server
@@ -677,8 +893,9 @@ module _ (system : System) (well : IsWellFormed system) (nested : (x : ℕ) → 
     wakes-gone w word n k =
         record {
           others = λ x ne. thread-other w x _ k ne;
-          own = view-set (λ (s : Thread). let pair : Bool × ℕ = (is_done s.standing, s.place.item) in pair) k.threads w w _ refl;
+          own = view-set (λ (s : Thread). let pair : Bool × ℕ × ℕ = (is_done s.standing, s.place.item, s.place.priority) in pair) k.threads w w _ refl;
           notes = refl;
+          ready = refl;
           many = length-set k.threads w _;
         }
 
@@ -710,13 +927,13 @@ module _ (system : System) (well : IsWellFormed system) (nested : (x : ℕ) → 
         gone = wakes-gone w word n k
 
         next : turns.move_of system w j ≡ Next
-        next = wait-goes (script w) (thread_part system w).rounds n (thread_of j w).place (ap (λ (s : Bool × ℕ). slice_get (script w) s.1) gone.own ∙ at-wait)
+        next = wait-goes (script w) (thread_part system w).rounds n (thread_of j w).place (ap (λ (s : Bool × ℕ × ℕ). slice_get (script w) s.1) gone.own ∙ at-wait)
 
         moved : Core
         moved = (turns.moves_on system t w j).core
 
         alive : is_done (thread_of moved w).standing ≡ false
-        alive = moves-done w (turns.move_of system w j) j ∙ ap (λ (s : Bool × ℕ). s.0) gone.own ∙ g.kept.alive w (waits-place n w k waiting)
+        alive = moves-done w (turns.move_of system w j) j ∙ ap (λ (s : Bool × ℕ × ℕ). s.0) gone.own ∙ g.kept.alive w (waits-place n w k waiting)
 
         after : Core
         after = (turns.posts_as by_priority system t n (Woke w word) k).core
@@ -742,7 +959,7 @@ module _ (system : System) (well : IsWellFormed system) (nested : (x : ℕ) → 
 
     -- who waits for a server that is left is let in
     frees_gone : (w word n : ℕ) (k : Core) → Gone w n k (turns.with_woken_context system t w (with_note n (after_post (Woke w word) (note_of k n)) k))
-    frees_gone w word n k = record { others = λ x ne. refl; own = refl; notes = refl; many = refl }
+    frees_gone w word n k = record { others = λ x ne. refl; own = refl; notes = refl; many = refl; ready = refl }
 
     -- after it the thread that left it is in it no more
     record Freed (y using n priority : ℕ) (k after : Core) : Type 0 where
@@ -962,11 +1179,13 @@ module _ (system : System) (well : IsWellFormed system) (nested : (x : ℕ) → 
       blocked-good n cause awaits =
           record {
             kept = record {
-              waits = λ m x l. subst (λ i. Awaits (slice_get (script x) i) m) (sym (ap (λ (s : Bool × ℕ). s.1) (spots x))) (waits m x l);
+              waits = λ m x l. subst (λ i. Awaits (slice_get (script x) i) m) (sym (ap (λ (s : Bool × ℕ × ℕ). s.1) (spots x))) (waits m x l);
               one = λ x. omega (arith, fewer x, g.kept.one x);
-              alive = λ x l. ap (λ (s : Bool × ℕ). s.0) (spots x) ∙ g.kept.alive x (omega (arith, fewer x, l));
+              alive = λ x l. ap (λ (s : Bool × ℕ × ℕ). s.0) (spots x) ∙ g.kept.alive x (omega (arith, fewer x, l));
               there = omega (arith, g.kept.there, length-set k.notes n note);
               many = length-set k.threads y _ ∙ g.kept.many;
+              line = (stands-still y Blocked k (sym running-alive)).line g.kept.line;
+              fits = λ x. fits-spot k after x (spots x) (g.kept.fits x);
             };
             holder = g.holder;
             held = record { word = word-same ∙ g.held.word; inside = λ x. now-spot k after x (spots x) ∙ g.held.inside x };
@@ -1015,7 +1234,7 @@ module _ (system : System) (well : IsWellFormed system) (nested : (x : ℕ) → 
           let item-same : its k1 ≡ its k = view-set (λ (s : Thread). s.place.item) k.threads y y _ refl in
           let good = calm-good noted k1
           record {
-            still = record { notes = refl; many = length-set k.threads y _; spots = λ x. view-set (λ (s : Thread). let pair : Bool × ℕ = (is_done s.standing, s.place.item) in pair) k.threads y x _ refl };
+            still = record { notes = refl; many = length-set k.threads y _; spots = λ x. view-set (λ (s : Thread). let pair : Bool × ℕ × ℕ = (is_done s.standing, s.place.item, s.place.priority) in pair) k.threads y x _ refl; line = λ l. (entries-same k.threads k1.threads k.ready (λ x. view-set (λ (s : Thread). s.place.priority) k.threads y x _ refl) l.0, l.1) };
             fewer = λ x. omega arith;
           } first
           in
@@ -1132,7 +1351,7 @@ module _ (system : System) (well : IsWellFormed system) (nested : (x : ℕ) → 
         good =
             calm-good k counted
             record {
-              still = record { notes = refl; many = length-set k.threads chosen.thread _; spots = λ x. view-set (λ (s : Thread). let pair : Bool × ℕ = (is_done s.standing, s.place.item) in pair) k.threads chosen.thread x _ refl };
+              still = record { notes = refl; many = length-set k.threads chosen.thread _; spots = λ x. view-set (λ (s : Thread). let pair : Bool × ℕ × ℕ = (is_done s.standing, s.place.item, s.place.priority) in pair) k.threads chosen.thread x _ refl; line = λ l. (entries-same k.threads counted.threads k.ready (λ x. view-set (λ (s : Thread). s.place.priority) k.threads chosen.thread x _ refl) l.0, l.1) };
               fewer = λ x. omega (arith, ap (times_running x) e);
             } g
 
@@ -1163,18 +1382,43 @@ module _ (system : System) (well : IsWellFormed system) (nested : (x : ℕ) → 
     obeys-good (order ∷ orders) k g =
         obeys-good orders (turns.obeys by_priority system t order k).core (calm-good k (turns.obeys by_priority system t order k).core (obeys-calm system t order k g.kept.alive) g)
 
-    pub turn-good : (c : ℕ) (mails : List Mail) (k : Core) → AllByRecursion (λ (alarm : Alarm). is_server system alarm.note ≡ false) (ringing t (alarms_at system c t))
-        → AllByRecursion (λ (mail : Mail). is_server system mail.note ≡ false) mails → Good k → Good (turns.turn_with by_priority system c t mails k).core
-    turn-good c mails k heard signalled g =
+    -- the parts up to the releases, before the choice
+    abbrev pub before_choice : ℕ → List Mail → Core → Core
+    before_choice c mails k =
+        (turns.tick by_priority system c t k
+        followed_by each (turns.interrupts by_priority system t) (ringing t (alarms_at system c t))
+        followed_by each (turns.arrives by_priority system t) mails
+        followed_by each (turns.obeys by_priority system t) (filter (is_for_now system c t) system.orders)
+        followed_by turns.releases by_priority system t).core
+
+    choice-good : (c : ℕ) (mails : List Mail) (k : Core) → AllByRecursion (λ (alarm : Alarm). is_server system alarm.note ≡ false) (ringing t (alarms_at system c t))
+        → AllByRecursion (λ (mail : Mail). is_server system mail.note ≡ false) mails → Good k → Good (before_choice c mails k)
+    choice-good c mails k heard signalled g =
         let first = turns.tick by_priority system c t k in
         let rang = each (turns.interrupts by_priority system t) (ringing t (alarms_at system c t)) first.core in
         let came = each (turns.arrives by_priority system t) mails rang.core in
         let obeyed = each (turns.obeys by_priority system t) (filter (is_for_now system c t) system.orders) came.core in
         let freed = turns.releases by_priority system t obeyed.core in
-        let gave = turns.preempts by_priority system t freed.core in
         let good4 = obeys-good (filter (is_for_now system c t) system.orders) came.core
         (arrives-good mails rang.core signalled (interrupts-good (ringing t (alarms_at system c t)) first.core heard (tick-good c k.running k refl g)))
         in
-        let good5 = calm-good obeyed.core freed.core (releases-calm system t obeyed.core good4.kept.alive) good4 in
-        let good6 = calm-good freed.core gave.core (preempts-calm system t freed.core good5.kept.alive) good5 in
+        calm-good obeyed.core freed.core (releases-calm system t obeyed.core good4.kept.alive) good4
+
+    pub turn-good : (c : ℕ) (mails : List Mail) (k : Core) → AllByRecursion (λ (alarm : Alarm). is_server system alarm.note ≡ false) (ringing t (alarms_at system c t))
+        → AllByRecursion (λ (mail : Mail). is_server system mail.note ≡ false) mails → Good k → Good (turns.turn_with by_priority system c t mails k).core
+    turn-good c mails k heard signalled g =
+        let freed = before_choice c mails k in
+        let gave = turns.preempts by_priority system t freed in
+        let good5 = choice-good c mails k heard signalled g in
+        let good6 = calm-good freed gave.core (preempts-calm system t freed good5.kept.alive) good5 in
         calm-good gave.core (turns.chooses by_priority system t gave.core).core (chooses-calm system t gave.core good6.kept.alive) good6
+
+    -- and after it no ready thread is above the one that runs
+    pub turn-top : (c : ℕ) (mails : List Mail) (k : Core) → AllByRecursion (λ (alarm : Alarm). is_server system alarm.note ≡ false) (ringing t (alarms_at system c t))
+        → AllByRecursion (λ (mail : Mail). is_server system mail.note ≡ false) mails → Good k → IsTop system t (turns.turn_with by_priority system c t mails k).core
+    turn-top c mails k heard signalled g =
+        let freed = before_choice c mails k in
+        let gave = turns.preempts by_priority system t freed in
+        let good5 = choice-good c mails k heard signalled g in
+        let good6 = calm-good freed gave.core (preempts-calm system t freed good5.kept.alive) good5 in
+        chooses-top system t gave.core good6.kept.line (preempts-top system t freed good5.kept.line)

@@ -1,13 +1,16 @@
 -- At each moment each server has at most one holder: at first it is free, and each turn of its core keeps it so.
-use Rattle.std.proofs.Common.{◌≡◌, ◌⊎◌, inl, inr, ℕ, zero, suc, ◌+◌, ◌-◌, ◌<◌, ◌≤◌, Bool, true, false, cond, not, ◌==◌, List, [], ◌∷◌, ◌++◌, length, map, get_or, None, refl, sym, ap, subst, ◌∙◌, arith}
+use Rattle.std.proofs.Common.{◌≡◌, ◌⊎◌, inl, inr, ℕ, zero, suc, ◌+◌, ◌-◌, ◌<◌, ◌≤◌, Bool, true, false, cond, not, ◌==◌, List, [], ◌∷◌, ◌++◌, length, map, get_or, Some, None, refl, sym, ap, subst, ◌∙◌, arith}
 use Rattle.std.specs.Prelude.{filter, flat_map, nat_le}
-use Rattle.std.specs.List.{AllByRecursion, range_with_len}
+use Rattle.std.specs.List.{AllByRecursion, range_with_len, slice_get}
 use Rattle.std.proofs.lemmas.Bool.{cases_lt}
 use Rattle.std.proofs.lemmas.Bool.Decides.{nat_tests}
 use Rattle.std.proofs.lemmas.List.{get_or_past, get_or-drop, length-map, length-drop}
 use Rattle.mcs_ticks.specs.Queue.{in_one_list}
 use Rattle.mcs_notify.specs.Note.{quiet_note}
+use Rattle.mcs_script.specs.declared.item.Item.{Item}
 use Rattle.mcs_script.specs.declared.item.Item.TheVariants.{Signal, Enter}
+use Rattle.mcs_script.specs.declared.place.Place.{Place}
+use Rattle.mcs_script.specs.Script.{move_after, place_after}
 use Rattle.mcs_mail.specs.declared.mail.Mail.{Mail}
 use Rattle.mcs_system.specs.declared.part.Beat.{Beat}
 use Rattle.mcs_system.specs.declared.part.NotePart.{NotePart}
@@ -17,7 +20,7 @@ use Rattle.mcs_system.specs.WellFormed.{IsWellFormed, IsBeat}
 use Rattle.mcs_core.specs.Alarms.{is_at_home, rung, rings, ringing, alarms_at}
 use Rattle.mcs_core.specs.declared.alarm.Alarm.{Alarm}
 use Rattle.mcs_core.specs.declared.standing.Standing.TheVariants.{Pending, Elsewhere}
-use Rattle.mcs_core.specs.Core.{no_state, opening_core, opening_thread, opening_note}
+use Rattle.mcs_core.specs.Core.{thread_of, Core, no_state, opening_core, opening_thread, opening_note}
 use Rattle.mcs_core.specs.Clock as clocks
 use Rattle.mcs_core.proofs.Clock.{core_shown-first, core_shown-kept, mails-world}
 use Rattle.mcs_core.proofs.Counts.{times_waiting-at}
@@ -104,6 +107,11 @@ module _ (system : System) (c : ℕ) where
       by false = refl
   opens (part ∷ parts) (suc x) = opens parts x
 
+  opens-at : (parts : List ThreadPart) (x : ℕ) → (get_or (map (opening_thread system c) parts) x no_state).place.priority ≡ (get_or parts x no_thread).priority
+  opens-at [] x = refl
+  opens-at (part ∷ parts) zero = refl
+  opens-at (part ∷ parts) (suc x) = opens-at parts x
+
 opening-word : (notes : List NotePart) (n : ℕ) → n < length notes → (get_or (map opening_note notes) n quiet_note).word ≡ (get_or notes n no_note).word
 opening-word [] n l = absurd (omega (arith, l))
 opening-word (note ∷ notes) zero l = refl
@@ -116,13 +124,19 @@ nested-each system h x = by (cases_lt x (length system.threads))
     by (inl within) = h x no_thread within
     by (inr past) = ap (λ (part : ThreadPart). nests part.script) (get_or_past system.threads x no_thread past)
 
-module _ (system : System) (well : IsWellFormed system) (nest : ScriptsNest system) (server : ℕ) (known : server < length system.notes)
-    (is : is_server system server ≡ true) where
-  home : ℕ
+module _ (system : System) (well : IsWellFormed system) (nest : ScriptsNest system) (Fits : ℕ → ℕ → ℕ → Type 0)
+    (fits-first : (x : ℕ) → Fits x 0 (thread_part system x).priority)
+    (fits-next : (x : ℕ) (item : Item) (place : Place) → slice_get (thread_part system x).script place.item ≡ Some item → Fits x place.item place.priority →
+    let later = place_after system.call (thread_part system x).script (move_after (thread_part system x).script (thread_part system x).rounds place) place in
+    Fits x later.item later.priority)
+    (server : ℕ) (known : server < length system.notes) (is : is_server system server ≡ true) where
+  abbrev pub GoodCore : Core → Type 0
+  GoodCore k = Good system well (nested-each system nest) Fits fits-next server is k
+
+  abbrev pub home : ℕ
   home = (note_part system server).core
 
   home-known : home < system.cores
-  unfolding home
   home-known = well.notes server no_note known
 
   free-word : (note_part system server).word ≡ 1
@@ -136,7 +150,12 @@ module _ (system : System) (well : IsWellFormed system) (nest : ScriptsNest syst
       last : (all n servers : ℕ) → nat_le all (n + servers) ≡ true → all - servers ≤ n
       last all n servers e = grind (arith, nat_tests)
 
-  opening-good : (c : ℕ) → c < system.cores → Good system well (nested-each system nest) server is (opening_core system c)
+  fits-opening : (c x : ℕ) → Fits x (thread_of (opening_core system c) x).place.item (thread_of (opening_core system c) x).place.priority
+  fits-opening c x =
+      subst (λ p. Fits x (thread_of (opening_core system c) x).place.item p) (sym (opens-at system c system.threads x))
+      (subst (λ i. Fits x i (thread_part system x).priority) (sym (opens system c system.threads x).1) (fits-first x))
+
+  opening-good : (c : ℕ) → c < system.cores → GoodCore (opening_core system c)
   opening-good c on =
       record {
         kept = record {
@@ -145,6 +164,8 @@ module _ (system : System) (well : IsWellFormed system) (nest : ScriptsNest syst
           alive = λ x l. (opens system c system.threads x).0;
           there = omega (arith, known, length-map system.notes opening_note);
           many = length-map system.threads (opening_thread system c);
+          line = (tt, tt);
+          fits = fits-opening c;
         };
         holder = None;
         held = record {
@@ -153,17 +174,16 @@ module _ (system : System) (well : IsWellFormed system) (nest : ScriptsNest syst
         };
       }
 
-  good-at : (t : ℕ) → Good system well (nested-each system nest) server is (clocks.core_shown system (clocks.world system t) home)
-  good-at zero = subst (Good system well (nested-each system nest) server is) (sym (core_shown-first system home home-known)) (opening-good home home-known)
+  pub good-at : (t : ℕ) → GoodCore (clocks.core_shown system (clocks.world system t) home)
+  good-at zero = subst GoodCore (sym (core_shown-first system home home-known)) (opening-good home home-known)
   good-at (suc t) =
-      subst (Good system well (nested-each system nest) server is) (sym (core_shown-kept system (takes-time system well) t home home-known))
-      (turn-good system well (nested-each system nest) server is t home (filter (clocks.arrives_at system t home) (clocks.world system t).mails)
+      subst GoodCore (sym (core_shown-kept system (takes-time system well) t home home-known))
+      (turn-good system well (nested-each system nest) Fits fits-next server is t home (filter (clocks.arrives_at system t home) (clocks.world system t).mails)
       (clocks.core_shown system (clocks.world system t) home) (alarms-heard system well home t) (mails-signalled system well home t) (good-at t))
 
 pub servers-exclude : (system : System) → IsWellFormed system → ScriptsNest system → ServersExclude system
-unfolding home
 servers-exclude system well nest server t known is =
-    let g = good-at system well nest server known is t in
+    let g = good-at system well nest (λ x i p. Unit {0}) (λ x. tt) (λ x item place e h. tt) server known is t in
     (g.holder, record { word = g.held.word; inside = g.held.inside })
 
 pub none-enters-twice : (system : System) → ScriptsNest system → NoneEntersTwice system

@@ -5,4 +5,5 @@ pub mod Holders
 pub mod Interrupts
 pub mod Schedules
 pub mod Accepted
+pub mod Ceiling
 mod Worked

@@ -33,11 +33,17 @@ stands-from (x ∷ xs) servers (suc i) item h e =
     stands-from xs (inside_after x servers) i item (right-true (may_stand x servers) (nests_from xs (inside_after x servers)) h) e
 
 -- behind it
-after-from : (script : List Item) (servers : List ℕ) (i : ℕ) (item : Item) → slice_get script i ≡ Some item
+pub after-from : (script : List Item) (servers : List ℕ) (i : ℕ) (item : Item) → slice_get script i ≡ Some item
     → inside_from (suc i) script servers ≡ inside_after item (inside_from i script servers)
 after-from [] servers i item e = absurd (cc)
 after-from (x ∷ xs) servers zero item e = let f : x ≡ item = cc in ap (λ y. inside_after y servers) f
 after-from (x ∷ xs) servers (suc i) item e = after-from xs (inside_after x servers) i item e
+
+pub past-from : (script : List Item) (servers : List ℕ) (i : ℕ) → slice_get script i ≡ None → inside_from (suc i) script servers ≡ inside_from i script servers
+past-from [] servers zero e = refl
+past-from [] servers (suc i) e = refl
+past-from (x ∷ xs) servers zero e = absurd (cc)
+past-from (x ∷ xs) servers (suc i) e = past-from xs (inside_after x servers) i e
 
 -- of what is behind some items
 rest-nests : (script : List Item) (servers : List ℕ) (i : ℕ) → nests_from script servers ≡ true → nests_from (drop i script) (inside_from i script servers) ≡ true

@@ -1,5 +1,5 @@
 -- Values that were worked by hand from the rules, at the edges where a law that said a little more, or less, would fail.
-use Rattle.std.specs.Prelude.{◌≡◌, ℕ, Bool, true, false, List, [], ◌∷◌, ◌++◌, map, None, refl}
+use Rattle.std.specs.Prelude.{◌≡◌, ℕ, Bool, true, false, List, [], ◌∷◌, ◌++◌, map, Option, Some, None, option_map, refl}
 use Rattle.mcs_ticks.specs.declared.row.What.TheVariants as row
 use Rattle.mcs_ticks.specs.declared.row.Why.TheVariants as why
 use Rattle.mcs_control.specs.declared.config.Mode.TheVariants.{Sporadic}
@@ -11,6 +11,8 @@ use Rattle.mcs_system.specs.declared.part.NotePart.{NotePart}
 use Rattle.mcs_system.specs.declared.part.SourcePart.{SourcePart}
 use Rattle.mcs_system.specs.declared.part.ThreadPart.{ThreadPart}
 use Rattle.mcs_system.specs.System.{System}
+use Rattle.mcs_core.specs.declared.standing.Chosen.{Chosen}
+use Rattle.mcs_core.specs.Places.{times_queued}
 use Rattle.mcs_core.specs.Core.{thread_of, note_of}
 use Rattle.mcs_core.specs.Clock.{schedule, turn_of, world, core_at}
 use Rattle.mcs_load.specs.Script.{call_steps}
@@ -154,3 +156,27 @@ unfolded = refl
 
 unfolded_nests : nests outer_call ≡ true
 unfolded_nests = refl
+
+-- Thread 0 of priority 10 calls server 0. A thread of priority 30, which calls it too, and one of priority 50 start at 2.
+abbrev above_it : ℕ → System
+above_it ceiling =
+    one_core 1 (context 20 100 ∷ context 20 100 ∷ context 20 100 ∷ []) (note 1 ∷ [])
+    (
+    thread 0 10 0 1 (Enter 0 ceiling ∷ Compute 9 ∷ Leave 0 10 ∷ []) ∷ thread 1 30 2 1 (Enter 0 ceiling ∷ Compute 1 ∷ Leave 0 30 ∷ [])
+    ∷ thread 2 50 2 1 (Compute 3 ∷ []) ∷ []
+    )
+    [] []
+
+-- who runs before a moment, with its priority, and whether thread 0 is ready
+abbrev runs_with : System → ℕ → Option (ℕ × ℕ) × ℕ
+runs_with system t =
+    let core = core_at system (world system t) 0 in
+    (option_map (λ (chosen : Chosen). (chosen.thread, (thread_of core chosen.thread).place.priority)) core.running, times_queued 0 core.ready)
+
+-- at the server's priority of 40 only the third thread runs while thread 0 is ready in it, and then thread 0 goes on
+only_above_the_ceiling : (runs_with (above_it 40) 4 ≡ (Some (2, 50), 1)) × (runs_with (above_it 40) 6 ≡ (Some (0, 40), 0))
+only_above_the_ceiling = (refl, refl)
+
+-- at a server's priority of 20 the thread of priority 30 runs before it, and calls the server of a ready thread
+below_its_callers : (runs_with (above_it 20) 6 ≡ (Some (1, 30), 1)) × ((turn_of (above_it 20) 0 6).rows ≡ row.Stop 1 why.Call 1 None ∷ row.Run 0 ∷ [])
+below_its_callers = (refl, refl)

@@ -1,0 +1,60 @@
+-- Priority ceilings: where each server is called from below its priority, nobody that calls it runs while the one that has it is ready.
+use Rattle.std.specs.Prelude.{◌≡◌, ℕ, ◌<◌, ◌≤◌, List, [], ◌∷◌, length, true, Some}
+use Rattle.std.specs.List.{slice_get}
+use Rattle.mcs_script.specs.declared.item.Item.{Item}
+use Rattle.mcs_script.specs.declared.item.Item.TheVariants.{Enter, Leave}
+use Rattle.mcs_script.specs.declared.place.Place.{Place}
+use Rattle.mcs_system.specs.System.{System, thread_part, is_server}
+use Rattle.mcs_core.specs.declared.standing.Chosen.{Chosen}
+use Rattle.mcs_core.specs.Core.{thread_of}
+use Rattle.mcs_core.specs.Places.{times_queued}
+use Rattle.mcs_server_laws.specs.Nesting.{without_last, inside}
+use Rattle.mcs_server_laws.specs.Exclusion.{IsHeldBy, home_of}
+
+-- a thread of its own priority that is in these servers has the priority of the one that it entered last
+abbrev pub priority_in : (ℕ → ℕ) → ℕ → List ℕ → ℕ
+priority_in ceiling own [] = own
+priority_in ceiling own (last ∷ others) = ceiling last
+
+module _ (system : System) (ceiling : ℕ → ℕ) where
+  abbrev pub script_of : ℕ → List Item
+  script_of thread = (thread_part system thread).script
+
+  abbrev pub priority_of : ℕ → List ℕ → ℕ
+  priority_of thread servers = priority_in ceiling (thread_part system thread).priority servers
+
+  -- each server is entered at a priority below its own and with its own, and who leaves it goes back to the priority before
+  pub record AreCeilings : Type 0 where
+    pub above : (thread item server priority : ℕ) → slice_get (script_of thread) item ≡ Some (Enter server priority) →
+        priority_of thread (inside item (script_of thread)) < ceiling server
+    pub given : (thread item server priority : ℕ) → slice_get (script_of thread) item ≡ Some (Enter server priority) → priority ≡ ceiling server
+    pub back : (thread item server priority : ℕ) → slice_get (script_of thread) item ≡ Some (Leave server priority) →
+        priority ≡ priority_of thread (without_last (inside item (script_of thread)))
+
+  -- before moment t the thread has the server, and is ready; and another one runs
+  pub record IsKept (server t holder : ℕ) (chosen : Chosen) : Type 0 where
+    pub known : server < length system.notes
+    pub is : is_server system server ≡ true
+    pub held : IsHeldBy system server (Some holder) (home_of system server t)
+    pub ready : 1 ≤ times_queued holder (home_of system server t).ready
+    pub runs : (home_of system server t).running ≡ Some chosen
+
+  abbrev pub place_of : ℕ → ℕ → Chosen → Place
+  place_of server t chosen = (thread_of (home_of system server t) chosen.thread).place
+
+  -- who runs has at least the server's priority
+  abbrev pub RunsAbove : Type 0
+  RunsAbove = (server t holder : ℕ) (chosen : Chosen) → IsKept server t holder chosen → ceiling server ≤ (place_of server t chosen).priority
+
+  -- so it is not about to enter the server: no thread calls a server that a ready thread has
+  abbrev pub NoneCalls : Type 0
+  NoneCalls =
+      (server t holder priority : ℕ) (chosen : Chosen) → IsKept server t holder chosen →
+      ¬ (slice_get (script_of chosen.thread) (place_of server t chosen).item ≡ Some (Enter server priority))
+
+  -- nor is it in no server, if it calls this one anywhere
+  abbrev pub NoneOvertakes : Type 0
+  NoneOvertakes =
+      (server t holder item priority : ℕ) (chosen : Chosen) → IsKept server t holder chosen →
+      inside (place_of server t chosen).item (script_of chosen.thread) ≡ [] →
+      ¬ (slice_get (script_of chosen.thread) item ≡ Some (Enter server priority))
