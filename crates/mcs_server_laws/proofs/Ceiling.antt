@@ -22,7 +22,8 @@ use Rattle.mcs_server_laws.specs.Nesting.{is_in, inside, inside_after, ScriptsNe
 use Rattle.mcs_server_laws.specs.Exclusion.{is_done, home_of}
 use Rattle.mcs_server_laws.specs.Ceiling.{priority_of, place_of, AreCeilings, RunsAbove, NoneCalls, NoneOvertakes}
 use Rattle.mcs_server_laws.proofs.Nesting.{after-from, past-from, IsMoved, moved-inside}
-use Rattle.mcs_server_laws.proofs.Exclusion.{IsTop, Good, turn-top}
+use Rattle.mcs_server_laws.proofs.Calm.{IsTop}
+use Rattle.mcs_server_laws.proofs.Exclusion.{Good, turn-top}
 use Rattle.mcs_server_laws.proofs.Holders.{nested-each, alarms-heard, mails-signalled, good-at}
 
 equal : (a b : ℕ) → (a == b) ≡ true → a ≡ b

@@ -33,7 +33,8 @@ use Rattle.mcs_server_laws.specs.Nesting.{is_in, inside, nests, ScriptsNest}
 use Rattle.mcs_server_laws.specs.Exclusion.{is_done, ServersExclude, NoneEntersTwice}
 use Rattle.mcs_server_laws.proofs.Dates.{alarm_before, before-map}
 use Rattle.mcs_server_laws.proofs.Nesting.{may-stand}
-use Rattle.mcs_server_laws.proofs.Exclusion.{item-is, Good, turn-good}
+use Rattle.mcs_server_laws.proofs.Calm.{item-is}
+use Rattle.mcs_server_laws.proofs.Exclusion.{Good, turn-good}
 
 -- what holds of each
 all-filter : {A : Type 0} (C : A → Type 0) (p : A → Bool) (xs : List A) → AllByRecursion C xs → AllByRecursion C (filter p xs)

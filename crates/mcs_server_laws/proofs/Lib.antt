@@ -1,5 +1,6 @@
 pub mod Dates
 pub mod Nesting
+pub mod Calm
 pub mod Exclusion
 pub mod Holders
 pub mod Interrupts
