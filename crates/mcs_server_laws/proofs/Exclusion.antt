@@ -1,24 +1,20 @@
 -- Who has a server, through the parts of a turn: the thread that enters it, until it leaves it.
-use Rattle.std.proofs.Common.{◌≡◌, ◌≢◌, ◌⊎◌, inl, inr, ℕ, zero, suc, ◌+◌, ◌<◌, ◌≤◌, Bool, true, false, cond, not, ◌==◌, ◌&&◌, List, [], ◌∷◌, ◌++◌, length, get_or, set, Option, Some, None, refl, sym, ap, subst, ◌∙◌, arith}
-use Rattle.std.specs.Prelude.{◌||◌, filter, nat_lt, bit_or}
+use Rattle.std.proofs.Common.{◌≡◌, ◌≢◌, ◌⊎◌, inl, inr, ℕ, ◌+◌, ◌<◌, ◌≤◌, Bool, true, false, cond, not, ◌==◌, ◌&&◌, List, [], ◌∷◌, ◌++◌, length, get_or, set, Option, Some, None, refl, sym, ap, subst, ◌∙◌, arith}
+use Rattle.std.specs.Prelude.{◌||◌, filter, bit_or}
 use Rattle.std.specs.List.{slice_get, AllByRecursion}
-use Rattle.std.proofs.lemmas.Bool.{cases_lt, cases_eq}
-use Rattle.std.proofs.lemmas.Bool.Decides.{nat_tests}
-use Rattle.std.proofs.lemmas.List.{get_or-set_same, get_or-set_other, get_or_past}
+use Rattle.std.proofs.lemmas.Bool.{cases_eq}
+use Rattle.std.proofs.lemmas.List.{get_or-set_same, get_or-set_other}
 use Rattle.std.proofs.Math.ListN.{length-set}
-use Rattle.mcs_ticks.specs.Queue.{by_priority, first_of, rest_of, without, entered_back, entered_front}
+use Rattle.mcs_ticks.specs.Queue.{by_priority, without}
 use Rattle.mcs_ticks.specs.declared.queue.Queued.{Queued}
 use Rattle.mcs_ticks.specs.declared.row.Why.{Why}
 use Rattle.mcs_ticks.specs.declared.row.Why.TheVariants as why
 use Rattle.mcs_control.specs.declared.config.Order.{Order}
-use Rattle.mcs_control.specs.Context.{head_amount}
 use Rattle.mcs_notify.specs.Note.{Note, quiet_note, posted, after_post, waited, after_wait}
 use Rattle.mcs_notify.specs.declared.posted.Posted.{Posted}
 use Rattle.mcs_notify.specs.declared.posted.Posted.TheVariants.{Woke, Held}
 use Rattle.mcs_notify.specs.declared.posted.Waited.{Waited}
 use Rattle.mcs_notify.specs.declared.posted.Waited.TheVariants.{Got, Blocks}
-use Rattle.mcs_release.specs.declared.dated.Dated.{Dated}
-use Rattle.mcs_release.specs.Release.{is_due}
 use Rattle.mcs_script.specs.declared.item.Item.{Item}
 use Rattle.mcs_script.specs.declared.item.Item.TheVariants.{Compute, Signal, Wait, Yield, On, Spin, Enter, Leave}
 use Rattle.mcs_script.specs.declared.moved.Moved.{Moved}
@@ -26,24 +22,22 @@ use Rattle.mcs_script.specs.declared.moved.Moved.TheVariants.{Next, RoundEnds, A
 use Rattle.mcs_script.specs.declared.place.Place.{Place}
 use Rattle.mcs_script.specs.Script.{move_after, place_after}
 use Rattle.mcs_mail.specs.declared.mail.Mail.{Mail}
-use Rattle.mcs_system.specs.declared.part.ThreadPart.{ThreadPart}
-use Rattle.mcs_system.specs.System.{System, no_thread, note_part, thread_part, core_of, is_server}
-use Rattle.mcs_system.specs.WellFormed.{IsWellFormed, IsItem}
+use Rattle.mcs_system.specs.System.{System, note_part, thread_part, is_server}
+use Rattle.mcs_system.specs.WellFormed.{IsWellFormed}
 use Rattle.mcs_core.specs.Alarms.{ringing, alarms_at}
 use Rattle.mcs_core.specs.declared.alarm.Alarm.{Alarm}
 use Rattle.mcs_core.specs.declared.standing.AfterItem.{AfterItem}
 use Rattle.mcs_core.specs.declared.standing.AfterItem.TheVariants as after
 use Rattle.mcs_core.specs.declared.standing.Chosen.{Chosen}
-use Rattle.mcs_core.specs.declared.standing.Standing.{Standing}
-use Rattle.mcs_core.specs.declared.standing.Standing.TheVariants.{Pending, Ready, Running, Blocked, Done}
+use Rattle.mcs_core.specs.declared.standing.Standing.TheVariants.{Blocked, Done}
 use Rattle.mcs_core.specs.declared.standing.Thread.{Thread}
-use Rattle.mcs_core.specs.Core.{Core, no_state, thread_of, note_of, with_thread, with_note, stands, off}
-use Rattle.mcs_core.specs.Places.{times_queued, times_dated, times_waiting}
+use Rattle.mcs_core.specs.Core.{Core, thread_of, note_of, with_note}
+use Rattle.mcs_core.specs.Places.{times_queued, times_waiting}
 use Rattle.mcs_core.specs.Turn as turns
 use Rattle.mcs_core.specs.Turn.{Turn, silent, says, ◌followed_by◌, each, is_for_now}
-use Rattle.mcs_core.proofs.Counts.{one_if_same, times_queued-back, times_queued-front, times_queued-rest, times_queued-append, times_dated-append, times_queued-without, times_waiting-at}
+use Rattle.mcs_core.proofs.Counts.{one_if_same, times_queued-append, times_queued-without, times_waiting-at}
 use Rattle.mcs_laws.specs.Places.{places, times_running}
-use Rattle.mcs_laws.proofs.Places.{woke, set-waiting, signals-running, posts-held, frees-held, frees-running, obeys-held, releases-held}
+use Rattle.mcs_laws.proofs.Places.{woke, set-waiting, signals-running, posts-held, frees-held, frees-running}
 use Rattle.mcs_server_laws.specs.Nesting.{is_in, last_is, without_last, inside, inside_after, nests}
 use Rattle.mcs_server_laws.specs.Exclusion.{is_done, is_inside, has, word_of, IsHeldBy}
 use Rattle.mcs_server_laws.proofs.Nesting.{AreDistinct, may-stand, are-distinct, IsMoved, moved-inside, wait-goes, enter-goes}

@@ -1,5 +1,5 @@
 -- The rows of a turn that tell of interrupts are those of the alarms that ring, and each stands before that of its post.
-use Rattle.std.proofs.Common.{◌≡◌, ℕ, zero, suc, ◌+◌, Bool, true, false, cond, ◌==◌, List, [], ◌∷◌, ◌++◌, map, refl, sym, ap, subst, ◌∙◌, append-nil, arith}
+use Rattle.std.proofs.Common.{◌≡◌, ℕ, zero, suc, ◌+◌, Bool, true, false, cond, ◌==◌, List, [], ◌∷◌, ◌++◌, map, refl, sym, ap, subst, ◌∙◌, append-nil}
 use Rattle.std.specs.Prelude.{filter, bit_and, bit_or, flat_map, Option, Some, None}
 use Rattle.std.specs.List.{range_with_len}
 use Rattle.std.proofs.lemmas.List.{map-append}
@@ -10,18 +10,12 @@ use Rattle.mcs_ticks.specs.declared.queue.Queued.{Queued}
 use Rattle.mcs_ticks.specs.declared.row.Row.{Row}
 use Rattle.mcs_ticks.specs.declared.row.What.{What}
 use Rattle.mcs_ticks.specs.declared.row.What.TheVariants as row
-use Rattle.mcs_control.specs.declared.config.Order.{Order}
-use Rattle.mcs_notify.specs.Note.{Note, posted, waited}
+use Rattle.mcs_notify.specs.Note.{Note, posted}
 use Rattle.mcs_notify.specs.declared.posted.Posted.{Posted}
 use Rattle.mcs_notify.specs.declared.posted.Posted.TheVariants.{Woke, Held}
-use Rattle.mcs_notify.specs.declared.posted.Waited.{Waited}
-use Rattle.mcs_script.specs.declared.item.Item.{Item}
-use Rattle.mcs_script.specs.declared.item.Item.TheVariants.{Compute, Signal, Wait, Yield, On, Spin, Enter, Leave}
-use Rattle.mcs_script.specs.declared.moved.Moved.{Moved}
 use Rattle.mcs_mail.specs.declared.mail.Mail.{Mail}
-use Rattle.mcs_release.specs.Release.{is_due}
 use Rattle.mcs_system.specs.declared.part.Beat.{Beat}
-use Rattle.mcs_system.specs.System.{System, note_part}
+use Rattle.mcs_system.specs.System.{System}
 use Rattle.mcs_system.specs.WellFormed.{IsWellFormed}
 use Rattle.mcs_core.specs.Alarms.{rung, rings, ringing, alarms_at}
 use Rattle.mcs_core.specs.declared.alarm.Alarm.{Alarm}
@@ -35,22 +29,17 @@ use Rattle.mcs_core.specs.Clock as clocks
 use Rattle.mcs_core.proofs.Clock.{rows-clock}
 use Rattle.mcs_laws.proofs.Histories.{takes-time}
 use Rattle.mcs_server_laws.specs.Interrupts.{is_interrupt, interrupt_by, due_at, IsPosted, ArePosted, TurnsTellDates, InterruptsArePosted}
+use Rattle.mcs_server_laws.proofs.Rows as rows
+use Rattle.mcs_server_laws.proofs.Rows.{IsPlain}
 use Rattle.mcs_server_laws.proofs.Dates.{alarm_before, ringing-dates}
 
 -- the interrupts of a part of a turn
 abbrev pub told : List What → List What
 told rows = filter is_interrupt rows
 
-none-then : (made : Turn) (part : Core → Turn) → told made.rows ≡ [] → told (part made.core).rows ≡ [] → told (made followed_by part).rows ≡ []
-none-then made part p q = filter-append is_interrupt made.rows (part made.core).rows ∙ rw (p, q) refl
-
-none-if : (b : Bool) (u v : Turn) → told u.rows ≡ [] → told v.rows ≡ [] → told (cond b u v).rows ≡ []
-none-if true u v p q = p
-none-if false u v p q = q
-
-none-each : {A : Type 0} (part : A → Core → Turn) → ((x : A) (k : Core) → told (part x k).rows ≡ []) → (xs : List A) (k : Core) → told (each part xs k).rows ≡ []
-none-each part h [] k = refl
-none-each part h (x ∷ xs) k = none-then (part x k) (each part xs) (h x k) (none-each part h xs (part x k).core)
+plain : (what : What) → IsPlain what → is_interrupt what ≡ false
+plain (row.Interrupt source note badge) h = absurd h
+plain what h = refl
 
 -- whether an interrupt is posted depends on the next row alone
 last-posted : (first : Row) (what : What) (rows : List Row) → IsPosted first what [] → IsPosted first what rows
@@ -70,61 +59,8 @@ posted-append (first ∷ next ∷ rows) more h m =
 
 -- what tells of none
 module _ (queue : Discipline) (system : System) (c t : ℕ) where
-  moves-none : (x : ℕ) (m : Moved) (k : Core) → told (turns.moves system t x m k).rows ≡ []
-  moves-none x m k = grind arith
-
-  moves_on-none : (x : ℕ) (k : Core) → told (turns.moves_on system t x k).rows ≡ []
-  moves_on-none x k = moves-none x (turns.move_of system x k) k
-
-  resumes-none : (x : ℕ) (k : Core) → told (turns.resumes queue system t x k).rows ≡ []
-  resumes-none x k =
-      none-then (turns.moves_on system t x k) (λ core. silent (turns.enters_back queue x (turns.date_of system t x core) core)) (moves_on-none x k) refl
-
-  let_in-none : (x : ℕ) (k : Core) → told (turns.let_in queue system t x k).rows ≡ []
-  let_in-none x k =
-      none-then (turns.moves_on system t x (turns.with_woken_context system t x k))
-      (λ core. silent (turns.enters_front queue x (turns.date_of system t x core) core)) (moves_on-none x (turns.with_woken_context system t x k)) refl
-
   posts_as-none : (note : ℕ) (post : Posted) (k : Core) → told (turns.posts_as queue system t note post k).rows ≡ []
-  posts_as-none note (Woke x word) k = resumes-none x _
-  posts_as-none note (Held word) k = refl
-
-  posts-none : (note badge : ℕ) (k : Core) → told (turns.posts queue system t note badge k).rows ≡ []
-  posts-none note badge k = posts_as-none note (posted badge (note_of k note)) k
-
-  frees_as-none : (server : ℕ) (post : Posted) (k : Core) → told (turns.frees_as queue system t server post k).rows ≡ []
-  frees_as-none server (Woke x word) k = let_in-none x _
-  frees_as-none server (Held word) k = refl
-
-  frees-none : (x server : ℕ) (k : Core) → told (turns.frees queue system t x server k).rows ≡ []
-  frees-none x server k = frees_as-none server (posted 1 (note_of k server)) k
-
-  signals-none : (x note badge : ℕ) (k : Core) → told (turns.signals queue system c t x note badge k).rows ≡ []
-  signals-none x note badge k =
-      none-if ((note_part system note).core == c) (turns.posts queue system t note badge k)
-      (record { core = k; rows = []; mails = turns.mail_to system c t note badge ∷ [] }) (posts-none note badge k) refl
-
-  waits-none : (x note : ℕ) (w : Waited) (k : Core) → told (turns.waits_as system t x note w k).rows ≡ []
-  waits-none x note w k = grind arith
-
-  enters-none : (x server : ℕ) (w : Waited) (k : Core) → told (turns.enters_as system t x server w k).rows ≡ []
-  enters-none x server w k = grind arith
-
-  effect-none : (x : ℕ) (item : Option Item) (k : Core) → told (turns.takes_effect queue system c t x item k).rows ≡ []
-  effect-none x (Some (Signal note badge)) k =
-      none-then (turns.signals queue system c t x note badge k) (turns.moves_on system t x) (signals-none x note badge k) (moves_on-none x _)
-  effect-none x (Some (Wait note)) k = waits-none x note (waited (note_of k note)) k
-  effect-none x (Some (Compute ticks)) k = moves_on-none x k
-  effect-none x (Some Yield) k = moves_on-none x k
-  effect-none x (Some (On badges)) k = moves_on-none x k
-  effect-none x (Some Spin) k = moves_on-none x k
-  effect-none x (Some (Enter server priority)) k = enters-none x server (waited (note_of k server)) k
-  effect-none x (Some (Leave server priority)) k =
-      none-then (turns.frees queue system t x server k) (turns.moves_on system t x) (frees-none x server k) (moves_on-none x _)
-  effect-none x None k = refl
-
-  may_stop-none : (x using : ℕ) (cause : AfterItem) (k : Core) → told (turns.may_stop queue system t x using cause k).rows ≡ []
-  may_stop-none x using cause k = grind arith
+  posts_as-none note post k = rows.posts_as-none is_interrupt plain queue system c t note post k
 
   tick_of-none : (o : Option Chosen) (k : Core) → told (turns.tick_of queue system c t o k).rows ≡ []
   tick_of-none None k = refl
@@ -132,29 +68,24 @@ module _ (queue : Discipline) (system : System) (c t : ℕ) where
       let counted = turns.counts chosen k in
       let x = chosen.thread in
       let item = turns.item_of system x counted in
-      none-if ((thread_of counted x).place.left == 0)
-      (turns.finishes queue system c t x (chosen.using + 1) item counted)
+      by ((thread_of counted x).place.left == 0) (turns.finishes queue system c t x (chosen.using + 1) item counted)
       (turns.may_stop queue system t x (chosen.using + 1) after.GoesOn counted)
-      (none-then (turns.takes_effect queue system c t x item counted)
+      (rows.none-then is_interrupt plain (turns.takes_effect queue system c t x item counted)
       (turns.may_stop queue system t x (chosen.using + 1) (turns.after_item system x item counted))
-      (effect-none x item counted)
-      (may_stop-none x (chosen.using + 1) (turns.after_item system x item counted) (turns.takes_effect queue system c t x item counted).core))
-      (may_stop-none x (chosen.using + 1) after.GoesOn counted)
+      (rows.effect-none is_interrupt plain queue system c t x item counted)
+      (stop-none x (chosen.using + 1) (turns.after_item system x item counted) (turns.takes_effect queue system c t x item counted).core))
+      (stop-none x (chosen.using + 1) after.GoesOn counted)
+    where
+      stop-none : (x using : ℕ) (cause : AfterItem) (k : Core) → told (turns.may_stop queue system t x using cause k).rows ≡ []
+      stop-none x using after.Calls k = refl
+      stop-none x using after.Ends k = refl
+      stop-none x using after.Blocks k = refl
+      stop-none x using after.Yields k = refl
+      stop-none x using after.GoesOn k = rows.may_stop-none is_interrupt plain queue system c t x using after.GoesOn k tt
 
-  arrives-none : (mail : Mail) (k : Core) → told (turns.arrives queue system t mail k).rows ≡ []
-  arrives-none mail k = posts-none mail.note mail.badge k
-
-  obeys-none : (order : Order) (k : Core) → told (turns.obeys queue system t order k).rows ≡ []
-  obeys-none order k = grind arith
-
-  releases-none : (k : Core) → told (turns.releases queue system t k).rows ≡ []
-  releases-none k = none-each (turns.released queue) (λ due core. refl) (filter (is_due t) k.releases) _
-
-  preempts-none : (o : Option Chosen) (best : Option Queued) (k : Core) → told (turns.preempts_by queue system t o best k).rows ≡ []
-  preempts-none o best k = grind arith
-
-  chooses-none : (o : Option Chosen) (best : Option Queued) (k : Core) → told (turns.chooses_of queue system t o best k).rows ≡ []
-  chooses-none o best k = grind arith
+      by : (b : Bool) (u v : Turn) → told u.rows ≡ [] → told v.rows ≡ [] → told (cond b u v).rows ≡ []
+      by true u v p q = p
+      by false u v p q = q
 
   -- what an alarm tells
   abbrev row_of : Alarm → What
@@ -165,7 +96,7 @@ module _ (queue : Discipline) (system : System) (c t : ℕ) where
   told-interrupts (alarm ∷ alarms) k =
       let first = turns.interrupts queue system t alarm k in
       filter-append is_interrupt first.rows (each (turns.interrupts queue system t) alarms first.core).rows
-      ∙ rw (posts-none alarm.note alarm.badge k, told-interrupts alarms first.core) refl
+      ∙ rw (rows.posts-none is_interrupt plain queue system c t alarm.note alarm.badge k, told-interrupts alarms first.core) refl
 
   -- a whole turn tells of the alarms that ring
   pub told-turn : (mails : List Mail) (k : Core) → told (turns.turn_with queue system c t mails k).rows ≡ map row_of (ringing t (alarms_at system c t))
@@ -179,11 +110,11 @@ module _ (queue : Discipline) (system : System) (c t : ℕ) where
       let chosen = turns.chooses queue system t gave.core in
       only first.rows rang.rows came.rows obeyed.rows freed.rows gave.rows chosen.rows
       (tick_of-none k.running k)
-      (none-each (turns.arrives queue system t) arrives-none mails rang.core)
-      (none-each (turns.obeys queue system t) obeys-none (filter (is_for_now system c t) system.orders) came.core)
-      (releases-none obeyed.core)
-      (preempts-none freed.core.running (queue.best freed.core.ready) freed.core)
-      (chooses-none gave.core.running (queue.best gave.core.ready) gave.core)
+      (rows.none-each is_interrupt plain (turns.arrives queue system t) (rows.arrives-none is_interrupt plain queue system c t) mails rang.core)
+      (rows.none-each is_interrupt plain (turns.obeys queue system t) (rows.obeys-none is_interrupt plain queue system c t) (filter (is_for_now system c t) system.orders) came.core)
+      (rows.releases-none is_interrupt plain queue system c t obeyed.core)
+      (rows.preempts-none is_interrupt plain queue system c t freed.core.running (queue.best freed.core.ready) freed.core)
+      (rows.chooses-none is_interrupt plain queue system c t gave.core.running (queue.best gave.core.ready) gave.core)
       ∙ told-interrupts (ringing t (alarms_at system c t)) first.core
     where
       one_more : (xs ys : List What) → told ys ≡ [] → told (xs ++ ys) ≡ told xs
@@ -253,11 +184,11 @@ module _ (queue : Discipline) (system : System) (c t : ℕ) where
       all first.rows rang.rows came.rows obeyed.rows freed.rows gave.rows chosen.rows
       (tick_of-none k.running k)
       (interrupts-posted (ringing t (alarms_at system c t)) first.core)
-      (none-each (turns.arrives queue system t) arrives-none mails rang.core)
-      (none-each (turns.obeys queue system t) obeys-none (filter (is_for_now system c t) system.orders) came.core)
-      (releases-none obeyed.core)
-      (preempts-none freed.core.running (queue.best freed.core.ready) freed.core)
-      (chooses-none gave.core.running (queue.best gave.core.ready) gave.core)
+      (rows.none-each is_interrupt plain (turns.arrives queue system t) (rows.arrives-none is_interrupt plain queue system c t) mails rang.core)
+      (rows.none-each is_interrupt plain (turns.obeys queue system t) (rows.obeys-none is_interrupt plain queue system c t) (filter (is_for_now system c t) system.orders) came.core)
+      (rows.releases-none is_interrupt plain queue system c t obeyed.core)
+      (rows.preempts-none is_interrupt plain queue system c t freed.core.running (queue.best freed.core.ready) freed.core)
+      (rows.chooses-none is_interrupt plain queue system c t gave.core.running (queue.best gave.core.ready) gave.core)
     where
       more : (xs ys : List What) → told ys ≡ [] → IsTold xs → IsTold (xs ++ ys)
       more xs ys e p = both-told xs ys p (none-posted ys e)

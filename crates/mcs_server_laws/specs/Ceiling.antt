@@ -1,6 +1,9 @@
 -- Priority ceilings: where each server is called from below its priority, nobody that calls it runs while the one that has it is ready.
-use Rattle.std.specs.Prelude.{◌≡◌, ℕ, ◌<◌, ◌≤◌, List, [], ◌∷◌, length, true, Some}
-use Rattle.std.specs.List.{slice_get}
+use Rattle.std.specs.Prelude.{◌≡◌, ◌≢◌, ℕ, ◌<◌, ◌≤◌, List, [], ◌∷◌, length, true, Some}
+use Rattle.std.specs.List.{slice_get, AllByRecursion}
+use Rattle.mcs_ticks.specs.declared.row.What.{What}
+use Rattle.mcs_ticks.specs.declared.row.What.TheVariants as row
+use Rattle.mcs_ticks.specs.declared.row.Why.TheVariants as why
 use Rattle.mcs_script.specs.declared.item.Item.{Item}
 use Rattle.mcs_script.specs.declared.item.Item.TheVariants.{Enter, Leave}
 use Rattle.mcs_script.specs.declared.place.Place.{Place}
@@ -8,6 +11,7 @@ use Rattle.mcs_system.specs.System.{System, thread_part, is_server}
 use Rattle.mcs_core.specs.declared.standing.Chosen.{Chosen}
 use Rattle.mcs_core.specs.Core.{thread_of}
 use Rattle.mcs_core.specs.Places.{times_queued}
+use Rattle.mcs_core.specs.Clock.{turn_of}
 use Rattle.mcs_server_laws.specs.Nesting.{without_last, inside}
 use Rattle.mcs_server_laws.specs.Exclusion.{IsHeldBy, home_of}
 
@@ -58,3 +62,23 @@ module _ (system : System) (ceiling : ℕ → ℕ) where
       (server t holder item priority : ℕ) (chosen : Chosen) → IsKept server t holder chosen →
       inside (place_of server t chosen).item (script_of chosen.thread) ≡ [] →
       ¬ (slice_get (script_of chosen.thread) item ≡ Some (Enter server priority))
+
+  -- the thread runs, and is about to enter a server that another one has, which is not ready
+  pub record IsBehind (thread t : ℕ) : Type 0 where
+    pub server : ℕ
+    pub priority : ℕ
+    pub holder : ℕ
+    pub using : ℕ
+    pub other : holder ≢ thread
+    pub held : IsHeldBy system server (Some holder) (home_of system server t)
+    pub not_ready : times_queued holder (home_of system server t).ready ≡ 0
+    pub runs : (home_of system server t).running ≡ Some (record { thread = thread; using = using })
+    pub enters : slice_get (script_of thread) (thread_of (home_of system server t) thread).place.item ≡ Some (Enter server priority)
+
+  -- each stop with `call` is of such a thread, before the turn
+  abbrev pub TellsCall : ℕ → What → Type 0
+  TellsCall t (row.Stop thread why.Call charged until) = IsBehind thread t
+  TellsCall t _ = Unit {0}
+
+  abbrev pub CallsWait : Type 0
+  CallsWait = (c t : ℕ) → c < system.cores → AllByRecursion (TellsCall t) (turn_of system c t).rows

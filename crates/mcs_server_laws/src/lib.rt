@@ -7,7 +7,7 @@ ghost use Rattle.mcs_system.specs.System.{System};
 ghost use Rattle.mcs_system.specs.WellFormed.{IsWellFormed};
 ghost use Rattle.mcs_server_laws.specs.Nesting.{ScriptsNest};
 ghost use Rattle.mcs_server_laws.specs.Exclusion.{ServersExclude, NoneEntersTwice};
-ghost use Rattle.mcs_server_laws.specs.Ceiling.{AreCeilings, RunsAbove, NoneCalls, NoneOvertakes};
+ghost use Rattle.mcs_server_laws.specs.Ceiling.{AreCeilings, RunsAbove, NoneCalls, NoneOvertakes, CallsWait};
 ghost use Rattle.mcs_server_laws.specs.Accepted.{AcceptedScriptsNest, AcceptedServersExclude};
 ghost use Rattle.mcs_server_laws.specs.Interrupts.{TurnsTellDates, SchedulesTellDates, InterruptsArePosted};
 
@@ -30,10 +30,12 @@ pub fn servers_exclude()
 
 /// A law of the clock: priority ceilings. Suppose that each server is entered at a priority below its own. While a thread has a server and is ready, the
 /// thread that runs has at least the server's priority. So it is not about to call the server, and if it is in no server, it calls this one nowhere.
+/// When a thread stops with `call`, another thread has the server, and is not ready.
 pub fn ready_holders_are_not_overtaken()
     ensures runs_above { (system : System) → IsWellFormed system → ScriptsNest system → (ceiling : ℕ → ℕ) → AreCeilings system ceiling → RunsAbove system ceiling }
     ensures none_calls { (system : System) → IsWellFormed system → ScriptsNest system → (ceiling : ℕ → ℕ) → AreCeilings system ceiling → NoneCalls system ceiling }
     ensures none_overtakes { (system : System) → IsWellFormed system → ScriptsNest system → (ceiling : ℕ → ℕ) → AreCeilings system ceiling → NoneOvertakes system ceiling }
+    ensures calls_wait { (system : System) → IsWellFormed system → ScriptsNest system → (ceiling : ℕ → ℕ) → AreCeilings system ceiling → CallsWait system ceiling }
 {}
 
 /// A law of files: in a file that the loader accepts the scripts enter and leave servers in pairs. So each server of it is taken by at most one thread,
