@@ -94,8 +94,8 @@ module _ (system : System) (well : IsWellFormed system) (nest : ScriptsNest syst
 
   behind-priority : (x i before : ℕ) (item : Item) → slice_get (script x) i ≡ Some item → before ≡ priority_of system ceiling x (inside i (script x))
       → priority_after (Some item) before ≡ priority_of system ceiling x (inside_after item (inside i (script x)))
-  behind-priority x i before (Enter server priority) e h = are.given x i server priority e
-  behind-priority x i before (Leave server priority) e h = are.back x i server priority e
+  behind-priority x i before (Enter server priority) e h = are.priorities.given x i server priority e
+  behind-priority x i before (Leave server priority) e h = are.priorities.back x i server priority e
   behind-priority x i before (Compute ticks) e h = h
   behind-priority x i before (Signal note badge) e h = h
   behind-priority x i before (Wait note) e h = h

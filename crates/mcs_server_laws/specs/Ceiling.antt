@@ -27,13 +27,17 @@ module _ (system : System) (ceiling : ℕ → ℕ) where
   abbrev pub priority_of : ℕ → List ℕ → ℕ
   priority_of thread servers = priority_in ceiling (thread_part system thread).priority servers
 
-  -- each server is entered at a priority below its own and with its own, and who leaves it goes back to the priority before
-  pub record AreCeilings : Type 0 where
-    pub above : (thread item server priority : ℕ) → slice_get (script_of thread) item ≡ Some (Enter server priority) →
-        priority_of thread (inside item (script_of thread)) < ceiling server
+  -- each server is entered with its own priority, and who leaves it goes back to the one before
+  pub record HavePriorities : Type 0 where
     pub given : (thread item server priority : ℕ) → slice_get (script_of thread) item ≡ Some (Enter server priority) → priority ≡ ceiling server
     pub back : (thread item server priority : ℕ) → slice_get (script_of thread) item ≡ Some (Leave server priority) →
         priority ≡ priority_of thread (without_last (inside item (script_of thread)))
+
+  -- and it is entered at a priority below
+  pub record AreCeilings : Type 0 where
+    pub above : (thread item server priority : ℕ) → slice_get (script_of thread) item ≡ Some (Enter server priority) →
+        priority_of thread (inside item (script_of thread)) < ceiling server
+    pub priorities : HavePriorities
 
   -- before moment t the thread has the server, and is ready; and another one runs
   pub record IsKept (server t holder : ℕ) (chosen : Chosen) : Type 0 where

@@ -8,7 +8,7 @@ ghost use Rattle.mcs_system.specs.WellFormed.{IsWellFormed};
 ghost use Rattle.mcs_server_laws.specs.Nesting.{ScriptsNest};
 ghost use Rattle.mcs_server_laws.specs.Exclusion.{ServersExclude, NoneEntersTwice};
 ghost use Rattle.mcs_server_laws.specs.Ceiling.{AreCeilings, RunsAbove, NoneCalls, NoneOvertakes, CallsWait};
-ghost use Rattle.mcs_server_laws.specs.Accepted.{AcceptedScriptsNest, AcceptedServersExclude};
+ghost use Rattle.mcs_server_laws.specs.Accepted.{AcceptedScriptsNest, AcceptedServersExclude, AcceptedHavePriorities};
 ghost use Rattle.mcs_server_laws.specs.Interrupts.{TurnsTellDates, SchedulesTellDates, InterruptsArePosted};
 
 /// A law of the clock: each interrupt is posted. The turn of a core tells of an interrupt for each beat of its own that has a date at the moment,
@@ -39,8 +39,9 @@ pub fn ready_holders_are_not_overtaken()
 {}
 
 /// A law of files: in a file that the loader accepts the scripts enter and leave servers in pairs. So each server of it is taken by at most one thread,
-/// with no further premise.
+/// with no further premise. Each call runs at its server's priority, and the caller goes back to the one before.
 pub fn accepted_scripts_nest()
     ensures nest { AcceptedScriptsNest }
     ensures exclude { AcceptedServersExclude }
+    ensures priorities { AcceptedHavePriorities }
 {}
