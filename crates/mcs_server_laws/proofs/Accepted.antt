@@ -26,22 +26,12 @@ use Rattle.mcs_load.proofs.WellFormed.{accepted_is_well_formed}
 use Rattle.mcs_system.specs.System.{no_thread, thread_part}
 use Rattle.mcs_server_laws.specs.Ceiling.{priority_in}
 use Rattle.mcs_server_laws.specs.Accepted.{AcceptedScriptsNest, AcceptedServersExclude, AcceptedHavePriorities}
-use Rattle.mcs_server_laws.proofs.Calm.{equal, with-item}
+use Rattle.mcs_server_laws.proofs.Calm.{with-item}
 use Rattle.mcs_server_laws.proofs.Holders.{servers-exclude}
-
-left-true : (a b : Bool) → (a && b) ≡ true → a ≡ true
-left-true true b e = refl
-left-true false b e = absurd (cc)
-
-right-true : (a b : Bool) → (a && b) ≡ true → b ≡ true
-right-true true b e = e
-right-true false b e = absurd (cc)
+use Rattle.mcs_server_laws.proofs.Tests.{equal, itself, left-true, right-true}
 
 both-true : (a b : Bool) → a ≡ true → b ≡ true → (a && b) ≡ true
 both-true a b e f = rw (e, f) refl
-
-itself : (n : ℕ) → (n == n) ≡ true
-itself n = grind (arith, nat_tests)
 
 same : (a b : ℕ) → a ≡ b → (a == b) ≡ true
 same a b e = grind (arith, nat_tests)

@@ -3,7 +3,6 @@ use Rattle.std.proofs.Common.{◌≡◌, ◌⊎◌, inl, inr, ℕ, ◌+◌, ◌<
 use Rattle.std.specs.Prelude.{filter}
 use Rattle.std.specs.List.{slice_get, AllByRecursion}
 use Rattle.std.proofs.lemmas.Bool.{cases_lt}
-use Rattle.std.proofs.lemmas.Bool.Decides.{nat_tests}
 use Rattle.mcs_ticks.specs.Queue.{in_one_list}
 use Rattle.mcs_ticks.specs.declared.row.What.{What}
 use Rattle.mcs_ticks.specs.declared.row.What.TheVariants as row
@@ -33,9 +32,10 @@ use Rattle.mcs_server_laws.specs.Exclusion.{is_done, is_inside, IsHeldBy, home_o
 use Rattle.mcs_server_laws.specs.Ceiling.{AreCeilings, IsBehind, TellsCall, CallsWait}
 use Rattle.mcs_server_laws.proofs.Rows as rows
 use Rattle.mcs_server_laws.proofs.Rows.{IsPlain}
-use Rattle.mcs_server_laws.proofs.Calm.{itself, view-set, item-is}
+use Rattle.mcs_server_laws.proofs.Calm.{view-set, item-is}
 use Rattle.mcs_server_laws.proofs.Holders.{servers-exclude, none-enters-twice}
 use Rattle.mcs_server_laws.proofs.Ceiling.{none-calls}
+use Rattle.mcs_server_laws.proofs.Tests.{itself, is_zero}
 
 abbrev is_call : What → Bool
 is_call (row.Stop thread why.Call charged until) = true
@@ -68,7 +68,7 @@ module _ (system : System) (well : IsWellFormed system) (nest : ScriptsNest syst
   no-word note e = by (note.word == 0) refl e
     where
       by : (b : Bool) → (note.word == 0) ≡ b → cond b Blocks (Got note.word) ≡ Blocks → note.word ≡ 0
-      by true f g = grind (arith, nat_tests)
+      by true f g = is_zero note.word f
       by false f g = absurd (cc)
 
   none-or : (n : ℕ) → (1 ≤ n → ⊥) → n ≡ 0

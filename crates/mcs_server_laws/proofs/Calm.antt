@@ -34,19 +34,7 @@ use Rattle.mcs_core.proofs.Counts.{one_if_same, times_queued-back, times_queued-
 use Rattle.mcs_laws.specs.Places.{places, times_running}
 use Rattle.mcs_laws.proofs.Places.{obeys-held, releases-held}
 use Rattle.mcs_server_laws.specs.Exclusion.{is_done}
-
--- what is so of all numbers, and of each that is not one of them
-pub equal : (a b : ℕ) → (a == b) ≡ true → a ≡ b
-equal a b e = grind (arith, nat_tests)
-
-pub differ : (a b : ℕ) → (a == b) ≡ false → a ≢ b
-differ a b e = grind (arith, nat_tests)
-
-pub itself : (a : ℕ) → (a == a) ≡ true
-itself a = grind (arith, nat_tests)
-
-pub apart : (a b : ℕ) → a ≢ b → (a == b) ≡ false
-apart a b h = grind (arith, nat_tests)
+use Rattle.mcs_server_laws.proofs.Tests.{itself}
 
 -- threads
 pub view-set : {A : Type 0} (f : Thread → A) (xs : List Thread) (y x : ℕ) (new : Thread) → f new ≡ f (get_or xs y no_state)

@@ -2,7 +2,6 @@
 use Rattle.std.proofs.Common.{◌≡◌, ℕ, zero, suc, ◌+◌, ◌<◌, ◌≤◌, Bool, true, false, cond, not, ◌==◌, ◌&&◌, List, [], ◌∷◌, length, Option, Some, None, refl, sym, ap, subst, ◌∙◌, arith}
 use Rattle.std.specs.Prelude.{◌||◌, filter}
 use Rattle.std.specs.List.{slice_get, AllByRecursion}
-use Rattle.std.proofs.lemmas.Bool.Decides.{nat_tests}
 use Rattle.mcs_ticks.specs.declared.queue.Queued.{Queued}
 use Rattle.mcs_script.specs.declared.item.Item.{Item}
 use Rattle.mcs_script.specs.declared.item.Item.TheVariants.{Compute, Signal, Wait, Yield, On, Spin, Enter, Leave}
@@ -25,9 +24,7 @@ use Rattle.mcs_server_laws.proofs.Nesting.{after-from, past-from, IsMoved, moved
 use Rattle.mcs_server_laws.proofs.Calm.{IsTop}
 use Rattle.mcs_server_laws.proofs.Exclusion.{Good, turn-top}
 use Rattle.mcs_server_laws.proofs.Holders.{nested-each, alarms-heard, mails-signalled, good-at}
-
-equal : (a b : ℕ) → (a == b) ≡ true → a ≡ b
-equal a b e = grind (arith, nat_tests)
+use Rattle.mcs_server_laws.proofs.Tests.{equal, itself}
 
 -- of a ready thread what is known of its entry
 entry-of : (P : Queued → Type 0) (x : ℕ) (ready : List Queued) → AllByRecursion P ready → 1 ≤ times_queued x ready → (entry : Queued) × (entry.thread ≡ x) × P entry
@@ -153,9 +150,6 @@ module _ (system : System) (well : IsWellFormed system) (nest : ScriptsNest syst
       let own-entry : found.0.priority ≡ (thread_of core holder).place.priority = found.2.0 ∙ ap (λ x. (thread_of core x).place.priority) found.1 in
       omega (arith, above, own-entry, found.2.1, g.kept.fits holder)
     where
-      itself : (n : ℕ) → (n == n) ≡ true
-      itself n = grind (arith, nat_tests)
-
       inside-is : (a b : Bool) → (not a && b) ≡ true → b ≡ true
       inside-is true b e = absurd (cc)
       inside-is false b e = e

@@ -14,6 +14,7 @@ use Rattle.mcs_core.specs.Alarms.{alarm_of, is_at_home, later_by, rung, has_come
 use Rattle.mcs_core.specs.declared.alarm.Alarm.{Alarm}
 use Rattle.mcs_laws.proofs.Ranges.{by_recursion}
 use Rattle.mcs_server_laws.specs.Interrupts.{is_date}
+use Rattle.mcs_server_laws.proofs.Tests.{all-filter}
 
 -- the alarm of a beat before moment t
 abbrev pub rung_if : ℕ → Alarm → Alarm
@@ -274,16 +275,8 @@ module _ (system : System) (t : ℕ) (soon : t < 2 ^ 64) where
       by true false e h = absurd (cc)
       by false true e h = absurd (cc)
 
-  all-filter : (p : Beat → Bool) (beats : List Beat) → AllByRecursion (IsBeat system) beats → AllByRecursion (IsBeat system) (filter p beats)
-  all-filter p [] all = tt
-  all-filter p (beat ∷ beats) all = by (p beat) (all-filter p beats all.1)
-    where
-      by : (b : Bool) → AllByRecursion (IsBeat system) (filter p beats) → AllByRecursion (IsBeat system) (cond b (beat ∷ filter p beats) (filter p beats))
-      by true rest = (all.0, rest)
-      by false rest = rest
-
   pub ringing-dates : IsWellFormed system → (c : ℕ)
       → ringing t (alarms_at system c t) ≡ map (λ beat. alarm_before system beat t) (filter (is_date t) (filter (is_at_home system c) system.beats))
   ringing-dates well c =
       ap (ringing t) (before-map system (filter (is_at_home system c) system.beats) t)
-      ∙ ringing-of (filter (is_at_home system c) system.beats) (all-filter (is_at_home system c) system.beats (by_recursion (IsBeat system) system.beats well.sources.beats))
+      ∙ ringing-of (filter (is_at_home system c) system.beats) (all-filter (IsBeat system) (is_at_home system c) system.beats (by_recursion (IsBeat system) system.beats well.sources.beats))

@@ -41,7 +41,8 @@ use Rattle.mcs_laws.proofs.Places.{woke, set-waiting, signals-running, posts-hel
 use Rattle.mcs_server_laws.specs.Nesting.{is_in, last_is, without_last, inside, inside_after, nests}
 use Rattle.mcs_server_laws.specs.Exclusion.{is_done, is_inside, has, word_of, IsHeldBy}
 use Rattle.mcs_server_laws.proofs.Nesting.{AreDistinct, may-stand, are-distinct, IsMoved, moved-inside, wait-goes, enter-goes}
-use Rattle.mcs_server_laws.proofs.Calm.{Awaits, Calm, DoesStay, Entered, IsLine, IsTop, apart, back-entered, chooses-calm, chooses-top, enters-at, entries-other, entries-same, equal, front-entered, item-is, itself, may_stop-calm, obeys-calm, off-places, one-of, preempts-calm, preempts-top, releases-calm, runs-place, spot, stands-still, thread-other, thread-own, view-set, waiters-set, waits-at, with-item}
+use Rattle.mcs_server_laws.proofs.Calm.{Awaits, Calm, DoesStay, Entered, IsLine, IsTop, back-entered, chooses-calm, chooses-top, enters-at, entries-other, entries-same, front-entered, item-is, may_stop-calm, obeys-calm, off-places, one-of, preempts-calm, preempts-top, releases-calm, runs-place, spot, stands-still, thread-other, thread-own, view-set, waiters-set, waits-at, with-item}
+use Rattle.mcs_server_laws.proofs.Tests.{apart, equal, itself}
 
 module _ (system : System) (well : IsWellFormed system) (nested : (x : ℕ) → nests (thread_part system x).script ≡ true)
     (Fits : ℕ → ℕ → ℕ → Type 0)

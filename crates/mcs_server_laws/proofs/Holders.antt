@@ -35,16 +35,9 @@ use Rattle.mcs_server_laws.proofs.Dates.{alarm_before, before-map}
 use Rattle.mcs_server_laws.proofs.Nesting.{may-stand}
 use Rattle.mcs_server_laws.proofs.Calm.{item-is}
 use Rattle.mcs_server_laws.proofs.Exclusion.{Good, turn-good}
+use Rattle.mcs_server_laws.proofs.Tests.{all-filter}
 
 -- what holds of each
-all-filter : {A : Type 0} (C : A → Type 0) (p : A → Bool) (xs : List A) → AllByRecursion C xs → AllByRecursion C (filter p xs)
-all-filter C p [] all = tt
-all-filter C p (x ∷ xs) all = by (p x) (all-filter C p xs all.1)
-  where
-    by : (b : Bool) → AllByRecursion C (filter p xs) → AllByRecursion C (cond b (x ∷ filter p xs) (filter p xs))
-    by true rest = (all.0, rest)
-    by false rest = rest
-
 all-append : {A : Type 0} (C : A → Type 0) (xs ys : List A) → AllByRecursion C xs → AllByRecursion C ys → AllByRecursion C (xs ++ ys)
 all-append C [] ys all more = more
 all-append C (x ∷ xs) ys all more = (all.0, all-append C xs ys all.1 more)

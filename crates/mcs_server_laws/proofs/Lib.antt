@@ -1,3 +1,4 @@
+pub mod Tests
 pub mod Dates
 pub mod Nesting
 pub mod Calm

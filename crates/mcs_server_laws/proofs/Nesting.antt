@@ -9,14 +9,7 @@ use Rattle.mcs_script.specs.declared.moved.Moved.TheVariants.{Next, RoundEnds, A
 use Rattle.mcs_script.specs.declared.place.Place.{Place}
 use Rattle.mcs_script.specs.Script.{first_taken, or_again, next_item, next_of, move_by, move_after, place_after}
 use Rattle.mcs_server_laws.specs.Nesting.{is_in, are_none, inside_after, inside_from, inside, may_stand, nests_from, nests}
-
-left-true : (a b : Bool) → (a && b) ≡ true → a ≡ true
-left-true true b e = refl
-left-true false b e = absurd (cc)
-
-right-true : (a b : Bool) → (a && b) ≡ true → b ≡ true
-right-true true b e = e
-right-true false b e = absurd (cc)
+use Rattle.mcs_server_laws.proofs.Tests.{left-true, right-true}
 
 are-none : (servers : List ℕ) → are_none servers ≡ true → servers ≡ []
 are-none [] e = refl

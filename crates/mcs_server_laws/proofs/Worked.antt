@@ -1,5 +1,7 @@
 -- Values that were worked by hand from the rules, at the edges where a law that said a little more, or less, would fail.
-use Rattle.std.specs.Prelude.{◌≡◌, ℕ, Bool, true, false, List, [], ◌∷◌, ◌++◌, map, Option, Some, None, option_map, refl}
+use Rattle.std.specs.Prelude.{◌≡◌, ℕ, Bool, true, false, List, [], ◌∷◌, ◌++◌, map, Option, Some, None, option_map, refl, zero, suc, ◌<◌}
+use Rattle.std.specs.List.{slice_get}
+use Rattle.std.proofs.Common.{arith}
 use Rattle.mcs_ticks.specs.declared.row.What.TheVariants as row
 use Rattle.mcs_ticks.specs.declared.row.Why.TheVariants as why
 use Rattle.mcs_control.specs.declared.config.Mode.TheVariants.{Sporadic}
@@ -10,14 +12,15 @@ use Rattle.mcs_system.specs.declared.part.ContextPart.{ContextPart}
 use Rattle.mcs_system.specs.declared.part.NotePart.{NotePart}
 use Rattle.mcs_system.specs.declared.part.SourcePart.{SourcePart}
 use Rattle.mcs_system.specs.declared.part.ThreadPart.{ThreadPart}
-use Rattle.mcs_system.specs.System.{System}
+use Rattle.mcs_system.specs.System.{System, thread_part}
 use Rattle.mcs_core.specs.declared.standing.Chosen.{Chosen}
 use Rattle.mcs_core.specs.Places.{times_queued}
 use Rattle.mcs_core.specs.Core.{thread_of, note_of}
 use Rattle.mcs_core.specs.Clock.{schedule, turn_of, world, core_at}
 use Rattle.mcs_load.specs.Script.{call_steps}
 use Rattle.mcs_server_laws.specs.Interrupts.{dates_to, moments_told}
-use Rattle.mcs_server_laws.specs.Nesting.{inside, nests}
+use Rattle.mcs_server_laws.specs.Nesting.{without_last, inside, nests}
+use Rattle.mcs_server_laws.specs.Ceiling.{priority_of, AreCeilings}
 use Rattle.mcs_server_laws.specs.Exclusion.{is_inside}
 
 abbrev context : ℕ → ℕ → ContextPart
@@ -180,3 +183,48 @@ only_above_the_ceiling = (refl, refl)
 -- at a server's priority of 20 the thread of priority 30 runs before it, and calls the server of a ready thread
 below_its_callers : (runs_with (above_it 20) 6 ≡ (Some (1, 30), 1)) × ((turn_of (above_it 20) 0 6).rows ≡ row.Stop 1 why.Call 1 None ∷ row.Run 0 ∷ [])
 below_its_callers = (refl, refl)
+
+-- the premise of the law holds of it: each entering is at 10 or 30, and inside it is 40
+above_is : (x item server priority : ℕ) → slice_get (thread_part (above_it 40) x).script item ≡ Some (Enter server priority)
+    → priority_of (above_it 40) (λ n. 40) x (inside item (thread_part (above_it 40) x).script) < 40
+above_is zero zero server priority e = omega arith
+above_is zero (suc zero) server priority e = absurd (cc)
+above_is zero (suc (suc zero)) server priority e = absurd (cc)
+above_is zero (suc (suc (suc item))) server priority e = absurd (cc)
+above_is (suc zero) zero server priority e = omega arith
+above_is (suc zero) (suc zero) server priority e = absurd (cc)
+above_is (suc zero) (suc (suc zero)) server priority e = absurd (cc)
+above_is (suc zero) (suc (suc (suc item))) server priority e = absurd (cc)
+above_is (suc (suc zero)) zero server priority e = absurd (cc)
+above_is (suc (suc zero)) (suc item) server priority e = absurd (cc)
+above_is (suc (suc (suc x))) item server priority e = absurd (cc)
+
+given_is : (x item server priority : ℕ) → slice_get (thread_part (above_it 40) x).script item ≡ Some (Enter server priority) → priority ≡ 40
+given_is zero zero server priority e = cc
+given_is zero (suc zero) server priority e = absurd (cc)
+given_is zero (suc (suc zero)) server priority e = absurd (cc)
+given_is zero (suc (suc (suc item))) server priority e = absurd (cc)
+given_is (suc zero) zero server priority e = cc
+given_is (suc zero) (suc zero) server priority e = absurd (cc)
+given_is (suc zero) (suc (suc zero)) server priority e = absurd (cc)
+given_is (suc zero) (suc (suc (suc item))) server priority e = absurd (cc)
+given_is (suc (suc zero)) zero server priority e = absurd (cc)
+given_is (suc (suc zero)) (suc item) server priority e = absurd (cc)
+given_is (suc (suc (suc x))) item server priority e = absurd (cc)
+
+back_is : (x item server priority : ℕ) → slice_get (thread_part (above_it 40) x).script item ≡ Some (Leave server priority)
+    → priority ≡ priority_of (above_it 40) (λ n. 40) x (without_last (inside item (thread_part (above_it 40) x).script))
+back_is zero zero server priority e = absurd (cc)
+back_is zero (suc zero) server priority e = absurd (cc)
+back_is zero (suc (suc zero)) server priority e = cc
+back_is zero (suc (suc (suc item))) server priority e = absurd (cc)
+back_is (suc zero) zero server priority e = absurd (cc)
+back_is (suc zero) (suc zero) server priority e = absurd (cc)
+back_is (suc zero) (suc (suc zero)) server priority e = cc
+back_is (suc zero) (suc (suc (suc item))) server priority e = absurd (cc)
+back_is (suc (suc zero)) zero server priority e = absurd (cc)
+back_is (suc (suc zero)) (suc item) server priority e = absurd (cc)
+back_is (suc (suc (suc x))) item server priority e = absurd (cc)
+
+ceilings_hold : AreCeilings (above_it 40) (λ n. 40)
+ceilings_hold = record { above = above_is; priorities = record { given = given_is; back = back_is } }

@@ -40,7 +40,7 @@ module _ (system : System) (ceiling : ℕ → ℕ) where
     pub priorities : HavePriorities
 
   -- before moment t the thread has the server, and is ready; and another one runs
-  pub record IsKept (server t holder : ℕ) (chosen : Chosen) : Type 0 where
+  pub record IsReadyHolder (server t holder : ℕ) (chosen : Chosen) : Type 0 where
     pub known : server < length system.notes
     pub is : is_server system server ≡ true
     pub held : IsHeldBy system server (Some holder) (home_of system server t)
@@ -52,18 +52,18 @@ module _ (system : System) (ceiling : ℕ → ℕ) where
 
   -- who runs has at least the server's priority
   abbrev pub RunsAbove : Type 0
-  RunsAbove = (server t holder : ℕ) (chosen : Chosen) → IsKept server t holder chosen → ceiling server ≤ (place_of server t chosen).priority
+  RunsAbove = (server t holder : ℕ) (chosen : Chosen) → IsReadyHolder server t holder chosen → ceiling server ≤ (place_of server t chosen).priority
 
   -- so it is not about to enter the server: no thread calls a server that a ready thread has
   abbrev pub NoneCalls : Type 0
   NoneCalls =
-      (server t holder priority : ℕ) (chosen : Chosen) → IsKept server t holder chosen →
+      (server t holder priority : ℕ) (chosen : Chosen) → IsReadyHolder server t holder chosen →
       ¬ (slice_get (script_of chosen.thread) (place_of server t chosen).item ≡ Some (Enter server priority))
 
   -- nor is it in no server, if it calls this one anywhere
   abbrev pub NoneOvertakes : Type 0
   NoneOvertakes =
-      (server t holder item priority : ℕ) (chosen : Chosen) → IsKept server t holder chosen →
+      (server t holder item priority : ℕ) (chosen : Chosen) → IsReadyHolder server t holder chosen →
       inside (place_of server t chosen).item (script_of chosen.thread) ≡ [] →
       ¬ (slice_get (script_of chosen.thread) item ≡ Some (Enter server priority))
 
