@@ -39,7 +39,7 @@ pub fn ready_holders_are_not_overtaken()
 {}
 
 /// A law of files: in a file that the loader accepts the scripts enter and leave servers in pairs. So each server of it is taken by at most one thread,
-/// with no further premise. Each call runs at its server's priority, and the caller goes back to the one before.
+/// with no further premise. A server is entered with its own priority, and left for the one before.
 pub fn accepted_scripts_nest()
     ensures nest { AcceptedScriptsNest }
     ensures exclude { AcceptedServersExclude }
